@@ -1,0 +1,12 @@
+pub mod Closings
+pub mod Lists
+pub mod Numbers
+pub mod Runs
+pub mod WorkedBufferIsMadeAndClosed
+pub mod WorkedDumbShapes
+pub mod WorkedFullJournal
+pub mod WorkedUnknownCallsAndClients
+pub mod WorkedUnknownCallsOfNobody
+pub mod WorkedRenderAndLeaseOpenings
+pub mod WorkedHandlesAreLimited
+pub mod WorkedClosingsThatAreDeniedAreNoted

@@ -1,0 +1,62 @@
+-- Made by tools/worked_rows.py: the worked row full_journal, as the definitions compute it.
+use Rattle.std.proofs.Common.{◌≡◌, false, List, ◌∷◌, Result, Ok, Err, refl, []}
+use Rattle.drm_table.specs.declared.answers.Answer.{Answer}
+use Rattle.drm_table.specs.declared.answers.Answer.TheVariants.{Opened, Version as VersionIs, Closed}
+use Rattle.drm_table.specs.declared.apart.Apart.{Apart}
+use Rattle.drm_table.specs.declared.apart.Apart.TheVariants.{JournalFull}
+use Rattle.drm_table.specs.declared.calls.Call.TheVariants.{Version}
+use Rattle.drm_table.specs.declared.events.Event.{Event}
+use Rattle.drm_table.specs.declared.events.Event.TheVariants.{Open, Ask, Close}
+use Rattle.drm_table.specs.declared.events.Opening.TheVariants.{Primary, Render}
+use Rattle.drm_table.specs.declared.limits.Limits.{Limits}
+use Rattle.drm_table.specs.Limits.{are_in_range}
+use Rattle.drm_table.specs.Table.{call_table, row_of, call_number, flags_of}
+use Rattle.drm_model.specs.Buffers.{dumb_pitch, dumb_size, with_object}
+use Rattle.drm_model.specs.Change.{asked, changed, swept, after}
+use Rattle.drm_model.specs.Clients.{opening_checks, opened, closed}
+use Rattle.drm_model.specs.Leases.{ended}
+use Rattle.drm_model.specs.Masters.{chain_within}
+use Rattle.drm_model.specs.Numbers.{numbers_from, least_within, least}
+use Rattle.drm_model.specs.Reply.{answer_to, answer_of, reply}
+use Rattle.drm_model.specs.Results.{results}
+use Rattle.drm_model.specs.Run.{no_room, run, rows_of}
+use Rattle.drm_model.specs.Topology.{is_topology}
+use Rattle.drm_model.specs.Verdict.{own_checks, admission_checks, checks, verdict}
+use Rattle.drm_model.specs.Rows.{empty_rows}
+use Rattle.drm_model.specs.Topology.{Topology}
+
+abbrev test_topology : Topology
+test_topology = record { crtcs = 2; planes = 1 ∷ 2 ∷ []; encoders = 3 ∷ 2 ∷ []; connectors = 5 ∷ 6 ∷ [] }
+
+abbrev limits : Limits
+limits = record { clients = 2; handles = 8; names = 8; tokens = 8; objects = 8; framebuffers = 4; lessees = 4; journal = 6 }
+
+abbrev events : List Event
+events =
+    Open (Primary false) ∷
+    Open Render ∷
+    Ask 1 Version ∷
+    Ask 2 Version ∷
+    Ask 1 Version ∷
+    Open Render ∷
+    Close 2 ∷
+    Close 1 ∷
+    Close 1 ∷
+    []
+
+abbrev answers : List (Result Answer Apart)
+answers =
+    Ok (Opened 1) ∷
+    Ok (Opened 2) ∷
+    Ok (VersionIs 1 0 0) ∷
+    Ok (VersionIs 1 0 0) ∷
+    Err JournalFull ∷
+    Err JournalFull ∷
+    Ok Closed ∷
+    Ok Closed ∷
+    Err JournalFull ∷
+    []
+
+pub full_journal : results (empty_rows test_topology limits) events ≡ answers
+unfolding are_in_range call_table row_of call_number flags_of dumb_pitch dumb_size with_object asked changed swept after opening_checks opened closed ended chain_within numbers_from least_within least answer_to answer_of reply results no_room run rows_of is_topology own_checks admission_checks checks verdict
+full_journal = refl

@@ -1,0 +1,13 @@
+pub mod Numbers
+pub mod Topology
+pub mod Rows
+pub mod Masters
+pub mod Leases
+pub mod Capabilities
+pub mod Buffers
+pub mod Clients
+pub mod Verdict
+pub mod Change
+pub mod Reply
+pub mod Run
+pub mod Results

@@ -1,0 +1,180 @@
+-- The rows of a device: flat lists, in which a client, a master or an object is named by its birth, the number of the
+-- step that made it (births are this project's own; what a row stands for is in drm-uapi, drm-mm, drm(7) and drm-gem(7)).
+use Rattle.std.specs.Prelude.{ℕ, ◌+◌, ◌==◌, Bool, false, not, ◌&&◌, nat_lt, List, [], ◌∷◌, ◌++◌, length, Option, None, Some, unwrap_or, find, map, filter}
+use Rattle.std.specs.Option.{is_some, option_and_then}
+use Rattle.drm_table.specs.declared.limits.Limits.{Limits}
+use Rattle.drm_model.specs.Numbers.{is_among, least}
+use Rattle.drm_model.specs.Topology.{Topology}
+
+-- an open client; a render client's master is none (drm-uapi: primary and render nodes)
+pub record ClientRow : Type 0 where
+  pub client : ℕ
+  pub render : Bool
+  pub root : Bool
+  pub authenticated : Bool
+  pub once_master : Bool
+  pub is_master : Bool
+  pub master : Option ℕ
+
+-- a master; a lessee has a lessor, and the lease token where nobody redeemed it (drm-uapi, leases; the token own)
+pub record MasterRow : Type 0 where
+  pub master : ℕ
+  pub lessor : Option ℕ
+  pub lessee_id : ℕ
+  pub lease_token : Option ℕ
+
+-- a magic of a master, given to a client (drm(7))
+pub record MagicRow : Type 0 where
+  pub master : ℕ
+  pub number : ℕ
+  pub client : ℕ
+  pub spent : Bool
+
+-- a client's handle of an object (drm-gem(7)); the PRIME place is the step that exported or imported it (own)
+pub record HoldRow : Type 0 where
+  pub client : ℕ
+  pub handle : ℕ
+  pub object : ℕ
+  pub place : Option ℕ
+
+-- a buffer, its size in bytes (drm-mm); the stamp stands for its contents (own)
+pub record ObjectRow : Type 0 where
+  pub object : ℕ
+  pub size : ℕ
+  pub stamp : ℕ
+
+-- a global name of an object (drm-gem(7), flink)
+pub record NameRow : Type 0 where
+  pub name : ℕ
+  pub object : ℕ
+
+-- an exported object (drm-mm, PRIME; a token for the descriptor is own)
+pub record TokenRow : Type 0 where
+  pub token : ℕ
+  pub client : ℕ
+  pub object : ℕ
+
+-- a mode object in the lease of a master (drm-uapi, leases)
+pub record GrantRow : Type 0 where
+  pub master : ℕ
+  pub mode_object : ℕ
+
+-- a framebuffer: its owner, its object and its shape (drm-uapi)
+pub record FramebufferRow : Type 0 where
+  pub framebuffer : ℕ
+  pub client : ℕ
+  pub object : ℕ
+  pub width : ℕ
+  pub height : ℕ
+  pub pitch : ℕ
+  pub bpp : ℕ
+
+-- what a CRTC or a plane shows (drm-uapi)
+pub record ShownRow : Type 0 where
+  pub shower : ℕ
+  pub framebuffer : ℕ
+
+-- all that a device holds
+pub record Rows : Type 0 where
+  pub topology : Topology
+  pub limits : Limits
+  pub steps : ℕ
+  pub clients : List ClientRow
+  pub masters : List MasterRow
+  pub magics : List MagicRow
+  pub holds : List HoldRow
+  pub objects : List ObjectRow
+  pub names : List NameRow
+  pub tokens : List TokenRow
+  pub grants : List GrantRow
+  pub framebuffers : List FramebufferRow
+  pub shown : List ShownRow
+  pub device_master : Option ℕ
+  pub last_token : ℕ
+  pub last_lease_token : ℕ
+
+-- a device that nobody has opened yet
+abbrev pub empty_rows : Topology → Limits → Rows
+empty_rows topology limits = record {
+  topology = topology;
+  limits = limits;
+  steps = 0;
+  clients = [];
+  masters = [];
+  magics = [];
+  holds = [];
+  objects = [];
+  names = [];
+  tokens = [];
+  grants = [];
+  framebuffers = [];
+  shown = [];
+  device_master = None;
+  last_token = 0;
+  last_lease_token = 0;
+}
+
+-- the number of the step that is being made (own)
+abbrev pub birth : Rows → ℕ
+birth w = w.steps + 1
+
+-- the rows that don't pass the test
+abbrev pub without : {X : Type 0} → (X → Bool) → List X → List X
+without test rows = filter (λ row. not (test row)) rows
+
+-- whether the option is this number
+abbrev pub is_option : ℕ → Option ℕ → Bool
+is_option n None = false
+is_option n (Some m) = m == n
+
+-- clients
+
+abbrev pub is_client : ℕ → ClientRow → Bool
+is_client c row = row.client == c
+
+abbrev pub client_row : Rows → ℕ → Option ClientRow
+client_row w c = find (is_client c) w.clients
+
+abbrev pub is_open : Rows → ℕ → Bool
+is_open w c = is_some (client_row w c)
+
+-- whether one more client may be open (the limit is own)
+abbrev pub has_client_room : Rows → Bool
+has_client_room w = nat_lt (length w.clients) w.limits.clients
+
+abbrev pub master_of : Rows → ℕ → Option ℕ
+master_of w c = option_and_then (λ (row : ClientRow). row.master) (client_row w c)
+
+-- handles and objects
+
+abbrev pub is_hold : ℕ → ℕ → HoldRow → Bool
+is_hold c h row = (row.client == c) && (row.handle == h)
+
+abbrev pub hold_row : Rows → ℕ → ℕ → Option HoldRow
+hold_row w c h = find (is_hold c h) w.holds
+
+abbrev pub has_handle : Rows → ℕ → ℕ → Bool
+has_handle w c h = is_some (hold_row w c h)
+
+abbrev pub handles_of : Rows → ℕ → List ℕ
+handles_of w c = map (λ row. row.handle) (filter (λ row. row.client == c) w.holds)
+
+-- handles are a client's own, the lowest free from 1 (drm-gem(7); the limit is own)
+abbrev pub free_handle : Rows → ℕ → Option ℕ
+free_handle w c = least (is_among (handles_of w c)) 1 w.limits.handles
+
+-- whether one more object may be there (the limit is own)
+abbrev pub has_object_room : Rows → Bool
+has_object_room w = nat_lt (length w.objects) w.limits.objects
+
+-- a fresh handle of the object, with or without a PRIME place
+abbrev pub with_hold : Rows → ℕ → ℕ → Option ℕ → List HoldRow
+with_hold w c o place = w.holds ++ record { client = c; handle = unwrap_or (free_handle w c) 0; object = o; place = place } ∷ []
+
+-- framebuffers
+
+abbrev pub framebuffer_row : Rows → ℕ → Option FramebufferRow
+framebuffer_row w f = find (λ row. row.framebuffer == f) w.framebuffers
+
+abbrev pub is_framebuffer : Rows → ℕ → Bool
+is_framebuffer w f = is_some (framebuffer_row w f)

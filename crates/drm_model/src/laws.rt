@@ -1,0 +1,36 @@
+//! Laws of the definitions, each on a function that does nothing.
+
+ghost use Rattle.std.specs.Prelude.{◌≡◌, true, ◌++◌, ◌∷◌, [], List, ℕ, Option, Some, Ok, Result};
+ghost use Rattle.drm_table.specs.declared.answers.Answer.{Answer};
+ghost use Rattle.drm_table.specs.declared.answers.Answer.TheVariants.{Closed};
+ghost use Rattle.drm_table.specs.declared.apart.Apart.{Apart};
+ghost use Rattle.drm_table.specs.declared.events.Event.{Event};
+ghost use Rattle.drm_table.specs.declared.events.Event.TheVariants.{Close};
+ghost use Rattle.drm_table.specs.declared.rules.Rule.{Rule};
+ghost use Rattle.drm_model.specs.Rows.{Rows, is_open};
+ghost use Rattle.drm_model.specs.Verdict.{verdict};
+ghost use Rattle.drm_model.specs.Change.{after, noted};
+ghost use Rattle.drm_model.specs.Run.{Step, Answers, run, noted_events};
+
+/// A denial changes no row: it is noted, and that is all.
+pub fn denials_change_no_row()
+    ensures { (w : Rows) (event : Event) (rule : Rule) → verdict w event ≡ Some rule → after w event ≡ noted w }
+{}
+
+/// A step answers one more event of a list, so that steps one after another answer any list of events.
+pub fn answers_go_on()
+    ensures none { (w : Rows) → Answers w [] [] w }
+    ensures one_more { (w : Rows) (events : List Event) (results : List (Result Answer Apart)) (v : Rows) (event : Event) (result : Result Answer Apart) (u : Rows)
+        → Answers w events results v → Step v event result u → Answers w (events ++ event ∷ []) (results ++ result ∷ []) u }
+{}
+
+/// What stands apart leaves no trace: the rows are those of the noted events alone.
+pub fn rows_are_those_of_noted_events()
+    ensures { (w : Rows) (events : List Event) (results : List (Result Answer Apart)) (v : Rows)
+        → Answers w events results v → v ≡ run w (noted_events events results) }
+{}
+
+/// The closing of an open client is always carried out: the journal has its place, and it takes no memory.
+pub fn closings_are_carried_out()
+    ensures { (w : Rows) (c : ℕ) (result : Result Answer Apart) (v : Rows) → is_open w c ≡ true → Step w (Close c) result v → result ≡ Ok Closed }
+{}

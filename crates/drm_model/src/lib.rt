@@ -1,0 +1,8 @@
+//! The rows that a device stands for, and what each event does to them: definitions alone, in `specs/`, and laws of them.
+#![tactic(auto)]
+
+mod laws;
+
+pub use laws::{
+    answers_go_on, closings_are_carried_out, denials_change_no_row, rows_are_those_of_noted_events,
+};

@@ -1,0 +1,4 @@
+pub mod Limits
+pub mod Permit
+pub mod Rules
+pub mod Table

@@ -1,0 +1,20 @@
+//! What the device answers.
+
+use crate::rules::Rule;
+
+/// The answer of a step that is noted in the journal.
+#[derive(PartialEq, Eq, Debug, Drop)]
+pub enum Answer {
+    /// The call was carried out and has nothing to tell.
+    Done,
+    /// The client was opened, and this is its number: that of the step (own).
+    Opened { client: u32 },
+    /// The version of the interface (drm-uapi, `DRM_IOCTL_VERSION`).
+    Version { major: u32, minor: u32, patch: u32 },
+    /// A dumb buffer: its handle, the bytes of a row and the bytes of the whole (drm-uapi, `DRM_IOCTL_MODE_CREATE_DUMB`).
+    Dumb { handle: u32, pitch: u32, size: u64 },
+    /// The client was closed.
+    Closed,
+    /// The first rule that fails. No row was changed.
+    Denied(Rule),
+}

@@ -1,0 +1,27 @@
+//! The calls, answers, rules and row flags of a display device's userspace interface.
+#![tactic(auto)]
+
+mod answers;
+mod apart;
+mod calls;
+mod events;
+mod flags;
+mod limits;
+mod lookup;
+mod permits;
+mod rows;
+mod rules;
+
+pub use answers::Answer;
+pub use apart::Apart;
+pub use calls::Call;
+pub use events::{Event, Opening};
+pub use flags::RowFlags;
+pub use limits::{Limits, are_in_range};
+pub use lookup::row;
+pub use permits::{Standing, permit};
+pub use rows::Row;
+pub use rules::Rule;
+
+#[cfg(test)]
+mod tests;

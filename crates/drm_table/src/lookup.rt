@@ -1,0 +1,32 @@
+//! The row of a number.
+
+ghost use Rattle.std.specs.Prelude.{◌≡◌};
+ghost use Rattle.std.specs.Option.{option_map};
+ghost use Rattle.drm_table.specs.Table.{row_of};
+
+use crate::flags::RowFlags;
+use crate::rows::Row;
+use bitflags::Flags;
+
+/// The row of a number, if it has one.
+#[tactic(auto, unfolding(crate::specs::Table::row_of, crate::specs::Table::call_table))]
+pub fn row(number: u16) -> Option<Row>
+    ensures flags { option_map (λ row. row.flags) result ≡ option_map (λ row. row.flags) (row_of number) }
+    ensures name { option_map (λ row. row.name.now) result ≡ option_map (λ row. row.name) (row_of number) }
+{
+    match number {
+        0x00 => Some(Row {
+            name: "VERSION",
+            flags: RowFlags::RENDER_ALLOW,
+        }),
+        0x09 => Some(Row {
+            name: "GEM_CLOSE",
+            flags: RowFlags::RENDER_ALLOW,
+        }),
+        0xB2 => Some(Row {
+            name: "MODE_CREATE_DUMB",
+            flags: RowFlags::empty(),
+        }),
+        _ => None,
+    }
+}

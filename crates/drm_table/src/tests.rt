@@ -1,0 +1,150 @@
+//! The tables, against their published values.
+
+use super::*;
+use bitflags::Flags;
+use std::process::Abort;
+use std::test::Fail;
+
+/// For each set of flags (1 ROOT_ONLY, 2 AUTH, 4 MASTER, 8 RENDER_ALLOW) and each standing (1 root, 2 render,
+/// 4 authenticated, 8 current): the number of the rule that refuses, or 0.
+const REFUSALS: [[u32; 16]; 16] = [
+    [0, 0, 14, 14, 0, 0, 14, 14, 0, 0, 14, 14, 0, 0, 14, 14],
+    [11, 0, 11, 14, 11, 0, 11, 14, 11, 0, 11, 14, 11, 0, 11, 14],
+    [12, 12, 14, 14, 0, 0, 14, 14, 12, 12, 14, 14, 0, 0, 14, 14],
+    [11, 12, 11, 14, 11, 0, 11, 14, 11, 12, 11, 14, 11, 0, 11, 14],
+    [13, 13, 13, 13, 13, 13, 13, 13, 0, 0, 14, 14, 0, 0, 14, 14],
+    [11, 13, 11, 13, 11, 13, 11, 13, 11, 0, 11, 14, 11, 0, 11, 14],
+    [12, 12, 13, 13, 13, 13, 13, 13, 12, 12, 14, 14, 0, 0, 14, 14],
+    [
+        11, 12, 11, 13, 11, 13, 11, 13, 11, 12, 11, 14, 11, 0, 11, 14,
+    ],
+    [0, 0, 0, 0, 0, 0, 0, 0, 0, 0, 0, 0, 0, 0, 0, 0],
+    [11, 0, 11, 0, 11, 0, 11, 0, 11, 0, 11, 0, 11, 0, 11, 0],
+    [12, 12, 0, 0, 0, 0, 0, 0, 12, 12, 0, 0, 0, 0, 0, 0],
+    [11, 12, 11, 0, 11, 0, 11, 0, 11, 12, 11, 0, 11, 0, 11, 0],
+    [13, 13, 13, 13, 13, 13, 13, 13, 0, 0, 0, 0, 0, 0, 0, 0],
+    [11, 13, 11, 13, 11, 13, 11, 13, 11, 0, 11, 0, 11, 0, 11, 0],
+    [12, 12, 13, 13, 13, 13, 13, 13, 12, 12, 0, 0, 0, 0, 0, 0],
+    [11, 12, 11, 13, 11, 13, 11, 13, 11, 12, 11, 0, 11, 0, 11, 0],
+];
+
+const RULES: [(Rule, u32, u32, &str); 30] = [
+    (Rule::Unknown, 1, 22, "Unknown"),
+    (Rule::Layout, 2, 22, "Layout"),
+    (Rule::NoClient, 3, 22, "NoClient"),
+    (Rule::RootOnly, 11, 13, "RootOnly"),
+    (Rule::Auth, 12, 13, "Auth"),
+    (Rule::Master, 13, 13, "Master"),
+    (Rule::RenderAllow, 14, 13, "RenderAllow"),
+    (Rule::NoHandle, 21, 2, "NoHandle"),
+    (Rule::NoHandleToClose, 22, 22, "NoHandleToClose"),
+    (Rule::NoName, 23, 2, "NoName"),
+    (Rule::NoToken, 24, 2, "NoToken"),
+    (Rule::NoMagic, 25, 22, "NoMagic"),
+    (Rule::MasterPerm, 26, 13, "MasterPerm"),
+    (Rule::MasterBusy, 27, 16, "MasterBusy"),
+    (Rule::NotCurrent, 28, 22, "NotCurrent"),
+    (Rule::IsLessee, 29, 22, "IsLessee"),
+    (Rule::NoModeObject, 30, 2, "NoModeObject"),
+    (Rule::NotLeasable, 31, 22, "NotLeasable"),
+    (Rule::Repeated, 32, 22, "Repeated"),
+    (Rule::LeaseShape, 33, 22, "LeaseShape"),
+    (Rule::LeasedOut, 34, 16, "LeasedOut"),
+    (Rule::SubLease, 35, 22, "SubLease"),
+    (Rule::NoLessee, 36, 2, "NoLessee"),
+    (Rule::NotYourLessee, 37, 13, "NotYourLessee"),
+    (Rule::NoFb, 38, 2, "NoFb"),
+    (Rule::BadSize, 39, 22, "BadSize"),
+    (Rule::BadRoute, 40, 22, "BadRoute"),
+    (Rule::BadCap, 41, 22, "BadCap"),
+    (Rule::NoLeaseToken, 42, 2, "NoLeaseToken"),
+    (Rule::Full, 43, 28, "Full"),
+];
+
+fn standing(bits: u8) -> Standing {
+    Standing {
+        root: bits & 1 != 0,
+        render: bits & 2 != 0,
+        authenticated: bits & 4 != 0,
+        current: bits & 8 != 0,
+    }
+}
+
+fn refusal(flags: u8, bits: u8) -> u32 {
+    match permit(RowFlags::from_bits_retain(flags), standing(bits)) {
+        Some(rule) => rule.number(),
+        None => 0,
+    }
+}
+
+#[test]
+fn permit_of_all_flags_and_standings(rt: HostRuntime) {
+    for flags in 0..16u8 {
+        for bits in 0..16u8 {
+            let expected = REFUSALS[flags as usize][bits as usize];
+            assert_eq!(&rt;
+                refusal(flags, bits),
+                expected,
+                "flags {flags}, standing {bits}"
+            );
+        }
+    }
+}
+
+#[test]
+fn rules_have_their_numbers_and_names(rt: HostRuntime) {
+    for (rule, number, errno, name) in RULES {
+        assert_eq!(&rt; rule.number(), number);
+        assert_eq!(&rt; rule.errno(), errno);
+        assert_eq!(&rt; rule.name(), name);
+    }
+}
+
+fn check_apart(rt: &impl Abort, apart: Apart, number: u32, errno: u32, name: &str) {
+    assert_eq!(rt; apart.number(), number);
+    assert_eq!(rt; apart.errno(), errno);
+    assert_eq!(rt; apart.name(), name);
+}
+
+#[test]
+fn aparts_have_their_numbers_and_names(rt: HostRuntime) {
+    check_apart(&rt, Apart::JournalFull, 50, 28, "JournalFull");
+    check_apart(&rt, Apart::NoMemory, 51, 12, "NoMemory");
+    check_apart(&rt, Apart::Worn, 52, 28, "Worn");
+}
+
+#[test]
+fn rows_of_the_table(rt: HostRuntime) -> Result<(), Fail> {
+    let close = row(0x09).ok_or("GEM_CLOSE has no row")?;
+    assert_eq!(&rt; close.name, "GEM_CLOSE");
+    assert_eq!(&rt; close.flags, RowFlags::RENDER_ALLOW);
+    let dumb = row(0xB2).ok_or("MODE_CREATE_DUMB has no row")?;
+    assert_eq!(&rt; dumb.name, "MODE_CREATE_DUMB");
+    assert_eq!(&rt; dumb.flags, RowFlags::empty());
+    assert!(&rt; row(0x01).is_none());
+    let call = Call::CreateDumb {
+        width: 1,
+        height: 1,
+        bpp: 32,
+    };
+    assert_eq!(&rt; call.number(), 0xB2);
+    assert_eq!(&rt; call.flags(), RowFlags::empty());
+    assert_eq!(&rt; Call::Version.flags(), RowFlags::RENDER_ALLOW);
+    assert_eq!(&rt; Call::Unknown(7).number(), 7);
+    Ok(())
+}
+
+#[test]
+fn ranges_of_the_limits(rt: HostRuntime) {
+    assert!(&rt; are_in_range(Limits::PROGRAM));
+    let without_clients = Limits {
+        clients: 0,
+        ..Limits::PROGRAM
+    };
+    let short_journal = Limits {
+        journal: 1,
+        ..Limits::PROGRAM
+    };
+    assert!(&rt; !are_in_range(without_clients));
+    assert!(&rt; !are_in_range(short_journal));
+}
