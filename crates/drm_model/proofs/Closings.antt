@@ -1,13 +1,12 @@
 -- A closing adds no row, so that it takes no memory.
-use Rattle.std.proofs.Common.{◌≡◌, ◌∙◌, ℕ, suc, ◌<◌, ◌≤◌, Bool, true, false, cond, not, ◌⊎◌, List, [], ◌∷◌, length, map, Option, None, Some, refl, sym, ap, arith}
-use Rattle.std.specs.Prelude.{if◌then◌else◌, ◌==◌, Ok, Err, Result}
+use Rattle.std.proofs.Common.{◌≡◌, ◌∙◌, ℕ, suc, ◌≤◌, Bool, true, false, cond, not, List, [], ◌∷◌, length, Option, None, Some, refl, ap, arith}
+use Rattle.std.specs.Prelude.{if◌then◌else◌, Ok, Err, Result}
 use Rattle.drm_table.specs.declared.answers.Answer.{Answer}
 use Rattle.drm_table.specs.declared.answers.Answer.TheVariants.{Closed}
 use Rattle.drm_table.specs.declared.apart.Apart.{Apart}
 use Rattle.drm_table.specs.declared.apart.Apart.TheVariants.{JournalFull, NoMemory, Worn}
 use Rattle.drm_table.specs.declared.events.Event.TheVariants.{Close}
-use Rattle.drm_table.specs.Permit.{first_failing}
-use Rattle.drm_model.specs.Rows.{Rows, ClientRow, MasterRow, is_open, client_row, without, is_option}
+use Rattle.drm_model.specs.Rows.{Rows, ClientRow, MasterRow, is_open, client_row, without}
 use Rattle.drm_model.specs.Masters.{is_under}
 use Rattle.drm_model.specs.Leases.{ended}
 use Rattle.drm_model.specs.Clients.{closed, ended_own, ended_if}

@@ -1,0 +1,85 @@
+-- What look-ups find in the rows, by what they find in the lists.
+use Rattle.std.proofs.Common.{◌≡◌, ℕ, ◌+◌, ◌-◌, ◌==◌, nat_lt, true, false, not, ◌&&◌, map, find, filter, length, Option, None, Some, refl, sym, ◌∙◌, ap, arith}
+use Rattle.std.proofs.lemmas.Bool.Decides.{nat_tests}
+use Rattle.std.specs.Prelude.{nat_le}
+use Rattle.std.specs.Option.{option_map, is_some}
+use Rattle.std.specs.Vec.{vec_len}
+use Rattle.drm_table.specs.declared.events.Event.TheVariants.{Open, Ask, Close}
+use Rattle.drm_table.specs.declared.events.Opening.{Opening}
+use Rattle.drm_table.specs.declared.calls.Call.{Call}
+use Rattle.drm_table.specs.declared.limits.Limits.{Limits}
+use Rattle.drm_model.specs.Numbers.{is_among, least}
+use Rattle.drm_model.specs.Rows.{Rows, HoldRow, client_row, is_client, hold_row, is_hold, handles_of, is_open, free_handle}
+use Rattle.drm_model.specs.Masters.{is_owner, last_of, standing_in}
+use Rattle.drm_model.specs.Run.{places_left, rows_of, no_room}
+use Rattle.drm_model.proofs.Lists.{find-map, is_some-map, filter-map, map-map}
+use Rattle.drm_device.specs.declared.state.Client.{Client}
+use Rattle.drm_device.specs.declared.state.Hold.{Hold}
+use Rattle.drm_device.specs.declared.state.State.{State}
+use Rattle.drm_device.specs.declared.device.Device.TheInside.{Inside}
+use Rattle.drm_device.specs.Device.{history_of, IsDevice}
+use Rattle.drm_device.specs.Laws.{WellFormed}
+use Rattle.drm_device.specs.Refinement.{Represents, Stands, client_row_of, hold_row_of, is_same, standing_by}
+use Rattle.drm_device.proofs.Laws.{chain_flat}
+use Rattle.drm_device.proofs.Devices.{represented_count}
+use Rattle.drm_device.proofs.Runs.{rows_of-limits, rows_of-steps}
+
+pub client_row_is : (s : State) (w : Rows) → Represents s w → (c : ℕ) → client_row w c ≡ option_map client_row_of (find (λ (x : Client). x.number == c) s.clients.items)
+client_row_is s w h c = ap (find (is_client c)) h.clients ∙ find-map (is_client c) client_row_of s.clients.items
+
+pub is_open_is : (s : State) (w : Rows) → Represents s w → (c : ℕ) → is_open w c ≡ is_some (find (λ (x : Client). x.number == c) s.clients.items)
+is_open_is s w h c = ap is_some (client_row_is s w h c) ∙ is_some-map client_row_of _
+
+pub hold_row_is : (s : State) (w : Rows) → Represents s w → (c n : ℕ) → is_some (hold_row w c n) ≡ is_some (find (λ (x : Hold). (x.client == c) && (x.handle == n)) s.holds.items)
+hold_row_is s w h c n = ap (λ rows. is_some (find (is_hold c n) rows)) h.holds ∙ ap is_some (find-map (is_hold c n) hold_row_of s.holds.items) ∙ is_some-map hold_row_of _
+
+pub handles_are : (s : State) (w : Rows) → Represents s w → (c : ℕ) → handles_of w c ≡ map (λ (x : Hold). x.handle) (filter (λ (x : Hold). x.client == c) s.holds.items)
+handles_are s w h c =
+    ap (λ rows. map (λ (row : HoldRow). row.handle) (filter (λ (row : HoldRow). row.client == c) rows)) h.holds
+    ∙ ap (map (λ (row : HoldRow). row.handle)) (filter-map (λ (row : HoldRow). row.client == c) hold_row_of s.holds.items)
+    ∙ map-map (λ (row : HoldRow). row.handle) hold_row_of (filter (λ (x : Hold). x.client == c) s.holds.items)
+
+pub free_handle_is : (s : State) (limits : Limits) (b : ℕ) (w : Rows) → Stands s limits b w → (c : ℕ) →
+    free_handle w c ≡ least (is_among (map (λ (x : Hold). x.handle) (filter (λ (x : Hold). x.client == c) s.holds.items))) 1 limits.handles
+free_handle_is s limits b w h c = ap (λ hs. least (is_among hs) 1 w.limits.handles) (handles_are s w h.rows c) ∙ ap (λ (l : Limits). least (is_among (map (λ (x : Hold). x.handle) (filter (λ (x : Hold). x.client == c) s.holds.items))) 1 l.handles) h.limits_are
+
+-- without lessors a master owns itself
+owner_flat : (w : Rows) → WellFormed w → (device master : Option ℕ) → is_owner w.masters device master ≡ is_same device master
+owner_flat w h None master = refl
+owner_flat w h (Some device) None = refl
+owner_flat w h (Some device) (Some m) = ap (λ ms. device == last_of m ms) (chain_flat w.masters h.flat m)
+
+pub standing_is : (s : State) (w : Rows) → Represents s w → WellFormed w → (x : Client) → standing_in w (Some (client_row_of x)) ≡ standing_by s.device_master x
+standing_is s w h k x =
+    ap (λ b. record { root = x.root; render = x.render; authenticated = x.authenticated; current = x.is_master && b })
+    (owner_flat w k w.device_master x.master ∙ ap (λ device. is_same device x.master) h.device_master)
+
+not_less : (a b : ℕ) → nat_le b a ≡ not (nat_lt a b)
+not_less a b = grind (arith, nat_tests)
+
+places_are : (d : Inside) → places_left (rows_of (history_of d)) ≡ d.limits.journal - vec_len d.journal
+places_are d = ap (λ (l : Limits). l.journal - (rows_of (history_of d)).steps) (rows_of-limits (history_of d)) ∙ ap (λ n. d.limits.journal - n) (rows_of-steps (history_of d) ∙ sym d.journal.ok.0)
+
+pub room_to_open : (d : Inside) → IsDevice d → (opening : Opening) → nat_le (vec_len d.state.clients + 2) (d.limits.journal - vec_len d.journal) ≡ not (no_room (rows_of (history_of d)) (Open opening))
+unfolding no_room
+room_to_open d h opening = rw (places_are d, represented_count d.state (rows_of (history_of d)) h.rows) (not_less (d.limits.journal - vec_len d.journal) (vec_len d.state.clients + 2))
+
+pub room_to_ask : (d : Inside) → IsDevice d → (c : ℕ) (call : Call) → nat_le (vec_len d.state.clients + 1) (d.limits.journal - vec_len d.journal) ≡ not (no_room (rows_of (history_of d)) (Ask c call))
+unfolding no_room
+room_to_ask d h c call = rw (places_are d, represented_count d.state (rows_of (history_of d)) h.rows) (not_less (d.limits.journal - vec_len d.journal) (vec_len d.state.clients + 1))
+
+pub room_to_close_open : (d : Inside) → IsDevice d → (c : ℕ) → is_some (find (λ (x : Client). x.number == c) d.state.clients.items) ≡ true → true ≡ not (no_room (rows_of (history_of d)) (Close c))
+unfolding no_room
+room_to_close_open d h c e = rw (is_open_is d.state (rows_of (history_of d)) h.rows c, e) refl
+
+pub room_to_close : (d : Inside) → IsDevice d → (c : ℕ) → is_some (find (λ (x : Client). x.number == c) d.state.clients.items) ≡ false →
+    nat_le (vec_len d.state.clients + 1) (d.limits.journal - vec_len d.journal) ≡ not (no_room (rows_of (history_of d)) (Close c))
+unfolding no_room
+room_to_close d h c e =
+    rw (is_open_is d.state (rows_of (history_of d)) h.rows c, e, places_are d, represented_count d.state (rows_of (history_of d)) h.rows) (not_less (d.limits.journal - vec_len d.journal) (vec_len d.state.clients + 1))
+
+-- what is left beside the places of the closings
+pub journal_left_is : (d : Inside) → IsDevice d →
+    d.limits.journal - vec_len d.journal - vec_len d.state.clients + length d.journal.items + length (rows_of (history_of d)).clients ≡ d.limits.journal
+journal_left_is d h =
+    let count = represented_count d.state (rows_of (history_of d)) h.rows in omega (arith, h.places, d.journal.ok.0)

@@ -1,0 +1,187 @@
+-- The cases of an outcome.
+use Rattle.std.proofs.Common.{◌≡◌, ℕ, List, [], ◌∷◌, ◌++◌, None, Some, Ok, Err, refl, sym, ◌∙◌, ap, subst, cond, true, false, ◌<◌, ◌≤◌, length, map}
+use Rattle.std.specs.declared.alloc.AllocError.{AllocError}
+use Rattle.drm_table.specs.declared.answers.Answer.{Answer}
+use Rattle.drm_table.specs.declared.answers.Answer.TheVariants.{Denied}
+use Rattle.drm_table.specs.declared.calls.Call.{Call}
+use Rattle.drm_table.specs.declared.events.Event.{Event}
+use Rattle.drm_table.specs.declared.events.Event.TheVariants.{Open, Ask}
+use Rattle.drm_table.specs.declared.events.Opening.{Opening}
+use Rattle.drm_table.specs.declared.rules.Rule.{Rule}
+use Rattle.drm_table.specs.Permit.{Check, first_failing, permit_checks}
+use Rattle.drm_model.specs.Rows.{Rows, ClientRow, HoldRow, ObjectRow, client_row, has_client_room, has_object_room}
+use Rattle.drm_model.specs.Verdict.{verdict, checks, admission_checks, own_checks, is_known, is_laid_out}
+use Rattle.drm_model.specs.Clients.{opening_checks}
+use Rattle.drm_model.specs.Change.{after, after_verdict, changed, swept, noted}
+use Rattle.drm_model.specs.Reply.{reply, reply_by, answer_of}
+use Rattle.drm_model.specs.Run.{Growing, IsLonger}
+use Rattle.std.specs.Vec.{vec_len}
+use Rattle.std.specs.Global.{Vec}
+use Rattle.std.proofs.lemmas.Bool.{le-ltb, lt-ltb}
+use Rattle.drm_table.specs.declared.limits.Limits.{Limits}
+use Rattle.drm_model.specs.Masters.{standing_in}
+use Rattle.drm_table.specs.Table.{flags_of}
+use Rattle.drm_device.specs.declared.state.Hold.{Hold}
+use Rattle.drm_device.specs.declared.state.Object.{Object}
+use Rattle.drm_model.proofs.Lists.{filter_all, length-map, map-append}
+use Rattle.drm_device.specs.declared.state.Client.{Client}
+use Rattle.drm_device.specs.declared.state.State.{State}
+use Rattle.drm_device.specs.Laws.{WellFormed}
+use Rattle.drm_device.specs.Refinement.{Represents, Outcome, Stands, client_row_of, master_row_of, hold_row_of, object_row_of}
+
+pub represents_noted : (s : State) (w : Rows) → Represents s w → Represents s (noted w)
+represents_noted s w h = record {
+  clients = h.clients;
+  masters = h.masters;
+  holds = h.holds;
+  objects = h.objects;
+  device_master = h.device_master;
+  none_yet = record { magics = h.none_yet.magics; names = h.none_yet.names; tokens = h.none_yet.tokens; grants = h.none_yet.grants; framebuffers = h.none_yet.framebuffers; shown = h.none_yet.shown };
+}
+
+-- a denial
+pub denied : (s : State) (w : Rows) (event : Event) (rule : Rule) → verdict w event ≡ Some rule → Represents s w → Outcome w event (Ok (Denied rule)) s
+unfolding reply after
+denied s w event rule e h =
+    (ap (λ v. reply_by v w event) (sym e), subst (λ v. Represents s (after_verdict v w event)) (sym e) (represents_noted s w h))
+
+-- an event that is carried out
+pub carried : (s : State) (w : Rows) (event : Event) (answer : Answer) → verdict w event ≡ None → answer ≡ answer_of w event → Represents s (swept (changed w event)) → Outcome w event (Ok answer) s
+unfolding reply after
+carried s w event answer e a h =
+    (a ∙ ap (λ v. reply_by v w event) (sym e), subst (λ v. Represents s (after_verdict v w event)) (sym e) (represents_noted s (swept (changed w event)) h))
+
+-- want of memory
+pub refused : (s : State) (w : Rows) (event : Event) (error : AllocError) → verdict w event ≡ None → IsLonger w (changed w event) → Represents s w → Outcome w event (Err error) s
+unfolding Growing
+refused s w event error e l h = ((e, l), h)
+
+-- rows from which a sweep takes nothing
+pub unswept : (s : State) (w : Rows) → WellFormed w → Represents s w → Represents s (swept w)
+unfolding swept
+unswept s w k h = record {
+  clients = h.clients;
+  masters = filter_all _ w.masters k.living ∙ h.masters;
+  holds = h.holds;
+  objects = filter_all _ w.objects k.referred ∙ h.objects;
+  device_master = h.device_master;
+  none_yet = record { magics = h.none_yet.magics; names = filter_all _ w.names k.held ∙ h.none_yet.names; tokens = h.none_yet.tokens; grants = h.none_yet.grants; framebuffers = h.none_yet.framebuffers; shown = filter_all _ w.shown k.present ∙ h.none_yet.shown };
+}
+
+pub opening_verdict : (w : Rows) (opening : Opening) → verdict w (Open opening) ≡ first_failing (opening_checks w opening)
+unfolding verdict checks
+opening_verdict w opening = refl
+
+first_failing-append : (xs ys : List Check) → first_failing xs ≡ None → first_failing (xs ++ ys) ≡ first_failing ys
+first_failing-append [] ys h = refl
+first_failing-append (x ∷ xs) ys h =
+    (elim x.holds as (λ b. cond b (first_failing xs) (Some x.rule) ≡ None → cond b (first_failing (xs ++ ys)) (Some x.rule) ≡ first_failing ys)
+    [ true ↦ first_failing-append xs ys | false ↦ λ e. cc ]) h
+
+-- an admitted call is judged by its own rules
+pub call_verdict : (w : Rows) (c : ℕ) (call : Call) → first_failing (admission_checks w c call) ≡ None → verdict w (Ask c call) ≡ first_failing (own_checks w c call)
+unfolding verdict checks
+call_verdict w c call h = first_failing-append (admission_checks w c call) (own_checks w c call) h
+
+pub client_count : (s : State) (limits : Limits) (b : ℕ) (w : Rows) → Stands s limits b w → length w.clients ≡ vec_len s.clients
+client_count s limits b w h = ap length h.rows.clients ∙ length-map client_row_of s.clients.items ∙ sym s.clients.ok.0
+
+pub no_client_room : (s : State) (limits : Limits) (b : ℕ) (w : Rows) → Stands s limits b w → limits.clients ≤ vec_len s.clients → has_client_room w ≡ false
+no_client_room s limits b w h many =
+    rw (client_count s limits b w h, ap (λ (l : Limits). l.clients) h.limits_are) (le-ltb (vec_len s.clients) limits.clients many)
+
+pub client_room : (s : State) (limits : Limits) (b : ℕ) (w : Rows) → Stands s limits b w → vec_len s.clients < limits.clients → has_client_room w ≡ true
+client_room s limits b w h few =
+    rw (client_count s limits b w h, ap (λ (l : Limits). l.clients) h.limits_are) (lt-ltb (vec_len s.clients) limits.clients few)
+
+-- other storage for the same items
+pub same_clients : (s : State) (w : Rows) (v : Vec Client) → v.items ≡ s.clients.items → Represents s w → Represents (record s { clients = v }) w
+same_clients s w v e h = record {
+  clients = h.clients ∙ ap (map client_row_of) (sym e);
+  masters = h.masters;
+  holds = h.holds;
+  objects = h.objects;
+  device_master = h.device_master;
+  none_yet = h.none_yet;
+}
+
+-- one more client
+pub more_clients : (s : State) (w : Rows) (v : Vec Client) (x : Client) (row : ClientRow) → v.items ≡ s.clients.items ++ x ∷ [] → client_row_of x ≡ row → Represents s w → Represents (record s { clients = v }) (record w { clients = w.clients ++ row ∷ [] })
+more_clients s w v x row e r h = record {
+  clients = rw (h.clients, ← r, e) (sym (map-append client_row_of s.clients.items (x ∷ [])));
+  masters = h.masters;
+  holds = h.holds;
+  objects = h.objects;
+  device_master = h.device_master;
+  none_yet = record { magics = h.none_yet.magics; names = h.none_yet.names; tokens = h.none_yet.tokens; grants = h.none_yet.grants; framebuffers = h.none_yet.framebuffers; shown = h.none_yet.shown };
+}
+
+first_failing-front : (xs ys : List Check) (rule : Rule) → first_failing xs ≡ Some rule → first_failing (xs ++ ys) ≡ Some rule
+first_failing-front [] ys rule h = cc
+first_failing-front (x ∷ xs) ys rule h =
+    (elim x.holds as (λ b. cond b (first_failing xs) (Some x.rule) ≡ Some rule → cond b (first_failing (xs ++ ys)) (Some x.rule) ≡ Some rule)
+    [ true ↦ first_failing-front xs ys rule | false ↦ λ e. e ]) h
+
+-- a call that isn't admitted is denied for it
+pub unadmitted : (w : Rows) (c : ℕ) (call : Call) (rule : Rule) → first_failing (admission_checks w c call) ≡ Some rule → verdict w (Ask c call) ≡ Some rule
+unfolding verdict checks
+unadmitted w c call rule h = first_failing-front (admission_checks w c call) (own_checks w c call) rule h
+
+pub admitted_by_permit : (w : Rows) (c : ℕ) (call : Call) (row : ClientRow) → is_known call ≡ true → is_laid_out call ≡ true → client_row w c ≡ Some row →
+    first_failing (admission_checks w c call) ≡ first_failing (permit_checks (flags_of call) (standing_in w (Some row)))
+unfolding admission_checks
+admitted_by_permit w c call row k l o = rw (k, l, o) refl
+
+-- the lists with other storage, and with one more row
+pub same_masters : (s : State) (w : Rows) (v : Vec ℕ) → v.items ≡ s.masters.items → Represents s w → Represents (record s { masters = v }) w
+same_masters s w v e h = record {
+  clients = h.clients;
+  masters = h.masters ∙ ap (map master_row_of) (sym e);
+  holds = h.holds;
+  objects = h.objects;
+  device_master = h.device_master;
+  none_yet = h.none_yet;
+}
+
+pub same_objects : (s : State) (w : Rows) (v : Vec Object) → v.items ≡ s.objects.items → Represents s w → Represents (record s { objects = v }) w
+same_objects s w v e h = record {
+  clients = h.clients;
+  masters = h.masters;
+  holds = h.holds;
+  objects = h.objects ∙ ap (map object_row_of) (sym e);
+  device_master = h.device_master;
+  none_yet = h.none_yet;
+}
+
+pub same_holds : (s : State) (w : Rows) (v : Vec Hold) → v.items ≡ s.holds.items → Represents s w → Represents (record s { holds = v }) w
+same_holds s w v e h = record {
+  clients = h.clients;
+  masters = h.masters;
+  holds = h.holds ∙ ap (map hold_row_of) (sym e);
+  objects = h.objects;
+  device_master = h.device_master;
+  none_yet = h.none_yet;
+}
+
+pub more_held : (s : State) (w : Rows) (os : Vec Object) (hs : Vec Hold) (x : Object) (y : Hold) (row : ObjectRow) (hold : HoldRow) →
+    os.items ≡ s.objects.items ++ x ∷ [] → hs.items ≡ s.holds.items ++ y ∷ [] → object_row_of x ≡ row → hold_row_of y ≡ hold → Represents s w →
+    Represents (record s { objects = os; holds = hs }) (record w { objects = w.objects ++ row ∷ []; holds = w.holds ++ hold ∷ [] })
+more_held s w os hs x y row hold e f p q h = record {
+  clients = h.clients;
+  masters = h.masters;
+  holds = rw (h.holds, ← q, f) (sym (map-append hold_row_of s.holds.items (y ∷ [])));
+  objects = rw (h.objects, ← p, e) (sym (map-append object_row_of s.objects.items (x ∷ [])));
+  device_master = h.device_master;
+  none_yet = record { magics = h.none_yet.magics; names = h.none_yet.names; tokens = h.none_yet.tokens; grants = h.none_yet.grants; framebuffers = h.none_yet.framebuffers; shown = h.none_yet.shown };
+}
+
+object_count : (s : State) (w : Rows) → Represents s w → length w.objects ≡ vec_len s.objects
+object_count s w h = ap length h.objects ∙ length-map object_row_of s.objects.items ∙ sym s.objects.ok.0
+
+pub no_object_room : (s : State) (limits : Limits) (b : ℕ) (w : Rows) → Stands s limits b w → limits.objects ≤ vec_len s.objects → has_object_room w ≡ false
+no_object_room s limits b w h many =
+    rw (object_count s w h.rows, ap (λ (l : Limits). l.objects) h.limits_are) (le-ltb (vec_len s.objects) limits.objects many)
+
+pub object_room : (s : State) (limits : Limits) (b : ℕ) (w : Rows) → Stands s limits b w → vec_len s.objects < limits.objects → has_object_room w ≡ true
+object_room s limits b w h few =
+    rw (object_count s w h.rows, ap (λ (l : Limits). l.objects) h.limits_are) (lt-ltb (vec_len s.objects) limits.objects few)

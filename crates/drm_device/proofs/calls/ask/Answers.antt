@@ -1,0 +1,15 @@
+use Rattle.std.proofs.Common.{sym}
+use Rattle.drm_table.specs.declared.events.Event.TheVariants.{Ask}
+use Rattle.drm_device.specs.Refinement.{Owes, OwesCall, IsAdmission}
+use Rattle.drm_device.proofs.Outcomes.{denied, unadmitted}
+use Rattle.drm_device.proofs.calls.ask.Goals as goal
+
+pub returns-in-Some : goal.returns-in-Some
+unfolding Owes IsAdmission
+returns-in-Some c = λ w s.
+    denied c.args.state.now w (Ask c.args.client c.args.call.now) c.in-Some.rule
+    (unadmitted w c.args.client c.args.call.now c.in-Some.rule (sym (c.in-Some.ensures w s.rows s.well_formed))) s.rows
+
+pub returns : goal.returns
+unfolding Owes OwesCall IsAdmission
+returns c = λ w s. c.carry_out.ensures w s (sym (c.in_default.ensures w s.rows s.well_formed))

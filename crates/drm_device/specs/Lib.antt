@@ -1,0 +1,4 @@
+pub mod Laws
+pub mod Refinement
+pub mod Topologies
+pub mod Device

@@ -1,0 +1,96 @@
+-- Which rows the lists of the device stand for, and what the function of each event owes.
+use Rattle.std.specs.Prelude.{◌≡◌, ℕ, ◌+◌, ◌==◌, Bool, false, ◌&&◌, [], map, Option, None, Some, Result, Ok, Err}
+use Rattle.std.specs.declared.alloc.AllocError.{AllocError}
+use Rattle.drm_table.specs.declared.answers.Answer.{Answer}
+use Rattle.drm_table.specs.declared.calls.Call.{Call}
+use Rattle.drm_table.specs.declared.events.Event.{Event}
+use Rattle.drm_table.specs.declared.events.Event.TheVariants.{Ask}
+use Rattle.drm_table.specs.declared.limits.Limits.{Limits}
+use Rattle.drm_table.specs.declared.permits.Standing.{Standing}
+use Rattle.drm_table.specs.declared.rules.Rule.{Rule}
+use Rattle.drm_table.specs.Permit.{first_failing}
+use Rattle.drm_model.specs.Rows.{Rows, ClientRow, MasterRow, HoldRow, ObjectRow}
+use Rattle.drm_model.specs.Verdict.{admission_checks}
+use Rattle.drm_model.specs.Change.{after}
+use Rattle.drm_model.specs.Reply.{reply}
+use Rattle.drm_model.specs.Run.{Growing}
+use Rattle.drm_device.specs.declared.state.Client.{Client}
+use Rattle.drm_device.specs.declared.state.Hold.{Hold}
+use Rattle.drm_device.specs.declared.state.Object.{Object}
+use Rattle.drm_device.specs.declared.state.State.{State}
+use Rattle.drm_device.specs.Laws.{WellFormed}
+
+-- the row of an item
+
+abbrev pub client_row_of : Client → ClientRow
+client_row_of x = record {
+  client = x.number;
+  render = x.render;
+  root = x.root;
+  authenticated = x.authenticated;
+  once_master = x.once_master;
+  is_master = x.is_master;
+  master = x.master;
+}
+
+abbrev pub master_row_of : ℕ → MasterRow
+master_row_of m = record { master = m; lessor = None; lessee_id = 0; lease_token = None }
+
+abbrev pub hold_row_of : Hold → HoldRow
+hold_row_of x = record { client = x.client; handle = x.handle; object = x.object; place = None }
+
+abbrev pub object_row_of : Object → ObjectRow
+object_row_of x = record { object = x.number; size = x.size; stamp = x.stamp }
+
+-- the lists that no event makes longer yet
+pub record NoneYet (w : Rows) : Type 0 where
+  pub magics : w.magics ≡ []
+  pub names : w.names ≡ []
+  pub tokens : w.tokens ≡ []
+  pub grants : w.grants ≡ []
+  pub framebuffers : w.framebuffers ≡ []
+  pub shown : w.shown ≡ []
+
+-- the lists stand for the rows
+pub record Represents (s : State) (w : Rows) : Type 0 where
+  pub clients : w.clients ≡ map client_row_of s.clients.items
+  pub masters : w.masters ≡ map master_row_of s.masters.items
+  pub holds : w.holds ≡ map hold_row_of s.holds.items
+  pub objects : w.objects ≡ map object_row_of s.objects.items
+  pub device_master : w.device_master ≡ s.device_master
+  pub none_yet : NoneYet w
+
+-- the lists stand for w, where the next step has this number
+pub record Stands (s : State) (limits : Limits) (birth : ℕ) (w : Rows) : Type 0 where
+  pub rows : Represents s w
+  pub well_formed : WellFormed w
+  pub limits_are : w.limits ≡ limits
+  pub birth_is : w.steps + 1 ≡ birth
+
+-- the answer is the reply, and the lists stand for the rows after the event; or memory was refused, and they are as before
+abbrev pub Outcome : Rows → Event → Result Answer AllocError → State → Type 0
+Outcome w event (Ok answer) s = (answer ≡ reply w event) × Represents s (after w event)
+Outcome w event (Err e) s = Growing w event × Represents s w
+
+-- what the function of an event owes, whichever rows the lists stand for
+unfoldable pub Owes : State → Limits → ℕ → Event → Result Answer AllocError → State → Type 0
+Owes old limits birth event result new = (w : Rows) → Stands old limits birth w → Outcome w event result new
+
+-- the same for a call that is known, laid out, of an open client, and permitted
+unfoldable pub OwesCall : State → Limits → ℕ → ℕ → Call → Result Answer AllocError → State → Type 0
+OwesCall old limits birth c call result new =
+    (w : Rows) → Stands old limits birth w → first_failing (admission_checks w c call) ≡ None → Outcome w (Ask c call) result new
+
+-- the first rule of admission that fails, whichever rows the lists stand for
+unfoldable pub IsAdmission : State → ℕ → Call → Option Rule → Type 0
+IsAdmission s c call rule = (w : Rows) → Represents s w → WellFormed w → rule ≡ first_failing (admission_checks w c call)
+
+-- whether both are there and the same
+abbrev pub is_same : Option ℕ → Option ℕ → Bool
+is_same (Some device) (Some master) = device == master
+is_same (Some device) None = false
+is_same None master = false
+
+-- what the tests of a row's flags ask of a client, by the device's master
+abbrev pub standing_by : Option ℕ → Client → Standing
+standing_by device x = record { root = x.root; render = x.render; authenticated = x.authenticated; current = x.is_master && is_same device x.master }

@@ -1,0 +1,110 @@
+//! The calls: who may make one, and which function carries it out.
+
+ghost use Rattle.std.specs.Prelude.{◌≡◌, ◌≤◌};
+ghost use Rattle.drm_table.specs.declared.events.Event.TheVariants.{Ask};
+ghost use Rattle.drm_model.specs.Verdict as model;
+ghost use Rattle.drm_device.specs.Refinement.{Owes, OwesCall, IsAdmission, is_same, standing_by};
+
+use crate::buffers::{Pixels, create_dumb, gem_close};
+use crate::capabilities::version;
+use crate::clients::client_of;
+use crate::state::{Client, State};
+use drm_table::{Answer, Call, Limits, Rule, Standing, permit};
+use std::alloc::AllocError;
+
+/// A request of a client: denied if it isn't admitted, and else answered by the call's own function.
+pub fn ask(
+    state: &mut State,
+    limits: Limits,
+    birth: u32,
+    client: u32,
+    call: &Call,
+) -> Result<Answer, AllocError>
+    requires { limits.handles ≤ 65535 }
+    ensures { Owes state.old limits birth (Ask client call.now) result state.new }
+{
+    if let Some(rule) = admission(state, client, call) {
+        return Ok(Answer::Denied(rule));
+    }
+    carry_out(state, limits, birth, client, call)
+}
+
+/// The first rule that fails, of those that every call is tested for.
+fn admission(state: &State, client: u32, call: &Call) -> Option<Rule>
+    ensures { IsAdmission state.now client call.now result }
+{
+    if !is_known(call) {
+        return Some(Rule::Unknown);
+    }
+    if !is_laid_out(call) {
+        return Some(Rule::Layout);
+    }
+    match client_of(&state.clients, client) {
+        None => Some(Rule::NoClient),
+        Some(caller) => permit(call.flags(), standing_of(caller, state.device_master)),
+    }
+}
+
+/// Whether a row has the call's number.
+fn is_known(call: &Call) -> bool
+    ensures { result ≡ model.is_known call.now }
+{
+    !matches!(call, Call::Unknown(_))
+}
+
+/// Whether the call's fields are its row's.
+fn is_laid_out(call: &Call) -> bool
+    ensures { result ≡ model.is_laid_out call.now }
+{
+    !matches!(call, Call::BadLayout(_))
+}
+
+/// What the tests of a row's flags ask of the caller. No master has a lessor, so that each is its own owner.
+fn standing_of(caller: Client, device_master: Option<u32>) -> Standing
+    ensures { result ≡ standing_by device_master caller }
+{
+    Standing {
+        root: caller.root,
+        render: caller.render,
+        authenticated: caller.authenticated,
+        current: caller.is_master && is_device_master(device_master, caller.master),
+    }
+}
+
+/// Whether the master of a client is the device's.
+pub fn is_device_master(device: Option<u32>, master: Option<u32>) -> bool
+    ensures { result ≡ is_same device master }
+{
+    match (device, master) {
+        (Some(device), Some(master)) => device == master,
+        _ => false,
+    }
+}
+
+/// Answers a call that is admitted.
+fn carry_out(
+    state: &mut State,
+    limits: Limits,
+    birth: u32,
+    client: u32,
+    call: &Call,
+) -> Result<Answer, AllocError>
+    requires { limits.handles ≤ 65535 }
+    ensures { OwesCall state.old limits birth client call.now result state.new }
+{
+    match call {
+        // these two are never admitted
+        Call::Unknown(_) => Ok(Answer::Denied(Rule::Unknown)),
+        Call::BadLayout(_) => Ok(Answer::Denied(Rule::Layout)),
+        Call::Version => Ok(version()),
+        Call::GemClose { handle } => Ok(gem_close(state, client, *handle)),
+        Call::CreateDumb { width, height, bpp } => {
+            let pixels = Pixels {
+                width: *width,
+                height: *height,
+                bpp: *bpp,
+            };
+            create_dumb(state, limits, birth, client, pixels)
+        }
+    }
+}

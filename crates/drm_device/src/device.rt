@@ -1,0 +1,126 @@
+//! The device.
+
+ghost use Rattle.std.specs.Prelude.{◌≡◌, ◌+◌, ◌≤◌, ◌↔◌, false, not, [], length, Err, IfOk, OnOk, OnErr};
+ghost use Rattle.drm_table.specs.Limits.{are_in_range};
+ghost use Rattle.drm_model.specs.Run.{Step, FoundRoom, no_room, noted_in, rows_of, start_of};
+
+use crate::clients::client_of;
+use crate::events::advance;
+use crate::state::State;
+use crate::topologies::Topology;
+use drm_table::{Answer, Apart, Event, Limits, are_in_range};
+use std::alloc::Global;
+use std::marker::Model;
+
+/// A state machine over openings, requests and closings. Contracts see its topology, its limits and its journal, and as
+/// its rows those that the journal leaves of empty ones.
+#[derive(Drop)]
+pub struct Device {
+    topology: Topology,
+    limits: Limits,
+    journal: Vec<Event>,
+    state: State,
+}
+
+impl Model for Device {
+    ghost use Rattle.drm_model.specs.Run.{History};
+
+    ghost Value = { History };
+
+    ghost use Rattle.drm_device.specs.Device.{history_of, IsDevice};
+
+    ghost view = { history_of };
+
+    ghost invariant = { IsDevice };
+}
+
+/// Why there is no device.
+#[derive(Clone, Copy, PartialEq, Eq, Debug)]
+pub enum NewFault {
+    /// A limit is out of its range.
+    BadLimits,
+    /// Memory for the journal was refused.
+    NoMemory,
+}
+
+impl Device {
+    /// A device that nobody has opened yet. The whole journal is reserved. Without memory, or where a limit is out of
+    /// its range, there is no device.
+    pub fn new(alloc: Global, topology: Topology, limits: Limits) -> Result<Device, NewFault>
+        ensures ok { IfOk result (λ device. device ≡ record { topology = topology; limits = limits; journal = [] }) }
+        ensures bad_limits { (result ≡ Err NewFault.BadLimits) ↔ (are_in_range limits ≡ false) }
+    {
+        if !are_in_range(limits) {
+            return Err(NewFault::BadLimits);
+        }
+        let Ok(journal) = Vec::with_capacity(alloc, limits.journal as usize) else {
+            return Err(NewFault::NoMemory);
+        };
+        Ok(Device {
+            topology,
+            limits,
+            journal,
+            state: State {
+                clients: Vec::new(alloc),
+                masters: Vec::new(alloc),
+                holds: Vec::new(alloc),
+                objects: Vec::new(alloc),
+                device_master: None,
+            },
+        })
+    }
+
+    /// Answers one event. A denial is an answer: it names the first rule that fails, and is noted. What stands apart, a
+    /// full journal (own) and want of memory, leaves the device as it was and isn't noted.
+    pub fn step(&mut self, event: Event) -> Result<Answer, Apart>
+        ensures step { Step (rows_of self.old) event result (rows_of self.new) }
+        ensures ok { OnOk result (self.new ≡ noted_in self.old event) }
+        ensures err { OnErr result (self.new ≡ self.old) }
+        ensures within { length self.new.journal ≤ self.new.limits.journal }
+        ensures bounded { self.new.limits.journal ≤ 100000 }
+    {
+        if !self.has_room(&event) {
+            return Err(Apart::JournalFull);
+        }
+        let birth = self.journal.len() as u32 + 1;
+        match advance(&mut self.state, self.limits, birth, &event) {
+            Ok(answer) => {
+                self.journal.push_reserved(event);
+                Ok(answer)
+            }
+            Err(_) => Err(Apart::NoMemory),
+        }
+    }
+
+    /// Whether the journal has a place for the event beside those kept for closings.
+    fn has_room(&self, event: &Event) -> bool
+        ensures { result ≡ not (no_room (rows_of self.now) event.now) }
+    {
+        let left = self.limits.journal as usize - self.journal.len();
+        let clients = self.state.clients.len();
+        match event {
+            Event::Open(_) => left >= clients + 2,
+            Event::Ask(_, _) => left >= clients + 1,
+            Event::Close(client) => {
+                client_of(&self.state.clients, *client).is_some() || left >= clients + 1
+            }
+        }
+    }
+
+    /// The events that were carried out or denied, the oldest first.
+    pub fn journal(&self) -> &[Event]
+        ensures events { result.now ≡ self.now.journal }
+        ensures found_room { FoundRoom (start_of self.now) self.now.journal }
+        ensures within { length self.now.journal ≤ self.now.limits.journal }
+        ensures bounded { self.now.limits.journal ≤ 100000 }
+    {
+        &self.journal
+    }
+
+    /// How many places the journal has left beside those kept for the closings of the open clients.
+    pub fn journal_left(&self) -> u32
+        ensures left { result + length self.now.journal + length (rows_of self.now).clients ≡ self.now.limits.journal }
+    {
+        self.limits.journal - self.journal.len() as u32 - self.state.clients.len() as u32
+    }
+}

@@ -1,0 +1,22 @@
+//! The device: a state machine over openings, requests and closings.
+#![tactic(auto)]
+
+mod buffers;
+mod calls;
+mod capabilities;
+mod clients;
+mod closings;
+mod device;
+mod events;
+mod openings;
+mod state;
+mod theorems;
+mod topologies;
+
+pub use device::{Device, NewFault};
+pub use drm_table::Limits;
+pub use theorems::rows_follow_the_journal;
+pub use topologies::Topology;
+
+#[cfg(test)]
+mod tests;

@@ -1,0 +1,240 @@
+ghost use Rattle.std.specs.Prelude.{◌≤◌};
+
+use crate::{Device, Limits, NewFault, Topology};
+use drm_table::{Answer, Apart, Call, Event, Opening, Rule};
+use std::process::Abort;
+use std::test::Fail;
+
+const CARD: Event = Event::Open(Opening::Primary { root: false });
+
+const RENDER: Event = Event::Open(Opening::Render);
+
+const VERSION: Answer = Answer::Version {
+    major: 1,
+    minor: 0,
+    patch: 0,
+};
+
+const fn version(client: u32) -> Event {
+    Event::Ask(client, Call::Version)
+}
+
+const fn create_dumb(client: u32, width: u32, height: u32, bpp: u32) -> Event {
+    Event::Ask(client, Call::CreateDumb { width, height, bpp })
+}
+
+const fn gem_close(client: u32, handle: u32) -> Event {
+    Event::Ask(client, Call::GemClose { handle })
+}
+
+const fn dumb(handle: u32, pitch: u32, size: u64) -> Result<Answer, Apart> {
+    Ok(Answer::Dumb {
+        handle,
+        pitch,
+        size,
+    })
+}
+
+const fn denied(rule: Rule) -> Result<Answer, Apart> {
+    Ok(Answer::Denied(rule))
+}
+
+/// Two CRTCs, a plane and a connector for each, and two encoders, of which the first may drive both.
+fn test_topology() -> Option<Topology> {
+    Topology::new(2, &[1, 2], &[3, 2], &[5, 6])
+}
+
+fn device(rt: &HostRuntime, limits: Limits) -> Result<Device, Fail> {
+    let topology = test_topology().ok_or("no topology")?;
+    Ok(Device::new(rt.alloc(), topology, limits)?)
+}
+
+/// Steps through the events, in order, and compares each answer.
+fn answers<const N: usize>(
+    rt: &impl Abort,
+    device: &mut Device,
+    rows: [(Event, Result<Answer, Apart>); N],
+)
+    requires { N ≤ 100 }
+{
+    for (event, answer) in rows {
+        let given = device.step(event);
+        assert_eq!(rt; given, answer);
+    }
+}
+
+#[test]
+fn buffer_is_made_and_closed(rt: HostRuntime) -> Result<(), Fail> {
+    let mut device = device(&rt, Limits::PROGRAM)?;
+    let rows = [
+        (CARD, Ok(Answer::Opened { client: 1 })),
+        (version(1), Ok(VERSION)),
+        (create_dumb(1, 64, 64, 32), dumb(1, 256, 16384)),
+        (gem_close(1, 1), Ok(Answer::Done)),
+        (gem_close(1, 1), denied(Rule::NoHandleToClose)),
+        (Event::Close(1), Ok(Answer::Closed)),
+    ];
+    answers(&rt, &mut device, rows);
+    assert_eq!(&rt; device.journal().len(), 6);
+    assert_eq!(&rt; device.journal_left(), 99_994);
+    Ok(())
+}
+
+#[test]
+fn dumb_shapes(rt: HostRuntime) -> Result<(), Fail> {
+    let mut device = device(&rt, Limits::PROGRAM)?;
+    let rows = [
+        (CARD, Ok(Answer::Opened { client: 1 })),
+        (create_dumb(1, 1, 1, 32), dumb(1, 64, 4096)),
+        (create_dumb(1, 0, 1, 32), denied(Rule::BadSize)),
+        (
+            create_dumb(1, 65_535, 65_535, 64),
+            dumb(2, 524_288, 34_359_214_080),
+        ),
+        (create_dumb(1, 65_536, 1, 32), denied(Rule::BadSize)),
+    ];
+    answers(&rt, &mut device, rows);
+    Ok(())
+}
+
+#[test]
+fn full_journal(rt: HostRuntime) -> Result<(), Fail> {
+    let limits = Limits {
+        clients: 2,
+        handles: 8,
+        names: 8,
+        tokens: 8,
+        objects: 8,
+        framebuffers: 4,
+        lessees: 4,
+        journal: 6,
+    };
+    let mut device = device(&rt, limits)?;
+    let rows = [
+        (CARD, Ok(Answer::Opened { client: 1 })),
+        (RENDER, Ok(Answer::Opened { client: 2 })),
+        (version(1), Ok(VERSION)),
+        (version(2), Ok(VERSION)),
+        (version(1), Err(Apart::JournalFull)),
+        (RENDER, Err(Apart::JournalFull)),
+        (Event::Close(2), Ok(Answer::Closed)),
+        (Event::Close(1), Ok(Answer::Closed)),
+        (Event::Close(1), Err(Apart::JournalFull)),
+    ];
+    answers(&rt, &mut device, rows);
+    assert_eq!(&rt; device.journal().len(), 6);
+    assert_eq!(&rt; device.journal_left(), 0);
+    Ok(())
+}
+
+#[test]
+fn render_and_lease_openings(rt: HostRuntime) -> Result<(), Fail> {
+    let mut device = device(&rt, Limits::PROGRAM)?;
+    let lease = Event::Open(Opening::Lease {
+        token: 1,
+        root: false,
+    });
+    let rows = [
+        (CARD, Ok(Answer::Opened { client: 1 })),
+        (RENDER, Ok(Answer::Opened { client: 2 })),
+        (create_dumb(2, 1, 1, 32), denied(Rule::RenderAllow)),
+        (lease, denied(Rule::NoLeaseToken)),
+        (version(0), denied(Rule::NoClient)),
+        (Event::Close(2), Ok(Answer::Closed)),
+        (version(2), denied(Rule::NoClient)),
+    ];
+    answers(&rt, &mut device, rows);
+    Ok(())
+}
+
+#[test]
+fn unknown_calls_and_clients(rt: HostRuntime) -> Result<(), Fail> {
+    let mut device = device(&rt, Limits::PROGRAM)?;
+    let rows = [
+        (CARD, Ok(Answer::Opened { client: 1 })),
+        (Event::Ask(1, Call::Unknown(65_535)), denied(Rule::Unknown)),
+        (Event::Ask(1, Call::BadLayout(0)), denied(Rule::Layout)),
+        (version(0), denied(Rule::NoClient)),
+    ];
+    answers(&rt, &mut device, rows);
+    Ok(())
+}
+
+#[test]
+fn handles_are_limited(rt: HostRuntime) -> Result<(), Fail> {
+    let limits = Limits {
+        clients: 2,
+        handles: 2,
+        names: 1,
+        tokens: 8,
+        objects: 8,
+        framebuffers: 4,
+        lessees: 4,
+        journal: 40,
+    };
+    let mut device = device(&rt, limits)?;
+    let rows = [
+        (CARD, Ok(Answer::Opened { client: 1 })),
+        (create_dumb(1, 1, 1, 8), dumb(1, 64, 4096)),
+        (create_dumb(1, 1, 1, 8), dumb(2, 64, 4096)),
+        (create_dumb(1, 1, 1, 8), denied(Rule::Full)),
+    ];
+    answers(&rt, &mut device, rows);
+    Ok(())
+}
+
+/// Whether a device is refused for its limits, which stand in the order of the fields.
+fn are_bad(rt: &HostRuntime, limits: [u32; 8]) -> Result<bool, Fail> {
+    let topology = test_topology().ok_or("no topology")?;
+    let limits = Limits {
+        clients: limits[0],
+        handles: limits[1],
+        names: limits[2],
+        tokens: limits[3],
+        objects: limits[4],
+        framebuffers: limits[5],
+        lessees: limits[6],
+        journal: limits[7],
+    };
+    let made = Device::new(rt.alloc(), topology, limits);
+    Ok(matches!(made, Err(NewFault::BadLimits)))
+}
+
+#[test]
+fn limits_out_of_range(rt: HostRuntime) -> Result<(), Fail> {
+    let least = [1, 1, 1, 1, 1, 1, 1, 2];
+    let greatest = [1024, 65_535, 65_535, 65_535, 65_535, 64, 64, 100_000];
+    assert!(&rt; !are_bad(&rt, least)?);
+    assert!(&rt; !are_bad(&rt, greatest)?);
+    for place in 0..8 {
+        let mut below = least;
+        below[place] = below[place].saturating_sub(1);
+        assert!(&rt; are_bad(&rt, below)?, "{below:?}");
+        let mut above = greatest;
+        above[place] = above[place].saturating_add(1);
+        assert!(&rt; are_bad(&rt, above)?, "{above:?}");
+    }
+    Ok(())
+}
+
+#[test]
+fn topologies(rt: HostRuntime) {
+    let none = [0; 57];
+    assert!(&rt; test_topology().is_some());
+    assert!(&rt; Topology::new(8, &none[..56], &[], &[]).is_some());
+    assert!(&rt; Topology::new(8, &none, &[], &[]).is_none(), "65 objects");
+    assert!(&rt; Topology::new(0, &[], &[], &[]).is_none(), "no CRTC");
+    assert!(&rt; Topology::new(9, &[], &[], &[]).is_none(), "9 CRTCs");
+    assert!(&rt;
+        Topology::new(2, &[4], &[], &[]).is_none(),
+        "a plane of CRTC 3"
+    );
+    assert!(&rt;
+        Topology::new(2, &[], &[4], &[]).is_none(),
+        "an encoder of CRTC 3"
+    );
+    for encoder in [4, 7] {
+        let made = Topology::new(2, &[1, 2], &[3, 2], &[encoder]);
+        assert!(&rt; made.is_none(), "a connector of encoder {encoder}");
+    }
+}

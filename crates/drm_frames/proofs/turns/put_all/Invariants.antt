@@ -1,0 +1,10 @@
+use Rattle.drm_frames.proofs.PutSoFar.{PutSoFar}
+use Rattle.drm_frames.proofs.turns.put_all.Given as goal
+
+abbrev pub invariant-pieces : goal.invariant-pieces
+invariant-pieces g l =
+    let account = g.K.Sink.account in
+    PutSoFar (account l.fn.sink) (account l.sink) l.fn.text l.rest l.fn.turns l.turns l.interruptions
+
+abbrev pub decreases-pieces : goal.decreases-pieces
+decreases-pieces g l = l.turns

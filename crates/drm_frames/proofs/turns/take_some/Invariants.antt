@@ -1,0 +1,12 @@
+use Rattle.std.proofs.Common.{◌≡◌, [], ◌+◌}
+use Rattle.drm_frames.specs.Turns.{Spends}
+use Rattle.drm_frames.proofs.turns.take_some.Given as goal
+
+abbrev pub invariant-tries : goal.invariant-tries
+invariant-tries g l =
+    let account = g.S.Source.account in
+    record {
+      spent : Spends (account l.fn.source) (account l.source) [] l.fn.turns l.turns;
+      called : (account l.source).counts.calls ≡ (account l.fn.source).counts.calls + l.counter;
+      interrupted : (account l.source).counts.faults ≡ (account l.fn.source).counts.faults + l.counter;
+    }

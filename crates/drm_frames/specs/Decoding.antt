@@ -1,0 +1,16 @@
+-- What stands at the front of bytes (own).
+use Rattle.std.specs.Prelude.{◌≡◌, ℕ, ◌≤◌, List, length, take}
+use Rattle.drm_frames.specs.Grammar.{Packet, frame_text, IsPacket, IsTooLong, IsPart}
+use Rattle.drm_frames.specs.declared.decoding.Decoded.{Decoded}
+use Rattle.drm_frames.specs.declared.decoding.Decoded.TheVariants.{Whole, NeedMore, TooLong}
+
+-- The frame stands in the first `used` bytes.
+pub record StandsAtFront (bytes : List ℕ) (f : Packet) (used : ℕ) : Type 0 where
+  pub within : used ≤ length bytes
+  pub text : take used bytes ≡ frame_text f
+  pub fits : IsPacket f
+
+abbrev pub Decodes : List ℕ → Decoded → Type 0
+Decodes bytes (Whole f used) = StandsAtFront bytes f used
+Decodes bytes NeedMore = IsPart bytes
+Decodes bytes TooLong = IsTooLong bytes

@@ -1,0 +1,49 @@
+-- Which frames are hellos (own).
+use Rattle.std.specs.Prelude.{◌≡◌, ℕ, ◌<◌, ◌^◌, ◌&&◌, if◌then◌else◌, nat_eq, List, ◌++◌, length, drop, Option, Some, None}
+use Rattle.drm_frames.specs.declared.hello.Hello.{Hello}
+use Rattle.drm_frames.specs.Number.{u32, u32_in}
+use Rattle.drm_frames.specs.Grammar.{Packet, packet, frame_text}
+
+-- a hello of the one version that there is
+abbrev pub first_version : Option ℕ → Hello
+first_version lease = record { version = 1; lease = lease }
+
+-- ---- the grammar: the version, 0 for a node or 1 for a lease, and the token, which is 0 for a node
+
+abbrev pub hello_fields : Option ℕ → List ℕ
+hello_fields None = u32 1 ++ u32 0 ++ u32 0
+hello_fields (Some token) = u32 1 ++ u32 1 ++ u32 token
+
+abbrev pub hello_packet : Option ℕ → Packet
+hello_packet lease = packet 0x0100 (hello_fields lease)
+
+abbrev pub IsToken : Option ℕ → Type 0
+IsToken None = Unit {0}
+IsToken (Some token) = token < 2 ^ 32
+
+abbrev pub IsHello : Packet → Hello → Type 0
+IsHello f hello = (hello.version ≡ 1) × IsToken hello.lease × (f ≡ hello_packet hello.lease)
+
+-- Every frame is one hello or none.
+abbrev pub Greets : Packet → Option Hello → Type 0
+Greets f None = (hello : Hello) → IsHello f hello → ⊥
+Greets f (Some hello) = IsHello f hello
+
+-- the bytes of a hello
+unfoldable pub hello_text : Hello → List ℕ
+hello_text hello = frame_text (hello_packet hello.lease)
+
+-- ---- the same as a function
+
+-- what the second and the third number say
+abbrev pub lease_in : ℕ → ℕ → Option Hello
+lease_in what token =
+    if nat_eq what 0 && nat_eq token 0 then Some (first_version None)
+    else if nat_eq what 1 then Some (first_version (Some token))
+    else None
+
+unfoldable pub hello_in : Packet → Option Hello
+hello_in f =
+    if nat_eq f.number 0x0100 && nat_eq (length f.fields) 12 && nat_eq (u32_in f.fields) 1
+    then lease_in (u32_in (drop 4 f.fields)) (u32_in (drop 8 f.fields))
+    else None

@@ -1,0 +1,52 @@
+-- What a frame asks (own; the numbers and fields are those of drm-uapi).
+use Rattle.std.specs.Prelude.{◌≡◌, ℕ, ◌^◌, ◌<◌, ◌⊎◌, if◌then◌else◌, nat_eq, List, [], ◌++◌, drop, Option, Some, None}
+use Rattle.drm_table.specs.declared.calls.Call.{Call}
+use Rattle.drm_table.specs.declared.calls.Call.TheVariants.{Unknown, BadLayout, Version, GemClose, CreateDumb}
+use Rattle.drm_frames.specs.Number.{u32, u32_in}
+use Rattle.drm_frames.specs.Grammar.{Packet, IsPacket, frame_text, if_size}
+
+-- ---- the grammar: which frames ask a row's call
+
+abbrev pub IsRowCall : Call → Packet → Type 0
+IsRowCall Version f = (f.number ≡ 0x00) × (f.fields ≡ [])
+IsRowCall (GemClose handle) f = (f.number ≡ 0x09) × (handle < 2 ^ 32) × (f.fields ≡ u32 handle)
+IsRowCall (CreateDumb width height bpp) f =
+    (f.number ≡ 0xB2) × (width < 2 ^ 32) × (height < 2 ^ 32) × (bpp < 2 ^ 32) × (f.fields ≡ u32 width ++ u32 height ++ u32 bpp)
+IsRowCall (Unknown n) f = ⊥
+IsRowCall (BadLayout n) f = ⊥
+
+-- the numbers of the table
+abbrev pub HasRow : ℕ → Type 0
+HasRow n = (n ≡ 0x00) ⊎ (n ≡ 0x09) ⊎ (n ≡ 0xB2)
+
+-- Every frame asks something: a row's call, a number without a row, or a row's number with other fields.
+abbrev pub Asks : Packet → Call → Type 0
+Asks f (Unknown n) = (n ≡ f.number) × (HasRow n → ⊥)
+Asks f (BadLayout n) = (n ≡ f.number) × HasRow n × ((call : Call) → IsRowCall call f → ⊥)
+Asks f call = IsRowCall call f
+
+-- a row's call, and so one that a frame can ask
+abbrev pub IsOfRow : Call → Type 0
+IsOfRow (Unknown n) = ⊥
+IsOfRow (BadLayout n) = ⊥
+IsOfRow call = Unit {0}
+
+-- The text is that of a frame that asks the call.
+pub record WritesCall (call : Call) (text : List ℕ) : Type 0 where
+  pub frame : Packet
+  pub asks : IsRowCall call frame
+  pub fits : IsPacket frame
+  pub whole : text ≡ frame_text frame
+
+-- ---- the same as a function, for the layers above
+
+abbrev pub or_bad : ℕ → Option Call → Call
+or_bad n None = BadLayout n
+or_bad n (Some call) = call
+
+unfoldable pub request_of : Packet → Call
+request_of f =
+    if nat_eq f.number 0x00 then or_bad f.number (if_size 0 f.fields Version)
+    else if nat_eq f.number 0x09 then or_bad f.number (if_size 4 f.fields (GemClose (u32_in f.fields)))
+    else if nat_eq f.number 0xB2 then or_bad f.number (if_size 12 f.fields (CreateDumb (u32_in f.fields) (u32_in (drop 4 f.fields)) (u32_in (drop 8 f.fields))))
+    else Unknown f.number

@@ -1,0 +1,67 @@
+-- What a source and a sink tell of their bytes and their calls, and what one call does to it.
+use Rattle.std.specs.Prelude.{ℕ, ◌+◌, ◌<◌, ◌≤◌, List, [], ◌∷◌, length, take, Option, zero, suc}
+use Rattle.std.specs.Io.KnownBytes.{Keeps, Appends, Consumes, IsAtEnd}
+use Rattle.drm_frames.specs.declared.source.Taken.{Taken}
+use Rattle.drm_frames.specs.declared.source.Taken.TheVariants as taken
+use Rattle.drm_frames.specs.declared.sink.Put.{Put}
+use Rattle.drm_frames.specs.declared.sink.Put.TheVariants as put
+
+-- how many calls were made, and how many of them answered an end or a fault
+pub record Counts : Type 0 where
+  pub calls : ℕ
+  pub ends : ℕ
+  pub faults : ℕ
+
+-- what a source tells: the bytes still to come, where it knows them (a socket doesn't), and its counts
+pub record SourceAccount : Type 0 where
+  pub left : Option (List ℕ)
+  pub counts : Counts
+
+-- what a sink tells: the bytes given to it so far, where it knows them (a socket doesn't), and its counts
+pub record SinkAccount : Type 0 where
+  pub written : Option (List ℕ)
+  pub counts : Counts
+
+-- ---- the counts after one call
+
+abbrev pub no_calls : Counts
+no_calls = record { calls = 0; ends = 0; faults = 0 }
+
+abbrev pub one_call : Counts → Counts
+one_call c = record c { calls = c.calls + 1 }
+
+abbrev pub one_end : Counts → Counts
+one_end c = record c { calls = c.calls + 1; ends = c.ends + 1 }
+
+abbrev pub one_fault : Counts → Counts
+one_fault c = record c { calls = c.calls + 1; faults = c.faults + 1 }
+
+-- An interruption counts as a fault.
+abbrev pub counts_taken : Taken → Counts → Counts
+counts_taken (taken.Got n) c = one_call c
+counts_taken taken.End c = one_end c
+counts_taken taken.Interrupted c = one_fault c
+counts_taken taken.Fault c = one_fault c
+
+-- An interruption counts as a fault, and so does taking no byte of a text that has some.
+abbrev pub counts_put : Put → List ℕ → Counts → Counts
+counts_put (put.Took n) [] c = one_call c
+counts_put (put.Took zero) (b ∷ text) c = one_fault c
+counts_put (put.Took (suc n)) (b ∷ text) c = one_call c
+counts_put put.Interrupted text c = one_fault c
+counts_put put.Fault text c = one_fault c
+
+-- ---- the bytes of one call
+
+-- What a `take` gave: `old` and `new` are the bytes still to come, and the buffer is as the call left it.
+abbrev pub TakeGives : Taken → Option (List ℕ) → Option (List ℕ) → List ℕ → Type 0
+TakeGives (taken.Got n) old new buffer = (0 < n) × (n ≤ length buffer) × Consumes old new (take n buffer)
+TakeGives taken.End old new buffer = Keeps old new × IsAtEnd new
+TakeGives taken.Interrupted old new buffer = Keeps old new
+TakeGives taken.Fault old new buffer = Keeps old new
+
+-- What a `put` did: `old` and `new` are the bytes given to the sink so far.
+abbrev pub PutGives : Put → Option (List ℕ) → Option (List ℕ) → List ℕ → Type 0
+PutGives (put.Took n) old new text = (n ≤ length text) × Appends old new (take n text)
+PutGives put.Interrupted old new text = Keeps old new
+PutGives put.Fault old new text = Keeps old new

@@ -1,0 +1,69 @@
+//! What a result is as a frame.
+ghost use Rattle.std.specs.Prelude.{◌≡◌, ◌<◌, ◌≤◌, [], length};
+ghost use Rattle.drm_frames.specs.Answers.{answer_packet, answer_text};
+ghost use Rattle.drm_frames.specs.Grammar.{packet};
+
+use crate::text::{FrameBytes, framed};
+use drm_table::{Answer, Apart};
+
+// Writes the fields of a result, and gives its number.
+fn push_answer(fields: &mut FrameBytes, outcome: &Result<Answer, Apart>) -> u16
+    requires { fields.old ≡ [] }
+    ensures text { packet result fields.new ≡ answer_packet outcome.now }
+    ensures length { length fields.new ≤ 1022 }
+{
+    match outcome {
+        Ok(Answer::Done) => 0x1000,
+        Ok(Answer::Opened { client }) => {
+            fields.push_u32(*client);
+            0x1001
+        }
+        Ok(
+            Answer::Version {
+                major,
+                minor,
+                patch,
+            },
+        ) => {
+            fields.push_u32(*major);
+            fields.push_u32(*minor);
+            fields.push_u32(*patch);
+            0x1002
+        }
+        Ok(
+            Answer::Dumb {
+                handle,
+                pitch,
+                size,
+            },
+        ) => {
+            fields.push_u32(*handle);
+            fields.push_u32(*pitch);
+            fields.push_u64(*size);
+            0x1004
+        }
+        Ok(Answer::Closed) => 0x100C,
+        Ok(Answer::Denied(rule)) => {
+            fields.push_u32(rule.number());
+            fields.push_u32(rule.errno());
+            0x2000
+        }
+        Err(apart) => {
+            fields.push_u32(apart.number());
+            fields.push_u32(apart.errno());
+            0x2001
+        }
+    }
+}
+
+/// The bytes of a result's frame (own).
+#[tactic(auto, unfolding(crate::specs::Answers::answer_text))]
+pub fn encode_answer(outcome: &Result<Answer, Apart>) -> FrameBytes
+    ensures text { result ≡ answer_text outcome.now }
+    ensures some { 0 < length result }
+    ensures short { length result ≤ 1028 }
+{
+    let mut fields = FrameBytes::new();
+    let number = push_answer(&mut fields, outcome);
+    framed(number, fields.as_slice())
+}

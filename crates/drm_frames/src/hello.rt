@@ -1,0 +1,41 @@
+//! The first frame of a session.
+ghost use Rattle.std.specs.Prelude.{◌≡◌};
+ghost use Rattle.drm_frames.specs.Hellos.{hello_in};
+
+use crate::frame::Frame;
+use crate::number::u32_in;
+
+/// What a client is that connects (own).
+#[derive(Clone, Copy, Debug, PartialEq, Eq)]
+pub struct Hello {
+    /// The version that the client speaks: 1.
+    pub version: u32,
+    /// The lease token that it shows; none for the node itself.
+    pub lease: Option<u32>,
+}
+
+/// The hello that the frame is. `None` where its number, its version or its fields are those of no
+/// hello, as those of a node with a token other than 0 (own).
+#[tactic(auto, unfolding(crate::specs::Hellos::hello_in))]
+pub fn hello_of(frame: &Frame) -> Option<Hello>
+    ensures { result ≡ hello_in frame.now }
+{
+    let fields = frame.fields();
+    if frame.number() != 0x0100 || fields.len() != 12 {
+        return None;
+    }
+    let (_, after_version) = fields.split_at(4);
+    let (_, after_what) = fields.split_at(8);
+    let token = u32_in(after_what);
+    match (u32_in(fields), u32_in(after_version)) {
+        (1, 0) if token == 0 => Some(Hello {
+            version: 1,
+            lease: None,
+        }),
+        (1, 1) => Some(Hello {
+            version: 1,
+            lease: Some(token),
+        }),
+        _ => None,
+    }
+}

@@ -1,0 +1,110 @@
+//! Where bytes go to.
+ghost use Rattle.std.specs.Prelude.{◌≡◌, ◌-◌, ◌^◌, ◌<◌};
+ghost use Rattle.drm_frames.specs.Streams.{SinkAccount, PutGives, counts_put, no_calls};
+
+use std::io::{ErrorKind, Write};
+use std::marker::Model;
+
+/// What one call of `put` did with its text.
+#[derive(Clone, Copy, Debug, PartialEq, Eq)]
+pub enum Put {
+    /// It took so many bytes from the front.
+    Took(usize),
+    /// It took no byte this time; a later call may take some (`EINTR` of write(2)).
+    Interrupted,
+    /// It took no byte: the sink failed.
+    Fault,
+}
+
+/// A sink of bytes that counts what it was asked.
+pub trait Sink {
+    /// The bytes that it was given so far, where the sink knows them, and the counts of its calls.
+    ghost account: { Self → SinkAccount };
+
+    /// How many calls of `put` were made.
+    fn calls(&self) -> u64
+        ensures { result ≡ (account self.now).counts.calls };
+
+    /// Puts bytes from the front of the text, which may be empty.
+    ///
+    /// An interruption counts as a fault, and so does taking no byte of a text that has some.
+    /// Only `Took` adds bytes to those given so far.
+    fn put(&mut self, text: &[u8]) -> Put
+        requires countable { (account self.old).counts.calls < 2 ^ 64 - 1 }
+        ensures gives { PutGives result (account self.old).written (account self.new).written
+            text.now }
+        ensures counts { (account self.new).counts
+            ≡ counts_put result text.now (account self.old).counts };
+}
+
+/// A sink that writes to a writer.
+#[derive(Drop)]
+pub struct ToWrite<W: Write> {
+    writer: W,
+    calls: u64,
+    faults: u64,
+}
+
+impl<W: Write> Model for ToWrite<W> {
+    ghost use Rattle.std.specs.Prelude.{◌≤◌};
+    ghost use Rattle.drm_frames.specs.Streams.{SinkAccount};
+
+    ghost Value = { SinkAccount };
+
+    ghost view = { λ s. record {
+      written = W.contents s.writer;
+      counts = record { calls = s.calls; ends = 0; faults = s.faults };
+    } };
+
+    ghost invariant = { λ s. s.faults ≤ s.calls };
+}
+
+impl<W: Write> ToWrite<W> {
+    /// A sink behind what the writer holds, with no call counted.
+    pub fn new(writer: W) -> Self
+        ensures written { result.written ≡ W.contents writer }
+        ensures counts { result.counts ≡ no_calls }
+    {
+        ToWrite {
+            writer,
+            calls: 0,
+            faults: 0,
+        }
+    }
+
+    /// The writer, with what it holds.
+    pub fn into_inner(self) -> W
+        ensures { W.contents result ≡ self.written }
+    {
+        self.writer
+    }
+}
+
+impl<W: Write> Sink for ToWrite<W> {
+    ghost account = { λ s. s };
+
+    fn calls(&self) -> u64 {
+        self.calls
+    }
+
+    fn put(&mut self, text: &[u8]) -> Put {
+        self.calls += 1;
+        match self.writer.write(text) {
+            Ok(0) => {
+                if !text.is_empty() {
+                    self.faults += 1;
+                }
+                Put::Took(0)
+            }
+            Ok(count) => Put::Took(count),
+            Err(error) => {
+                self.faults += 1;
+                if error.kind() == ErrorKind::Interrupted {
+                    Put::Interrupted
+                } else {
+                    Put::Fault
+                }
+            }
+        }
+    }
+}

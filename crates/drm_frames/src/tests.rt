@@ -1,0 +1,118 @@
+//! Sources and sinks over std's readers and writers.
+
+use crate::{FromRead, Put, Refill, Sink, Source, Taken, ToWrite, Written, put_all, take_some};
+use std::io::{self, ErrorKind, Read, Write};
+
+#[test]
+fn source_reads_to_the_end(rt: HostRuntime) {
+    let mut source = FromRead::new(b"frame".as_slice());
+    let mut buffer = [0; 3];
+    assert_eq!(rt; source.take(&mut buffer), Taken::Got(3));
+    assert_eq!(rt; buffer.as_slice(), b"fra".as_slice());
+    assert_eq!(rt; source.take(&mut buffer), Taken::Got(2));
+    assert_eq!(rt; buffer.as_slice(), b"mea".as_slice());
+    assert_eq!(rt; source.take(&mut buffer), Taken::End);
+    assert_eq!(rt; source.take(&mut buffer), Taken::End);
+    assert_eq!(rt; source.calls(), 4);
+}
+
+#[test]
+fn source_hands_its_reader_back(rt: HostRuntime) {
+    let mut source = FromRead::new(b"frame".as_slice());
+    let mut buffer = [0; 3];
+    assert_eq!(rt; source.take(&mut buffer), Taken::Got(3));
+    let rest = source.into_inner();
+    assert_eq!(rt; rest, b"me".as_slice());
+}
+
+#[test]
+fn sink_writes_behind_what_is_there(rt: HostRuntime) {
+    let mut sink = ToWrite::new(Vec::new(rt.alloc()));
+    assert_eq!(rt; sink.put(b"fra"), Put::Took(3));
+    assert_eq!(rt; sink.put(b""), Put::Took(0));
+    assert_eq!(rt; sink.put(b"me"), Put::Took(2));
+    assert_eq!(rt; sink.calls(), 3);
+    let written = sink.into_inner();
+    assert_eq!(rt; written.as_slice(), b"frame".as_slice());
+}
+
+#[test]
+fn sink_without_room_takes_nothing(rt: HostRuntime) {
+    let mut room = [0; 2];
+    let mut sink = ToWrite::new(room.as_mut_slice());
+    let mut turns = 9;
+    assert_eq!(rt; put_all(&mut sink, b"frame", &mut turns), Written::Fault);
+    assert_eq!(rt; turns, 7);
+}
+
+#[test]
+fn refills_and_texts_cost_their_turns(rt: HostRuntime) {
+    let mut source = FromRead::new(b"frame".as_slice());
+    let mut sink = ToWrite::new(Vec::new(rt.alloc()));
+    let mut buffer = [0; 4];
+    let mut turns = 5;
+    assert_eq!(rt;
+        take_some(&mut source, &mut buffer, &mut turns),
+        Refill::Got(4)
+    );
+    assert_eq!(rt; put_all(&mut sink, &buffer, &mut turns), Written::Whole);
+    assert_eq!(rt;
+        take_some(&mut source, &mut buffer, &mut turns),
+        Refill::Got(1)
+    );
+    assert_eq!(rt;
+        take_some(&mut source, &mut buffer, &mut turns),
+        Refill::End
+    );
+    assert_eq!(rt; put_all(&mut sink, b"", &mut turns), Written::Whole);
+    assert_eq!(rt; turns, 1);
+    assert_eq!(rt; put_all(&mut sink, b"!", &mut turns), Written::Whole);
+    assert_eq!(rt; turns, 0);
+    assert_eq!(rt; put_all(&mut sink, b"?", &mut turns), Written::TurnsUsed);
+    assert_eq!(rt;
+        take_some(&mut source, &mut buffer, &mut turns),
+        Refill::TurnsUsed
+    );
+    let written = sink.into_inner();
+    assert_eq!(rt; written.as_slice(), b"fram!".as_slice());
+}
+
+/// A reader and writer whose every call fails.
+#[derive(Drop)]
+struct Failing(ErrorKind);
+
+impl Read for Failing {
+    fn read(&mut self, _buffer: &mut [u8]) -> io::Result<usize> {
+        Err(io::Error::from(self.0))
+    }
+}
+
+impl Write for Failing {
+    fn write(&mut self, _text: &[u8]) -> io::Result<usize> {
+        Err(io::Error::from(self.0))
+    }
+
+    fn flush(&mut self) -> io::Result<()> {
+        Ok(())
+    }
+}
+
+#[test]
+fn only_interruptions_are_tried_again(rt: HostRuntime) {
+    for (kind, calls) in [
+        (ErrorKind::Interrupted, 1000),
+        (ErrorKind::WouldBlock, 1),
+        (ErrorKind::ConnectionReset, 1),
+    ] {
+        let mut turns = 2000;
+        let mut source = FromRead::new(Failing(kind));
+        assert_eq!(rt;
+            take_some(&mut source, &mut [0; 4], &mut turns),
+            Refill::Fault
+        );
+        assert_eq!(rt; source.calls(), calls);
+        let mut sink = ToWrite::new(Failing(kind));
+        assert_eq!(rt; put_all(&mut sink, b"frame", &mut turns), Written::Fault);
+        assert_eq!(rt; sink.calls(), calls);
+    }
+}

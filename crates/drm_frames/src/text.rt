@@ -1,0 +1,92 @@
+//! Bytes as they are built up.
+ghost use Rattle.std.specs.Prelude.{◌≡◌, ◌+◌, ◌≤◌, List, [], ◌++◌, length, ℕ};
+ghost use Rattle.drm_frames.specs.Grammar.{frame_text, packet};
+ghost use Rattle.drm_frames.specs.Number.{u16, u32, u64};
+
+use arrayvec::ArrayVec;
+use byteorder::{ByteOrder, LittleEndian};
+use std::marker::Model;
+
+/// The bytes of one frame, 1,028 at most.
+#[derive(Drop)]
+pub struct FrameBytes {
+    bytes: ArrayVec<u8, 1028>,
+}
+
+impl Model for FrameBytes {
+    ghost Value = { List ℕ };
+
+    ghost view = { λ t. t.bytes.items };
+}
+
+impl FrameBytes {
+    pub(crate) fn new() -> Self
+        ensures { result ≡ [] }
+    {
+        FrameBytes {
+            bytes: ArrayVec::new(),
+        }
+    }
+
+    /// The bytes as a slice.
+    pub fn as_slice(&self) -> &[u8]
+        ensures bytes { result.now ≡ self.now }
+        ensures short { length result.now ≤ 1028 }
+    {
+        self.bytes.as_slice()
+    }
+
+    pub(crate) fn push_bytes(&mut self, bytes: &[u8])
+        requires { length self.old + length bytes.now ≤ 1028 }
+        ensures text { self.new ≡ self.old ++ bytes.now }
+        ensures length { length self.new ≡ length self.old + length bytes.now }
+    {
+        let _ = self.bytes.try_extend_from_slice(bytes);
+    }
+
+    #[tactic(auto, using(crate::proofs::Numbers::lengths), unfolding(crate::specs::Number::u16))]
+    pub(crate) fn push_u16(&mut self, number: u16)
+        requires { length self.old + 2 ≤ 1028 }
+        ensures text { self.new ≡ self.old ++ u16 number }
+        ensures length { length self.new ≡ length self.old + 2 }
+    {
+        let mut text = [0; 2];
+        LittleEndian::write_u16(&mut text, number);
+        self.push_bytes(&text);
+    }
+
+    #[tactic(auto, using(crate::proofs::Numbers::lengths), unfolding(crate::specs::Number::u32))]
+    pub(crate) fn push_u32(&mut self, number: u32)
+        requires { length self.old + 4 ≤ 1028 }
+        ensures text { self.new ≡ self.old ++ u32 number }
+        ensures length { length self.new ≡ length self.old + 4 }
+    {
+        let mut text = [0; 4];
+        LittleEndian::write_u32(&mut text, number);
+        self.push_bytes(&text);
+    }
+
+    #[tactic(auto, using(crate::proofs::Numbers::lengths), unfolding(crate::specs::Number::u64))]
+    pub(crate) fn push_u64(&mut self, number: u64)
+        requires { length self.old + 8 ≤ 1028 }
+        ensures text { self.new ≡ self.old ++ u64 number }
+        ensures length { length self.new ≡ length self.old + 8 }
+    {
+        let mut text = [0; 8];
+        LittleEndian::write_u64(&mut text, number);
+        self.push_bytes(&text);
+    }
+}
+
+/// The bytes of the frame of a number and its fields.
+pub(crate) fn framed(number: u16, fields: &[u8]) -> FrameBytes
+    requires { length fields.now ≤ 1022 }
+    ensures text { result ≡ frame_text (packet number fields.now) }
+    ensures length { length result ≡ 6 + length fields.now }
+{
+    let mut text = FrameBytes::new();
+    text.push_u32(2 + fields.len() as u32);
+    text.push_u16(number);
+    text.push_bytes(fields);
+    text
+}

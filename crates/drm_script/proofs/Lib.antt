@@ -1,0 +1,10 @@
+pub mod CallLaws
+pub mod CommandLaws
+pub mod FieldLaws
+pub mod LimitsLaws
+pub mod LineLaws
+pub mod NumberLemmas
+pub mod OpeningLaws
+pub mod ReadingLaws
+pub mod SpacingLaws
+pub mod WordLemmas

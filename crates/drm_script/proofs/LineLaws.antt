@@ -1,0 +1,61 @@
+-- No line end stands within the words of an answer.
+use Rattle.std.proofs.Common.{refl, ◌≡◌, ◌≢◌, ℕ, ◌/◌, ◌%◌, List, [], ◌∷◌, arith, Bool, true, false, cond, zero, suc, not, eqb, Result, Ok, Err, decimal, All}
+use Rattle.std.specs.Cmp.Derive.{both_true}
+use Rattle.std.specs.Fmt.{digits, digits_onto, digit_glyph}
+use Rattle.std.specs.List.{list_all}
+use Rattle.std.proofs.lemmas.Bool.Decides.{nat_tests}
+use Rattle.std.proofs.lemmas.List.Folds.{list_all-append}
+use Rattle.std.proofs.lemmas.List.Sums.{AllPass-from_list_all}
+use Rattle.drm_table.specs.declared.answers.Answer.{Answer}
+use Rattle.drm_table.specs.declared.answers.Answer.TheVariants as answers
+use Rattle.drm_table.specs.declared.apart.Apart.{Apart}
+use Rattle.drm_table.specs.declared.apart.Apart.TheVariants as aparts
+use Rattle.drm_table.specs.declared.rules.Rule.{Rule}
+use Rattle.drm_table.specs.declared.rules.Rule.TheVariants as rules
+use Rattle.drm_table.specs.Rules.{rule_name, apart_name}
+use Rattle.drm_script.specs.Lines.{answer_words}
+
+-- no byte of the text is a line end
+abbrev is_bare : List ℕ → Bool
+is_bare bs = list_all (λ b. not (eqb b 10)) bs
+
+bare-from_test : (bs : List ℕ) → is_bare bs ≡ true → All (λ b. b ≢ 10) bs
+bare-from_test bs e = let all = AllPass-from_list_all (λ b. not (eqb b 10)) bs e in λ k d h. let t = all k d h in grind (arith, nat_tests)
+
+glyph_above : (d : ℕ) → not (eqb (digit_glyph false d) 10) ≡ true
+glyph_above d = grind (arith, nat_tests)
+
+onto_case : (b : Bool) (this other : List ℕ) → is_bare this ≡ true → is_bare other ≡ true → is_bare (cond b this other) ≡ true
+onto_case true this other p q = p
+onto_case false this other p q = q
+
+onto_bare : (k n : ℕ) (acc : List ℕ) → is_bare acc ≡ true → is_bare (digits_onto k 10 false n acc) ≡ true
+onto_bare zero n acc h = h
+onto_bare (suc k) n acc h =
+    let more : is_bare (digit_glyph false (n % 10) ∷ acc) ≡ true = both_true (glyph_above (n % 10)) h in
+    onto_case (eqb (n / 10) 0) _ _ more (onto_bare k (n / 10) (digit_glyph false (n % 10) ∷ acc) more)
+
+decimal_bare : (n : ℕ) → is_bare (decimal n) ≡ true
+unfolding digits
+decimal_bare n = onto_bare 64 n [] refl
+
+rule_name_bare : (rule : Rule) → is_bare (rule_name rule) ≡ true
+rule_name_bare rules.Unknown = refl
+rule_name_bare _ = refl
+
+apart_name_bare : (apart : Apart) → is_bare (apart_name apart) ≡ true
+apart_name_bare aparts.JournalFull = refl
+apart_name_bare aparts.NoMemory = refl
+apart_name_bare aparts.Worn = refl
+
+outcome_bare : (outcome : Result Answer Apart) → is_bare (answer_words outcome) ≡ true
+outcome_bare (Ok answers.Done) = refl
+outcome_bare (Ok answers.Closed) = refl
+outcome_bare (Ok (answers.Opened client)) = simp decimal_bare
+outcome_bare (Ok (answers.Version major minor patch)) = simp (list_all-append, decimal_bare)
+outcome_bare (Ok (answers.Dumb handle pitch size)) = simp (list_all-append, decimal_bare)
+outcome_bare (Ok (answers.Denied rule)) = simp (list_all-append, decimal_bare, rule_name_bare)
+outcome_bare (Err apart) = simp (list_all-append, decimal_bare, apart_name_bare)
+
+pub answer_bare : (outcome : Result Answer Apart) → All (λ b. b ≢ 10) (answer_words outcome)
+answer_bare outcome = bare-from_test (answer_words outcome) (outcome_bare outcome)

@@ -1,0 +1,65 @@
+-- What a client asks, read from words.
+use Rattle.std.specs.Prelude.{ℕ, List, Option, Some, codes, find, is_some, if◌then◌else◌}
+use Rattle.std.specs.Str.{bytes_eq}
+use Rattle.drm_table.specs.declared.calls.Call.{Call}
+use Rattle.drm_table.specs.declared.calls.Call.TheVariants as calls
+use Rattle.drm_table.specs.Table.{row_of}
+use Rattle.drm_script.specs.declared.calls.CallWord.{CallWord}
+use Rattle.drm_script.specs.declared.calls.CallWord.TheVariants as words
+use Rattle.drm_script.specs.declared.calls.TheConstants.{CALL_WORDS}
+use Rattle.drm_script.specs.Fields.{Words, ◌>>=◌, word_at, end_at, number_at}
+
+-- the calls' names in the table, in lower case and without MODE_, and `raw` for a call by its bare number
+abbrev pub call_text : CallWord → List ℕ
+call_text words.Raw = codes "raw"
+call_text words.Version = codes "version"
+call_text words.GemClose = codes "gem_close"
+call_text words.CreateDumb = codes "create_dumb"
+
+-- the call that a word names
+unfoldable pub call_word_of : List ℕ → Option CallWord
+call_word_of w = find (λ name. bytes_eq (call_text name) w) CALL_WORDS
+
+-- a bare number is asked with the wrong fields where it has a row, and is unknown otherwise
+abbrev pub raw_call : ℕ → Call
+raw_call n = if is_some (row_of n) then calls.BadLayout n else calls.Unknown n
+
+-- the fields of each call, in the order of the table
+unfoldable pub raw_at : Words → Option Call
+raw_at ws = do
+  n ← number_at 16 ws
+  end ← end_at n.1
+  Some (raw_call n.0)
+
+unfoldable pub version_at : Words → Option Call
+version_at ws = do
+  end ← end_at ws
+  Some calls.Version
+
+unfoldable pub gem_close_at : Words → Option Call
+gem_close_at ws = do
+  handle ← number_at 32 ws
+  end ← end_at handle.1
+  Some (calls.GemClose handle.0)
+
+unfoldable pub create_dumb_at : Words → Option Call
+create_dumb_at ws = do
+  width ← number_at 32 ws
+  height ← number_at 32 width.1
+  bpp ← number_at 32 height.1
+  end ← end_at bpp.1
+  Some (calls.CreateDumb width.0 height.0 bpp.0)
+
+-- the call of a word and its fields
+abbrev pub call_fields_at : CallWord → Words → Option Call
+call_fields_at words.Raw ws = raw_at ws
+call_fields_at words.Version ws = version_at ws
+call_fields_at words.GemClose ws = gem_close_at ws
+call_fields_at words.CreateDumb ws = create_dumb_at ws
+
+-- the call that the words spell
+unfoldable pub call_at : Words → Option Call
+call_at ws = do
+  first ← word_at ws
+  name ← call_word_of first.0
+  call_fields_at name first.1

@@ -1,0 +1,30 @@
+-- What a line asks of the device, read from words.
+use Rattle.std.specs.Prelude.{ℕ, List, Option, Some}
+use Rattle.drm_script.specs.declared.commands.Command.{Command}
+use Rattle.drm_script.specs.declared.commands.Command.TheVariants as commands
+use Rattle.drm_script.specs.Fields.{Words, ◌>>=◌, word_at, end_at, label_of}
+use Rattle.drm_script.specs.Openings.{opening_at}
+use Rattle.drm_script.specs.Calls.{call_at}
+
+-- a label and an opening, behind the word
+unfoldable pub open_at : Words → Option Command
+open_at ws = do
+  first ← word_at ws
+  label ← label_of first.0
+  opening ← opening_at first.1
+  Some (commands.Open label opening)
+
+-- a label, behind the word
+unfoldable pub close_at : Words → Option Command
+close_at ws = do
+  first ← word_at ws
+  label ← label_of first.0
+  end ← end_at first.1
+  Some (commands.Close label)
+
+-- a label, apart from the words behind it, and a call
+unfoldable pub ask_at : List ℕ → Words → Option Command
+ask_at w ws = do
+  label ← label_of w
+  call ← call_at ws
+  Some (commands.Ask label call)

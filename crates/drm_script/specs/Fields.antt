@@ -1,0 +1,47 @@
+-- The fields of a line, read one after another from its words. Each reader has what it read, and the words that are left.
+use Rattle.std.specs.Prelude.{ℕ, ◌-◌, ◌^◌, List, [], ◌∷◌, ◌&&◌, nat_lt, nat_le, if◌then◌else◌, Option, Some, None, option_and_then, length}
+use Rattle.std.specs.Str.{all_ascii_digits}
+use Rattle.std.specs.Str.Parse.{digits_value}
+
+-- a step, and what goes on with what it read, where it read something
+infixl 10 ◌>>=◌
+abbrev pub ◌>>=◌ : {A B : Type 0} → Option A → (A → Option B) → Option B
+o >>= f = option_and_then f o
+
+abbrev pub Words : Type 0
+Words = List (List ℕ)
+
+-- the first word, and the others
+abbrev pub word_at : Words → Option (List ℕ × Words)
+word_at [] = None
+word_at (w ∷ ws) = Some (w, ws)
+
+-- no word is left
+abbrev pub end_at : Words → Option (Unit {0})
+end_at [] = Some tt
+end_at (w ∷ ws) = None
+
+-- the number that a word of decimal digits spells, of at most 64 bits
+unfoldable pub number_of : List ℕ → Option ℕ
+number_of w = if nat_lt 0 (length w) && all_ascii_digits w && nat_lt (digits_value 10 w) (2 ^ 64) then Some (digits_value 10 w) else None
+
+-- the same number, if it has at most so many bits
+abbrev pub of_bits : ℕ → ℕ → Option ℕ
+of_bits bits n = if nat_lt n (2 ^ bits) then Some n else None
+
+-- a number of at most so many bits
+unfoldable pub number_at : ℕ → Words → Option (ℕ × Words)
+number_at bits ws = do
+  first ← word_at ws
+  n ← number_of first.0
+  fitting ← of_bits bits n
+  Some (fitting, first.1)
+
+-- the place in the alphabet of a letter from a to z, from 0
+unfoldable pub place_of : ℕ → Option ℕ
+place_of b = if nat_le 97 b && nat_le b 122 then Some (b - 97) else None
+
+-- the label that a word of one letter is, by its place
+unfoldable pub label_of : List ℕ → Option ℕ
+label_of (b ∷ []) = place_of b
+label_of _ = None

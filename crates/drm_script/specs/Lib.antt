@@ -1,0 +1,10 @@
+pub mod Calls
+pub mod Commands
+pub mod Fields
+pub mod Grammar
+pub mod Laws
+pub mod LimitsLine
+pub mod Lines
+pub mod Openings
+pub mod Reading
+pub mod Words

@@ -1,0 +1,25 @@
+//! The lines of a script: what each one says, and the line that each answer writes. No memory is taken.
+#![tactic(auto)]
+
+mod calls;
+mod commands;
+mod labels;
+mod laws;
+mod limits_line;
+mod lines;
+mod numbers;
+mod openings;
+mod reading;
+mod words;
+
+pub use commands::Command;
+pub use labels::Label;
+pub use laws::{
+    answers_take_one_line, reads_limits_lines, reads_the_grammar, refuses_all_other_lines,
+    skips_comments_and_blank_lines, words_stand_between_spaces,
+};
+pub use lines::{LINE, LineText, line_of};
+pub use reading::{Reading, read_line};
+
+#[cfg(test)]
+mod tests;

@@ -1,0 +1,158 @@
+//! The line that each answer writes.
+
+ghost use Rattle.std.specs.Prelude.{◌≡◌, ◌≤◌, ◌+◌, ◌<◌, ◌++◌, length, decimal, codes};
+ghost use Rattle.arrayvec.specs.ArrayString.{array_string_len};
+ghost use Rattle.drm_table.specs.Rules.{rule_name, apart_name};
+ghost use Rattle.drm_script.specs.Lines.{answer_words, answer_line, version_words, dumb_words, denied_words, apart_words};
+
+use arrayvec::ArrayString;
+use drm_table::{Answer, Apart, Rule};
+use std::marker::Model;
+
+/// How many bytes the line of an answer has at most, with its end (own).
+pub const LINE: usize = 96;
+
+/// The line of an answer, with its end. Contracts see its bytes.
+#[derive(Drop)]
+pub struct LineText {
+    text: ArrayString<LINE>,
+}
+
+impl Model for LineText {
+    ghost use Rattle.std.specs.Prelude.{List, ℕ};
+
+    ghost Value = { List ℕ };
+
+    ghost view = { λ line. line.text.bytes };
+}
+
+impl LineText {
+    /// The bytes, of which the last is the line end.
+    pub fn as_bytes(&self) -> &[u8]
+        ensures bytes { result.now ≡ self.now }
+        ensures fits { length result.now ≤ LINE }
+    {
+        self.text.as_str().as_bytes()
+    }
+}
+
+/// A number in decimal digits.
+fn push_number(text: &mut ArrayString<LINE>, number: u64)
+    requires { array_string_len text.old + 20 ≤ LINE }
+    ensures bytes { text.new.bytes ≡ text.old.bytes ++ decimal number }
+    ensures len { array_string_len text.new ≤ array_string_len text.old + 20 }
+{
+    let mut buffer = itoa::Buffer::new();
+    text.push_str(buffer.format(number));
+}
+
+/// The name of a rule, and that it is short.
+fn name_of(rule: Rule) -> &'static str
+    ensures name { result.now ≡ rule_name rule }
+    ensures short { length result.now ≤ 16 }
+{
+    rule.name()
+}
+
+/// The name of what stands apart, and that it is short.
+fn apart_name_of(apart: Apart) -> &'static str
+    ensures name { result.now ≡ apart_name apart }
+    ensures short { length result.now ≤ 16 }
+{
+    apart.name()
+}
+
+fn push_version(text: &mut ArrayString<LINE>, major: u32, minor: u32, patch: u32)
+    requires { array_string_len text.old ≡ 0 }
+    ensures bytes { text.new.bytes ≡ text.old.bytes ++ version_words major minor patch }
+    ensures len { array_string_len text.new < LINE }
+{
+    text.push_str("version ");
+    push_number(text, u64::from(major));
+    text.push_str(" ");
+    push_number(text, u64::from(minor));
+    text.push_str(" ");
+    push_number(text, u64::from(patch));
+}
+
+fn push_dumb(text: &mut ArrayString<LINE>, handle: u32, pitch: u32, size: u64)
+    requires { array_string_len text.old ≡ 0 }
+    ensures bytes { text.new.bytes ≡ text.old.bytes ++ dumb_words handle pitch size }
+    ensures len { array_string_len text.new < LINE }
+{
+    text.push_str("dumb ");
+    push_number(text, u64::from(handle));
+    text.push_str(" ");
+    push_number(text, u64::from(pitch));
+    text.push_str(" ");
+    push_number(text, size);
+}
+
+fn push_denied(text: &mut ArrayString<LINE>, rule: Rule)
+    requires { array_string_len text.old ≡ 0 }
+    ensures bytes { text.new.bytes ≡ text.old.bytes ++ denied_words rule }
+    ensures len { array_string_len text.new < LINE }
+{
+    text.push_str("denied ");
+    push_number(text, u64::from(rule.number()));
+    text.push_str(" ");
+    text.push_str(name_of(rule));
+    text.push_str(" ");
+    push_number(text, u64::from(rule.errno()));
+}
+
+fn push_apart(text: &mut ArrayString<LINE>, apart: Apart)
+    requires { array_string_len text.old ≡ 0 }
+    ensures bytes { text.new.bytes ≡ text.old.bytes ++ apart_words apart }
+    ensures len { array_string_len text.new < LINE }
+{
+    text.push_str("apart ");
+    push_number(text, u64::from(apart.number()));
+    text.push_str(" ");
+    text.push_str(apart_name_of(apart));
+    text.push_str(" ");
+    push_number(text, u64::from(apart.errno()));
+}
+
+fn push_answer(text: &mut ArrayString<LINE>, outcome: &Result<Answer, Apart>)
+    requires { array_string_len text.old ≡ 0 }
+    ensures bytes { text.new.bytes ≡ text.old.bytes ++ answer_words outcome.now }
+    ensures len { array_string_len text.new < LINE }
+{
+    match outcome {
+        Ok(Answer::Done) => text.push_str("done"),
+        Ok(Answer::Closed) => text.push_str("closed"),
+        Ok(Answer::Opened { client }) => {
+            text.push_str("client ");
+            push_number(text, u64::from(*client));
+        }
+        Ok(
+            Answer::Version {
+                major,
+                minor,
+                patch,
+            },
+        ) => push_version(text, *major, *minor, *patch),
+        Ok(
+            Answer::Dumb {
+                handle,
+                pitch,
+                size,
+            },
+        ) => push_dumb(text, *handle, *pitch, *size),
+        Ok(Answer::Denied(rule)) => push_denied(text, *rule),
+        Err(apart) => push_apart(text, *apart),
+    }
+}
+
+/// The line of an answer, with its end (own).
+pub fn line_of(outcome: &Result<Answer, Apart>) -> LineText
+    ensures line { result ≡ answer_line outcome.now }
+    ensures nonempty { 0 < length result }
+    ensures fits { length result ≤ LINE }
+{
+    let mut text = ArrayString::new();
+    push_answer(&mut text, outcome);
+    text.push_str("\n");
+    LineText { text }
+}

@@ -1,0 +1,46 @@
+//! The words of a line, which spaces alone separate.
+
+ghost use Rattle.std.specs.Prelude.{◌≡◌, [], ◌∷◌, MatchOption, position};
+ghost use Rattle.drm_script.specs.Words.{words_of, is_space, trimmed};
+ghost use Rattle.drm_script.specs.Fields.{end_at};
+
+/// The text from its first byte on that is no space.
+fn trim_spaces(mut text: &[u8]) -> &[u8]
+    ensures { result.now ≡ trimmed text.entry.now }
+{
+    while let [b' ', rest @ ..] = text {
+        text = rest;
+    }
+    text
+}
+
+/// Where the first space stands.
+fn first_space(text: &[u8]) -> Option<usize>
+    ensures { result ≡ position is_space text.now }
+{
+    text.iter().position(|byte| *byte == b' ')
+}
+
+/// The first word of a text, and what follows it; None where the text has no word.
+pub(crate) fn next_word(text: &[u8]) -> Option<(&[u8], &[u8])>
+    ensures { MatchOption result (words_of text.now ≡ []) (λ found. words_of text.now ≡ found.0.now ∷ words_of found.1.now) }
+{
+    let word = trim_spaces(text);
+    if word.is_empty() {
+        return None;
+    }
+    match first_space(word) {
+        Some(end) => Some(word.split_at(end)),
+        None => Some((word, &[])),
+    }
+}
+
+/// Some where no word is left.
+pub(crate) fn end_of(text: &[u8]) -> Option<()>
+    ensures { result ≡ end_at (words_of text.now) }
+{
+    match next_word(text) {
+        None => Some(()),
+        Some(_) => None,
+    }
+}

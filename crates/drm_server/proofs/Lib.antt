@@ -1,0 +1,4 @@
+pub mod AnswerLaws
+pub mod InterpreterLemmas
+pub mod LineLemmas
+pub mod RunLemmas

@@ -1,0 +1,286 @@
+-- A run of a script, line by line.
+use Rattle.std.proofs.Common.{◌≡◌, ℕ, ◌+◌, ◌≤◌, ◌<◌, List, [], ◌∷◌, ◌++◌, length, refl, sym, ap, subst, ◌∙◌, arith, Some, None, Option, append_assoc, append-nil, inl, inr, ◌⊎◌, unwrap_or}
+use Rattle.std.proofs.lemmas.List.{length_push}
+use Rattle.drm_model.specs.Rows.{Rows}
+use Rattle.drm_script.specs.Lines.{answer_line}
+use Rattle.drm_script.proofs.ReadingLaws.{reading_of-long}
+use Rattle.drm_frames.specs.Streams.{SourceAccount, SinkAccount}
+use Rattle.drm_frames.specs.Turns.{Took, Spends, Pays, PaysPart}
+use Rattle.drm_frames.proofs.Accounts.{Gave-none, Gave-then, Took-none, Took-then}
+use Rattle.drm_server.specs.Lines.{IsBare, joined}
+use Rattle.drm_server.specs.Reader.{IsTooLong}
+use Rattle.drm_server.specs.Script.{Script, Uses, IsMisplaced, WantsDevice, script_text, unbound}
+use Rattle.drm_server.specs.Script.Script.{start, line}
+use Rattle.drm_server.specs.Script.Uses.{skipped, limited, asked}
+use Rattle.drm_server.specs.Script.IsMisplaced.{malformed}
+use Rattle.drm_server.specs.Interpreter.{device_of, UsesLine}
+use Rattle.drm_server.specs.Runs.{Results, EndsLine, SoFar, Runs, IsStopped, stop_of}
+use Rattle.drm_server.specs.declared.run.ScriptEnd.{ScriptEnd}
+use Rattle.drm_server.specs.declared.run.ScriptEnd.TheVariants as ends
+use Rattle.drm_server.specs.declared.interpreter.Interpreter.{Interpreter}
+use Rattle.drm_server.specs.declared.interpreter.LineEnd.{LineEnd}
+use Rattle.drm_server.specs.declared.interpreter.LineEnd.TheVariants as line_ends
+
+pub script_text-append : (xs ys : Results) → script_text (xs ++ ys) ≡ script_text xs ++ script_text ys
+script_text-append [] ys = refl
+script_text-append (x ∷ xs) ys = ap (λ z. answer_line x ++ z) (script_text-append xs ys) ∙ sym (append_assoc (answer_line x) (script_text xs) (script_text ys))
+
+pub joined-push : (lines : List (List ℕ)) (l rest : List ℕ) → joined (lines ++ l ∷ []) ++ rest ≡ joined lines ++ (l ++ 10 ∷ rest)
+joined-push [] l rest = append_assoc l (10 ∷ []) rest
+joined-push (x ∷ xs) l rest =
+    append_assoc x (10 ∷ joined (xs ++ l ∷ [])) rest ∙ ap (λ z. x ++ 10 ∷ z) (joined-push xs l rest) ∙ sym (append_assoc x (10 ∷ joined xs) (l ++ 10 ∷ rest))
+
+-- before the device is made nothing was answered
+pub unmade : {lines : List (List ℕ)} {results : Results} {device : Option Rows} {labels : List ℕ} → Script lines results device labels → device ≡ None → results ≡ []
+unmade start e = refl
+unmade (line s b (skipped h)) e = ap (λ r. r ++ []) (unmade s e)
+unmade (line s b (limited n h)) e = absurd (cc)
+unmade (line s b (asked h t)) e = absurd (cc)
+
+module _ {s0 s : SourceAccount} {k0 k : SinkAccount} {turns has n : ℕ} {rest : List ℕ} {device : Option Rows} {labels : List ℕ} (so : SoFar s0 s k0 k turns has n rest device labels) where
+  pub so_far_read : (s' : SourceAccount) (given : List ℕ) (has' : ℕ) (rest' : List ℕ) → Spends s s' given has has' → rest ++ given ≡ rest' → SoFar s0 s' k0 k turns has' n rest' device labels
+  so_far_read s' given has' rest' p e = record {
+    read = so.read ++ given;
+    lines = so.lines;
+    results = so.results;
+    gave = Gave-then so.gave p.gave;
+    took = so.took;
+    cost = (let a = p.cost in let b = so.cost in omega arith);
+    script = so.script;
+    whole = ap (λ z. z ++ given) so.whole ∙ append_assoc (joined so.lines) rest given ∙ ap (λ z. joined so.lines ++ z) e;
+    number = so.number;
+  }
+
+  pub so_far_line : (next more : List ℕ) (results : Results) (device' : Option Rows) (labels' : List ℕ) (k' : SinkAccount) (has' : ℕ) → rest ≡ next ++ 10 ∷ more → IsBare next → Uses device labels next results device' labels'
+      → Pays k k' (script_text results) has has' → SoFar s0 s k0 k' turns has' (n + 1) more device' labels'
+  so_far_line next more results device' labels' k' has' e bare u p = record {
+    read = so.read;
+    lines = so.lines ++ next ∷ [];
+    results = so.results ++ results;
+    gave = so.gave;
+    took = subst (Took k0 k') (sym (script_text-append so.results results)) (Took-then so.took p.took);
+    cost = (let a = p.cost in let b = so.cost in omega arith);
+    script = line so.script bare u;
+    whole = so.whole ∙ ap (λ z. joined so.lines ++ z) e ∙ sym (joined-push so.lines next more);
+    number = (let b = so.number in omega (arith, length_push so.lines next));
+  }
+
+  bounded : s.counts.calls + k.counts.calls ≤ s0.counts.calls + k0.counts.calls + turns
+  bounded = let b = so.cost in omega arith
+
+  pub run_malformed : (bad more : List ℕ) → rest ≡ bad ++ more → IsMisplaced device bad → IsBare bad → EndsLine (s0.counts.ends < s.counts.ends) more ⊎ (length bad ≡ 256) → Runs s0 s k0 k turns (ends.Malformed (n + 1))
+  run_malformed bad more e m b u = record {
+    read = so.read;
+    written = script_text so.results;
+    gave = so.gave;
+    took = so.took;
+    turns_at_most = bounded;
+    ends = record {
+      lines = so.lines;
+      results = so.results;
+      device = device;
+      labels = labels;
+      bad = bad;
+      rest = more;
+      script = so.script;
+      whole = so.whole ∙ ap (λ z. joined so.lines ++ z) e;
+      misplaced = m;
+      bare = b;
+      until = u;
+      counted = (let c = so.number in omega arith);
+      text = refl;
+    };
+  }
+
+  pub run_read_fault : IsBare rest → s0.counts.faults < s.counts.faults → Runs s0 s k0 k turns ends.ReadFault
+  run_read_fault b f = record {
+    read = so.read;
+    written = script_text so.results;
+    gave = so.gave;
+    took = so.took;
+    turns_at_most = bounded;
+    ends = (record { lines = so.lines; results = so.results; device = device; labels = labels; rest = rest; script = so.script; whole = so.whole; bare = b; text = refl }, f);
+  }
+
+  pub run_turns_used : has ≡ 0 → Runs s0 s k0 k turns ends.TurnsUsed
+  run_turns_used h = record {
+    read = so.read;
+    written = script_text so.results;
+    gave = so.gave;
+    took = so.took;
+    turns_at_most = bounded;
+    ends = (
+      record { lines = so.lines; results = so.results; device = device; labels = labels; rest = rest; script = so.script; covers = inl so.whole; text = ([], sym (append-nil (script_text so.results))) },
+      (let b = so.cost in omega arith),
+    );
+  }
+
+  pub run_done_empty : rest ≡ [] → s0.counts.ends < s.counts.ends → Runs s0 s k0 k turns ends.Done
+  run_done_empty e f = record {
+    read = so.read;
+    written = script_text so.results;
+    gave = so.gave;
+    took = so.took;
+    turns_at_most = bounded;
+    ends = (record { lines = so.lines; results = so.results; device = device; labels = labels; script = so.script; covers = inl (so.whole ∙ ap (λ z. joined so.lines ++ z) e); text = refl }, f);
+  }
+
+  pub run_done_last : (results : Results) (device' : Option Rows) (labels' : List ℕ) (k' : SinkAccount) (has' : ℕ) → IsBare rest → Uses device labels rest results device' labels'
+      → Pays k k' (script_text results) has has' → s0.counts.ends < s.counts.ends → Runs s0 s k0 k' turns ends.Done
+  run_done_last results device' labels' k' has' bare u p f = record {
+    read = so.read;
+    written = script_text so.results ++ script_text results;
+    gave = so.gave;
+    took = Took-then so.took p.took;
+    turns_at_most = (let a = p.cost in let b = so.cost in omega arith);
+    ends = (
+      record {
+        lines = so.lines ++ rest ∷ [];
+        results = so.results ++ results;
+        device = device';
+        labels = labels';
+        script = line so.script bare u;
+        covers = inr (so.lines, rest, refl, so.whole, refl, f);
+        text = sym (script_text-append so.results results);
+      },
+      f,
+    );
+  }
+
+  run_stopped : (next more : List ℕ) (results : Results) (device' : Option Rows) (labels' : List ℕ) (k' : SinkAccount) (has' : ℕ) → rest ≡ next ++ more → EndsLine (s0.counts.ends < s.counts.ends) more → IsBare next
+      → Uses device labels next results device' labels' → PaysPart k k' (script_text results) has has'
+      → (written : List ℕ) × Took k0 k' written × (k'.counts.calls + has' ≡ k.counts.calls + has) × IsStopped (s0.counts.ends < s.counts.ends) so.read written
+  run_stopped next more results device' labels' k' has' e (inl (none, f)) bare u p =
+      let written = script_text so.results ++ p.front in
+      let text : script_text (so.results ++ results) ≡ written ++ p.rest =
+      script_text-append so.results results ∙ ap (λ z. script_text so.results ++ z) p.parts ∙ sym (append_assoc (script_text so.results) p.front p.rest) in
+      let whole : so.read ≡ joined so.lines ++ next = so.whole ∙ ap (λ z. joined so.lines ++ z) (e ∙ ap (λ z. next ++ z) none ∙ append-nil next) in (
+        written,
+        Took-then so.took p.pays.took,
+        p.pays.cost,
+        record {
+          lines = so.lines ++ next ∷ [];
+          results = so.results ++ results;
+          device = device';
+          labels = labels';
+          rest = [];
+          script = line so.script bare u;
+          covers = inr (so.lines, next, refl, whole, refl, f);
+          text = (p.rest, text);
+        },
+      )
+  run_stopped next more results device' labels' k' has' e (inr (behind, f)) bare u p =
+      let written = script_text so.results ++ p.front in
+      let text : script_text (so.results ++ results) ≡ written ++ p.rest =
+      script_text-append so.results results ∙ ap (λ z. script_text so.results ++ z) p.parts ∙ sym (append_assoc (script_text so.results) p.front p.rest) in
+      let whole : so.read ≡ joined (so.lines ++ next ∷ []) ++ behind =
+      so.whole ∙ ap (λ z. joined so.lines ++ z) (e ∙ ap (λ z. next ++ z) f) ∙ sym (joined-push so.lines next behind) in (
+        written,
+        Took-then so.took p.pays.took,
+        p.pays.cost,
+        record {
+          lines = so.lines ++ next ∷ [];
+          results = so.results ++ results;
+          device = device';
+          labels = labels';
+          rest = behind;
+          script = line so.script bare u;
+          covers = inl whole;
+          text = (p.rest, text);
+        },
+      )
+
+  pub run_unmade : (next more : List ℕ) → rest ≡ next ++ more → EndsLine (s0.counts.ends < s.counts.ends) more → IsBare next → device ≡ None → WantsDevice next
+      → Runs s0 s k0 k turns ends.NoMemory
+  run_unmade next more e t b none wants =
+      let nothing = unmade so.script none in record {
+        read = so.read;
+        written = script_text so.results;
+        gave = so.gave;
+        took = so.took;
+        turns_at_most = bounded;
+        ends = record {
+          lines = so.lines;
+          labels = labels;
+          next = next;
+          rest = more;
+          script = subst (λ d. Script so.lines [] d labels) none (subst (λ r. Script so.lines r device labels) nothing so.script);
+          whole = so.whole ∙ ap (λ z. joined so.lines ++ z) e;
+          bare = b;
+          until = t;
+          wants = wants;
+          nothing = ap script_text nothing;
+        };
+      }
+
+some_end : (a b : ScriptEnd) → Some a ≡ Some b → a ≡ b
+some_end a b e = cc
+
+-- a line that doesn't let the run go on
+pub run_stop : {s0 s : SourceAccount} {k0 k : SinkAccount} {turns has n : ℕ} {rest : List ℕ} (old new : Interpreter) (next more : List ℕ) (k' : SinkAccount) (has' : ℕ) (end : LineEnd) (stop : ScriptEnd)
+    → SoFar s0 s k0 k turns has n rest (device_of old) old.labels → rest ≡ next ++ more → EndsLine (s0.counts.ends < s.counts.ends) more → IsBare next
+    → UsesLine old new next k k' has has' end → stop_of end (n + 1) ≡ Some stop → Runs s0 s k0 k' turns stop
+run_stop old new next more k' has' line_ends.Used stop so e t b u h = absurd (cc)
+run_stop {s0} {s} {k0} {k} {turns} old new next more k' has' line_ends.Malformed stop so e t b u h =
+    subst (λ q. Runs s0 s k0 q turns stop) (sym u.1) (subst (Runs s0 s k0 k turns) (some_end _ _ h) (run_malformed so next more e u.0 b (inl t)))
+run_stop {s0} {s} {k0} {k} {turns} old new next more k' has' line_ends.WriteFault stop so e t b u h =
+    let w = run_stopped so next more u.0 (device_of new) new.labels k' has' e t b u.1 u.2 in
+    subst (Runs s0 s k0 k' turns) (some_end _ _ h) (record {
+      read = so.read;
+      written = w.0;
+      gave = so.gave;
+      took = w.1;
+      turns_at_most = (let a = w.2 in let c = so.cost in omega arith);
+      ends = (w.3, (let a = so.took.counts.faults in omega (arith, a, u.3)));
+    })
+run_stop {s0} {s} {k0} {k} {turns} old new next more k' has' line_ends.TurnsUsed stop so e t b u h =
+    let w = run_stopped so next more u.0 (device_of new) new.labels k' has' e t b u.1 u.2 in
+    subst (Runs s0 s k0 k' turns) (some_end _ _ h) (record {
+      read = so.read;
+      written = w.0;
+      gave = so.gave;
+      took = w.1;
+      turns_at_most = (let a = w.2 in let c = so.cost in omega arith);
+      ends = (w.3, (let a = w.2 in let c = so.cost in omega (arith, a, c, u.3)));
+    })
+run_stop {s0} {s} {k0} {k} {turns} old new next more k' has' line_ends.NoMemory stop so e t b u h =
+    subst (λ q. Runs s0 s k0 q turns stop) (sym u.2) (subst (Runs s0 s k0 k turns) (some_end _ _ h) (run_unmade so next more e t b u.0 u.1))
+
+-- the last line
+pub run_last : {s0 s : SourceAccount} {k0 k : SinkAccount} {turns has n : ℕ} {rest : List ℕ} (old new : Interpreter) (k' : SinkAccount) (has' : ℕ) (end : LineEnd)
+    → SoFar s0 s k0 k turns has n rest (device_of old) old.labels → IsBare rest → s0.counts.ends < s.counts.ends
+    → UsesLine old new rest k k' has has' end → Runs s0 s k0 k' turns (unwrap_or (stop_of end (n + 1)) ends.Done)
+run_last {rest} old new k' has' line_ends.Used so b f u = run_done_last so u.0 (device_of new) new.labels k' has' b u.1 u.2 f
+run_last {rest} old new k' has' line_ends.Malformed so b f u = run_stop old new rest [] k' has' line_ends.Malformed _ so (sym (append-nil rest)) (inl (refl, f)) b u refl
+run_last {rest} old new k' has' line_ends.WriteFault so b f u = run_stop old new rest [] k' has' line_ends.WriteFault _ so (sym (append-nil rest)) (inl (refl, f)) b u refl
+run_last {rest} old new k' has' line_ends.TurnsUsed so b f u = run_stop old new rest [] k' has' line_ends.TurnsUsed _ so (sym (append-nil rest)) (inl (refl, f)) b u refl
+run_last {rest} old new k' has' line_ends.NoMemory so b f u = run_stop old new rest [] k' has' line_ends.NoMemory _ so (sym (append-nil rest)) (inl (refl, f)) b u refl
+
+pub run_too_long : {s0 s : SourceAccount} {k0 k : SinkAccount} {turns has n : ℕ} {rest : List ℕ} {device : Option Rows} {labels : List ℕ} (front more : List ℕ)
+    → SoFar s0 s k0 k turns has n rest device labels → IsTooLong rest front more → Runs s0 s k0 k turns (ends.Malformed (n + 1))
+run_too_long front more so t = run_malformed so front more t.whole (malformed (reading_of-long front (omega (arith, t.long)))) t.bare (inr t.long)
+
+pub so_far_none : (source : SourceAccount) (sink : SinkAccount) (turns : ℕ) (rest : List ℕ) (device : Option Rows) (labels : List ℕ) → rest ≡ [] → device ≡ None → labels ≡ unbound
+    → SoFar source source sink sink turns turns 0 rest device labels
+so_far_none source sink turns rest device labels e f h = record {
+  read = [];
+  lines = [];
+  results = [];
+  gave = Gave-none source;
+  took = Took-none sink;
+  cost = refl;
+  script = subst (λ d. Script [] [] d labels) (sym f) (subst (Script [] [] None) (sym h) start);
+  whole = sym e;
+  number = refl;
+}
+
+-- a line that lets the run go on
+pub so_far_used : {s0 s : SourceAccount} {k0 k : SinkAccount} {turns has n : ℕ} {rest : List ℕ} (old new : Interpreter) (next more : List ℕ) (k' : SinkAccount) (has' m : ℕ) (end : LineEnd)
+    → SoFar s0 s k0 k turns has n rest (device_of old) old.labels → rest ≡ next ++ 10 ∷ more → IsBare next
+    → UsesLine old new next k k' has has' end → stop_of end m ≡ None
+    → SoFar s0 s k0 k' turns has' (n + 1) more (device_of new) new.labels × (k'.counts.calls + has' ≡ k.counts.calls + has) × (has' ≤ has)
+so_far_used old new next more k' has' m line_ends.Used so e b u h = (so_far_line so next more u.0 (device_of new) new.labels k' has' e b u.1 u.2, u.2.cost, (let a = u.2.cost in let b = u.2.took.counts.calls in omega arith))
+so_far_used old new next more k' has' m line_ends.Malformed so e b u h = absurd (cc)
+so_far_used old new next more k' has' m line_ends.WriteFault so e b u h = absurd (cc)
+so_far_used old new next more k' has' m line_ends.TurnsUsed so e b u h = absurd (cc)
+so_far_used old new next more k' has' m line_ends.NoMemory so e b u h = absurd (cc)

@@ -1,0 +1,132 @@
+-- How a run of a script ends, and what was then read and written (own).
+use Rattle.std.specs.Prelude.{◌≡◌, ℕ, ◌+◌, ◌<◌, ◌≤◌, List, [], ◌∷◌, ◌++◌, ◌⊎◌, Option, None, Some, Result, length}
+use Rattle.drm_table.specs.declared.answers.Answer.{Answer}
+use Rattle.drm_table.specs.declared.apart.Apart.{Apart}
+use Rattle.drm_model.specs.Rows.{Rows}
+use Rattle.drm_frames.specs.Streams.{SourceAccount, SinkAccount}
+use Rattle.drm_frames.specs.Turns.{Gave, Took}
+use Rattle.drm_server.specs.Lines.{IsBare, joined}
+use Rattle.drm_server.specs.Script.{Script, script_text, IsMisplaced, WantsDevice}
+use Rattle.drm_server.specs.declared.run.ScriptEnd.{ScriptEnd}
+use Rattle.drm_server.specs.declared.run.ScriptEnd.TheVariants as ends
+use Rattle.drm_server.specs.declared.interpreter.LineEnd.{LineEnd}
+use Rattle.drm_server.specs.declared.interpreter.LineEnd.TheVariants as line_ends
+
+abbrev pub Results : Type 0
+Results = List (Result Answer Apart)
+
+-- The lines stand at the front of what was read, the last one perhaps without an end where the input has ended.
+abbrev pub Covers : Type 0 → List ℕ → List (List ℕ) → List ℕ → Type 0
+Covers ended read lines rest =
+    (read ≡ joined lines ++ rest) ⊎ ((front : List (List ℕ)) × (last : List ℕ) × (lines ≡ front ++ last ∷ []) × (read ≡ joined front ++ last) × (rest ≡ []) × ended)
+
+-- the text begins so
+abbrev pub IsFront : List ℕ → List ℕ → Type 0
+IsFront front text = (rest : List ℕ) × (text ≡ front ++ rest)
+
+-- Every line that was read was used, and what the results write was written.
+pub record IsDone (ended : Type 0) (read written : List ℕ) : Type 0 where
+  pub lines : List (List ℕ)
+  pub results : Results
+  pub device : Option Rows
+  pub labels : List ℕ
+  pub script : Script lines results device labels
+  pub covers : Covers ended read lines []
+  pub text : written ≡ script_text results
+
+-- behind a line stands its end, or nothing where the input has ended
+abbrev pub EndsLine : Type 0 → List ℕ → Type 0
+EndsLine ended rest = ((rest ≡ []) × ended) ⊎ ((more : List ℕ) × (rest ≡ 10 ∷ more))
+
+-- The lines before the bad one were used. The bad one can't be used: its end was read, or the input ended, or it is too long.
+pub record IsMalformed (ended : Type 0) (number : ℕ) (read written : List ℕ) : Type 0 where
+  pub lines : List (List ℕ)
+  pub results : Results
+  pub device : Option Rows
+  pub labels : List ℕ
+  pub bad : List ℕ
+  pub rest : List ℕ
+  pub script : Script lines results device labels
+  pub whole : read ≡ joined lines ++ (bad ++ rest)
+  pub misplaced : IsMisplaced device bad
+  pub bare : IsBare bad
+  pub until : EndsLine ended rest ⊎ (length bad ≡ 256)
+  pub counted : number ≡ length lines + 1
+  pub text : written ≡ script_text results
+
+-- Every whole line that was read was used.
+pub record IsCutShort (read written : List ℕ) : Type 0 where
+  pub lines : List (List ℕ)
+  pub results : Results
+  pub device : Option Rows
+  pub labels : List ℕ
+  pub rest : List ℕ
+  pub script : Script lines results device labels
+  pub whole : read ≡ joined lines ++ rest
+  pub bare : IsBare rest
+  pub text : written ≡ script_text results
+
+-- Some lines were used, and a front of what their results write was written.
+pub record IsStopped (ended : Type 0) (read written : List ℕ) : Type 0 where
+  pub lines : List (List ℕ)
+  pub results : Results
+  pub device : Option Rows
+  pub labels : List ℕ
+  pub rest : List ℕ
+  pub script : Script lines results device labels
+  pub covers : Covers ended read lines rest
+  pub text : IsFront written (script_text results)
+
+-- The lines before were all skipped; the next one wants a device, for which there was no memory. Nothing was written.
+pub record IsUnmade (ended : Type 0) (read written : List ℕ) : Type 0 where
+  pub lines : List (List ℕ)
+  pub labels : List ℕ
+  pub next : List ℕ
+  pub rest : List ℕ
+  pub script : Script lines [] None labels
+  pub whole : read ≡ joined lines ++ (next ++ rest)
+  pub bare : IsBare next
+  pub until : EndsLine ended rest
+  pub wants : WantsDevice next
+  pub nothing : written ≡ []
+
+-- each end with its cause
+abbrev pub Ends : ScriptEnd → SourceAccount → SourceAccount → SinkAccount → SinkAccount → ℕ → List ℕ → List ℕ → Type 0
+Ends ends.Done source source' sink sink' turns read written =
+    IsDone (source.counts.ends < source'.counts.ends) read written × (source.counts.ends < source'.counts.ends)
+Ends (ends.Malformed number) source source' sink sink' turns read written = IsMalformed (source.counts.ends < source'.counts.ends) number read written
+Ends ends.ReadFault source source' sink sink' turns read written = IsCutShort read written × (source.counts.faults < source'.counts.faults)
+Ends ends.WriteFault source source' sink sink' turns read written =
+    IsStopped (source.counts.ends < source'.counts.ends) read written × (sink.counts.faults < sink'.counts.faults)
+Ends ends.TurnsUsed source source' sink sink' turns read written =
+    IsStopped (source.counts.ends < source'.counts.ends) read written × (source'.counts.calls + sink'.counts.calls ≡ source.counts.calls + sink.counts.calls + turns)
+Ends ends.NoMemory source source' sink sink' turns read written = IsUnmade (source.counts.ends < source'.counts.ends) read written
+
+-- A run: what it read and wrote, at what cost, and why it ended.
+pub record Runs (source source' : SourceAccount) (sink sink' : SinkAccount) (turns : ℕ) (end : ScriptEnd) : Type 0 where
+  pub read : List ℕ
+  pub written : List ℕ
+  pub gave : Gave source source' read
+  pub took : Took sink sink' written
+  pub turns_at_most : source'.counts.calls + sink'.counts.calls ≤ source.counts.calls + sink.counts.calls + turns
+  pub ends : Ends end source source' sink sink' turns read written
+
+-- A run so far, with n lines used.
+pub record SoFar (source source' : SourceAccount) (sink sink' : SinkAccount) (turns has n : ℕ) (rest : List ℕ) (device : Option Rows) (labels : List ℕ) : Type 0 where
+  pub read : List ℕ
+  pub lines : List (List ℕ)
+  pub results : Results
+  pub gave : Gave source source' read
+  pub took : Took sink sink' (script_text results)
+  pub cost : source'.counts.calls + sink'.counts.calls + has ≡ source.counts.calls + sink.counts.calls + turns
+  pub script : Script lines results device labels
+  pub whole : read ≡ joined lines ++ rest
+  pub number : n ≡ length lines
+
+-- how a run ends where a line does not let it go on
+abbrev pub stop_of : LineEnd → ℕ → Option ScriptEnd
+stop_of line_ends.Used number = None
+stop_of line_ends.Malformed number = Some (ends.Malformed number)
+stop_of line_ends.WriteFault number = Some ends.WriteFault
+stop_of line_ends.TurnsUsed number = Some ends.TurnsUsed
+stop_of line_ends.NoMemory number = Some ends.NoMemory

@@ -1,0 +1,111 @@
+//! What the program tells of a fault.
+
+ghost use Rattle.std.specs.Prelude.{◌≡◌, ◌+◌, ◌≤◌, ◌++◌, length, decimal};
+ghost use Rattle.arrayvec.specs.ArrayString.{array_string_len};
+ghost use Rattle.drm_server.specs.Faults as faults;
+
+use arrayvec::ArrayString;
+use std::marker::Model;
+
+/// How many bytes a fault line has at most.
+const LINE: usize = 64;
+
+/// Why the program ends with a status other than 0 (own).
+#[derive(Clone, Copy, Debug, PartialEq, Eq)]
+pub enum Fault {
+    /// The script's line of this number, from 1, is malformed.
+    ScriptLine(u64),
+    /// Standard input could not be read.
+    Read,
+    /// Standard output could not be written.
+    Write,
+    /// No turn was left.
+    Turns,
+    /// No memory for the device, or for what the command line says.
+    Memory,
+    /// The command line was refused.
+    CommandLine,
+}
+
+/// The line that tells of a fault, without a line end; empty where there is none.
+#[derive(Drop)]
+pub struct FaultLine {
+    text: ArrayString<LINE>,
+}
+
+impl Model for FaultLine {
+    ghost use Rattle.std.specs.Prelude.{List, ℕ};
+
+    ghost Value = { List ℕ };
+
+    ghost view = { λ line. line.text.bytes };
+}
+
+impl FaultLine {
+    ghost use Rattle.std.specs.Prelude.{◌≡◌, []};
+
+    /// The line of no fault.
+    pub fn empty() -> FaultLine
+        ensures { result ≡ [] }
+    {
+        FaultLine {
+            text: ArrayString::new(),
+        }
+    }
+
+    /// The text of the line.
+    pub fn as_str(&self) -> &str
+        ensures { result.now ≡ self.now }
+    {
+        self.text.as_str()
+    }
+}
+
+fn push_number(text: &mut ArrayString<LINE>, number: u64)
+    requires { array_string_len text.old + 20 ≤ LINE }
+    ensures bytes { text.new.bytes ≡ text.old.bytes ++ decimal number }
+    ensures len { array_string_len text.new ≤ array_string_len text.old + 20 }
+{
+    let mut buffer = itoa::Buffer::new();
+    text.push_str(buffer.format(number));
+}
+
+fn push_words(text: &mut ArrayString<LINE>, fault: Fault)
+    requires { array_string_len text.old ≤ 8 }
+    ensures { text.new.bytes ≡ text.old.bytes ++ faults.fault_words fault }
+{
+    match fault {
+        Fault::ScriptLine(number) => {
+            text.push_str("script line ");
+            push_number(text, number);
+        }
+        Fault::Read => text.push_str("read"),
+        Fault::Write => text.push_str("write"),
+        Fault::Turns => text.push_str("turns"),
+        Fault::Memory => text.push_str("memory"),
+        Fault::CommandLine => text.push_str("command line"),
+    }
+}
+
+impl Fault {
+    /// The exit status: 1 a fault outside, 2 a malformed script, 3 a refused command line.
+    pub fn status(self) -> u8
+        ensures { result ≡ faults.fault_status self }
+    {
+        match self {
+            Fault::Read | Fault::Write | Fault::Turns | Fault::Memory => 1,
+            Fault::ScriptLine(_) => 2,
+            Fault::CommandLine => 3,
+        }
+    }
+
+    /// The line that tells of the fault: `fault: ` and what it is.
+    pub fn line(self) -> FaultLine
+        ensures { result ≡ faults.fault_line self }
+    {
+        let mut text = ArrayString::new();
+        text.push_str("fault: ");
+        push_words(&mut text, self);
+        FaultLine { text }
+    }
+}

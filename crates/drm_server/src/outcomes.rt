@@ -1,0 +1,53 @@
+//! What the program ends with.
+
+ghost use Rattle.std.specs.Prelude.{◌≡◌};
+ghost use Rattle.drm_server.specs.Outcomes.{fault_of, script_status, script_line};
+ghost use Rattle.drm_server.specs.Faults.{fault_status, fault_line};
+
+use crate::faults::{Fault, FaultLine};
+use crate::run::ScriptEnd;
+
+/// An exit status, and the line that tells of the fault on standard error; empty where there is none.
+#[derive(Drop)]
+pub struct Outcome {
+    pub status: u8,
+    pub line: FaultLine,
+}
+
+fn script_fault(end: &ScriptEnd) -> Option<Fault>
+    ensures { result ≡ fault_of end.now }
+{
+    match end {
+        ScriptEnd::Done => None,
+        ScriptEnd::Malformed(number) => Some(Fault::ScriptLine(*number)),
+        ScriptEnd::ReadFault => Some(Fault::Read),
+        ScriptEnd::WriteFault => Some(Fault::Write),
+        ScriptEnd::TurnsUsed => Some(Fault::Turns),
+        ScriptEnd::NoMemory => Some(Fault::Memory),
+    }
+}
+
+/// What the program ends with where it has this fault (own).
+pub fn outcome_of_fault(fault: Fault) -> Outcome
+    ensures status { result.status ≡ fault_status fault }
+    ensures line { result.line ≡ fault_line fault }
+{
+    Outcome {
+        status: fault.status(),
+        line: fault.line(),
+    }
+}
+
+/// What `drm_server run` ends with, by how the run of its script ended: status 0 and no line where it is done (own).
+pub fn outcome_of(end: &ScriptEnd) -> Outcome
+    ensures status { result.status ≡ script_status end.now }
+    ensures line { result.line ≡ script_line end.now }
+{
+    match script_fault(end) {
+        Some(fault) => outcome_of_fault(fault),
+        None => Outcome {
+            status: 0,
+            line: FaultLine::empty(),
+        },
+    }
+}

@@ -1,0 +1,123 @@
+//! A source for tests.
+ghost use Rattle.std.specs.Prelude.{◌≡◌, ◌<◌, Some, take};
+ghost use Rattle.std.specs.Option.{option_map};
+ghost use Rattle.drm_frames.specs.Streams.{no_calls};
+
+use crate::interruptions::Interruptions;
+use drm_frames::{Source, Taken};
+use std::marker::Model;
+
+/// A source that gives its bytes in pieces, and fails, ends or is interrupted where a test wants it.
+/// Places are counted from the bytes still to come. Interruptions replace those wanted earlier.
+#[derive(Drop)]
+pub struct CutSource<'a> {
+    rest: &'a [u8],
+    piece: usize,
+    /// Whether it fails after its bytes, where it would end.
+    is_faulty: bool,
+    interruptions: Interruptions,
+    calls: u64,
+    ends: u64,
+    faults: u64,
+}
+
+impl<'a> Model for CutSource<'a> {
+    ghost use Rattle.std.specs.Prelude.{◌+◌, ◌≤◌, ◌<◌, Some};
+    ghost use Rattle.drm_frames.specs.Streams.{SourceAccount};
+
+    ghost Value = { SourceAccount };
+
+    ghost view = { λ s. record {
+      left = Some s.rest.now;
+      counts = record { calls = s.calls; ends = s.ends; faults = s.faults };
+    } };
+
+    ghost invariant = { λ s. (0 < s.piece) × (s.ends + s.faults ≤ s.calls) };
+}
+
+impl<'a> CutSource<'a> {
+    /// A source of these bytes, in pieces of at most so many bytes, and then its end.
+    pub fn new(bytes: &'a [u8], piece: usize) -> Self
+        requires { 0 < piece }
+        ensures left { result.left ≡ Some bytes.now }
+        ensures counts { result.counts ≡ no_calls }
+    {
+        CutSource {
+            rest: bytes,
+            piece,
+            is_faulty: false,
+            interruptions: Interruptions::never(),
+            calls: 0,
+            ends: 0,
+            faults: 0,
+        }
+    }
+
+    /// The source with its end after so many bytes, if it has more.
+    pub fn ending_at(mut self, at: usize) -> Self
+        ensures left { result.left ≡ option_map (take at) self.entry.left }
+        ensures counts { result.counts ≡ self.entry.counts }
+    {
+        self.rest = &self.rest[..at.min(self.rest.len())];
+        self.is_faulty = false;
+        self
+    }
+
+    /// The source with a fault for good after so many bytes, or after all, if it has fewer.
+    pub fn faulting_at(self, at: usize) -> Self
+        ensures left { result.left ≡ option_map (take at) self.entry.left }
+        ensures counts { result.counts ≡ self.entry.counts }
+    {
+        let mut source = self.ending_at(at);
+        source.is_faulty = true;
+        source
+    }
+
+    /// The source with so many interruptions before the byte at this place.
+    pub fn interrupted(mut self, times: u64, at: usize) -> Self
+        ensures { result ≡ self.entry }
+    {
+        self.interruptions = Interruptions::once(times, at);
+        self
+    }
+
+    /// The source with so many interruptions before each piece of so many bytes.
+    pub fn interrupted_every(mut self, times: u64, bytes: usize) -> Self
+        requires { 0 < bytes }
+        ensures { result ≡ self.entry }
+    {
+        self.interruptions = Interruptions::every(times, bytes);
+        self
+    }
+}
+
+impl Source for CutSource<'_> {
+    ghost account = { λ s. s };
+
+    fn calls(&self) -> u64 {
+        self.calls
+    }
+
+    fn take(&mut self, buffer: &mut [u8]) -> Taken {
+        self.calls += 1;
+        if self.interruptions.take_due() {
+            self.faults += 1;
+            return Taken::Interrupted;
+        }
+        if self.rest.is_empty() {
+            if self.is_faulty {
+                self.faults += 1;
+                return Taken::Fault;
+            }
+            self.ends += 1;
+            return Taken::End;
+        }
+        let wanted = self.piece.min(buffer.len());
+        let count = wanted.min(self.rest.len()).min(self.interruptions.room());
+        let (now, later) = self.rest.split_at(count);
+        buffer[..count].copy_from_slice(now);
+        self.rest = later;
+        self.interruptions.pass(count);
+        Taken::Got(count)
+    }
+}
