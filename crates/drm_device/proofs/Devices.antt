@@ -19,7 +19,8 @@ use Rattle.drm_device.specs.Refinement.{Stands, Represents, client_row_of, maste
 use Rattle.drm_device.specs.declared.device.Device.TheInside.{Inside}
 use Rattle.drm_device.specs.declared.state.State.{State}
 use Rattle.drm_model.specs.Run.{FoundRoom, start_of}
-use Rattle.drm_device.proofs.Runs.{found_room_push, rows_noted, after-steps, rows_of-limits, rows_of-steps, room_after, well_formed}
+use Rattle.drm_model.proofs.Journals.{found_room_push, rows_noted, after-steps, rows_of-limits, rows_of-steps, room_after}
+use Rattle.drm_device.proofs.Runs.{well_formed}
 
 pub represented_count : (s : State) (w : Rows) → Represents s w → length w.clients ≡ vec_len s.clients
 represented_count s w h = ap length h.clients ∙ length-map client_row_of s.clients.items ∙ sym s.clients.ok.0

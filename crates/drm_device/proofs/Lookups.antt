@@ -22,7 +22,7 @@ use Rattle.drm_device.specs.Laws.{WellFormed}
 use Rattle.drm_device.specs.Refinement.{Represents, Stands, client_row_of, hold_row_of, is_same, standing_by}
 use Rattle.drm_device.proofs.Laws.{chain_flat}
 use Rattle.drm_device.proofs.Devices.{represented_count}
-use Rattle.drm_device.proofs.Runs.{rows_of-limits, rows_of-steps}
+use Rattle.drm_model.proofs.Journals.{rows_of-limits, rows_of-steps}
 
 pub client_row_is : (s : State) (w : Rows) → Represents s w → (c : ℕ) → client_row w c ≡ option_map client_row_of (find (λ (x : Client). x.number == c) s.clients.items)
 client_row_is s w h c = ap (find (is_client c)) h.clients ∙ find-map (is_client c) client_row_of s.clients.items

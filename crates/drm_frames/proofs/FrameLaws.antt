@@ -1,16 +1,14 @@
 -- Bytes are frames, and a rest, in one way.
-use Rattle.std.proofs.Common.{◌≡◌, ℕ, ◌+◌, ◌-◌, ◌^◌, ◌<◌, ◌≤◌, ◌⊎◌, List, [], ◌∷◌, ◌++◌, length, take, drop, refl, sym, ap, ◌∙◌, arith, inl, inr}
+use Rattle.std.proofs.Common.{◌≡◌, ℕ, ◌+◌, List, [], ◌∷◌, ◌++◌, length, take, drop, refl, sym, ap, ◌∙◌, arith, inl, inr}
 use Rattle.std.specs.List.{flat_map, AllByRecursion}
 use Rattle.std.proofs.lemmas.List.{append_assoc, append_cancel_left, length-append, take_at, drop_at}
 use Rattle.drm_frames.specs.Number.{u16, u32, u16_in, u32_in}
 use Rattle.drm_frames.specs.Grammar.{Packet, frame_text, IsPacket, IsPart}
+use Rattle.drm_frames.proofs.Sizes.{packet-is}
 use Rattle.drm_frames.proofs.Numbers.{length-u16, length-u32, u16_in-u16, u32_in-u32}
 
-packet-text : (f : Packet) (x : List ℕ) → frame_text f ++ x ≡ u32 (2 + length f.fields) ++ (u16 f.number ++ (f.fields ++ x))
+pub packet-text : (f : Packet) (x : List ℕ) → frame_text f ++ x ≡ u32 (2 + length f.fields) ++ (u16 f.number ++ (f.fields ++ x))
 packet-text f x = simp append_assoc
-
-packet-is : (f : Packet) (n : ℕ) (xs : List ℕ) → f.number ≡ n → f.fields ≡ xs → f ≡ record { number = n; fields = xs }
-packet-is f n xs a b = ap (λ (k : ℕ). let p : Packet = record { number = k; fields = f.fields } in p) a ∙ ap (λ (y : List ℕ). let p : Packet = record { number = n; fields = y } in p) b
 
 pub one-text : (f g : Packet) (x y : List ℕ) → IsPacket f → IsPacket g → frame_text f ++ x ≡ frame_text g ++ y → (f ≡ g) × (x ≡ y)
 one-text f g x y fits gits e =
@@ -36,7 +34,7 @@ length-text f r =
     ap length (packet-text f r)
     ∙ omega (arith, length-append (u32 (2 + length f.fields)) (u16 f.number ++ (f.fields ++ r)), length-append (u16 f.number) (f.fields ++ r), length-append f.fields r, length-u32 (2 + length f.fields), length-u16 f.number)
 
-part-no-frame : (y r : List ℕ) (f : Packet) → IsPacket f → IsPart y → y ≡ frame_text f ++ r → ⊥
+pub part-no-frame : (y r : List ℕ) (f : Packet) → IsPacket f → IsPart y → y ≡ frame_text f ++ r → ⊥
 part-no-frame y r f fits (inl short) e = let len = ap length e ∙ length-text f r in omega (arith, len, short)
 part-no-frame y r f fits (inr part) e =
     let len = ap length e ∙ length-text f r in

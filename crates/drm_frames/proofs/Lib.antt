@@ -1,5 +1,14 @@
 pub mod Accounts
 pub mod PutSoFar
 pub mod Numbers
+pub mod Sizes
+pub mod FieldLaws
 pub mod Frames
 pub mod FrameLaws
+pub mod DecodingLaws
+pub mod CallLaws
+pub mod RowLaws
+pub mod HelloLaws
+pub mod RuleLaws
+pub mod AnswerLaws
+pub mod ReadBack

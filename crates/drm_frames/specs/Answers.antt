@@ -10,11 +10,13 @@ use Rattle.drm_table.specs.Rules.{rule_number, rule_errno, apart_number, apart_e
 use Rattle.drm_frames.specs.Number.{u32, u64, u32_in, u64_in}
 use Rattle.drm_frames.specs.Grammar.{Packet, packet, frame_text, if_size}
 
+-- what the device gives back: an answer, or what stands apart
 abbrev pub Outcome : Type 0
 Outcome = Result Answer Apart
 
--- ---- the grammar: the frame of each result
+-- ---- the grammar
 
+-- the number of each result and its fields in order
 abbrev pub answer_packet : Outcome → Packet
 answer_packet (Ok Done) = packet 0x1000 []
 answer_packet (Ok (Opened client)) = packet 0x1001 (u32 client)
@@ -31,6 +33,7 @@ FitsFields (Ok (Version major minor patch)) = (major < 2 ^ 32) × (minor < 2 ^ 3
 FitsFields (Ok (Dumb handle pitch size)) = (handle < 2 ^ 32) × (pitch < 2 ^ 32) × (size < 2 ^ 64)
 FitsFields outcome = Unit {0}
 
+-- The frame is this result.
 abbrev pub IsAnswer : Packet → Outcome → Type 0
 IsAnswer f outcome = FitsFields outcome × (f ≡ answer_packet outcome)
 
@@ -45,11 +48,13 @@ answer_text outcome = frame_text (answer_packet outcome)
 
 -- ---- the same as a function
 
+-- every rule
 abbrev pub rules : List Rule
 rules = Unknown ∷ Layout ∷ NoClient ∷ RootOnly ∷ Auth ∷ Master ∷ RenderAllow ∷ NoHandle ∷ NoHandleToClose ∷ NoName ∷ NoToken ∷ NoMagic
     ∷ MasterPerm ∷ MasterBusy ∷ NotCurrent ∷ IsLessee ∷ NoModeObject ∷ NotLeasable ∷ Repeated ∷ LeaseShape ∷ LeasedOut ∷ SubLease
     ∷ NoLessee ∷ NotYourLessee ∷ NoFb ∷ BadSize ∷ BadRoute ∷ BadCap ∷ NoLeaseToken ∷ Full ∷ []
 
+-- all that stands apart
 abbrev pub aparts : List Apart
 aparts = JournalFull ∷ NoMemory ∷ Worn ∷ []
 
@@ -57,23 +62,28 @@ aparts = JournalFull ∷ NoMemory ∷ Worn ∷ []
 unfoldable pub rule_of : ℕ → ℕ → Option Rule
 rule_of number errno = find (λ rule. nat_eq (rule_number rule) number && nat_eq (rule_errno rule) errno) rules
 
+-- what stands apart of a number and its own errno
 unfoldable pub apart_of : ℕ → ℕ → Option Apart
 apart_of number errno = find (λ apart. nat_eq (apart_number apart) number && nat_eq (apart_errno apart) errno) aparts
 
+-- the denial by a rule, or by none
 abbrev pub denied : Option Rule → Option Outcome
 denied None = None
 denied (Some rule) = Some (Ok (Denied rule))
 
+-- the refusal by what stands apart, or by nothing
 abbrev pub refused : Option Apart → Option Outcome
 refused None = None
 refused (Some apart) = Some (Err apart)
 
+-- what a number and an errno say, and nothing behind them
 abbrev pub denied_in : List ℕ → Option Outcome
 denied_in fields = if nat_eq (length fields) 8 then denied (rule_of (u32_in fields) (u32_in (drop 4 fields))) else None
 
 abbrev pub refused_in : List ℕ → Option Outcome
 refused_in fields = if nat_eq (length fields) 8 then refused (apart_of (u32_in fields) (u32_in (drop 4 fields))) else None
 
+-- the result that the frame is
 unfoldable pub answer_in : Packet → Option Outcome
 answer_in f =
     if nat_eq f.number 0x1000 then if_size 0 f.fields (Ok Done)

@@ -8,19 +8,23 @@ use Rattle.drm_frames.specs.Grammar.{Packet, packet, frame_text}
 abbrev pub first_version : Option ℕ → Hello
 first_version lease = record { version = 1; lease = lease }
 
--- ---- the grammar: the version, 0 for a node or 1 for a lease, and the token, which is 0 for a node
+-- ---- the grammar
 
+-- the version, 0 for a node or 1 for a lease, and the token, which is 0 for a node
 abbrev pub hello_fields : Option ℕ → List ℕ
 hello_fields None = u32 1 ++ u32 0 ++ u32 0
 hello_fields (Some token) = u32 1 ++ u32 1 ++ u32 token
 
+-- the hello of a node, or of a lease token
 abbrev pub hello_packet : Option ℕ → Packet
 hello_packet lease = packet 0x0100 (hello_fields lease)
 
+-- The token fits its field.
 abbrev pub IsToken : Option ℕ → Type 0
 IsToken None = Unit {0}
 IsToken (Some token) = token < 2 ^ 32
 
+-- The frame is this hello.
 abbrev pub IsHello : Packet → Hello → Type 0
 IsHello f hello = (hello.version ≡ 1) × IsToken hello.lease × (f ≡ hello_packet hello.lease)
 
@@ -42,6 +46,7 @@ lease_in what token =
     else if nat_eq what 1 then Some (first_version (Some token))
     else None
 
+-- the hello that the frame is
 unfoldable pub hello_in : Packet → Option Hello
 hello_in f =
     if nat_eq f.number 0x0100 && nat_eq (length f.fields) 12 && nat_eq (u32_in f.fields) 1

@@ -22,5 +22,6 @@ u32_in bytes = little_number 4 bytes
 unfoldable pub u64_in : List ℕ → ℕ
 u64_in bytes = little_number 8 bytes
 
+-- each of them is below 256
 abbrev pub AreBytes : List ℕ → Type 0
 AreBytes bytes = (i : ℕ) → get_or bytes i 0 < 256

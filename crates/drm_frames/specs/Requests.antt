@@ -5,8 +5,9 @@ use Rattle.drm_table.specs.declared.calls.Call.TheVariants.{Unknown, BadLayout, 
 use Rattle.drm_frames.specs.Number.{u32, u32_in}
 use Rattle.drm_frames.specs.Grammar.{Packet, IsPacket, frame_text, if_size}
 
--- ---- the grammar: which frames ask a row's call
+-- ---- the grammar
 
+-- The frame asks this call of a row: its number is the row's, and its fields are the call's in order and nothing else.
 abbrev pub IsRowCall : Call → Packet → Type 0
 IsRowCall Version f = (f.number ≡ 0x00) × (f.fields ≡ [])
 IsRowCall (GemClose handle) f = (f.number ≡ 0x09) × (handle < 2 ^ 32) × (f.fields ≡ u32 handle)
@@ -40,10 +41,12 @@ pub record WritesCall (call : Call) (text : List ℕ) : Type 0 where
 
 -- ---- the same as a function, for the layers above
 
+-- the call, where the fields say one
 abbrev pub or_bad : ℕ → Option Call → Call
 or_bad n None = BadLayout n
 or_bad n (Some call) = call
 
+-- what the frame asks
 unfoldable pub request_of : Packet → Call
 request_of f =
     if nat_eq f.number 0x00 then or_bad f.number (if_size 0 f.fields Version)

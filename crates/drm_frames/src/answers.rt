@@ -1,6 +1,6 @@
 //! What a result is as a frame.
 ghost use Rattle.std.specs.Prelude.{◌≡◌, ◌<◌, ◌≤◌, [], length};
-ghost use Rattle.drm_frames.specs.Answers.{answer_packet, answer_text};
+ghost use Rattle.drm_frames.specs.Answers.{FitsFields, answer_packet, answer_text};
 ghost use Rattle.drm_frames.specs.Grammar.{packet};
 
 use crate::text::{FrameBytes, framed};
@@ -10,6 +10,7 @@ use drm_table::{Answer, Apart};
 fn push_answer(fields: &mut FrameBytes, outcome: &Result<Answer, Apart>) -> u16
     requires { fields.old ≡ [] }
     ensures text { packet result fields.new ≡ answer_packet outcome.now }
+    ensures fits { FitsFields outcome.now }
     ensures length { length fields.new ≤ 1022 }
 {
     match outcome {
@@ -60,6 +61,7 @@ fn push_answer(fields: &mut FrameBytes, outcome: &Result<Answer, Apart>) -> u16
 #[tactic(auto, unfolding(crate::specs::Answers::answer_text))]
 pub fn encode_answer(outcome: &Result<Answer, Apart>) -> FrameBytes
     ensures text { result ≡ answer_text outcome.now }
+    ensures fits { FitsFields outcome.now }
     ensures some { 0 < length result }
     ensures short { length result ≤ 1028 }
 {

@@ -1,9 +1,10 @@
 //! The first frame of a session.
-ghost use Rattle.std.specs.Prelude.{◌≡◌};
-ghost use Rattle.drm_frames.specs.Hellos.{hello_in};
+ghost use Rattle.std.specs.Prelude.{◌≡◌, ◌<◌, ◌≤◌, length};
+ghost use Rattle.drm_frames.specs.Hellos.{IsToken, hello_in, hello_text};
 
 use crate::frame::Frame;
 use crate::number::u32_in;
+use crate::text::{FrameBytes, framed};
 
 /// What a client is that connects (own).
 #[derive(Clone, Copy, Debug, PartialEq, Eq)]
@@ -38,4 +39,28 @@ pub fn hello_of(frame: &Frame) -> Option<Hello>
         }),
         _ => None,
     }
+}
+
+/// The bytes of a hello's frame, of version 1 (own).
+#[tactic(auto, unfolding(crate::specs::Hellos::hello_text))]
+pub fn encode_hello(hello: Hello) -> FrameBytes
+    requires { hello.version ≡ 1 }
+    ensures text { result ≡ hello_text hello }
+    ensures fits { IsToken hello.lease }
+    ensures some { 0 < length result }
+    ensures short { length result ≤ 1028 }
+{
+    let mut fields = FrameBytes::new();
+    fields.push_u32(hello.version);
+    match hello.lease {
+        None => {
+            fields.push_u32(0);
+            fields.push_u32(0);
+        }
+        Some(token) => {
+            fields.push_u32(1);
+            fields.push_u32(token);
+        }
+    }
+    framed(0x0100, fields.as_slice())
 }

@@ -1,7 +1,33 @@
-//! Laws of the grammar.
-ghost use Rattle.std.specs.Prelude.{◌≡◌, ◌++◌, List, ℕ};
+//! Laws of the grammar. Each function is its contract: there is nothing to call it for.
+ghost use Rattle.std.specs.Prelude.{◌≡◌, ◌^◌, ◌<◌, ◌++◌, List, None, Some, is_some, length, true, ℕ};
 ghost use Rattle.std.specs.List.{flat_map, AllByRecursion};
+ghost use Rattle.drm_frames.specs.Answers.{FitsFields, IsAnswer, Outcome, Tells, answer_in, answer_packet, answer_text};
+ghost use Rattle.drm_frames.specs.Decoding.{Decodes, ReadsAs};
 ghost use Rattle.drm_frames.specs.Grammar.{Packet, frame_text, IsPacket, IsPart};
+ghost use Rattle.drm_frames.specs.Hellos.{Greets, IsHello, IsToken, hello_in, hello_packet, hello_text};
+ghost use Rattle.drm_frames.specs.Number.{AreBytes, u16, u16_in, u32, u32_in, u64, u64_in};
+ghost use Rattle.drm_frames.specs.Requests.{Asks, HasRow, IsRowCall, WritesCall, request_of};
+ghost use Rattle.drm_table.specs.Table.{call_number, row_of};
+ghost use Rattle.drm_frames.specs.declared.decoding.Decoded.{Decoded as ADecoded};
+ghost use Rattle.drm_frames.specs.declared.hello.Hello.{Hello as AHello};
+ghost use Rattle.drm_table.specs.declared.calls.Call.{Call as ACall};
+
+/// A number that is written is read again, whatever follows it.
+pub fn numbers_read_back()
+    ensures two_bytes { (n : ℕ) (rest : List ℕ) → n < 2 ^ 16 → u16_in (u16 n ++ rest) ≡ n }
+    ensures four_bytes { (n : ℕ) (rest : List ℕ) → n < 2 ^ 32 → u32_in (u32 n ++ rest) ≡ n }
+    ensures eight_bytes { (n : ℕ) (rest : List ℕ) → n < 2 ^ 64 → u64_in (u64 n ++ rest) ≡ n }
+{}
+
+/// A number that is read from a field's bytes is written as the same bytes.
+pub fn numbers_written_back()
+    ensures two_bytes { (bytes : List ℕ) → length bytes ≡ 2 → AreBytes bytes
+        → u16 (u16_in bytes) ≡ bytes }
+    ensures four_bytes { (bytes : List ℕ) → length bytes ≡ 4 → AreBytes bytes
+        → u32 (u32_in bytes) ≡ bytes }
+    ensures eight_bytes { (bytes : List ℕ) → length bytes ≡ 8 → AreBytes bytes
+        → u64 (u64_in bytes) ≡ bytes }
+{}
 
 /// No text of a frame begins another, so what stands at the front of bytes is one frame at most.
 pub fn no_text_begins_another()
@@ -14,4 +40,80 @@ pub fn one_reading()
     ensures { (fs gs : List Packet) (x y : List ℕ) → AllByRecursion IsPacket fs
         → AllByRecursion IsPacket gs → IsPart x → IsPart y
         → flat_map frame_text fs ++ x ≡ flat_map frame_text gs ++ y → (fs ≡ gs) × (x ≡ y) }
+{}
+
+/// At the front of bytes stands one thing only: a frame, less than a frame, or a length that no
+/// frame has.
+pub fn one_decoding()
+    ensures { (bytes : List ℕ) (d e : ADecoded) → Decodes bytes d → Decodes bytes e → d ≡ e }
+{}
+
+/// The text of a frame is found where it stands.
+pub fn texts_are_found()
+    ensures { (f : Packet) → IsPacket f → ReadsAs (frame_text f) f }
+{}
+
+/// What a frame is found to ask, it asks.
+pub fn each_frame_asks()
+    ensures { (f : Packet) → IsPacket f → Asks f (request_of f) }
+{}
+
+/// What a frame asks is found, and so it asks nothing else.
+pub fn one_call()
+    ensures { (f : Packet) (call : ACall) → IsPacket f → Asks f call → request_of f ≡ call }
+{}
+
+/// The numbers with a row, and the number of each row's call, are those of the table of calls.
+pub fn rows_of_the_table()
+    ensures has { (n : ℕ) → HasRow n → is_some (row_of n) ≡ true }
+    ensures no_other { (n : ℕ) → (HasRow n → ⊥) → row_of n ≡ None }
+    ensures number { (f : Packet) (call : ACall) → IsRowCall call f
+        → f.number ≡ call_number call }
+{}
+
+/// A row's call is asked by one frame.
+pub fn one_frame()
+    ensures fits { (f : Packet) (call : ACall) → IsRowCall call f → IsPacket f }
+    ensures one { (f g : Packet) (call : ACall) → IsRowCall call f → IsRowCall call g → f ≡ g }
+{}
+
+/// The hello that is found in a frame is the frame's, and where none is found it has none.
+pub fn each_frame_greets()
+    ensures { (f : Packet) → IsPacket f → Greets f (hello_in f) }
+{}
+
+/// A frame's hello is found, and so it has no other.
+pub fn one_hello()
+    ensures { (f : Packet) (hello : AHello) → IsHello f hello → hello_in f ≡ Some hello }
+{}
+
+/// The result that is found in a frame is the frame's, and where none is found it has none.
+pub fn each_frame_tells()
+    ensures { (f : Packet) → IsPacket f → Tells f (answer_in f) }
+{}
+
+/// A frame's result is found, and so it has no other.
+pub fn one_result()
+    ensures { (f : Packet) (outcome : Outcome) → IsAnswer f outcome
+        → answer_in f ≡ Some outcome }
+{}
+
+/// A call that is encoded is read back.
+pub fn calls_read_back()
+    ensures { (call : ACall) (text : List ℕ) → WritesCall call text
+        → (f : Packet) × ReadsAs text f × (request_of f ≡ call) }
+{}
+
+/// A hello that is encoded is read back.
+pub fn hellos_read_back()
+    ensures { (hello : AHello) → hello.version ≡ 1 → IsToken hello.lease
+        → ReadsAs (hello_text hello) (hello_packet hello.lease)
+        × (hello_in (hello_packet hello.lease) ≡ Some hello) }
+{}
+
+/// A result that is encoded is read back.
+pub fn answers_read_back()
+    ensures { (outcome : Outcome) → FitsFields outcome
+        → ReadsAs (answer_text outcome) (answer_packet outcome)
+        × (answer_in (answer_packet outcome) ≡ Some outcome) }
 {}

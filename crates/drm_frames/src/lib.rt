@@ -8,7 +8,9 @@ mod frame;
 mod hello;
 mod laws;
 mod number;
+mod refusals;
 mod requests;
+mod results;
 mod sink;
 mod source;
 mod text;
@@ -17,13 +19,21 @@ mod turns;
 pub use answers::encode_answer;
 pub use decoding::{Decoded, decode};
 pub use frame::Frame;
-pub use hello::{Hello, hello_of};
-pub use laws::{no_text_begins_another, one_reading};
-pub use requests::call_of;
+pub use hello::{Hello, encode_hello, hello_of};
+pub use laws::{
+    answers_read_back, calls_read_back, each_frame_asks, each_frame_greets, each_frame_tells,
+    hellos_read_back, no_text_begins_another, numbers_read_back, numbers_written_back, one_call,
+    one_decoding, one_frame, one_hello, one_reading, one_result, rows_of_the_table,
+    texts_are_found,
+};
+pub use requests::{call_of, encode_call};
+pub use results::answer_of;
 pub use sink::{Put, Sink, ToWrite};
 pub use source::{FromRead, Source, Taken};
 pub use text::FrameBytes;
 pub use turns::{Refill, Written, put_all, take_some};
 
+#[cfg(test)]
+mod frame_tests;
 #[cfg(test)]
 mod tests;

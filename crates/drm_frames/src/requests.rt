@@ -1,12 +1,13 @@
 //! What a frame asks.
-ghost use Rattle.std.specs.Prelude.{◌≡◌, drop};
-ghost use Rattle.drm_frames.specs.Grammar.{if_size};
+ghost use Rattle.std.specs.Prelude.{◌≡◌, ◌<◌, ◌≤◌, [], drop, length};
+ghost use Rattle.drm_frames.specs.Grammar.{if_size, packet};
 ghost use Rattle.drm_frames.specs.Number.{u32_in as number32};
-ghost use Rattle.drm_frames.specs.Requests.{request_of};
+ghost use Rattle.drm_frames.specs.Requests.{IsOfRow, IsRowCall, WritesCall, request_of};
 ghost use Rattle.drm_table.specs.declared.calls.Call.TheVariants as calls;
 
 use crate::frame::Frame;
 use crate::number::u32_in;
+use crate::text::{FrameBytes, framed};
 use drm_table::Call;
 
 fn version(fields: &[u8]) -> Option<Call>
@@ -64,4 +65,40 @@ pub fn call_of(frame: &Frame) -> Call
         Some(call) => call,
         None => Call::BadLayout(number),
     }
+}
+
+// Writes the fields of a row's call, and gives its number.
+fn push_call(fields: &mut FrameBytes, call: &Call) -> u16
+    requires empty { fields.old ≡ [] }
+    requires of_row { IsOfRow call.now }
+    ensures asks { IsRowCall call.now (packet result fields.new) }
+    ensures length { length fields.new ≤ 1022 }
+{
+    match call {
+        Call::Unknown(number) | Call::BadLayout(number) => *number,
+        Call::Version => 0x00,
+        Call::GemClose { handle } => {
+            fields.push_u32(*handle);
+            0x09
+        }
+        Call::CreateDumb { width, height, bpp } => {
+            fields.push_u32(*width);
+            fields.push_u32(*height);
+            fields.push_u32(*bpp);
+            0xB2
+        }
+    }
+}
+
+/// The bytes of the frame that asks a call of a row: neither `Unknown` nor `BadLayout` (drm-uapi for
+/// the rows; the layout is own).
+pub fn encode_call(call: &Call) -> FrameBytes
+    requires { IsOfRow call.now }
+    ensures text { WritesCall call.now result }
+    ensures some { 0 < length result }
+    ensures short { length result ≤ 1028 }
+{
+    let mut fields = FrameBytes::new();
+    let number = push_call(&mut fields, call);
+    framed(number, fields.as_slice())
 }

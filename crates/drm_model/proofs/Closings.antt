@@ -6,6 +6,7 @@ use Rattle.drm_table.specs.declared.answers.Answer.TheVariants.{Closed}
 use Rattle.drm_table.specs.declared.apart.Apart.{Apart}
 use Rattle.drm_table.specs.declared.apart.Apart.TheVariants.{JournalFull, NoMemory, Worn}
 use Rattle.drm_table.specs.declared.events.Event.TheVariants.{Close}
+use Rattle.drm_table.specs.declared.rules.Rule.TheVariants.{NoClient}
 use Rattle.drm_model.specs.Rows.{Rows, ClientRow, MasterRow, is_open, client_row, without}
 use Rattle.drm_model.specs.Masters.{is_under}
 use Rattle.drm_model.specs.Leases.{ended}
@@ -57,13 +58,16 @@ closing_adds_no_row w c grows =
     (let e = ap length own.objects in omega arith) (let e = ap length own.names in omega arith)
     (without-shorter _ w.tokens) own.grants (without-shorter _ w.framebuffers) grows.1
 
-pub closing_verdict : (w : Rows) (c : ℕ) → is_open w c ≡ true → verdict w (Close c) ≡ None
+pub closing_verdict : (w : Rows) (c : ℕ) → verdict w (Close c) ≡ cond (is_open w c) None (Some NoClient)
 unfolding verdict checks
-closing_verdict w c open_client = rw open_client refl
+closing_verdict w c = refl
+
+closing_accepted : (w : Rows) (c : ℕ) → is_open w c ≡ true → verdict w (Close c) ≡ None
+closing_accepted w c open_client = closing_verdict w c ∙ ap (λ b. cond b None (Some NoClient)) open_client
 
 pub closing_is_carried_out : (w : Rows) (c : ℕ) (result : Result Answer Apart) (v : Rows) → is_open w c ≡ true → Step w (Close c) result v → result ≡ Ok Closed
 unfolding Step reply no_room answer_of
-closing_is_carried_out w c (Ok answer) v open_client step = ap Ok (step.1 ∙ ap (λ r. reply_by r w (Close c)) (closing_verdict w c open_client))
+closing_is_carried_out w c (Ok answer) v open_client step = ap Ok (step.1 ∙ ap (λ r. reply_by r w (Close c)) (closing_accepted w c open_client))
 closing_is_carried_out w c (Err JournalFull) v open_client step = absurd (let e : false ≡ true = rw open_client at step.0 in cc)
 closing_is_carried_out w c (Err NoMemory) v open_client step = absurd (closing_adds_no_row w c step.1)
 closing_is_carried_out w c (Err Worn) v open_client step = absurd step

@@ -1,4 +1,5 @@
 pub mod Closings
+pub mod Journals
 pub mod Lists
 pub mod Numbers
 pub mod Runs

@@ -10,7 +10,7 @@ use Rattle.drm_device.specs.declared.state.Client.{Client}
 use Rattle.drm_device.specs.Refinement.{Owes, client_row_of}
 use Rattle.drm_device.proofs.Lookups.{client_row_is, is_open_is}
 use Rattle.drm_device.proofs.Outcomes.{denied, carried}
-use Rattle.drm_device.proofs.Runs.{closing_verdict}
+use Rattle.drm_model.proofs.Closings.{closing_verdict}
 use Rattle.drm_device.proofs.Sweeps.{gone}
 use Rattle.drm_device.proofs.closings.close.Goals as goal
 

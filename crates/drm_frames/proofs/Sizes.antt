@@ -1,0 +1,36 @@
+-- Fields of one size, and options of a test.
+use Rattle.std.proofs.Common.{◌≡◌, ℕ, Bool, true, false, cond, List, [], ◌∷◌, length, Option, Some, None, refl, sym, ap, ◌∙◌}
+use Rattle.std.specs.Prelude.{◌&&◌, nat_eq, find}
+use Rattle.std.proofs.lemmas.Bool.{eq-eqb, eqb-true}
+use Rattle.drm_frames.specs.Grammar.{Packet, packet, if_size}
+
+pub of_size : {A : Type 0} (n : ℕ) (fields : List ℕ) (said : A) → length fields ≡ n → if_size n fields said ≡ Some said
+of_size n fields said h = rw (eq-eqb (length fields) n h) refl
+
+pub cond-some : {A : Type 0} (b : Bool) (x : Option A) (a : A) → cond b x None ≡ Some a → (b ≡ true) × (x ≡ Some a)
+cond-some true x a e = (refl, e)
+cond-some false x a e = absurd cc
+
+pub some-is : {A : Type 0} (x a : A) → Some x ≡ Some a → x ≡ a
+some-is x a e = cc
+
+pub size-some : {A : Type 0} (n : ℕ) (fields : List ℕ) (said a : A) → if_size n fields said ≡ Some a → (length fields ≡ n) × (said ≡ a)
+size-some n fields said a e =
+    let t = cond-some (nat_eq (length fields) n) (Some said) a e in
+    (eqb-true (length fields) n t.0, some-is said a t.1)
+
+pub both-true : (a b : Bool) → a && b ≡ true → (a ≡ true) × (b ≡ true)
+both-true true b e = (refl, e)
+both-true false b e = absurd cc
+
+-- What is found passes the test.
+found-by : {A : Type 0} (test : A → Bool) (y x : A) (rest : Option A) (b : Bool) → test y ≡ b → (rest ≡ Some x → test x ≡ true) → cond b (Some y) rest ≡ Some x → test x ≡ true
+found-by test y x rest true t later e = ap test (some-is x y (sym e)) ∙ t
+found-by test y x rest false t later e = later e
+
+pub found-passes : {A : Type 0} (test : A → Bool) (xs : List A) (x : A) → find test xs ≡ Some x → test x ≡ true
+found-passes test [] x e = absurd cc
+found-passes test (y ∷ xs) x e = found-by test y x (find test xs) (test y) refl (found-passes test xs x) e
+
+pub packet-is : (f : Packet) (n : ℕ) (xs : List ℕ) → f.number ≡ n → f.fields ≡ xs → f ≡ packet n xs
+packet-is f n xs a b = ap (λ (k : ℕ). packet k f.fields) a ∙ ap (λ (y : List ℕ). packet n y) b

@@ -1,0 +1,5 @@
+use Rattle.drm_frames.proofs.AnswerLaws.{answer-found}
+use Rattle.drm_frames.proofs.laws.one_result.Goals as goal
+
+pub returns : goal.returns
+returns c = answer-found

@@ -1,0 +1,81 @@
+-- One more turn of a session's requests.
+use Rattle.std.proofs.Common.{◌≡◌, ℕ, ◌+◌, List, [], ◌∷◌, ◌++◌, refl, sym, ap, ◌∙◌, subst, arith, append_assoc}
+use Rattle.std.specs.List.{flat_map, AllByRecursion}
+use Rattle.std.proofs.lemmas.List.{append-nil, flat_map_more, map_push}
+use Rattle.std.proofs.KnownBytes.{Consumes-nil, Consumes-trans}
+use Rattle.drm_table.specs.declared.events.Event.{Event}
+use Rattle.drm_frames.specs.Grammar.{Packet, frame_text, IsPacket}
+use Rattle.drm_frames.specs.Answers.{Outcome, answer_text}
+use Rattle.drm_frames.specs.Streams.{SourceAccount}
+use Rattle.drm_sessions.specs.Reading.{Comes, Uses}
+use Rattle.drm_sessions.specs.Runs.{Exchange, exchange, Runs, asked, outcomes, session_text, noted, one_if_noted, Requests}
+
+All-push : {X : Type 0} (P : X → Type 0) (xs : List X) (x : X) → AllByRecursion P xs → P x → AllByRecursion P (xs ++ x ∷ [])
+All-push P [] x h p = (p, tt)
+All-push P (y ∷ xs) x h p = (h.0, All-push P xs x h.1 p)
+
+pub Runs-push : {A : Type 0} (answers : A → Event → Outcome → A → Type 0) (a b c : A) (log : List Exchange) (call : Exchange) → Runs answers a log b → answers b call.event call.outcome c → Runs answers a (log ++ call ∷ []) c
+Runs-push answers a b c [] call r h = (c, subst (λ x. answers x call.event call.outcome c) r h, refl)
+Runs-push answers a b c (first ∷ log) call r h = (r.0, r.1, Runs-push answers r.0 b c log call r.2 h)
+
+pub noted-push : (results : List Outcome) (result : Outcome) → noted (results ++ result ∷ []) ≡ noted results + one_if_noted result
+noted-push [] result = omega arith
+noted-push (first ∷ results) result = let e = noted-push results result in omega (arith, e)
+
+pub outcomes-push : (log : List Exchange) (call : Exchange) → outcomes (log ++ call ∷ []) ≡ outcomes log ++ call.outcome ∷ []
+outcomes-push log call = map_push (λ (x : Exchange). x.outcome) log call
+
+pub session_text-push : (results : List Outcome) (result : Outcome) → session_text (results ++ result ∷ []) ≡ session_text results ++ answer_text result
+session_text-push results result = sym (flat_map_more answer_text [] results result)
+
+module _ {A : Type 0} (answers : A → Event → Outcome → A → Type 0) (client : ℕ) where
+  pub none-yet : (a : A) (source : SourceAccount) (waits : List ℕ) → Requests answers client a a source source waits waits [] 0
+  none-yet a source waits = record {
+    read = [];
+    frames = [];
+    log = [];
+    taken = Consumes-nil source.left;
+    parts = append-nil waits;
+    fit = tt;
+    made = refl;
+    asks = refl;
+    answered = refl;
+    counted = refl;
+  }
+
+  pub bytes-more : {a0 a1 : A} {s0 s1 s2 : SourceAccount} {w0 w1 w2 : List ℕ} {results : List Outcome} {steps t u : ℕ}
+      → Requests answers client a0 a1 s0 s1 w0 w1 results steps → Comes s1 s2 w1 w2 t u → Requests answers client a0 a1 s0 s2 w0 w2 results steps
+  bytes-more {s0} {s1} {s2} {w0} {w1} r m = record {
+    read = r.read ++ m.more;
+    frames = r.frames;
+    log = r.log;
+    taken = Consumes-trans s0.left s1.left s2.left r.read m.more r.taken m.spends.gave.given;
+    parts = sym (append_assoc w0 r.read m.more) ∙ ap (λ (x : List ℕ). x ++ m.more) r.parts ∙ append_assoc (flat_map frame_text r.frames) w1 m.more
+        ∙ ap (λ (x : List ℕ). flat_map frame_text r.frames ++ x) (sym m.parts);
+    fit = r.fit;
+    made = r.made;
+    asks = r.asks;
+    answered = r.answered;
+    counted = r.counted;
+  }
+
+  pub frame-more : {a0 a1 a2 : A} {s0 s1 s2 : SourceAccount} {w0 w1 w2 : List ℕ} {results : List Outcome} {steps t u : ℕ} {frame : Packet} {result : Outcome}
+      → Requests answers client a0 a1 s0 s1 w0 w1 results steps → Uses s1 s2 w1 w2 t u frame → answers a1 (asked client frame) result a2
+      → Requests answers client a0 a2 s0 s2 w0 w2 (results ++ result ∷ []) (steps + one_if_noted result)
+  frame-more {a0} {a1} {a2} {s0} {s1} {s2} {w0} {w1} {w2} {results} {steps} {frame} {result} r m h =
+      let frames : List ℕ = flat_map frame_text r.frames in
+      let call : Exchange = exchange (asked client frame) result in
+      record {
+        read = r.read ++ m.more;
+        frames = r.frames ++ frame ∷ [];
+        log = r.log ++ call ∷ [];
+        taken = Consumes-trans s0.left s1.left s2.left r.read m.more r.taken m.spends.gave.given;
+        parts = sym (append_assoc w0 r.read m.more) ∙ ap (λ (x : List ℕ). x ++ m.more) r.parts ∙ append_assoc frames w1 m.more
+            ∙ ap (λ (x : List ℕ). frames ++ x) m.parts ∙ sym (append_assoc frames (frame_text frame) w2)
+            ∙ ap (λ (x : List ℕ). x ++ w2) (flat_map_more frame_text [] r.frames frame);
+        fit = All-push IsPacket r.frames frame r.fit m.fits;
+        made = Runs-push answers a0 a1 a2 r.log call r.made h;
+        asks = map_push (λ (x : Exchange). x.event) r.log call ∙ ap (λ (x : List Event). x ++ asked client frame ∷ []) r.asks ∙ sym (map_push (asked client) r.frames frame);
+        answered = outcomes-push r.log call ∙ ap (λ (x : List Outcome). x ++ result ∷ []) r.answered;
+        counted = noted-push results result ∙ ap (λ (n : ℕ). n + one_if_noted result) r.counted;
+      }

@@ -1,0 +1,41 @@
+-- What a whole session costs.
+use Rattle.std.proofs.Common.{ℕ, List, arith}
+use Rattle.drm_frames.specs.Grammar.{Packet}
+use Rattle.drm_frames.specs.Streams.{SourceAccount, SinkAccount}
+use Rattle.drm_frames.specs.Turns.{NeverFall}
+use Rattle.drm_frames.proofs.Accounts.{NeverFall-none}
+use Rattle.drm_sessions.specs.declared.end.SessionEnd.{SessionEnd}
+use Rattle.drm_sessions.specs.declared.end.SessionEnd.TheVariants as ends
+use Rattle.drm_sessions.specs.Reading.{Comes, Uses, StopsAt, ReadShows}
+use Rattle.drm_sessions.specs.Ends.{Moves, Shows}
+use Rattle.drm_sessions.specs.Serving.{Costs}
+use Rattle.drm_sessions.proofs.Ending.{shows-read, Moves-read, Moves-then}
+
+shows-later : (e : SessionEnd) (in0 in1 in2 : SourceAccount) (out0 out1 : SinkAccount) (has : ℕ) → NeverFall in0.counts in1.counts → Shows e in1 in2 out0 out1 has → Shows e in0 in2 out0 out1 has
+shows-later ends.Ended in0 in1 in2 out0 out1 has n h = (h.0, omega arith)
+shows-later ends.Truncated in0 in1 in2 out0 out1 has n h = (h.0, omega arith)
+shows-later ends.TooLong in0 in1 in2 out0 out1 has n h = h
+shows-later ends.ReadFault in0 in1 in2 out0 out1 has n h = omega arith
+shows-later ends.TurnsUsed in0 in1 in2 out0 out1 has n h = h
+shows-later ends.WriteFault in0 in1 in2 out0 out1 has n h = h
+shows-later ends.BadHello in0 in1 in2 out0 out1 has n h = h
+shows-later (ends.OpenRefused rule) in0 in1 in2 out0 out1 has n h = h
+shows-later (ends.Apart apart) in0 in1 in2 out0 out1 has n h = h
+
+pub costs-read : (e : SessionEnd) (sink : SinkAccount) {in0 in1 : SourceAccount} {waited waits : List ℕ} {t u : ℕ} → Comes in0 in1 waited waits t u → StopsAt e waits → ReadShows e in0 in1 u → Costs in0 in1 sink sink t e
+costs-read e sink {in0} {in1} {waits} {u} m h shows = record {
+  unused = u;
+  moves = Moves-read sink m.spends;
+  shows = shows-read e waits in0 in0 in1 sink sink u h (NeverFall-none in0.counts) shows;
+}
+
+pub costs-no-hello : (sink : SinkAccount) {in0 in1 : SourceAccount} {waited waits : List ℕ} {t u : ℕ} {frame : Packet} → Uses in0 in1 waited waits t u frame → Costs in0 in1 sink sink t ends.BadHello
+costs-no-hello sink {u} m = record { unused = u; moves = Moves-read sink m.spends; shows = tt }
+
+pub costs-session : (e : SessionEnd) {in0 in1 in2 : SourceAccount} {out0 out1 : SinkAccount} {waited waits : List ℕ} {s t u : ℕ} {frame : Packet}
+    → Uses in0 in1 waited waits s t frame → Moves in1 in2 out0 out1 t u → Shows e in1 in2 out0 out1 u → Costs in0 in2 out0 out1 s e
+costs-session e {in0} {in1} {in2} {out0} {out1} {u} m moves shows = record {
+  unused = u;
+  moves = Moves-then (Moves-read out0 m.spends) moves;
+  shows = shows-later e in0 in1 in2 out0 out1 u m.spends.gave.counts shows;
+}

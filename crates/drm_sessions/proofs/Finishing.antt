@@ -1,0 +1,284 @@
+-- A whole session from its parts.
+use Rattle.std.proofs.Common.{◌≡◌, ℕ, ◌+◌, ◌⊎◌, List, [], ◌∷◌, ◌++◌, Option, Some, None, Ok, Err, refl, sym, ap, ◌∙◌, subst, inl, inr, append_assoc}
+use Rattle.std.specs.List.{flat_map}
+use Rattle.std.proofs.lemmas.List.{append-nil}
+use Rattle.std.proofs.KnownBytes.{Appends-nil, Appends-trans, Consumes-nil, Consumes-trans}
+use Rattle.drm_table.specs.declared.events.Event.{Event}
+use Rattle.drm_table.specs.declared.events.Event.TheVariants.{Open, Close}
+use Rattle.drm_table.specs.declared.events.Opening.{Opening}
+use Rattle.drm_table.specs.declared.rules.Rule.{Rule}
+use Rattle.drm_table.specs.declared.answers.Answer.TheVariants.{Opened, Denied}
+use Rattle.drm_table.specs.declared.apart.Apart.{Apart}
+use Rattle.drm_table.specs.declared.apart.Apart.TheVariants as aparts
+use Rattle.drm_frames.specs.Grammar.{Packet, frame_text}
+use Rattle.drm_frames.specs.Answers.{Outcome, answer_text}
+use Rattle.drm_frames.specs.Streams.{SourceAccount, SinkAccount}
+use Rattle.drm_frames.specs.Turns.{Pays, PaysPart}
+use Rattle.drm_sessions.specs.declared.class.Class.{Class}
+use Rattle.drm_sessions.specs.declared.end.Session.{Session}
+use Rattle.drm_sessions.specs.declared.end.SessionEnd.{SessionEnd}
+use Rattle.drm_sessions.specs.declared.end.SessionEnd.TheVariants as ends
+use Rattle.drm_sessions.specs.Opening.{opening_in}
+use Rattle.drm_sessions.specs.Reading.{Comes, Uses, StopsAt, WriteShows}
+use Rattle.drm_sessions.specs.Runs.{Exchange, exchange, outcomes, session_text, noted, one_if_noted}
+use Rattle.drm_sessions.specs.Ends.{CutsLast, Leaves, Ends, Refuses, EndsClosed}
+use Rattle.drm_sessions.specs.Serving.{Follows, Because, Serves, Continues}
+use Rattle.drm_sessions.proofs.Composing.{none-yet, Runs-push, noted-push, outcomes-push}
+use Rattle.drm_sessions.proofs.Ending.{leaves-write}
+
+-- ---- causes
+
+CutsLast-cons : (first : Outcome) {results : List Outcome} {later : List ℕ} → CutsLast results later → CutsLast (first ∷ results) later
+CutsLast-cons first h = record {
+  before = first ∷ h.before;
+  last = h.last;
+  sent = h.sent;
+  whole = ap (λ (x : List Outcome). first ∷ x) h.whole;
+  parts = h.parts;
+  more = h.more;
+}
+
+leaves-cons : (e : SessionEnd) (first : Outcome) (waits : List ℕ) (results : List Outcome) (later : List ℕ) → Leaves e waits results later → Leaves e waits (first ∷ results) later
+leaves-cons ends.Ended first waits results later h = h
+leaves-cons ends.Truncated first waits results later h = h
+leaves-cons ends.TooLong first waits results later h = h
+leaves-cons ends.ReadFault first waits results later h = h
+leaves-cons ends.WriteFault first waits results later h = CutsLast-cons first h
+leaves-cons ends.TurnsUsed first waits results later (inl h) = inl h
+leaves-cons ends.TurnsUsed first waits results later (inr h) = inr (CutsLast-cons first h)
+leaves-cons ends.BadHello first waits results later h = h
+leaves-cons (ends.OpenRefused rule) first waits results later h = h
+leaves-cons (ends.Apart apart) first waits results later h = h
+
+whole-or-cut : (e : SessionEnd) (waits : List ℕ) (results : List Outcome) (later : List ℕ) → Leaves e waits results later → (later ≡ []) ⊎ CutsLast results later
+whole-or-cut ends.Ended waits results later h = inl h.1
+whole-or-cut ends.Truncated waits results later h = inl h.1
+whole-or-cut ends.TooLong waits results later h = inl h.1
+whole-or-cut ends.ReadFault waits results later h = inl h.1
+whole-or-cut ends.WriteFault waits results later h = inr h
+whole-or-cut ends.TurnsUsed waits results later (inl h) = inl h.1
+whole-or-cut ends.TurnsUsed waits results later (inr h) = inr h
+whole-or-cut ends.BadHello waits results later h = absurd h
+whole-or-cut (ends.OpenRefused rule) waits results later h = absurd h
+whole-or-cut (ends.Apart apart) waits results later h = absurd h
+
+because-left : (e : SessionEnd) (class : Class) (rest : List ℕ) (answered closing : List Exchange) (later : List ℕ) → Leaves e rest (outcomes answered) later → Because e class rest answered closing later
+because-left ends.Ended class rest answered closing later h = h
+because-left ends.Truncated class rest answered closing later h = h
+because-left ends.TooLong class rest answered closing later h = h
+because-left ends.ReadFault class rest answered closing later h = h
+because-left ends.WriteFault class rest answered closing later h = h
+because-left ends.TurnsUsed class rest answered closing later h = h
+because-left ends.BadHello class rest answered closing later h = absurd h
+because-left (ends.OpenRefused rule) class rest answered closing later h = absurd h
+because-left (ends.Apart apart) class rest answered closing later h = absurd h
+
+because-closed : (e : SessionEnd) (client : ℕ) (r : Outcome) (end : SessionEnd) (class : Class) (rest : List ℕ) (answered : List Exchange) (later : List ℕ)
+    → Leaves e rest (outcomes answered) later → EndsClosed e r end → Because end class rest answered (exchange (Close client) r ∷ []) later
+because-closed e client (Ok answer) end class rest answered later h is =
+    subst (λ (x : SessionEnd). Because x class rest answered (exchange (Close client) (Ok answer) ∷ []) later) (sym is) (because-left e class rest answered _ later h)
+because-closed e client (Err aparts.JournalFull) end class rest answered later h is =
+    subst (λ (x : SessionEnd). Because x class rest answered (exchange (Close client) (Err aparts.JournalFull) ∷ []) later) (sym is) (because-left e class rest answered _ later h)
+because-closed e client (Err aparts.NoMemory) end class rest answered later h is =
+    subst (λ (x : SessionEnd). Because x class rest answered (exchange (Close client) (Err aparts.NoMemory) ∷ []) later) (sym is) (because-left e class rest answered _ later h)
+because-closed e client (Err aparts.Worn) end class rest answered later h is =
+    subst (λ (x : SessionEnd). Because x class rest answered (exchange (Close client) (Err aparts.Worn) ∷ []) later) (sym is)
+    (inr ((client, refl), refl, whole-or-cut e rest (outcomes answered) later h))
+
+-- no end by reading alone has an answer behind it
+because-read : (e : SessionEnd) (class : Class) (rest : List ℕ) → StopsAt e rest → Because e class rest [] [] []
+because-read ends.Ended class rest h = (h, refl)
+because-read ends.Truncated class rest h = (h, refl)
+because-read ends.TooLong class rest h = (h, refl)
+because-read ends.ReadFault class rest h = (h, refl)
+because-read ends.TurnsUsed class rest h = inl (h, refl)
+because-read ends.WriteFault class rest h = absurd h
+because-read ends.BadHello class rest h = absurd h
+because-read (ends.OpenRefused rule) class rest h = absurd h
+because-read (ends.Apart apart) class rest h = absurd h
+
+-- ---- the parts joined
+
+cut-of-part : (result : Outcome) {out0 out1 : SinkAccount} {said : List ℕ} {t u : ℕ} → said ≡ answer_text result → (p : PaysPart out0 out1 said t u) → CutsLast (result ∷ []) p.rest
+cut-of-part result is p = record { before = []; last = result; sent = p.front; whole = refl; parts = sym is ∙ p.parts; more = p.more }
+
+module _ {A : Type 0} (answers : A → Event → Outcome → A → Type 0) where
+  pub said-whole : {client : ℕ} {a0 a1 : A} {in0 in1 : SourceAccount} {out0 out1 out2 : SinkAccount} {said waited : List ℕ} {steps t u : ℕ} {e : SessionEnd} (result : Outcome)
+      → said ≡ answer_text result → Pays out0 out1 said t u → Ends answers client a0 a1 in0 in1 out1 out2 [] waited steps e
+      → Ends answers client a0 a1 in0 in1 out0 out2 (result ∷ []) waited steps e
+  said-whole {out0} {out1} {out2} {said} {t} {u} {e} result is p h =
+      let pays : Pays out0 out1 (answer_text result) t u = subst (λ (x : List ℕ). Pays out0 out1 x t u) is p in
+      record {
+        waits = h.waits;
+        results = h.results;
+        front = answer_text result ++ h.front;
+        later = h.later;
+        did = h.did;
+        puts = record {
+          parts = ap (λ (x : List ℕ). answer_text result ++ x) h.puts.parts ∙ sym (append_assoc (answer_text result) h.front h.later);
+          adds = Appends-trans out0.written out1.written out2.written (answer_text result) h.front pays.took.taken h.puts.adds;
+        };
+        leaves = leaves-cons e result h.waits h.results h.later h.leaves;
+      }
+
+  pub said-in-part : {client : ℕ} {a : A} {source : SourceAccount} {out0 out1 : SinkAccount} {said : List ℕ} {waited : List ℕ} {t u : ℕ} {e : SessionEnd} (result : Outcome)
+      → said ≡ answer_text result → PaysPart out0 out1 said t u → WriteShows e out0 out1 u → Ends answers client a a source source out0 out1 (result ∷ []) waited 0 e
+  said-in-part {client} {a} {source} {out0} {out1} {said} {waited} {t} {u} {e} result is p shows = record {
+    waits = waited;
+    results = [];
+    front = p.front;
+    later = p.rest;
+    did = none-yet answers client a source waited;
+    puts = record { parts = append-nil (answer_text result) ∙ sym is ∙ p.parts; adds = p.pays.took.taken };
+    leaves = leaves-write e waited (result ∷ []) p.rest out0 out1 u shows (cut-of-part result is p);
+  }
+
+  pub continues-client : {class : Class} {opening : Opening} {client : ℕ} {a0 a1 a2 a3 : A} {in0 in1 : SourceAccount} {out0 out1 : SinkAccount} {waited : List ℕ} {steps : ℕ} {e : SessionEnd} {r : Outcome} {s : Session}
+      → answers a0 (Open opening) (Ok (Opened client)) a1 → Ends answers client a1 a2 in0 in1 out0 out1 (Ok (Opened client) ∷ []) waited steps e
+      → answers a2 (Close client) r a3 → s.client ≡ client → s.steps ≡ 1 + (steps + one_if_noted r) → EndsClosed e r s.end
+      → Continues answers class opening a0 a3 in0 in1 out0 out1 waited s
+  continues-client {class} {opening} {client} {a1} {a2} {a3} {out0} {out1} {e} {r} {s} opened h close c n ended =
+      let log : List Exchange = h.did.log in
+      let first : Exchange = exchange (Open opening) (Ok (Opened client)) in
+      let last : Exchange = exchange (Close client) r in
+      let same : Ok (Opened client) ∷ h.results ≡ outcomes (first ∷ log) = ap (λ (x : List Outcome). Ok (Opened client) ∷ x) (sym h.did.answered) in
+      record {
+        read = h.did.read;
+        frames = h.did.frames;
+        rest = h.waits;
+        result = Ok (Opened client);
+        asks = log;
+        closing = last ∷ [];
+        front = h.front;
+        later = h.later;
+        taken = h.did.taken;
+        parts = h.did.parts;
+        fit = h.did.fit;
+        made = (a1, opened, Runs-push answers a1 a2 a3 log last h.did.made close);
+        follows = (h.did.asks, (r, refl), c);
+        counted = ap (λ (k : ℕ). 1 + k) (
+            ap noted (outcomes-push log last) ∙ noted-push (outcomes log) r ∙ ap (λ (x : List Outcome). noted x + one_if_noted r) h.did.answered
+            ∙ ap (λ (k : ℕ). k + one_if_noted r) h.did.counted
+            ) ∙ sym n;
+        puts = record { parts = ap session_text (sym same) ∙ h.puts.parts; adds = h.puts.adds };
+        because = because-closed e client r s.end class h.waits (first ∷ log) h.later (subst (λ (x : List Outcome). Leaves e h.waits x h.later) same h.leaves) ended;
+      }
+
+  continues-refused : {class : Class} {opening : Opening} (result : Outcome) {a0 a1 : A} {source : SourceAccount} {out0 out1 : SinkAccount} {waited said : List ℕ} (meant : SessionEnd) {s : Session} {t u : ℕ}
+      → answers a0 (Open opening) result a1 → said ≡ answer_text result → Follows result [] [] [] s.client → noted (result ∷ []) ≡ s.steps
+      → Because meant class waited (exchange (Open opening) result ∷ []) [] [] → Refuses meant s.end out0 out1 said t u
+      → Continues answers class opening a0 a1 source source out0 out1 waited s
+  continues-refused {class} {opening} result {a1} {source} {waited} {said} meant {s} opened is f n b (inl p) = record {
+    read = [];
+    frames = [];
+    rest = waited;
+    result = result;
+    asks = [];
+    closing = [];
+    front = said;
+    later = [];
+    taken = Consumes-nil source.left;
+    parts = append-nil waited;
+    fit = tt;
+    made = (a1, opened, refl);
+    follows = f;
+    counted = n;
+    puts = record { parts = append-nil (answer_text result) ∙ sym is ∙ sym (append-nil said); adds = p.1.took.taken };
+    because = subst (λ (x : SessionEnd). Because x class waited (exchange (Open opening) result ∷ []) [] []) (sym p.0) b;
+  }
+  continues-refused {class} {opening} result {a1} {source} {out0} {out1} {waited} meant {s} {u} opened is f n b (inr p) = record {
+    read = [];
+    frames = [];
+    rest = waited;
+    result = result;
+    asks = [];
+    closing = [];
+    front = p.0.front;
+    later = p.0.rest;
+    taken = Consumes-nil source.left;
+    parts = append-nil waited;
+    fit = tt;
+    made = (a1, opened, refl);
+    follows = f;
+    counted = n;
+    puts = record { parts = append-nil (answer_text result) ∙ sym is ∙ p.0.parts; adds = p.0.pays.took.taken };
+    because = because-left s.end class waited (exchange (Open opening) result ∷ []) [] p.0.rest
+        (leaves-write s.end waited (result ∷ []) p.0.rest out0 out1 u p.1 (cut-of-part result is p.0));
+  }
+
+  pub continues-denied : {class : Class} {opening : Opening} (rule : Rule) {a0 a1 : A} {source : SourceAccount} {out0 out1 : SinkAccount} {waited said : List ℕ} {s : Session} {t u : ℕ}
+      → answers a0 (Open opening) (Ok (Denied rule)) a1 → said ≡ answer_text (Ok (Denied rule)) → s.client ≡ 0 → s.steps ≡ 1 → Refuses (ends.OpenRefused rule) s.end out0 out1 said t u
+      → Continues answers class opening a0 a1 source source out0 out1 waited s
+  continues-denied {opening} rule opened is c n r = continues-refused (Ok (Denied rule)) (ends.OpenRefused rule) opened is (refl, refl, refl, c) (sym n) ((opening, refl), refl) r
+
+  pub continues-apart : {class : Class} {opening : Opening} (apart : Apart) {a0 a1 : A} {source : SourceAccount} {out0 out1 : SinkAccount} {waited said : List ℕ} {s : Session} {t u : ℕ}
+      → answers a0 (Open opening) (Err apart) a1 → said ≡ answer_text (Err apart) → s.client ≡ 0 → s.steps ≡ 0 → Refuses (ends.Apart apart) s.end out0 out1 said t u
+      → Continues answers class opening a0 a1 source source out0 out1 waited s
+  continues-apart {opening} apart opened is c n r = continues-refused (Err apart) (ends.Apart apart) opened is (refl, refl, refl, c) (sym n) (inl ((opening, refl), refl)) r
+
+  -- ---- from the first frame
+
+  pub serves-unread : (class : Class) (a : A) (sink : SinkAccount) {in0 in1 : SourceAccount} {rest : List ℕ} {t u : ℕ} (e : SessionEnd)
+      → Comes in0 in1 [] rest t u → StopsAt e rest → Serves answers class a a in0 in1 sink sink (record { end = e; client = 0; steps = 0 })
+  serves-unread class a sink {rest} e m h = record {
+    read = m.more;
+    frames = [];
+    rest = m.more;
+    answered = [];
+    closing = [];
+    front = [];
+    later = [];
+    taken = m.spends.gave.given;
+    parts = refl;
+    fit = tt;
+    made = refl;
+    makes = (refl, refl, refl);
+    counted = refl;
+    puts = record { parts = refl; adds = Appends-nil sink.written };
+    because = because-read e class m.more (subst (λ (x : List ℕ). StopsAt e x) m.parts h);
+  }
+
+  pub serves-no-hello : (class : Class) (a : A) (sink : SinkAccount) {in0 in1 : SourceAccount} {waits : List ℕ} {t u : ℕ} {frame : Packet} {found : Option Opening}
+      → Uses in0 in1 [] waits t u frame → found ≡ opening_in class frame → found ≡ None
+      → Serves answers class a a in0 in1 sink sink (record { end = ends.BadHello; client = 0; steps = 0 })
+  serves-no-hello class a sink {waits} {frame} m is none = record {
+    read = m.more;
+    frames = [];
+    rest = m.more;
+    answered = [];
+    closing = [];
+    front = [];
+    later = [];
+    taken = m.spends.gave.given;
+    parts = refl;
+    fit = tt;
+    made = refl;
+    makes = (refl, refl, refl);
+    counted = refl;
+    puts = record { parts = refl; adds = Appends-nil sink.written };
+    because = ((frame, waits, m.parts, m.fits, sym is ∙ none), refl, refl);
+  }
+
+  pub serves-session : {class : Class} {opening : Opening} {a0 a1 : A} {in0 in1 in2 : SourceAccount} {out0 out1 : SinkAccount} {waits : List ℕ} {t u : ℕ} {frame : Packet} {found : Option Opening} {s : Session}
+      → Uses in0 in1 [] waits t u frame → found ≡ opening_in class frame → found ≡ Some opening → Continues answers class opening a0 a1 in1 in2 out0 out1 waits s
+      → Serves answers class a0 a1 in0 in2 out0 out1 s
+  serves-session {opening} {in0} {in1} {in2} {waits} {frame} m is some h =
+      let frames : List ℕ = flat_map frame_text h.frames in
+      record {
+        read = m.more ++ h.read;
+        frames = frame ∷ h.frames;
+        rest = h.rest;
+        answered = exchange (Open opening) h.result ∷ h.asks;
+        closing = h.closing;
+        front = h.front;
+        later = h.later;
+        taken = Consumes-trans in0.left in1.left in2.left m.more h.read m.spends.gave.given h.taken;
+        parts = ap (λ (x : List ℕ). x ++ h.read) m.parts ∙ append_assoc (frame_text frame) waits h.read ∙ ap (λ (x : List ℕ). frame_text frame ++ x) h.parts
+            ∙ sym (append_assoc (frame_text frame) frames h.rest);
+        fit = (m.fits, h.fit);
+        made = h.made;
+        makes = (opening, h.result, h.asks, sym is ∙ some, refl, h.follows);
+        counted = h.counted;
+        puts = h.puts;
+        because = h.because;
+      }

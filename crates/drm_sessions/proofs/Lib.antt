@@ -1,0 +1,10 @@
+pub mod Parts
+pub mod Arriving
+pub mod Composing
+pub mod Ending
+pub mod Finishing
+pub mod Costing
+pub mod Mapping
+pub mod Openings
+pub mod DeviceRuns
+pub mod SameInput

@@ -1,0 +1,25 @@
+-- How a device answers an opening.
+use Rattle.std.proofs.Common.{Option, Some, None, Ok, Err, sym, subst}
+use Rattle.drm_table.specs.declared.events.Event.{Event}
+use Rattle.drm_table.specs.declared.events.Event.TheVariants.{Open, Ask, Close}
+use Rattle.drm_table.specs.declared.events.Opening.{Opening}
+use Rattle.drm_table.specs.declared.answers.Answer.{Answer}
+use Rattle.drm_table.specs.declared.rules.Rule.{Rule}
+use Rattle.drm_model.specs.Rows.{Rows}
+use Rattle.drm_model.specs.Reply.{answer_of, reply_by, reply}
+use Rattle.drm_model.specs.Verdict.{verdict}
+use Rattle.drm_model.specs.Run.{Step}
+use Rattle.drm_frames.specs.Answers.{Outcome}
+use Rattle.drm_sessions.specs.Opening.{IsOpeningAnswer, AnswersOpening}
+
+answers-by : (found : Option Rule) (w : Rows) (opening : Opening) → IsOpeningAnswer (Ok (reply_by found w (Open opening)))
+unfolding answer_of
+answers-by None w opening = tt
+answers-by (Some rule) w opening = tt
+
+pub Step-opening : (w : Rows) (event : Event) (result : Outcome) (v : Rows) → Step w event result v → AnswersOpening event result
+unfolding Step reply
+Step-opening w (Open opening) (Ok answer) v h = subst (λ (x : Answer). IsOpeningAnswer (Ok x)) (sym h.1) (answers-by (verdict w (Open opening)) w opening)
+Step-opening w (Open opening) (Err apart) v h = tt
+Step-opening w (Ask client call) result v h = tt
+Step-opening w (Close client) result v h = tt

@@ -1,0 +1,21 @@
+use Rattle.std.proofs.Common.{arith, take, List, ℕ, ◌-◌, ◌++◌, ◌∙◌, ap}
+use Rattle.drm_sessions.proofs.Parts.{take-written}
+use Rattle.drm_sessions.proofs.inbox.Inbox.refill.Goals as goal
+
+pub returns-in-Got : goal.returns-in-Got
+returns-in-Got g c =
+    let came = c.in-Got.ensures.refills in
+    let more : List ℕ = take c.in-Got.count c.take_some-refill.new.buffer in
+    let within = c.self.invariant in
+    let told = c.self.told in
+    record {
+      supplies = (
+        record {
+          more = more;
+          spends = came.0;
+          parts = take-written c.self.inside.len (1028 - c.self.inside.len) c.in-Got.count c.self.inside.bytes c.take_some-refill.new.buffer (omega (arith, within, told)) came.2
+              ∙ ap (λ (t : List ℕ). t ++ more) c.self.view_is;
+        },
+        came.3,
+      );
+    }

@@ -1,0 +1,98 @@
+-- A session on a device that it has alone.
+use Rattle.std.specs.Prelude.{◌≡◌, ◌⊎◌, List, [], ◌∷◌, ◌++◌, map, Option, Some, None, Ok, Err, ⊤}
+use Rattle.std.specs.List.{AllByRecursion}
+use Rattle.drm_table.specs.declared.events.Event.{Event}
+use Rattle.drm_table.specs.declared.events.Event.TheVariants.{Open}
+use Rattle.drm_table.specs.declared.events.Opening.{Opening}
+use Rattle.drm_table.specs.declared.answers.Answer.TheVariants.{Opened}
+use Rattle.drm_table.specs.declared.apart.Apart.TheVariants.{NoMemory}
+use Rattle.drm_model.specs.Rows.{Rows}
+use Rattle.drm_model.specs.Run.{History, Step, Answers, no_room, noted_in, noted_events, rows_of}
+use Rattle.drm_model.specs.Results.{result_by, results}
+use Rattle.drm_frames.specs.Answers.{Outcome}
+use Rattle.drm_frames.specs.Grammar.{Packet}
+use Rattle.drm_frames.specs.Streams.{SourceAccount, SinkAccount}
+use Rattle.drm_sessions.specs.declared.class.Class.{Class}
+use Rattle.drm_sessions.specs.declared.end.Session.{Session}
+use Rattle.drm_sessions.specs.declared.end.SessionEnd.{SessionEnd}
+use Rattle.drm_sessions.specs.declared.end.SessionEnd.TheVariants as ends
+use Rattle.drm_sessions.specs.Opening.{opening_in}
+use Rattle.drm_sessions.specs.Runs.{asked, events, outcomes}
+use Rattle.drm_sessions.specs.Serving.{Serves}
+
+-- what is answered is noted, and what stands apart leaves the device as it was
+abbrev pub history_after : History → Event → Outcome → History
+history_after old event (Ok answer) = noted_in old event
+history_after old event (Err apart) = old
+
+-- The device answered the event from its rows.
+pub record Steps (old : History) (event : Event) (result : Outcome) (new : History) : Type 0 where
+  pub step : Step (rows_of old) event result (rows_of new)
+  pub history : new ≡ history_after old event result
+
+-- the history with these events more
+abbrev pub noted_all : History → List Event → History
+noted_all h more = record h { journal = h.journal ++ more }
+
+-- A session on a device alone: its results are what the device answers from its rows, and the journal has its
+-- noted events more.
+pub record ServesAlone (class : Class) (old new : History) (in0 in1 : SourceAccount) (out0 out1 : SinkAccount) (session : Session) : Type 0 where
+  pub serves : Serves Steps class old new in0 in1 out0 out1 session
+  pub answers : Answers (rows_of old) (events (serves.answered ++ serves.closing)) (outcomes (serves.answered ++ serves.closing)) (rows_of new)
+  pub history : new ≡ noted_all old (noted_events (events (serves.answered ++ serves.closing)) (outcomes (serves.answered ++ serves.closing)))
+
+-- ---- where no memory is wanting, the results are computed from the rows and the frames
+
+abbrev pub HasMemory : Outcome → Type 0
+HasMemory (Err NoMemory) = ⊥
+HasMemory _ = ⊤
+
+-- the result of one event
+abbrev pub result_of : Rows → Event → Outcome
+result_of w event = result_by (no_room w event) w event
+
+-- the requests that follow an opening with this result
+abbrev pub asks_after : Outcome → List Packet → List Event
+asks_after (Ok (Opened client)) frames = map (asked client) frames
+asks_after _ frames = []
+
+abbrev pub results_from : Rows → Option Opening → List Packet → List Outcome
+results_from w None frames = []
+results_from w (Some opening) frames = results w (Open opening ∷ asks_after (result_of w (Open opening)) frames)
+
+-- the results of a session over whole frames: of the hello's opening, and of its client's requests
+abbrev pub session_results : Rows → Class → List Packet → List Outcome
+session_results w class [] = []
+session_results w class (hello ∷ frames) = results_from w (opening_in class hello) frames
+
+-- ---- two sessions over the same bytes
+
+-- a session on a device: the values before and after, how it ended and what it did
+pub record DeviceSession (class : Class) : Type 0 where
+  pub before : History
+  pub after : History
+  pub in0 : SourceAccount
+  pub in1 : SourceAccount
+  pub out0 : SinkAccount
+  pub out1 : SinkAccount
+  pub session : Session
+  pub did : Serves Steps class before after in0 in1 out0 out1 session
+
+-- They begin with the same rows and read the same bytes, and no memory is wanting.
+pub record HaveSameInput {class : Class} (one other : DeviceSession class) : Type 0 where
+  pub rows : rows_of one.before ≡ rows_of other.before
+  pub read : one.did.read ≡ other.did.read
+  pub memory_of_one : AllByRecursion HasMemory (outcomes one.did.answered)
+  pub memory_of_other : AllByRecursion HasMemory (outcomes other.did.answered)
+
+-- One of the lists begins the other.
+abbrev pub OneBegins : {A : Type 0} → List A → List A → Type 0
+OneBegins {A = A} xs ys = ((more : List A) × (ys ≡ xs ++ more)) ⊎ ((more : List A) × (xs ≡ ys ++ more))
+
+-- the ends at which all whole frames that were read are used
+abbrev pub IsReadOut : SessionEnd → Type 0
+IsReadOut ends.Ended = ⊤
+IsReadOut ends.Truncated = ⊤
+IsReadOut ends.TooLong = ⊤
+IsReadOut ends.ReadFault = ⊤
+IsReadOut _ = ⊥

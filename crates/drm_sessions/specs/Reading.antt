@@ -1,0 +1,71 @@
+-- What reading takes from a source into the bytes that wait, and what writing one answer gives to a sink.
+use Rattle.std.specs.Prelude.{◌≡◌, ◌≢◌, ℕ, ◌<◌, List, [], ◌++◌, length, Result, Ok, Err, ⊤}
+use Rattle.std.specs.Io.KnownBytes.{Appends, IsAtEnd}
+use Rattle.drm_frames.specs.Grammar.{Packet, frame_text, IsPacket, IsPart, IsTooLong}
+use Rattle.drm_frames.specs.Streams.{SourceAccount, SinkAccount}
+use Rattle.drm_frames.specs.Turns.{Spends, Pays, PaysPart}
+use Rattle.drm_frames.specs.declared.turns.Refill.{Refill}
+use Rattle.drm_frames.specs.declared.turns.Refill.TheVariants as refill
+use Rattle.drm_sessions.specs.declared.end.SessionEnd.{SessionEnd}
+use Rattle.drm_sessions.specs.declared.end.SessionEnd.TheVariants as ends
+
+-- Bytes came from the source, each call at the cost of a turn, and wait behind those that waited.
+pub record Comes (from to : SourceAccount) (waited waits : List ℕ) (had has : ℕ) : Type 0 where
+  pub more : List ℕ
+  pub spends : Spends from to more had has
+  pub parts : waits ≡ waited ++ more
+
+-- Bytes came from the source, and this frame stood at the front of all that waited.
+pub record Uses (from to : SourceAccount) (waited waits : List ℕ) (had has : ℕ) (frame : Packet) : Type 0 where
+  pub more : List ℕ
+  pub spends : Spends from to more had has
+  pub parts : waited ++ more ≡ frame_text frame ++ waits
+  pub fits : IsPacket frame
+
+-- what came of taking bytes behind those that wait
+abbrev pub Supplies : Refill → SourceAccount → SourceAccount → List ℕ → List ℕ → ℕ → ℕ → Type 0
+Supplies (refill.Got n) from to waited waits had has = Comes from to waited waits had has × (has < had)
+Supplies refill.End from to waited waits had has = Spends from to [] had has × (waits ≡ waited) × IsAtEnd to.left × (from.counts.ends < to.counts.ends)
+Supplies refill.Fault from to waited waits had has = Spends from to [] had has × (waits ≡ waited) × (from.counts.faults < to.counts.faults)
+Supplies refill.TurnsUsed from to waited waits had has = Spends from to [] had has × (waits ≡ waited) × (has ≡ 0)
+
+-- what waits where reading stops: never a whole frame
+abbrev pub StopsAt : SessionEnd → List ℕ → Type 0
+StopsAt ends.Ended waits = waits ≡ []
+StopsAt ends.Truncated waits = (waits ≢ []) × IsPart waits
+StopsAt ends.TooLong waits = IsTooLong waits
+StopsAt ends.ReadFault waits = IsPart waits
+StopsAt ends.TurnsUsed waits = IsPart waits
+StopsAt ends.BadHello waits = ⊥
+StopsAt (ends.OpenRefused rule) waits = ⊥
+StopsAt ends.WriteFault waits = ⊥
+StopsAt (ends.Apart apart) waits = ⊥
+
+-- what the source's account shows where reading stops
+abbrev pub ReadShows : SessionEnd → SourceAccount → SourceAccount → ℕ → Type 0
+ReadShows ends.Ended from to has = IsAtEnd to.left × (from.counts.ends < to.counts.ends)
+ReadShows ends.Truncated from to has = IsAtEnd to.left × (from.counts.ends < to.counts.ends)
+ReadShows ends.ReadFault from to has = from.counts.faults < to.counts.faults
+ReadShows ends.TurnsUsed from to has = has ≡ 0
+ReadShows _ from to has = ⊤
+
+-- the next frame, or how reading for it stopped
+abbrev pub Reads : Result Packet SessionEnd → SourceAccount → SourceAccount → List ℕ → List ℕ → ℕ → ℕ → Type 0
+Reads (Ok frame) from to waited waits had has = Uses from to waited waits had has frame
+Reads (Err end) from to waited waits had has = Comes from to waited waits had has × StopsAt end waits × ReadShows end from to has
+
+-- what the sink's account shows where writing stops a session
+abbrev pub WriteShows : SessionEnd → SinkAccount → SinkAccount → ℕ → Type 0
+WriteShows ends.WriteFault from to has = from.counts.faults < to.counts.faults
+WriteShows ends.TurnsUsed from to has = has ≡ 0
+WriteShows _ from to has = ⊥
+
+-- all of the text is written, or a front of it and not the whole
+abbrev pub Wrote : Result ⊤ SessionEnd → SinkAccount → SinkAccount → List ℕ → ℕ → ℕ → Type 0
+Wrote (Ok _) from to text had has = Pays from to text had has × (0 < length text → has < had)
+Wrote (Err end) from to text had has = PaysPart from to text had has × WriteShows end from to has
+
+-- A front of the text was given to the sink, and the later part wasn't.
+pub record Puts (from to : SinkAccount) (text front later : List ℕ) : Type 0 where
+  pub parts : text ≡ front ++ later
+  pub adds : Appends from.written to.written front

@@ -1,0 +1,95 @@
+-- A whole session.
+use Rattle.std.specs.Prelude.{◌≡◌, ℕ, ◌⊎◌, List, [], ◌∷◌, ◌++◌, map, Some, None, Ok, Err}
+use Rattle.std.specs.List.{flat_map, AllByRecursion}
+use Rattle.std.specs.Io.KnownBytes.{Consumes}
+use Rattle.drm_table.specs.declared.events.Event.{Event}
+use Rattle.drm_table.specs.declared.events.Event.TheVariants.{Open, Close}
+use Rattle.drm_table.specs.declared.events.Opening.{Opening}
+use Rattle.drm_table.specs.declared.answers.Answer.TheVariants.{Opened, Denied}
+use Rattle.drm_table.specs.declared.apart.Apart.TheVariants.{Worn}
+use Rattle.drm_frames.specs.Grammar.{Packet, frame_text, IsPacket}
+use Rattle.drm_frames.specs.Streams.{SourceAccount, SinkAccount}
+use Rattle.drm_frames.specs.Answers.{Outcome}
+use Rattle.drm_sessions.specs.declared.class.Class.{Class}
+use Rattle.drm_sessions.specs.declared.end.Session.{Session}
+use Rattle.drm_sessions.specs.declared.end.SessionEnd.{SessionEnd}
+use Rattle.drm_sessions.specs.declared.end.SessionEnd.TheVariants as ends
+use Rattle.drm_sessions.specs.Opening.{opening_in}
+use Rattle.drm_sessions.specs.Reading.{Puts, StopsAt}
+use Rattle.drm_sessions.specs.Runs.{Exchange, exchange, Runs, asked, events, outcomes, session_text, noted}
+use Rattle.drm_sessions.specs.Ends.{CutsLast, Moves, Shows}
+
+-- After the opening: of a client its requests and one closing, and else nothing.
+abbrev pub Follows : Outcome → List Packet → List Exchange → List Exchange → ℕ → Type 0
+Follows (Ok (Opened c)) frames asks closing client = (events asks ≡ map (asked c) frames) × ((result : Outcome) × (closing ≡ exchange (Close c) result ∷ [])) × (client ≡ c)
+Follows _ frames asks closing client = (frames ≡ []) × (asks ≡ []) × (closing ≡ []) × (client ≡ 0)
+
+-- The calls that a session makes of its frames: those whose answers it writes, and the closing.
+abbrev pub Makes : Class → List Packet → List Exchange → List Exchange → ℕ → Type 0
+Makes class [] answered closing client = (answered ≡ []) × (closing ≡ []) × (client ≡ 0)
+Makes class (hello ∷ frames) answered closing client =
+    (opening : Opening) × (result : Outcome) × (asks : List Exchange)
+    × (opening_in class hello ≡ Some opening) × (answered ≡ exchange (Open opening) result ∷ asks) × Follows result frames asks closing client
+
+-- The bytes begin with a frame that is no hello, or not one of this class.
+abbrev pub IsNoHello : Class → List ℕ → Type 0
+IsNoHello class rest = (frame : Packet) × (more : List ℕ) × (rest ≡ frame_text frame ++ more) × IsPacket frame × (opening_in class frame ≡ None)
+
+-- Each end has its cause: in the bytes that were read and not used, in what wasn't written, or in what the
+-- opening or the closing was answered. All answers were written, but where writing stopped in the last.
+abbrev pub Because : SessionEnd → Class → List ℕ → List Exchange → List Exchange → List ℕ → Type 0
+Because ends.Ended class rest answered closing later = StopsAt ends.Ended rest × (later ≡ [])
+Because ends.Truncated class rest answered closing later = StopsAt ends.Truncated rest × (later ≡ [])
+Because ends.TooLong class rest answered closing later = StopsAt ends.TooLong rest × (later ≡ [])
+Because ends.ReadFault class rest answered closing later = StopsAt ends.ReadFault rest × (later ≡ [])
+Because ends.BadHello class rest answered closing later = IsNoHello class rest × (answered ≡ []) × (later ≡ [])
+Because (ends.OpenRefused rule) class rest answered closing later = ((opening : Opening) × (answered ≡ exchange (Open opening) (Ok (Denied rule)) ∷ [])) × (later ≡ [])
+Because (ends.Apart apart) class rest answered closing later =
+    (((opening : Opening) × (answered ≡ exchange (Open opening) (Err apart) ∷ [])) × (later ≡ []))
+    ⊎ (((client : ℕ) × (closing ≡ exchange (Close client) (Err apart) ∷ [])) × (apart ≡ Worn) × ((later ≡ []) ⊎ CutsLast (outcomes answered) later))
+Because ends.WriteFault class rest answered closing later = CutsLast (outcomes answered) later
+Because ends.TurnsUsed class rest answered closing later = (StopsAt ends.TurnsUsed rest × (later ≡ [])) ⊎ CutsLast (outcomes answered) later
+
+-- A session: of the bytes that it read these whole frames were used, and the rest was not; its calls
+-- follow from the frames; what it wrote is a front of the text of their results.
+pub record Serves {A : Type 0} (answers : A → Event → Outcome → A → Type 0) (class : Class) (old new : A) (in0 in1 : SourceAccount) (out0 out1 : SinkAccount) (session : Session) : Type 0 where
+  pub read : List ℕ
+  pub frames : List Packet
+  pub rest : List ℕ
+  pub answered : List Exchange
+  pub closing : List Exchange
+  pub front : List ℕ
+  pub later : List ℕ
+  pub taken : Consumes in0.left in1.left read
+  pub parts : read ≡ flat_map frame_text frames ++ rest
+  pub fit : AllByRecursion IsPacket frames
+  pub made : Runs answers old (answered ++ closing) new
+  pub makes : Makes class frames answered closing session.client
+  pub counted : noted (outcomes (answered ++ closing)) ≡ session.steps
+  pub puts : Puts out0 out1 (session_text (outcomes answered)) front later
+  pub because : Because session.end class rest answered closing later
+
+-- the same from the opening on, with bytes that wait
+pub record Continues {A : Type 0} (answers : A → Event → Outcome → A → Type 0) (class : Class) (opening : Opening) (old new : A) (in0 in1 : SourceAccount) (out0 out1 : SinkAccount) (waited : List ℕ) (session : Session) : Type 0 where
+  pub read : List ℕ
+  pub frames : List Packet
+  pub rest : List ℕ
+  pub result : Outcome
+  pub asks : List Exchange
+  pub closing : List Exchange
+  pub front : List ℕ
+  pub later : List ℕ
+  pub taken : Consumes in0.left in1.left read
+  pub parts : waited ++ read ≡ flat_map frame_text frames ++ rest
+  pub fit : AllByRecursion IsPacket frames
+  pub made : Runs answers old ((exchange (Open opening) result ∷ asks) ++ closing) new
+  pub follows : Follows result frames asks closing session.client
+  pub counted : noted (outcomes ((exchange (Open opening) result ∷ asks) ++ closing)) ≡ session.steps
+  pub puts : Puts out0 out1 (session_text (outcomes (exchange (Open opening) result ∷ asks))) front later
+  pub because : Because session.end class rest (exchange (Open opening) result ∷ asks) closing later
+
+-- At most `turns` calls were made of the source and the sink, and the accounts show the end's cause.
+pub record Costs (in0 in1 : SourceAccount) (out0 out1 : SinkAccount) (turns : ℕ) (end : SessionEnd) : Type 0 where
+  pub unused : ℕ
+  pub moves : Moves in0 in1 out0 out1 turns unused
+  pub shows : Shows end in0 in1 out0 out1 unused

@@ -1,0 +1,76 @@
+//! A device that one session has alone.
+
+ghost use Rattle.std.specs.Prelude.{◌≡◌, ◌^◌, ◌+◌, ◌<◌};
+ghost use Rattle.drm_sessions.specs.Device.{ServesAlone, Steps};
+ghost use Rattle.drm_sessions.specs.Serving.{Costs};
+
+use crate::access::{Access, Gate};
+use crate::class::Class;
+use crate::end::Session;
+use crate::serving::serve;
+use drm_device::Device;
+use drm_frames::{Sink, Source};
+use drm_table::{Answer, Apart, Event};
+
+/// A device that one session has alone: each call is a step of the device.
+#[derive(Drop)]
+pub struct Alone<'a> {
+    /// The device that it was lent.
+    pub device: &'a mut Device,
+}
+
+impl Access for Alone<'_> {
+    // The access stays at the device that it was lent.
+    ghost answers = { λ a event outcome b. (b.device.ghost_name ≡ a.device.ghost_name)
+        × Steps a.device.now event outcome b.device.now };
+
+    fn call(&mut self, event: Event) -> Result<Answer, Apart> {
+        self.device.step(event)
+    }
+}
+
+/// One session whose results are steps of the device that the access was lent.
+///
+/// The rest is as `serve` says.
+pub fn serve_lent<G: Gate, S: Source, K: Sink>(
+    alone: &mut Alone<'_>,
+    gate: &mut G,
+    class: Class,
+    source: &mut S,
+    sink: &mut K,
+    turns: u64,
+) -> Session
+    requires source { (S.account source.old).counts.calls + turns < 2 ^ 48 }
+    requires sink { (K.account sink.old).counts.calls + turns < 2 ^ 48 }
+    ensures same { alone.new.device.ghost_name ≡ alone.old.device.ghost_name }
+    ensures serves { ServesAlone class alone.old.device.now alone.new.device.now
+        (S.account source.old) (S.account source.new) (K.account sink.old) (K.account sink.new)
+        result }
+    ensures costs { Costs (S.account source.old) (S.account source.new)
+        (K.account sink.old) (K.account sink.new) turns result.end }
+{
+    serve(alone, gate, class, source, sink, turns)
+}
+
+/// One session on a device that it has alone. The results are steps of the device.
+///
+/// The rest is as `serve` says.
+pub fn serve_alone<G: Gate, S: Source, K: Sink>(
+    device: &mut Device,
+    gate: &mut G,
+    class: Class,
+    source: &mut S,
+    sink: &mut K,
+    turns: u64,
+) -> Session
+    requires source { (S.account source.old).counts.calls + turns < 2 ^ 48 }
+    requires sink { (K.account sink.old).counts.calls + turns < 2 ^ 48 }
+    ensures serves { ServesAlone class device.old device.new
+        (S.account source.old) (S.account source.new) (K.account sink.old) (K.account sink.new)
+        result }
+    ensures costs { Costs (S.account source.old) (S.account source.new)
+        (K.account sink.old) (K.account sink.new) turns result.end }
+{
+    let mut alone = Alone { device };
+    serve_lent(&mut alone, gate, class, source, sink, turns)
+}

@@ -1,0 +1,25 @@
+//! One client's session, from its hello to its closing, over any source, sink and device.
+#![tactic(auto)]
+
+mod accepted;
+mod access;
+mod alone;
+mod class;
+mod end;
+mod inbox;
+mod laws;
+mod opening;
+mod reading;
+mod requests;
+mod serving;
+mod writing;
+
+pub use access::{Access, Gate, NoGate};
+pub use alone::{Alone, serve_alone, serve_lent};
+pub use class::Class;
+pub use end::{Session, SessionEnd};
+pub use laws::{bytes_written_follow_from_bytes_read, results_follow_from_the_frames};
+pub use serving::serve;
+
+#[cfg(test)]
+mod tests;

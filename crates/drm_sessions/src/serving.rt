@@ -1,0 +1,175 @@
+//! A whole session.
+
+ghost use Rattle.std.specs.Prelude.{◌≡◌, ◌^◌, ◌+◌, ◌<◌, ◌≤◌, ◌∷◌, [], Ok};
+ghost use Rattle.drm_table.specs.declared.events.Event.TheVariants.{Close};
+ghost use Rattle.drm_table.specs.declared.answers.Answer.TheVariants.{Opened};
+ghost use Rattle.drm_frames.specs.Answers.{Outcome, answer_text};
+ghost use Rattle.drm_sessions.specs.Runs.{one_if_noted};
+ghost use Rattle.drm_sessions.specs.Ends.{Ends, EndsClosed, Moves, Refuses, Shows};
+ghost use Rattle.drm_sessions.specs.Serving.{Continues, Costs, Serves};
+
+use crate::accepted::{Accepted, read_opening};
+use crate::access::{Access, Gate};
+use crate::class::Class;
+use crate::end::{Session, SessionEnd};
+use crate::inbox::Inbox;
+use crate::opening::opening_of;
+use crate::reading::next_frame;
+use crate::requests::{Stopped, answer_requests};
+use crate::writing::write_answer;
+use drm_frames::{Sink, Source, encode_answer};
+use drm_table::{Apart, Event, Opening};
+
+// Writes the answer to an opening that was accepted, and answers the client's requests.
+fn serve_client<A: Access, G: Gate, S: Source, K: Sink>(
+    access: &mut A,
+    gate: &mut G,
+    source: &mut S,
+    sink: &mut K,
+    inbox: &mut Inbox,
+    turns: &mut u64,
+    client: u32,
+    said: &[u8],
+) -> Stopped
+    requires source { (S.account source.old).counts.calls + turns.old < 2 ^ 48 }
+    requires sink { (K.account sink.old).counts.calls + turns.old < 2 ^ 48 }
+    requires said { said.now ≡ answer_text (Ok (Opened client)) }
+    ensures ends { Ends A.answers client access.old access.new
+        (S.account source.old) (S.account source.new) (K.account sink.old) (K.account sink.new)
+        (Ok (Opened client) ∷ []) inbox.old result.steps result.end }
+    ensures moves { Moves (S.account source.old) (S.account source.new)
+        (K.account sink.old) (K.account sink.new) turns.old turns.new }
+    ensures shows { Shows result.end (S.account source.old) (S.account source.new)
+        (K.account sink.old) (K.account sink.new) turns.new }
+    ensures few { result.steps ≤ turns.old + 1 }
+{
+    match write_answer(sink, said, turns) {
+        Ok(()) => answer_requests(access, gate, source, sink, inbox, turns, client),
+        Err(end) => Stopped { end, steps: 0 },
+    }
+}
+
+// Makes the one closing of a client, whose opening was one step.
+fn close_client<A: Access>(access: &mut A, client: u32, stopped: Stopped) -> Session
+    requires { stopped.steps < 2 ^ 63 }
+    ensures { (outcome : Outcome) × A.answers access.old (Close client) outcome access.new
+        × (result.client ≡ client) × (result.steps ≡ 1 + (stopped.steps + one_if_noted outcome))
+        × EndsClosed stopped.end outcome result.end }
+{
+    let outcome = access.call(Event::Close(client));
+    let steps = if outcome.is_ok() { 1 } else { 0 };
+    let end = match outcome {
+        Err(Apart::Worn) => SessionEnd::Apart(Apart::Worn),
+        _ => stopped.end,
+    };
+    Session {
+        end,
+        client,
+        steps: 1 + (stopped.steps + steps),
+    }
+}
+
+// Writes the answer to an opening that was not accepted.
+fn refuse<K: Sink>(
+    sink: &mut K,
+    turns: &mut u64,
+    said: &[u8],
+    end: SessionEnd,
+    steps: u64,
+) -> Session
+    requires { (K.account sink.old).counts.calls + turns.old < 2 ^ 48 }
+    ensures refuses { Refuses end result.end (K.account sink.old) (K.account sink.new)
+        said.now turns.old turns.new }
+    ensures client { result.client ≡ 0 }
+    ensures steps { result.steps ≡ steps }
+{
+    let end = match write_answer(sink, said, turns) {
+        Ok(()) => end,
+        Err(stopped) => stopped,
+    };
+    Session {
+        end,
+        client: 0,
+        steps,
+    }
+}
+
+// The session from its opening on.
+fn run_session<A: Access, G: Gate, S: Source, K: Sink>(
+    access: &mut A,
+    gate: &mut G,
+    class: Class,
+    source: &mut S,
+    sink: &mut K,
+    inbox: &mut Inbox,
+    turns: &mut u64,
+    opening: Opening,
+) -> Session
+    requires source { (S.account source.old).counts.calls + turns.old < 2 ^ 48 }
+    requires sink { (K.account sink.old).counts.calls + turns.old < 2 ^ 48 }
+    ensures continues { Continues A.answers class opening access.old access.new
+        (S.account source.old) (S.account source.new) (K.account sink.old) (K.account sink.new)
+        inbox.old result }
+    ensures moves { Moves (S.account source.old) (S.account source.new)
+        (K.account sink.old) (K.account sink.new) turns.old turns.new }
+    ensures shows { Shows result.end (S.account source.old) (S.account source.new)
+        (K.account sink.old) (K.account sink.new) turns.new }
+{
+    let outcome = access.call(Event::Open(opening));
+    let text = encode_answer(&outcome);
+    let said = text.as_slice();
+    match read_opening(&outcome) {
+        Accepted::Client(client) => {
+            let stopped = serve_client(access, gate, source, sink, inbox, turns, client, said);
+            close_client(access, client, stopped)
+        }
+        Accepted::Denied(rule) => refuse(sink, turns, said, SessionEnd::OpenRefused(rule), 1),
+        Accepted::Apart(apart) => refuse(sink, turns, said, SessionEnd::Apart(apart), 0),
+    }
+}
+
+/// One session: its hello, its opening, its requests in the order of their frames, and one closing
+/// where the opening was accepted (own). It takes no memory.
+///
+/// At most `turns` calls are made of the source and the sink together. Each answer is written
+/// before the next frame is looked for; the closing's isn't written. Whichever read or write
+/// fails, the client is closed.
+pub fn serve<A: Access, G: Gate, S: Source, K: Sink>(
+    access: &mut A,
+    gate: &mut G,
+    class: Class,
+    source: &mut S,
+    sink: &mut K,
+    turns: u64,
+) -> Session
+    requires source { (S.account source.old).counts.calls + turns < 2 ^ 48 }
+    requires sink { (K.account sink.old).counts.calls + turns < 2 ^ 48 }
+    ensures serves { Serves A.answers class access.old access.new
+        (S.account source.old) (S.account source.new) (K.account sink.old) (K.account sink.new)
+        result }
+    ensures costs { Costs (S.account source.old) (S.account source.new)
+        (K.account sink.old) (K.account sink.new) turns result.end }
+{
+    let mut inbox = Inbox::new();
+    let mut left = turns;
+    let frame = match next_frame(source, &mut inbox, &mut left) {
+        Ok(frame) => frame,
+        Err(end) => {
+            return Session {
+                end,
+                client: 0,
+                steps: 0,
+            };
+        }
+    };
+    match opening_of(class, &frame) {
+        Some(opening) => run_session(
+            access, gate, class, source, sink, &mut inbox, &mut left, opening,
+        ),
+        None => Session {
+            end: SessionEnd::BadHello,
+            client: 0,
+            steps: 0,
+        },
+    }
+}
