@@ -11,7 +11,7 @@ use Rattle.drm_table.specs.declared.events.Opening.TheVariants.{Primary, Render,
 use Rattle.drm_table.specs.declared.rules.Rule.{Rule}
 use Rattle.drm_table.specs.declared.rules.Rule.TheVariants.{NoClient}
 use Rattle.drm_model.specs.Rows.{Rows, ClientRow, empty_rows, client_row, is_client, is_open, without}
-use Rattle.drm_model.specs.Verdict.{verdict, checks}
+use Rattle.drm_model.specs.Verdict.{verdict}
 use Rattle.drm_model.specs.Change.{after, after_verdict, changed, asked, swept}
 use Rattle.drm_model.specs.Clients.{opened, opened_primary, closed, ended_own, ended_if}
 use Rattle.drm_model.specs.Run.{FoundRoom, no_room, places_left, run, rows_of, History, noted_in}

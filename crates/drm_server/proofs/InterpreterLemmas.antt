@@ -8,7 +8,7 @@ use Rattle.drm_table.specs.declared.limits.Limits.{Limits}
 use Rattle.drm_model.specs.Rows.{Rows}
 use Rattle.drm_model.specs.Run.{History, Step, rows_of, run}
 use Rattle.drm_frames.specs.Streams.{SinkAccount}
-use Rattle.drm_frames.specs.Turns.{Pays, PaysPart}
+use Rattle.drm_frames.specs.Turns.{Pays}
 use Rattle.drm_frames.proofs.Accounts.{Pays-none}
 use Rattle.drm_script.specs.declared.commands.Command.{Command}
 use Rattle.drm_script.specs.declared.reading.Reading.TheVariants as readings
@@ -78,9 +78,7 @@ pub asks_uses : (old new : Interpreter) (line : List ℕ) (command : Command) (b
     → Asks old new (label_bound command) (event_of old.labels command) before after had has end → UsesLine old new line before after had has end
 asks_uses old new line command before after had has ends.Used h a =
     (a.0 ∷ [], uses_asked old new line command a.0 h a.1, subst (λ t. Pays before after t had has) (text_one a.0) a.2)
-asks_uses old new line command before after had has ends.WriteFault h a =
-    (a.0 ∷ [], uses_asked old new line command a.0 h a.1, subst (λ t. PaysPart before after t had has) (text_one a.0) a.2, a.3)
-asks_uses old new line command before after had has ends.TurnsUsed h a =
-    (a.0 ∷ [], uses_asked old new line command a.0 h a.1, subst (λ t. PaysPart before after t had has) (text_one a.0) a.2, a.3)
+asks_uses old new line command before after had has ends.WriteFault h a = (a.0, uses_asked old new line command a.0 h a.1, a.2, a.3)
+asks_uses old new line command before after had has ends.TurnsUsed h a = (a.0, uses_asked old new line command a.0 h a.1, a.2, a.3)
 asks_uses old new line command before after had has ends.Malformed h a = absurd a
 asks_uses old new line command before after had has ends.NoMemory h a = (a.0, wants_command h, a.1, a.2)

@@ -1,6 +1,8 @@
 -- A run of a script, line by line.
-use Rattle.std.proofs.Common.{◌≡◌, ℕ, ◌+◌, ◌≤◌, ◌<◌, List, [], ◌∷◌, ◌++◌, length, refl, sym, ap, subst, ◌∙◌, arith, Some, None, Option, append_assoc, append-nil, inl, inr, ◌⊎◌, unwrap_or}
+use Rattle.std.proofs.Common.{◌≡◌, ℕ, ◌+◌, ◌≤◌, ◌<◌, List, [], ◌∷◌, ◌++◌, length, refl, sym, ap, subst, ◌∙◌, arith, Some, None, Option, Result, append_assoc, append-nil, inl, inr, ◌⊎◌, unwrap_or}
 use Rattle.std.proofs.lemmas.List.{length_push}
+use Rattle.drm_table.specs.declared.answers.Answer.{Answer}
+use Rattle.drm_table.specs.declared.apart.Apart.{Apart}
 use Rattle.drm_model.specs.Rows.{Rows}
 use Rattle.drm_script.specs.Lines.{answer_line}
 use Rattle.drm_script.proofs.ReadingLaws.{reading_of-long}
@@ -14,7 +16,7 @@ use Rattle.drm_server.specs.Script.Script.{start, line}
 use Rattle.drm_server.specs.Script.Uses.{skipped, limited, asked}
 use Rattle.drm_server.specs.Script.IsMisplaced.{malformed}
 use Rattle.drm_server.specs.Interpreter.{device_of, UsesLine}
-use Rattle.drm_server.specs.Runs.{Results, EndsLine, SoFar, Runs, IsStopped, stop_of}
+use Rattle.drm_server.specs.Runs.{Results, EndsLine, SoFar, Runs, IsCutInLast, IsStopped, stop_of}
 use Rattle.drm_server.specs.declared.run.ScriptEnd.{ScriptEnd}
 use Rattle.drm_server.specs.declared.run.ScriptEnd.TheVariants as ends
 use Rattle.drm_server.specs.declared.interpreter.Interpreter.{Interpreter}
@@ -102,15 +104,15 @@ module _ {s0 s : SourceAccount} {k0 k : SinkAccount} {turns has n : ℕ} {rest :
     ends = (record { lines = so.lines; results = so.results; device = device; labels = labels; rest = rest; script = so.script; whole = so.whole; bare = b; text = refl }, f);
   }
 
-  pub run_turns_used : has ≡ 0 → Runs s0 s k0 k turns ends.TurnsUsed
-  run_turns_used h = record {
+  pub run_turns_used : IsBare rest → has ≡ 0 → Runs s0 s k0 k turns ends.TurnsUsed
+  run_turns_used b h = record {
     read = so.read;
     written = script_text so.results;
     gave = so.gave;
     took = so.took;
     turns_at_most = bounded;
     ends = (
-      record { lines = so.lines; results = so.results; device = device; labels = labels; rest = rest; script = so.script; covers = inl so.whole; text = ([], sym (append-nil (script_text so.results))) },
+      inl (record { lines = so.lines; results = so.results; device = device; labels = labels; rest = rest; script = so.script; whole = so.whole; bare = b; text = refl }),
       (let b = so.cost in omega arith),
     );
   }
@@ -147,48 +149,40 @@ module _ {s0 s : SourceAccount} {k0 k : SinkAccount} {turns has n : ℕ} {rest :
     );
   }
 
-  run_stopped : (next more : List ℕ) (results : Results) (device' : Option Rows) (labels' : List ℕ) (k' : SinkAccount) (has' : ℕ) → rest ≡ next ++ more → EndsLine (s0.counts.ends < s.counts.ends) more → IsBare next
-      → Uses device labels next results device' labels' → PaysPart k k' (script_text results) has has'
-      → (written : List ℕ) × Took k0 k' written × (k'.counts.calls + has' ≡ k.counts.calls + has) × IsStopped (s0.counts.ends < s.counts.ends) so.read written
-  run_stopped next more results device' labels' k' has' e (inl (none, f)) bare u p =
-      let written = script_text so.results ++ p.front in
-      let text : script_text (so.results ++ results) ≡ written ++ p.rest =
-      script_text-append so.results results ∙ ap (λ z. script_text so.results ++ z) p.parts ∙ sym (append_assoc (script_text so.results) p.front p.rest) in
-      let whole : so.read ≡ joined so.lines ++ next = so.whole ∙ ap (λ z. joined so.lines ++ z) (e ∙ ap (λ z. next ++ z) none ∙ append-nil next) in (
-        written,
-        Took-then so.took p.pays.took,
-        p.pays.cost,
-        record {
-          lines = so.lines ++ next ∷ [];
-          results = so.results ++ results;
-          device = device';
-          labels = labels';
-          rest = [];
-          script = line so.script bare u;
-          covers = inr (so.lines, next, refl, whole, refl, f);
-          text = (p.rest, text);
-        },
-      )
-  run_stopped next more results device' labels' k' has' e (inr (behind, f)) bare u p =
-      let written = script_text so.results ++ p.front in
-      let text : script_text (so.results ++ results) ≡ written ++ p.rest =
-      script_text-append so.results results ∙ ap (λ z. script_text so.results ++ z) p.parts ∙ sym (append_assoc (script_text so.results) p.front p.rest) in
+  stopped_at : (next more : List ℕ) (result : Result Answer Apart) (device' : Option Rows) (labels' written : List ℕ) → rest ≡ next ++ more → EndsLine (s0.counts.ends < s.counts.ends) more → IsBare next
+      → Uses device labels next (result ∷ []) device' labels' → IsCutInLast (so.results ++ result ∷ []) written → IsStopped (s0.counts.ends < s.counts.ends) so.read written
+  stopped_at next more result device' labels' written e (inl (none, f)) bare u cut =
+      let whole : so.read ≡ joined so.lines ++ next = so.whole ∙ ap (λ z. joined so.lines ++ z) (e ∙ ap (λ z. next ++ z) none ∙ append-nil next) in record {
+        lines = so.lines ++ next ∷ [];
+        results = so.results ++ result ∷ [];
+        device = device';
+        labels = labels';
+        rest = [];
+        script = line so.script bare u;
+        covers = inr (so.lines, next, refl, whole, refl, f);
+        cut = cut;
+      }
+  stopped_at next more result device' labels' written e (inr (behind, f)) bare u cut =
       let whole : so.read ≡ joined (so.lines ++ next ∷ []) ++ behind =
-      so.whole ∙ ap (λ z. joined so.lines ++ z) (e ∙ ap (λ z. next ++ z) f) ∙ sym (joined-push so.lines next behind) in (
-        written,
-        Took-then so.took p.pays.took,
-        p.pays.cost,
-        record {
-          lines = so.lines ++ next ∷ [];
-          results = so.results ++ results;
-          device = device';
-          labels = labels';
-          rest = behind;
-          script = line so.script bare u;
-          covers = inl whole;
-          text = (p.rest, text);
-        },
-      )
+      so.whole ∙ ap (λ z. joined so.lines ++ z) (e ∙ ap (λ z. next ++ z) f) ∙ sym (joined-push so.lines next behind) in record {
+        lines = so.lines ++ next ∷ [];
+        results = so.results ++ result ∷ [];
+        device = device';
+        labels = labels';
+        rest = behind;
+        script = line so.script bare u;
+        covers = inl whole;
+        cut = cut;
+      }
+
+  run_stopped : (next more : List ℕ) (result : Result Answer Apart) (device' : Option Rows) (labels' : List ℕ) (k' : SinkAccount) (has' : ℕ) → rest ≡ next ++ more → EndsLine (s0.counts.ends < s.counts.ends) more → IsBare next
+      → Uses device labels next (result ∷ []) device' labels' → PaysPart k k' (answer_line result) has has'
+      → (written : List ℕ) × Took k0 k' written × (k'.counts.calls + has' ≡ k.counts.calls + has) × IsStopped (s0.counts.ends < s.counts.ends) so.read written
+  run_stopped next more result device' labels' k' has' e ending bare u p =
+      let written = script_text so.results ++ p.front in
+      let cut : IsCutInLast (so.results ++ result ∷ []) written =
+      record { before = so.results; last = result; sent = p.front; unsent = p.rest; whole = refl; parts = p.parts; more = p.more; text = refl } in
+      (written, Took-then so.took p.pays.took, p.pays.cost, stopped_at next more result device' labels' written e ending bare u cut)
 
   pub run_unmade : (next more : List ℕ) → rest ≡ next ++ more → EndsLine (s0.counts.ends < s.counts.ends) more → IsBare next → device ≡ None → WantsDevice next
       → Runs s0 s k0 k turns ends.NoMemory
@@ -241,7 +235,7 @@ run_stop {s0} {s} {k0} {k} {turns} old new next more k' has' line_ends.TurnsUsed
       gave = so.gave;
       took = w.1;
       turns_at_most = (let a = w.2 in let c = so.cost in omega arith);
-      ends = (w.3, (let a = w.2 in let c = so.cost in omega (arith, a, c, u.3)));
+      ends = (inr w.3, (let a = w.2 in let c = so.cost in omega (arith, a, c, u.3)));
     })
 run_stop {s0} {s} {k0} {k} {turns} old new next more k' has' line_ends.NoMemory stop so e t b u h =
     subst (λ q. Runs s0 s k0 q turns stop) (sym u.2) (subst (Runs s0 s k0 k turns) (some_end _ _ h) (run_unmade so next more e t b u.0 u.1))

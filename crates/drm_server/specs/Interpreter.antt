@@ -1,5 +1,5 @@
 -- One line of a run, as the code makes it.
-use Rattle.std.specs.Prelude.{◌≡◌, ℕ, ◌<◌, List, Option, None, Some, Result}
+use Rattle.std.specs.Prelude.{◌≡◌, ℕ, ◌<◌, List, [], ◌∷◌, Option, None, Some, Result}
 use Rattle.std.specs.Option.{option_map}
 use Rattle.drm_table.specs.declared.answers.Answer.{Answer}
 use Rattle.drm_table.specs.declared.apart.Apart.{Apart}
@@ -19,16 +19,16 @@ use Rattle.drm_server.specs.declared.interpreter.LineEnd.TheVariants as ends
 abbrev pub device_of : Interpreter → Option Rows
 device_of s = option_map rows_of s.device
 
--- what came of a line: it was used and its results written, or a front of them, or it changed nothing
+-- what came of a line: it was used and its results written, or a front of its answer, or it changed nothing
 abbrev pub UsesLine : Interpreter → Interpreter → List ℕ → SinkAccount → SinkAccount → ℕ → ℕ → LineEnd → Type 0
 UsesLine old new line before after had has ends.Used =
     (results : List (Result Answer Apart)) × Uses (device_of old) old.labels line results (device_of new) new.labels × Pays before after (script_text results) had has
 UsesLine old new line before after had has ends.WriteFault =
-    (results : List (Result Answer Apart)) × Uses (device_of old) old.labels line results (device_of new) new.labels
-    × PaysPart before after (script_text results) had has × (before.counts.faults < after.counts.faults)
+    (result : Result Answer Apart) × Uses (device_of old) old.labels line (result ∷ []) (device_of new) new.labels
+    × PaysPart before after (answer_line result) had has × (before.counts.faults < after.counts.faults)
 UsesLine old new line before after had has ends.TurnsUsed =
-    (results : List (Result Answer Apart)) × Uses (device_of old) old.labels line results (device_of new) new.labels
-    × PaysPart before after (script_text results) had has × (has ≡ 0)
+    (result : Result Answer Apart) × Uses (device_of old) old.labels line (result ∷ []) (device_of new) new.labels
+    × PaysPart before after (answer_line result) had has × (has ≡ 0)
 UsesLine old new line before after had has ends.Malformed = IsMisplaced (device_of old) line × (after ≡ before) × (has ≡ had)
 UsesLine old new line before after had has ends.NoMemory = (device_of old ≡ None) × WantsDevice line × (after ≡ before) × (has ≡ had)
 

@@ -5,6 +5,7 @@ use Rattle.drm_table.specs.declared.apart.Apart.{Apart}
 use Rattle.drm_model.specs.Rows.{Rows}
 use Rattle.drm_frames.specs.Streams.{SourceAccount, SinkAccount}
 use Rattle.drm_frames.specs.Turns.{Gave, Took}
+use Rattle.drm_script.specs.Lines.{answer_line}
 use Rattle.drm_server.specs.Lines.{IsBare, joined}
 use Rattle.drm_server.specs.Script.{Script, script_text, IsMisplaced, WantsDevice}
 use Rattle.drm_server.specs.declared.run.ScriptEnd.{ScriptEnd}
@@ -19,10 +20,6 @@ Results = List (Result Answer Apart)
 abbrev pub Covers : Type 0 → List ℕ → List (List ℕ) → List ℕ → Type 0
 Covers ended read lines rest =
     (read ≡ joined lines ++ rest) ⊎ ((front : List (List ℕ)) × (last : List ℕ) × (lines ≡ front ++ last ∷ []) × (read ≡ joined front ++ last) × (rest ≡ []) × ended)
-
--- the text begins so
-abbrev pub IsFront : List ℕ → List ℕ → Type 0
-IsFront front text = (rest : List ℕ) × (text ≡ front ++ rest)
 
 -- Every line that was read was used, and what the results write was written.
 pub record IsDone (ended : Type 0) (read written : List ℕ) : Type 0 where
@@ -66,7 +63,18 @@ pub record IsCutShort (read written : List ℕ) : Type 0 where
   pub bare : IsBare rest
   pub text : written ≡ script_text results
 
--- Some lines were used, and a front of what their results write was written.
+-- Writing stopped in the last answer's line: those before it were written, and of it a front that lacks a byte at least.
+pub record IsCutInLast (results : Results) (written : List ℕ) : Type 0 where
+  pub before : Results
+  pub last : Result Answer Apart
+  pub sent : List ℕ
+  pub unsent : List ℕ
+  pub whole : results ≡ before ++ last ∷ []
+  pub parts : answer_line last ≡ sent ++ unsent
+  pub more : 0 < length unsent
+  pub text : written ≡ script_text before ++ sent
+
+-- Some lines were used, and writing stopped in the answer of the last one; so no line is used after a failed write.
 pub record IsStopped (ended : Type 0) (read written : List ℕ) : Type 0 where
   pub lines : List (List ℕ)
   pub results : Results
@@ -75,7 +83,7 @@ pub record IsStopped (ended : Type 0) (read written : List ℕ) : Type 0 where
   pub rest : List ℕ
   pub script : Script lines results device labels
   pub covers : Covers ended read lines rest
-  pub text : IsFront written (script_text results)
+  pub cut : IsCutInLast results written
 
 -- The lines before were all skipped; the next one wants a device, for which there was no memory. Nothing was written.
 pub record IsUnmade (ended : Type 0) (read written : List ℕ) : Type 0 where
@@ -99,7 +107,8 @@ Ends ends.ReadFault source source' sink sink' turns read written = IsCutShort re
 Ends ends.WriteFault source source' sink sink' turns read written =
     IsStopped (source.counts.ends < source'.counts.ends) read written × (sink.counts.faults < sink'.counts.faults)
 Ends ends.TurnsUsed source source' sink sink' turns read written =
-    IsStopped (source.counts.ends < source'.counts.ends) read written × (source'.counts.calls + sink'.counts.calls ≡ source.counts.calls + sink.counts.calls + turns)
+    (IsCutShort read written ⊎ IsStopped (source.counts.ends < source'.counts.ends) read written)
+    × (source'.counts.calls + sink'.counts.calls ≡ source.counts.calls + sink.counts.calls + turns)
 Ends ends.NoMemory source source' sink sink' turns read written = IsUnmade (source.counts.ends < source'.counts.ends) read written
 
 -- A run: what it read and wrote, at what cost, and why it ended.

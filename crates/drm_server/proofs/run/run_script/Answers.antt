@@ -29,7 +29,7 @@ returns-in-ReadFault g c =
 pub returns-in-TurnsUsed : goal.returns-in-TurnsUsed
 returns-in-TurnsUsed g c =
     let r = c.in-TurnsUsed.ensures in
-    run_turns_used (so_far_read c.lines.invariant.so_far _ _ _ _ r.1.spent refl) r.1.splits.3
+    run_turns_used (so_far_read c.lines.invariant.so_far _ _ _ (held c.next_line.new.self) r.1.spent r.1.splits.0) r.1.splits.2 r.1.splits.3
 
 pub returns-then-is_empty : goal.returns-then-is_empty
 returns-then-is_empty g c =
