@@ -11,7 +11,9 @@ import re
 MODEL = pathlib.Path("crates/drm_model")
 TABLE = pathlib.Path("crates/drm_table/specs")
 # the script's word of each call, and the variant that stands for it
-CALLS = {"version": "Version", "gem_close": "GemClose", "create_dumb": "CreateDumb"}
+CALLS = {"version": "Version", "gem_close": "GemClose", "audit": "Audit", "create_dumb": "CreateDumb"}
+# the kinds of an audit, by number from 1
+KINDS = "Client Master Object Name Token Hold Grant Framebuffer Shown Device".split()
 LIMITS = "clients handles names tokens objects framebuffers lessees journal".split()
 PROGRAM = "64 65535 65535 65535 65535 64 64 100000".split()
 APARTS = {50: "JournalFull"}
@@ -57,6 +59,9 @@ def answer(text, denials):
         return term("Err", APARTS[int(rest[0])])
     if word == "denied":
         return term("Ok", term("Denied", "Denied" + denials[int(rest[0])]))
+    if word == "rows":
+        rows = [term("audit_row", *row.split()) for row in text.split(" | ")[1:]]
+        return term("Ok", term("AuditIs", "(" + "".join(f"{row} ∷ " for row in rows) + "[])"))
     name = {"done": "Done", "closed": "Closed", "client": "Opened", "version": "VersionIs", "dumb": "Dumb"}[word]
     return term("Ok", term(name, *rest))
 
@@ -75,6 +80,8 @@ def event(line, labels, numbers):
         return term("Close", labels.get(rest[0], "0"))
     word, *fields = rest
     name = CALLS.get(word) or ("BadLayout" if int(fields[0]) in numbers else "UnknownCall")
+    if name == "Audit":
+        fields = ["Of" + KINDS[int(fields[0]) - 1], fields[1]]
     return term("Ask", labels.get(first, "0"), term(name, *fields))
 
 
@@ -108,7 +115,7 @@ def lemma(name, lines):
     uses = [
         "use Rattle.std.proofs.Common.{◌≡◌, true, false, List, [], ◌∷◌, Result, Ok, Err, refl}",
         "use Rattle.drm_table.specs.declared.answers.Answer.{Answer}",
-        "use Rattle.drm_table.specs.declared.answers.Answer.TheVariants.{Done, Opened, Version as VersionIs, Dumb, Closed, Denied}",
+        "use Rattle.drm_table.specs.declared.answers.Answer.TheVariants.{Done, Opened, Version as VersionIs, Dumb, Audit as AuditIs, Closed, Denied}",
         "use Rattle.drm_table.specs.declared.apart.Apart.{Apart}",
         "use Rattle.drm_table.specs.declared.apart.Apart.TheVariants.{JournalFull}",
         f"use Rattle.drm_table.specs.declared.rules.Rule.TheVariants.{{{denials}}}",
@@ -117,12 +124,13 @@ def lemma(name, lines):
         "use Rattle.drm_table.specs.declared.events.Event.TheVariants.{Open, Ask, Close}",
         "use Rattle.drm_table.specs.declared.events.Opening.TheVariants.{Primary, Render, Lease}",
         "use Rattle.drm_table.specs.declared.limits.Limits.{Limits}",
+        "use Rattle.drm_table.specs.declared.audits.AuditKind.TheVariants.{" + ", ".join(f"{kind} as Of{kind}" for kind in KINDS) + "}",
     ]
     for crate, words in (("drm_table", table), ("drm_model", opened)):
         for module in sorted({module for module, _ in words}):
             names = ", ".join(word for where, word in words if where == module)
             uses.append(f"use Rattle.{crate}.specs.{module}.{{{names}}}")
-    uses += ["use Rattle.drm_model.specs.Rows.{empty_rows}", "use Rattle.drm_model.specs.Topology.{Topology}"]
+    uses += ["use Rattle.drm_model.specs.Audit.{audit_row}", "use Rattle.drm_model.specs.Rows.{empty_rows}", "use Rattle.drm_model.specs.Topology.{Topology}"]
     listed = lambda terms: "".join(f"    {one} ∷\n" for one in terms) + "    []\n"
     fields = "; ".join(f"{field} = {value}" for field, value in zip(LIMITS, limits))
     body = (

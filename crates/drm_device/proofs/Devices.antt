@@ -15,7 +15,9 @@ use Rattle.drm_model.specs.Change.{after}
 use Rattle.drm_model.proofs.Lists.{length-map}
 use Rattle.drm_device.specs.Device.{history_of, IsDevice}
 use Rattle.drm_table.specs.Limits.{are_in_range, is_between}
-use Rattle.drm_device.specs.Refinement.{Stands, Represents, client_row_of, master_row_of, hold_row_of, object_row_of}
+use Rattle.drm_device.specs.Refinement.{Stands, Represents, client_row_of, master_row_of, hold_row_of, object_row_of, comes_before}
+use Rattle.drm_model.specs.Orders.{SameRows, InOrder}
+use Rattle.drm_model.proofs.Births.{births_rise}
 use Rattle.drm_device.specs.declared.device.Device.TheInside.{Inside}
 use Rattle.drm_device.specs.declared.state.State.{State}
 use Rattle.drm_model.specs.Run.{FoundRoom, start_of}
@@ -30,6 +32,7 @@ pub stands : (d : Inside) (n : ℕ) → IsDevice d → n ≡ vec_len d.journal �
 stands d n h e = record {
   rows = h.rows;
   well_formed = well_formed (history_of d);
+  births = births_rise (history_of d);
   limits_are = rows_of-limits (history_of d);
   birth_is = ap (λ n. n + 1) (rows_of-steps (history_of d) ∙ sym d.journal.ok.0 ∙ sym e);
 }
@@ -127,10 +130,11 @@ new_device t limits j cs ms hs os good e room c m h o =
       rows = subst (Represents (record { clients = cs; masters = ms; holds = hs; objects = os; device_master = None })) (sym start) (record {
         clients = ap (map client_row_of) (sym c);
         masters = ap (map master_row_of) (sym m);
-        holds = ap (map hold_row_of) (sym h);
+        holds = subst (λ rows. SameRows [] (map hold_row_of rows)) (sym h) (λ test. refl);
+        holds_in_order = subst (InOrder (λ x y. comes_before x y ≡ true)) (sym h) tt;
         objects = ap (map object_row_of) (sym o);
         device_master = refl;
-        none_yet = record { magics = refl; names = refl; tokens = refl; grants = refl; framebuffers = refl; shown = refl };
+        none_yet = record { magics = refl; names = refl; tokens = refl; grants = refl; framebuffers = refl; shown = refl; last_token = refl; last_lease_token = refl };
       });
       found_room = subst (FoundRoom (empty_rows t limits)) (sym e) tt;
       places = omega arith;

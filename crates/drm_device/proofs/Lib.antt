@@ -1,6 +1,9 @@
 pub mod Booleans
 pub mod Laws
 pub mod Runs
+pub mod Holds
+pub mod AuditRows
+pub mod Pages
 pub mod Outcomes
 pub mod Devices
 pub mod Lookups

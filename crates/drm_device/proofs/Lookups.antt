@@ -12,7 +12,9 @@ use Rattle.drm_model.specs.Numbers.{is_among, least}
 use Rattle.drm_model.specs.Rows.{Rows, HoldRow, client_row, is_client, hold_row, is_hold, handles_of, is_open, free_handle}
 use Rattle.drm_model.specs.Masters.{is_owner, last_of, standing_in}
 use Rattle.drm_model.specs.Run.{places_left, rows_of, no_room}
-use Rattle.drm_model.proofs.Lists.{find-map, is_some-map, filter-map, map-map}
+use Rattle.drm_model.proofs.Lists.{find-map, is_some-map, is_some-find, list_any-map, is_among-map_filter}
+use Rattle.drm_model.proofs.Numbers.{least-agree}
+use Rattle.drm_model.proofs.Orders.{same-any}
 use Rattle.drm_device.specs.declared.state.Client.{Client}
 use Rattle.drm_device.specs.declared.state.Hold.{Hold}
 use Rattle.drm_device.specs.declared.state.State.{State}
@@ -31,17 +33,20 @@ pub is_open_is : (s : State) (w : Rows) → Represents s w → (c : ℕ) → is_
 is_open_is s w h c = ap is_some (client_row_is s w h c) ∙ is_some-map client_row_of _
 
 pub hold_row_is : (s : State) (w : Rows) → Represents s w → (c n : ℕ) → is_some (hold_row w c n) ≡ is_some (find (λ (x : Hold). (x.client == c) && (x.handle == n)) s.holds.items)
-hold_row_is s w h c n = ap (λ rows. is_some (find (is_hold c n) rows)) h.holds ∙ ap is_some (find-map (is_hold c n) hold_row_of s.holds.items) ∙ is_some-map hold_row_of _
+hold_row_is s w h c n = is_some-find (is_hold c n) w.holds ∙ same-any (is_hold c n) w.holds (map hold_row_of s.holds.items) h.holds ∙ list_any-map (is_hold c n) hold_row_of s.holds.items ∙ sym (is_some-find (λ (x : Hold). (x.client == c) && (x.handle == n)) s.holds.items)
 
-pub handles_are : (s : State) (w : Rows) → Represents s w → (c : ℕ) → handles_of w c ≡ map (λ (x : Hold). x.handle) (filter (λ (x : Hold). x.client == c) s.holds.items)
-handles_are s w h c =
-    ap (λ rows. map (λ (row : HoldRow). row.handle) (filter (λ (row : HoldRow). row.client == c) rows)) h.holds
-    ∙ ap (map (λ (row : HoldRow). row.handle)) (filter-map (λ (row : HoldRow). row.client == c) hold_row_of s.holds.items)
-    ∙ map-map (λ (row : HoldRow). row.handle) hold_row_of (filter (λ (x : Hold). x.client == c) s.holds.items)
+-- whether a client has the handle
+pub handles_are : (s : State) (w : Rows) → Represents s w → (c n : ℕ) → is_among (handles_of w c) n ≡ is_among (map (λ (x : Hold). x.handle) (filter (λ (x : Hold). x.client == c) s.holds.items)) n
+handles_are s w h c n =
+    is_among-map_filter (λ (row : HoldRow). row.client == c) (λ (row : HoldRow). row.handle) n w.holds
+    ∙ hold_row_is s w h c n
+    ∙ sym (is_among-map_filter (λ (x : Hold). x.client == c) (λ (x : Hold). x.handle) n s.holds.items)
 
 pub free_handle_is : (s : State) (limits : Limits) (b : ℕ) (w : Rows) → Stands s limits b w → (c : ℕ) →
     free_handle w c ≡ least (is_among (map (λ (x : Hold). x.handle) (filter (λ (x : Hold). x.client == c) s.holds.items))) 1 limits.handles
-free_handle_is s limits b w h c = ap (λ hs. least (is_among hs) 1 w.limits.handles) (handles_are s w h.rows c) ∙ ap (λ (l : Limits). least (is_among (map (λ (x : Hold). x.handle) (filter (λ (x : Hold). x.client == c) s.holds.items))) 1 l.handles) h.limits_are
+free_handle_is s limits b w h c =
+    least-agree (is_among (handles_of w c)) (is_among (map (λ (x : Hold). x.handle) (filter (λ (x : Hold). x.client == c) s.holds.items))) (handles_are s w h.rows c) 1 w.limits.handles
+    ∙ ap (λ (l : Limits). least (is_among (map (λ (x : Hold). x.handle) (filter (λ (x : Hold). x.client == c) s.holds.items))) 1 l.handles) h.limits_are
 
 -- without lessors a master owns itself
 owner_flat : (w : Rows) → WellFormed w → (device master : Option ℕ) → is_owner w.masters device master ≡ is_same device master

@@ -1,5 +1,5 @@
 -- The cases of an outcome.
-use Rattle.std.proofs.Common.{◌≡◌, ℕ, List, [], ◌∷◌, ◌++◌, None, Some, Ok, Err, refl, sym, ◌∙◌, ap, subst, cond, true, false, ◌<◌, ◌≤◌, length, map}
+use Rattle.std.proofs.Common.{◌≡◌, ℕ, List, [], ◌∷◌, ◌++◌, None, Some, Ok, Err, refl, sym, ◌∙◌, ap, subst, cond, true, false, ◌<◌, ◌≤◌, ◌==◌, ◌&&◌, length, map}
 use Rattle.std.specs.declared.alloc.AllocError.{AllocError}
 use Rattle.drm_table.specs.declared.answers.Answer.{Answer}
 use Rattle.drm_table.specs.declared.answers.Answer.TheVariants.{Denied}
@@ -27,16 +27,20 @@ use Rattle.drm_model.proofs.Lists.{filter_all, length-map, map-append}
 use Rattle.drm_device.specs.declared.state.Client.{Client}
 use Rattle.drm_device.specs.declared.state.State.{State}
 use Rattle.drm_device.specs.Laws.{WellFormed}
-use Rattle.drm_device.specs.Refinement.{Represents, Outcome, Stands, client_row_of, master_row_of, hold_row_of, object_row_of}
+use Rattle.drm_device.specs.Refinement.{Represents, Outcome, Stands, client_row_of, master_row_of, hold_row_of, object_row_of, comes_before, place_among}
+use Rattle.drm_model.specs.Orders.{SameRows, InOrder}
+use Rattle.std.specs.List.{insert, AllByRecursion}
+use Rattle.drm_device.proofs.Holds.{more_rows, in_order_insert}
 
 pub represents_noted : (s : State) (w : Rows) → Represents s w → Represents s (noted w)
 represents_noted s w h = record {
   clients = h.clients;
   masters = h.masters;
   holds = h.holds;
+  holds_in_order = h.holds_in_order;
   objects = h.objects;
   device_master = h.device_master;
-  none_yet = record { magics = h.none_yet.magics; names = h.none_yet.names; tokens = h.none_yet.tokens; grants = h.none_yet.grants; framebuffers = h.none_yet.framebuffers; shown = h.none_yet.shown };
+  none_yet = record { magics = h.none_yet.magics; names = h.none_yet.names; tokens = h.none_yet.tokens; grants = h.none_yet.grants; framebuffers = h.none_yet.framebuffers; shown = h.none_yet.shown; last_token = h.none_yet.last_token; last_lease_token = h.none_yet.last_lease_token };
 }
 
 -- a denial
@@ -63,9 +67,10 @@ unswept s w k h = record {
   clients = h.clients;
   masters = filter_all _ w.masters k.living ∙ h.masters;
   holds = h.holds;
+  holds_in_order = h.holds_in_order;
   objects = filter_all _ w.objects k.referred ∙ h.objects;
   device_master = h.device_master;
-  none_yet = record { magics = h.none_yet.magics; names = filter_all _ w.names k.held ∙ h.none_yet.names; tokens = h.none_yet.tokens; grants = h.none_yet.grants; framebuffers = h.none_yet.framebuffers; shown = filter_all _ w.shown k.present ∙ h.none_yet.shown };
+  none_yet = record { magics = h.none_yet.magics; names = filter_all _ w.names k.held ∙ h.none_yet.names; tokens = h.none_yet.tokens; grants = h.none_yet.grants; framebuffers = h.none_yet.framebuffers; shown = filter_all _ w.shown k.present ∙ h.none_yet.shown; last_token = h.none_yet.last_token; last_lease_token = h.none_yet.last_lease_token };
 }
 
 pub opening_verdict : (w : Rows) (opening : Opening) → verdict w (Open opening) ≡ first_failing (opening_checks w opening)
@@ -100,6 +105,7 @@ same_clients s w v e h = record {
   clients = h.clients ∙ ap (map client_row_of) (sym e);
   masters = h.masters;
   holds = h.holds;
+  holds_in_order = h.holds_in_order;
   objects = h.objects;
   device_master = h.device_master;
   none_yet = h.none_yet;
@@ -111,9 +117,10 @@ more_clients s w v x row e r h = record {
   clients = rw (h.clients, ← r, e) (sym (map-append client_row_of s.clients.items (x ∷ [])));
   masters = h.masters;
   holds = h.holds;
+  holds_in_order = h.holds_in_order;
   objects = h.objects;
   device_master = h.device_master;
-  none_yet = record { magics = h.none_yet.magics; names = h.none_yet.names; tokens = h.none_yet.tokens; grants = h.none_yet.grants; framebuffers = h.none_yet.framebuffers; shown = h.none_yet.shown };
+  none_yet = record { magics = h.none_yet.magics; names = h.none_yet.names; tokens = h.none_yet.tokens; grants = h.none_yet.grants; framebuffers = h.none_yet.framebuffers; shown = h.none_yet.shown; last_token = h.none_yet.last_token; last_lease_token = h.none_yet.last_lease_token };
 }
 
 first_failing-front : (xs ys : List Check) (rule : Rule) → first_failing xs ≡ Some rule → first_failing (xs ++ ys) ≡ Some rule
@@ -138,6 +145,7 @@ same_masters s w v e h = record {
   clients = h.clients;
   masters = h.masters ∙ ap (map master_row_of) (sym e);
   holds = h.holds;
+  holds_in_order = h.holds_in_order;
   objects = h.objects;
   device_master = h.device_master;
   none_yet = h.none_yet;
@@ -148,6 +156,7 @@ same_objects s w v e h = record {
   clients = h.clients;
   masters = h.masters;
   holds = h.holds;
+  holds_in_order = h.holds_in_order;
   objects = h.objects ∙ ap (map object_row_of) (sym e);
   device_master = h.device_master;
   none_yet = h.none_yet;
@@ -157,22 +166,25 @@ pub same_holds : (s : State) (w : Rows) (v : Vec Hold) → v.items ≡ s.holds.i
 same_holds s w v e h = record {
   clients = h.clients;
   masters = h.masters;
-  holds = h.holds ∙ ap (map hold_row_of) (sym e);
+  holds = subst (λ rows. SameRows w.holds (map hold_row_of rows)) (sym e) h.holds;
+  holds_in_order = subst (InOrder (λ x y. comes_before x y ≡ true)) (sym e) h.holds_in_order;
   objects = h.objects;
   device_master = h.device_master;
   none_yet = h.none_yet;
 }
 
 pub more_held : (s : State) (w : Rows) (os : Vec Object) (hs : Vec Hold) (x : Object) (y : Hold) (row : ObjectRow) (hold : HoldRow) →
-    os.items ≡ s.objects.items ++ x ∷ [] → hs.items ≡ s.holds.items ++ y ∷ [] → object_row_of x ≡ row → hold_row_of y ≡ hold → Represents s w →
+    os.items ≡ s.objects.items ++ x ∷ [] → hs.items ≡ insert s.holds.items (place_among s.holds.items y) y → AllByRecursion (λ (z : Hold). ((z.client == y.client) && (z.handle == y.handle)) ≡ false) s.holds.items →
+    object_row_of x ≡ row → hold_row_of y ≡ hold → Represents s w →
     Represents (record s { objects = os; holds = hs }) (record w { objects = w.objects ++ row ∷ []; holds = w.holds ++ hold ∷ [] })
-more_held s w os hs x y row hold e f p q h = record {
+more_held s w os hs x y row hold e f fresh p q h = record {
   clients = h.clients;
   masters = h.masters;
-  holds = rw (h.holds, ← q, f) (sym (map-append hold_row_of s.holds.items (y ∷ [])));
+  holds = rw (← q, f) (more_rows w.holds s.holds.items (place_among s.holds.items y) y h.holds);
+  holds_in_order = rw f (in_order_insert s.holds.items y h.holds_in_order fresh);
   objects = rw (h.objects, ← p, e) (sym (map-append object_row_of s.objects.items (x ∷ [])));
   device_master = h.device_master;
-  none_yet = record { magics = h.none_yet.magics; names = h.none_yet.names; tokens = h.none_yet.tokens; grants = h.none_yet.grants; framebuffers = h.none_yet.framebuffers; shown = h.none_yet.shown };
+  none_yet = record { magics = h.none_yet.magics; names = h.none_yet.names; tokens = h.none_yet.tokens; grants = h.none_yet.grants; framebuffers = h.none_yet.framebuffers; shown = h.none_yet.shown; last_token = h.none_yet.last_token; last_lease_token = h.none_yet.last_lease_token };
 }
 
 object_count : (s : State) (w : Rows) → Represents s w → length w.objects ≡ vec_len s.objects

@@ -19,7 +19,9 @@ use Rattle.drm_device.specs.declared.state.State.{State}
 use Rattle.drm_device.specs.Laws.{WellFormed}
 use Rattle.drm_device.proofs.Laws.{IsFlat, holds_master, living_flat}
 use Rattle.drm_device.proofs.Booleans.{all_map, list_any_agree, or_right}
-use Rattle.drm_device.specs.Refinement.{Represents, is_same, client_row_of, hold_row_of, object_row_of, master_row_of}
+use Rattle.drm_model.specs.Orders.{SameRows, InOrder}
+use Rattle.drm_model.proofs.Orders.{same-any, same-filter, in_order_filter}
+use Rattle.drm_device.specs.Refinement.{Represents, comes_before, is_same, client_row_of, hold_row_of, object_row_of, master_row_of}
 
 and_none : (b : Bool) → (b && false) ≡ false
 and_none true = refl
@@ -34,21 +36,25 @@ or_none true = refl
 or_none false = refl
 
 -- while there are no tokens and framebuffers, handles alone refer to objects
-referred_is : (v : Rows) (hs : List Hold) → v.holds ≡ map hold_row_of hs → v.tokens ≡ [] → v.framebuffers ≡ [] → (n : ℕ) →
+referred_is : (v : Rows) (hs : List Hold) → SameRows v.holds (map hold_row_of hs) → v.tokens ≡ [] → v.framebuffers ≡ [] → (n : ℕ) →
     is_referred v n ≡ list_any (λ (hold : Hold). hold.object == n) hs
 referred_is v hs h t f n =
-    ap (λ rows. list_any (λ (row : HoldRow). row.object == n) rows || list_any (λ (row : TokenRow). row.object == n) v.tokens || list_any (λ (row : FramebufferRow). row.object == n) v.framebuffers) h
+    ap (λ b. b || list_any (λ (row : TokenRow). row.object == n) v.tokens || list_any (λ (row : FramebufferRow). row.object == n) v.framebuffers) (same-any (λ (row : HoldRow). row.object == n) v.holds (map hold_row_of hs) h)
     ∙ ap (λ rows. list_any (λ (row : HoldRow). row.object == n) (map hold_row_of hs) || list_any (λ (row : TokenRow). row.object == n) rows || list_any (λ (row : FramebufferRow). row.object == n) v.framebuffers) t
     ∙ ap (λ rows. list_any (λ (row : HoldRow). row.object == n) (map hold_row_of hs) || false || list_any (λ (row : FramebufferRow). row.object == n) rows) f
     ∙ or_none (list_any (λ (row : HoldRow). row.object == n) (map hold_row_of hs))
     ∙ list_any-map (λ (row : HoldRow). row.object == n) hold_row_of hs
 
-pub swept_objects : (v : Rows) (hs : List Hold) (os : List Object) → v.holds ≡ map hold_row_of hs → v.tokens ≡ [] → v.framebuffers ≡ [] → v.objects ≡ map object_row_of os →
+pub swept_objects : (v : Rows) (hs : List Hold) (os : List Object) → SameRows v.holds (map hold_row_of hs) → v.tokens ≡ [] → v.framebuffers ≡ [] → v.objects ≡ map object_row_of os →
     filter (λ (row : ObjectRow). is_referred v row.object) v.objects ≡ map object_row_of (filter (λ (x : Object). list_any (λ (hold : Hold). hold.object == x.number) hs) os)
 swept_objects v hs os h t f o =
     ap (filter (λ (row : ObjectRow). is_referred v row.object)) o
     ∙ filter-map (λ (row : ObjectRow). is_referred v row.object) object_row_of os
     ∙ ap (map object_row_of) (filter_agree (λ (x : Object). is_referred v x.number) (λ (x : Object). list_any (λ (hold : Hold). hold.object == x.number) hs) (λ x. referred_is v hs h t f x.number) os)
+
+-- the handles that pass a test
+kept_holds : (p : HoldRow → Bool) (rows : List HoldRow) (old new : List Hold) → new ≡ filter (λ (x : Hold). p (hold_row_of x)) old → SameRows rows (map hold_row_of old) → SameRows (filter p rows) (map hold_row_of new)
+kept_holds p rows old new e h = subst (λ xs. SameRows (filter p rows) xs) (filter-map p hold_row_of old ∙ ap (map hold_row_of) (sym e)) (same-filter p rows (map hold_row_of old) h)
 
 -- a handle goes, and with it what it alone named
 pub released : (s : State) (w : Rows) (c n : ℕ) (hs : Vec Hold) (os : Vec Object) → Represents s w → WellFormed w →
@@ -58,14 +64,15 @@ pub released : (s : State) (w : Rows) (c n : ℕ) (hs : Vec Hold) (os : Vec Obje
 unfolding swept
 released s w c n hs os h k e f =
     let v : Rows = record w { holds = without (is_hold c n) w.holds } in
-    let holds : v.holds ≡ map hold_row_of hs.items = ap (without (is_hold c n)) h.holds ∙ filter-map (λ row. not (is_hold c n row)) hold_row_of s.holds.items ∙ ap (map hold_row_of) (sym e) in
+    let holds : SameRows v.holds (map hold_row_of hs.items) = kept_holds (λ row. not (is_hold c n row)) w.holds s.holds.items hs.items e h.holds in
     record {
       clients = h.clients;
       masters = filter_all _ w.masters k.living ∙ h.masters;
       holds = holds;
+      holds_in_order = subst (InOrder (λ x y. comes_before x y ≡ true)) (sym e) (in_order_filter (λ x y. comes_before x y ≡ true) _ s.holds.items h.holds_in_order);
       objects = swept_objects v hs.items s.objects.items holds h.none_yet.tokens h.none_yet.framebuffers h.objects ∙ ap (map object_row_of) (sym f);
       device_master = h.device_master;
-      none_yet = record { magics = h.none_yet.magics; names = ap (filter _) h.none_yet.names; tokens = h.none_yet.tokens; grants = h.none_yet.grants; framebuffers = h.none_yet.framebuffers; shown = ap (filter _) h.none_yet.shown };
+      none_yet = record { magics = h.none_yet.magics; names = ap (filter _) h.none_yet.names; tokens = h.none_yet.tokens; grants = h.none_yet.grants; framebuffers = h.none_yet.framebuffers; shown = ap (filter _) h.none_yet.shown; last_token = h.none_yet.last_token; last_lease_token = h.none_yet.last_lease_token };
     }
 
 -- no lease token is open, so that none is taken
@@ -91,14 +98,16 @@ ended_if_represents s w true (Some m) h = record {
   clients = h.clients;
   masters = ap (map _) h.masters ∙ unleased (λ row. is_under w.masters m row.master) s.masters.items;
   holds = h.holds;
+  holds_in_order = h.holds_in_order;
   objects = h.objects;
   device_master = ap (λ (d : Option ℕ). if is_option m d then None else d) h.device_master ∙ own_master s.device_master m;
-  none_yet = record { magics = h.none_yet.magics; names = h.none_yet.names; tokens = h.none_yet.tokens; grants = ap (without _) h.none_yet.grants; framebuffers = h.none_yet.framebuffers; shown = h.none_yet.shown };
+  none_yet = record { magics = h.none_yet.magics; names = h.none_yet.names; tokens = h.none_yet.tokens; grants = ap (without _) h.none_yet.grants; framebuffers = h.none_yet.framebuffers; shown = h.none_yet.shown; last_token = h.none_yet.last_token; last_lease_token = h.none_yet.last_lease_token };
 }
 ended_if_represents s w true None h = record {
   clients = h.clients;
   masters = h.masters;
   holds = h.holds;
+  holds_in_order = h.holds_in_order;
   objects = h.objects;
   device_master = h.device_master ∙ no_master s.device_master;
   none_yet = h.none_yet;
@@ -107,6 +116,7 @@ ended_if_represents s w false m h = record {
   clients = h.clients;
   masters = h.masters;
   holds = h.holds;
+  holds_in_order = h.holds_in_order;
   objects = h.objects;
   device_master = h.device_master;
   none_yet = h.none_yet;
@@ -168,14 +178,15 @@ gone s w c caller cs ms hs os device h row e f g i d =
     subst (λ o. Represents (record s { device_master = if caller.is_master && is_same s.device_master caller.master then None else s.device_master }) (ended_own w o)) (sym row) (ended_if_represents s w caller.is_master caller.master h) in
     let v : Rows = closed w c in
     let clients : v.clients ≡ map client_row_of cs.items = ap (without (λ (x : ClientRow). x.client == c)) h.clients ∙ filter-map (λ (x : ClientRow). not (x.client == c)) client_row_of s.clients.items ∙ ap (map client_row_of) (sym e) in
-    let holds : v.holds ≡ map hold_row_of hs.items = ap (without (λ (x : HoldRow). x.client == c)) h.holds ∙ filter-map (λ (x : HoldRow). not (x.client == c)) hold_row_of s.holds.items ∙ ap (map hold_row_of) (sym f) in
+    let holds : SameRows v.holds (map hold_row_of hs.items) = kept_holds (λ (x : HoldRow). not (x.client == c)) w.holds s.holds.items hs.items f h.holds in
     let tokens : v.tokens ≡ [] = ap (without (λ (x : TokenRow). x.client == c)) h.none_yet.tokens in
     let framebuffers : v.framebuffers ≡ [] = ap (without (λ (x : FramebufferRow). x.client == c)) h.none_yet.framebuffers in
     record {
       clients = clients;
       masters = swept_masters v cs.items s.masters.items clients r.masters ∙ ap (map master_row_of) (sym i);
       holds = holds;
+      holds_in_order = subst (InOrder (λ x y. comes_before x y ≡ true)) (sym f) (in_order_filter (λ x y. comes_before x y ≡ true) _ s.holds.items h.holds_in_order);
       objects = swept_objects v hs.items s.objects.items holds tokens framebuffers r.objects ∙ ap (map object_row_of) (sym g);
       device_master = r.device_master ∙ sym d;
-      none_yet = record { magics = ap (without _) h.none_yet.magics; names = ap (filter _) r.none_yet.names; tokens = tokens; grants = r.none_yet.grants; framebuffers = framebuffers; shown = ap (filter _) r.none_yet.shown };
+      none_yet = record { magics = ap (without _) h.none_yet.magics; names = ap (filter _) r.none_yet.names; tokens = tokens; grants = r.none_yet.grants; framebuffers = framebuffers; shown = ap (filter _) r.none_yet.shown; last_token = r.none_yet.last_token; last_lease_token = r.none_yet.last_lease_token };
     }

@@ -1,4 +1,6 @@
 pub mod Laws
 pub mod Refinement
+pub mod Audits
 pub mod Topologies
 pub mod Device
+pub mod Replay

@@ -1,5 +1,5 @@
 -- Which rows the lists of the device stand for, and what the function of each event owes.
-use Rattle.std.specs.Prelude.{◌≡◌, ℕ, ◌+◌, ◌==◌, Bool, false, ◌&&◌, [], map, Option, None, Some, Result, Ok, Err}
+use Rattle.std.specs.Prelude.{◌≡◌, ℕ, ◌+◌, ◌==◌, Bool, false, ◌&&◌, ◌||◌, nat_lt, true, List, [], length, filter, map, Option, None, Some, Result, Ok, Err}
 use Rattle.std.specs.declared.alloc.AllocError.{AllocError}
 use Rattle.drm_table.specs.declared.answers.Answer.{Answer}
 use Rattle.drm_table.specs.declared.calls.Call.{Call}
@@ -10,6 +10,8 @@ use Rattle.drm_table.specs.declared.permits.Standing.{Standing}
 use Rattle.drm_table.specs.declared.rules.Rule.{Rule}
 use Rattle.drm_table.specs.Permit.{first_failing}
 use Rattle.drm_model.specs.Rows.{Rows, ClientRow, MasterRow, HoldRow, ObjectRow}
+use Rattle.drm_model.specs.Orders.{SameRows, InOrder}
+use Rattle.drm_model.specs.Births.{BirthsRise}
 use Rattle.drm_model.specs.Verdict.{admission_checks}
 use Rattle.drm_model.specs.Change.{after}
 use Rattle.drm_model.specs.Reply.{reply}
@@ -42,7 +44,15 @@ hold_row_of x = record { client = x.client; handle = x.handle; object = x.object
 abbrev pub object_row_of : Object → ObjectRow
 object_row_of x = record { object = x.number; size = x.size; stamp = x.stamp }
 
--- the lists that no event makes longer yet
+-- whether a handle stands before another: by client, and by handle of the same client
+abbrev pub comes_before : Hold → Hold → Bool
+comes_before x y = nat_lt x.client y.client || ((x.client == y.client) && nat_lt x.handle y.handle)
+
+-- how many handles stand before this one
+abbrev pub place_among : List Hold → Hold → ℕ
+place_among holds x = length (filter (λ y. comes_before y x) holds)
+
+-- the lists that no event makes longer yet, and the numbers that none gives yet
 pub record NoneYet (w : Rows) : Type 0 where
   pub magics : w.magics ≡ []
   pub names : w.names ≡ []
@@ -50,12 +60,15 @@ pub record NoneYet (w : Rows) : Type 0 where
   pub grants : w.grants ≡ []
   pub framebuffers : w.framebuffers ≡ []
   pub shown : w.shown ≡ []
+  pub last_token : w.last_token ≡ 0
+  pub last_lease_token : w.last_lease_token ≡ 0
 
--- the lists stand for the rows
+-- the lists stand for the rows; handles are kept in the order of their clients and numbers
 pub record Represents (s : State) (w : Rows) : Type 0 where
   pub clients : w.clients ≡ map client_row_of s.clients.items
   pub masters : w.masters ≡ map master_row_of s.masters.items
-  pub holds : w.holds ≡ map hold_row_of s.holds.items
+  pub holds : SameRows w.holds (map hold_row_of s.holds.items)
+  pub holds_in_order : InOrder (λ x y. comes_before x y ≡ true) s.holds.items
   pub objects : w.objects ≡ map object_row_of s.objects.items
   pub device_master : w.device_master ≡ s.device_master
   pub none_yet : NoneYet w
@@ -64,6 +77,7 @@ pub record Represents (s : State) (w : Rows) : Type 0 where
 pub record Stands (s : State) (limits : Limits) (birth : ℕ) (w : Rows) : Type 0 where
   pub rows : Represents s w
   pub well_formed : WellFormed w
+  pub births : BirthsRise w.steps w
   pub limits_are : w.limits ≡ limits
   pub birth_is : w.steps + 1 ≡ birth
 

@@ -1,11 +1,12 @@
 //! Buffers and their handles.
 
-ghost use Rattle.std.specs.Prelude.{◌≡◌, ◌==◌, ◌≤◌, ◌*◌, ◌&&◌, ℕ, Ok, not, filter};
-ghost use Rattle.std.specs.List.{list_any};
+ghost use Rattle.std.specs.Prelude.{◌≡◌, ◌==◌, ◌<◌, ◌≤◌, ◌*◌, ◌&&◌, ℕ, Ok, not, filter, length};
+ghost use Rattle.std.specs.List.{insert, list_any};
+ghost use Rattle.std.specs.Vec.{vec_len, vec_capacity};
 ghost use Rattle.drm_table.specs.declared.calls.Call.TheVariants.{GemClose, CreateDumb};
 ghost use Rattle.drm_table.specs.declared.limits.Limits as table;
 ghost use Rattle.drm_model.specs.Buffers as model;
-ghost use Rattle.drm_device.specs.Refinement.{OwesCall};
+ghost use Rattle.drm_device.specs.Refinement.{OwesCall, comes_before, place_among};
 
 use crate::clients::{free_handle, hold_of};
 use crate::state::{Hold, Object, State};
@@ -49,16 +50,47 @@ pub fn create_dumb(
         size,
         stamp: 0,
     });
-    state.holds.push_reserved(Hold {
+    let hold = Hold {
         client,
         handle,
         object: birth,
-    });
+    };
+    add_hold(&mut state.holds, hold);
     Ok(Answer::Dumb {
         handle,
         pitch,
         size,
     })
+}
+
+/// Puts a handle where it belongs, in the order of clients and numbers. Its place is reserved.
+fn add_hold(holds: &mut Vec<Hold>, hold: Hold)
+    requires { vec_len holds.old < vec_capacity holds.old }
+    ensures { holds.new.items ≡ insert holds.old.items (place_among holds.old.items hold) hold }
+{
+    let place = place_among(holds, hold);
+    let _ = holds.insert(place, hold);
+}
+
+/// How many handles stand before this one.
+fn place_among(holds: &[Hold], hold: Hold) -> usize
+    ensures place { result ≡ place_among holds.now hold }
+    ensures within { result ≤ length holds.now }
+{
+    let mut place = 0;
+    for other in holds {
+        if comes_before(*other, hold) {
+            place += 1;
+        }
+    }
+    place
+}
+
+/// Whether a handle stands before another: by client, and by handle of the same client.
+fn comes_before(one: Hold, other: Hold) -> bool
+    ensures { result ≡ comes_before one other }
+{
+    one.client < other.client || one.client == other.client && one.handle < other.handle
 }
 
 /// Whether a dumb buffer may have this shape.

@@ -5,6 +5,7 @@ ghost use Rattle.drm_table.specs.declared.events.Event.TheVariants.{Ask};
 ghost use Rattle.drm_model.specs.Verdict as model;
 ghost use Rattle.drm_device.specs.Refinement.{Owes, OwesCall, IsAdmission, is_same, standing_by};
 
+use crate::audits::audit;
 use crate::buffers::{Pixels, create_dumb, gem_close};
 use crate::capabilities::version;
 use crate::clients::client_of;
@@ -20,7 +21,8 @@ pub fn ask(
     client: u32,
     call: &Call,
 ) -> Result<Answer, AllocError>
-    requires { limits.handles ≤ 65535 }
+    requires handles { limits.handles ≤ 65535 }
+    requires birth { 1 ≤ birth }
     ensures { Owes state.old limits birth (Ask client call.now) result state.new }
 {
     if let Some(rule) = admission(state, client, call) {
@@ -89,7 +91,8 @@ fn carry_out(
     client: u32,
     call: &Call,
 ) -> Result<Answer, AllocError>
-    requires { limits.handles ≤ 65535 }
+    requires handles { limits.handles ≤ 65535 }
+    requires birth { 1 ≤ birth }
     ensures { OwesCall state.old limits birth client call.now result state.new }
 {
     match call {
@@ -98,6 +101,7 @@ fn carry_out(
         Call::BadLayout(_) => Ok(Answer::Denied(Rule::Layout)),
         Call::Version => Ok(version()),
         Call::GemClose { handle } => Ok(gem_close(state, client, *handle)),
+        Call::Audit { kind, from } => Ok(audit(state, birth, *kind, *from)),
         Call::CreateDumb { width, height, bpp } => {
             let pixels = Pixels {
                 width: *width,

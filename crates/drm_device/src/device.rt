@@ -1,14 +1,16 @@
 //! The device.
 
-ghost use Rattle.std.specs.Prelude.{◌≡◌, ◌+◌, ◌≤◌, ◌↔◌, false, not, [], length, Err, IfOk, OnOk, OnErr};
+ghost use Rattle.std.specs.Prelude.{◌≡◌, ◌+◌, ◌^◌, ◌<◌, ◌≤◌, ◌↔◌, false, not, [], length, Err, IfOk, OnOk, OnErr};
 ghost use Rattle.drm_table.specs.Limits.{are_in_range};
+ghost use Rattle.drm_model.specs.Audit.{audit_page, audit_rows, rising_rows};
 ghost use Rattle.drm_model.specs.Run.{Step, FoundRoom, no_room, noted_in, rows_of, start_of};
 
+use crate::audits::page_of;
 use crate::clients::client_of;
 use crate::events::advance;
 use crate::state::State;
 use crate::topologies::Topology;
-use drm_table::{Answer, Apart, Event, Limits, are_in_range};
+use drm_table::{Answer, Apart, AuditKind, AuditPage, Event, Limits, are_in_range};
 use std::alloc::Global;
 use std::marker::Model;
 
@@ -115,6 +117,14 @@ impl Device {
         ensures bounded { self.now.limits.journal ≤ 100000 }
     {
         &self.journal
+    }
+
+    /// Up to 16 rows of a kind, behind the first `from`, in the order of their numbers (own). It takes no memory.
+    pub fn audit(&self, kind: AuditKind, from: u32) -> AuditPage
+        ensures page { result ≡ audit_page (rows_of self.now) kind from }
+        ensures few { length (rising_rows (audit_rows (rows_of self.now) kind)) < 2 ^ 31 }
+    {
+        page_of(&self.state, self.journal.len() as u32, kind, from)
     }
 
     /// How many places the journal has left beside those kept for the closings of the open clients.

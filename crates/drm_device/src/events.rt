@@ -17,7 +17,8 @@ pub fn advance(
     birth: u32,
     event: &Event,
 ) -> Result<Answer, AllocError>
-    requires { limits.handles ≤ 65535 }
+    requires handles { limits.handles ≤ 65535 }
+    requires birth { 1 ≤ birth }
     ensures { Owes state.old limits birth event.now result state.new }
 {
     match event {

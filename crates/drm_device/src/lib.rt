@@ -1,6 +1,7 @@
 //! The device: a state machine over openings, requests and closings.
 #![tactic(auto)]
 
+mod audits;
 mod buffers;
 mod calls;
 mod capabilities;
@@ -9,12 +10,14 @@ mod closings;
 mod device;
 mod events;
 mod openings;
+mod replays;
 mod state;
 mod theorems;
 mod topologies;
 
 pub use device::{Device, NewFault};
 pub use drm_table::Limits;
+pub use replays::{ReplayFault, replay};
 pub use theorems::rows_follow_the_journal;
 pub use topologies::Topology;
 

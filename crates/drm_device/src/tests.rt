@@ -1,7 +1,7 @@
 ghost use Rattle.std.specs.Prelude.{◌≤◌};
 
-use crate::{Device, Limits, NewFault, Topology};
-use drm_table::{Answer, Apart, Call, Event, Opening, Rule};
+use crate::{Device, Limits, NewFault, ReplayFault, Topology, replay};
+use drm_table::{Answer, Apart, AuditKind, AuditRow, Call, Event, Opening, Rule};
 use std::process::Abort;
 use std::test::Fail;
 
@@ -25,6 +25,14 @@ const fn create_dumb(client: u32, width: u32, height: u32, bpp: u32) -> Event {
 
 const fn gem_close(client: u32, handle: u32) -> Event {
     Event::Ask(client, Call::GemClose { handle })
+}
+
+const fn audit(client: u32, kind: AuditKind, from: u32) -> Event {
+    Event::Ask(client, Call::Audit { kind, from })
+}
+
+const fn audit_row(a: u64, b: u64, c: u64, d: u64) -> AuditRow {
+    AuditRow { a, b, c, d }
 }
 
 const fn dumb(handle: u32, pitch: u32, size: u64) -> Result<Answer, Apart> {
@@ -237,4 +245,117 @@ fn topologies(rt: HostRuntime) {
         let made = Topology::new(2, &[1, 2], &[3, 2], &[encoder]);
         assert!(&rt; made.is_none(), "a connector of encoder {encoder}");
     }
+}
+
+fn check_rows(rt: &impl Abort, device: &Device, kind: AuditKind, rows: &[AuditRow]) {
+    assert_eq!(rt; device.audit(kind, 0).rows(), rows);
+}
+
+#[test]
+fn audit_is_for_root(rt: HostRuntime) -> Result<(), Fail> {
+    let mut device = device(&rt, Limits::PROGRAM)?;
+    let rows = [
+        (CARD, Ok(Answer::Opened { client: 1 })),
+        (CARD, Ok(Answer::Opened { client: 2 })),
+        (version(2), Ok(VERSION)),
+        (version(2), Ok(VERSION)),
+        (version(2), Ok(VERSION)),
+        (audit(2, AuditKind::Client, 0), denied(Rule::RootOnly)),
+        (
+            Event::Open(Opening::Primary { root: true }),
+            Ok(Answer::Opened { client: 7 }),
+        ),
+    ];
+    answers(&rt, &mut device, rows);
+    let clients = [
+        audit_row(1, 28, 1, 0),
+        audit_row(2, 0, 1, 0),
+        audit_row(7, 6, 1, 0),
+    ];
+    let Ok(Answer::Audit { page }) = device.step(audit(7, AuditKind::Client, 0)) else {
+        return Err("the audit was refused".into());
+    };
+    assert_eq!(&rt; page.rows(), clients.as_slice());
+    check_rows(&rt, &device, AuditKind::Client, &clients);
+    check_rows(&rt, &device, AuditKind::Master, &[audit_row(1, 0, 0, 0)]);
+    check_rows(&rt, &device, AuditKind::Device, &[audit_row(1, 0, 0, 8)]);
+    check_rows(&rt, &device, AuditKind::Name, &[]);
+    assert_eq!(&rt;
+        device.audit(AuditKind::Client, 2).rows(),
+        [audit_row(7, 6, 1, 0)].as_slice()
+    );
+    assert_eq!(&rt; device.audit(AuditKind::Client, 3).rows().len(), 0);
+    Ok(())
+}
+
+#[test]
+fn handles_are_shown_by_their_numbers(rt: HostRuntime) -> Result<(), Fail> {
+    let mut device = device(&rt, Limits::PROGRAM)?;
+    answers(&rt, &mut device, [(CARD, Ok(Answer::Opened { client: 1 }))]);
+    for handle in 1..21u32 {
+        let answer = device.step(create_dumb(1, 1, 1, 32));
+        assert_eq!(&rt; answer, dumb(handle, 64, 4096));
+    }
+    let rows = [
+        (gem_close(1, 3), Ok(Answer::Done)),
+        (create_dumb(1, 1, 1, 8), dumb(3, 64, 4096)),
+    ];
+    answers(&rt, &mut device, rows);
+    let page = device.audit(AuditKind::Hold, 0);
+    assert_eq!(&rt; page.rows().len(), 16);
+    assert_eq!(&rt; page.rows()[2], audit_row(1, 3, 23, 0));
+    assert_eq!(&rt; device.audit(AuditKind::Hold, 16).rows().len(), 4);
+    assert_eq!(&rt;
+        device.audit(AuditKind::Object, 19).rows(),
+        [audit_row(23, 4096, 1, 0)].as_slice()
+    );
+    Ok(())
+}
+
+#[test]
+fn journals_are_replayed(rt: HostRuntime) -> Result<(), Fail> {
+    let mut device = device(&rt, Limits::PROGRAM)?;
+    let rows = [
+        (CARD, Ok(Answer::Opened { client: 1 })),
+        (RENDER, Ok(Answer::Opened { client: 2 })),
+        (create_dumb(1, 64, 64, 32), dumb(1, 256, 16384)),
+        (Event::Close(2), Ok(Answer::Closed)),
+    ];
+    answers(&rt, &mut device, rows);
+    let topology = test_topology().ok_or("no topology")?;
+    let again = replay(rt.alloc(), topology, Limits::PROGRAM, device.journal())?;
+    assert_eq!(&rt; again.journal(), device.journal());
+    for kind in AuditKind::ALL {
+        assert_eq!(&rt; again.audit(kind, 0), device.audit(kind, 0));
+    }
+    Ok(())
+}
+
+#[test]
+fn replays_stop_where_an_event_is_not_noted(rt: HostRuntime) -> Result<(), Fail> {
+    let short = Limits {
+        journal: 2,
+        ..Limits::PROGRAM
+    };
+    let none = Limits {
+        clients: 0,
+        ..Limits::PROGRAM
+    };
+    for (limits, fault) in [
+        (
+            short,
+            ReplayFault::Stopped {
+                at: 2,
+                apart: Apart::JournalFull,
+            },
+        ),
+        (none, ReplayFault::New(NewFault::BadLimits)),
+    ] {
+        let topology = test_topology().ok_or("no topology")?;
+        match replay(rt.alloc(), topology, limits, &[CARD, CARD]) {
+            Ok(_) => return Err("the replay went on".into()),
+            Err(found) => assert_eq!(&rt; found, fault),
+        }
+    }
+    Ok(())
 }

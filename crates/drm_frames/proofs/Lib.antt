@@ -1,5 +1,7 @@
 pub mod Accounts
+pub mod PageLaws
 pub mod PutSoFar
+pub mod KindLaws
 pub mod Numbers
 pub mod Sizes
 pub mod FieldLaws

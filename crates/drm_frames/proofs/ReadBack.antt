@@ -22,4 +22,4 @@ hello-back hello version token = (text-reads (hello_packet hello.lease) (hellos.
 
 pub answer-back : (outcome : Outcome) → FitsFields outcome → ReadsAs (answer_text outcome) (answer_packet outcome) × (answer_in (answer_packet outcome) ≡ Some outcome)
 unfolding answer_text
-answer-back outcome fits = (text-reads (answer_packet outcome) (answers.answer-fits outcome), answers.written-found outcome fits)
+answer-back outcome fits = (text-reads (answer_packet outcome) (answers.answer-fits outcome fits), answers.written-found outcome fits)

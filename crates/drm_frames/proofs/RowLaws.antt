@@ -3,7 +3,7 @@ use Rattle.std.proofs.Common.{◌≡◌, ℕ, true, None, refl, sym, inl, inr}
 use Rattle.std.specs.Prelude.{is_some}
 use Rattle.std.proofs.lemmas.Bool.{ne_eqb}
 use Rattle.drm_table.specs.declared.calls.Call.{Call}
-use Rattle.drm_table.specs.declared.calls.Call.TheVariants.{Unknown, BadLayout, Version, GemClose, CreateDumb}
+use Rattle.drm_table.specs.declared.calls.Call.TheVariants.{Unknown, BadLayout, Version, GemClose, Audit, CreateDumb}
 use Rattle.drm_table.specs.Table.{row_of, call_table, call_number}
 use Rattle.drm_frames.specs.Grammar.{Packet}
 use Rattle.drm_frames.specs.Requests.{IsRowCall, HasRow}
@@ -12,17 +12,24 @@ pub row-there : (n : ℕ) → HasRow n → is_some (row_of n) ≡ true
 unfolding row_of call_table
 row-there n (inl e) = rw e refl
 row-there n (inr (inl e)) = rw e refl
-row-there n (inr (inr e)) = rw e refl
+row-there n (inr (inr (inl e))) = rw e refl
+row-there n (inr (inr (inr e))) = rw e refl
 
 pub no-row-there : (n : ℕ) → (HasRow n → ⊥) → row_of n ≡ None
 unfolding row_of call_table
 no-row-there n h =
-    rw (ne_eqb 0x00 n (λ e. h (inl (sym e))), ne_eqb 0x09 n (λ e. h (inr (inl (sym e)))), ne_eqb 0xB2 n (λ e. h (inr (inr (sym e))))) refl
+    rw (
+      ne_eqb 0x00 n (λ e. h (inl (sym e))),
+      ne_eqb 0x09 n (λ e. h (inr (inl (sym e)))),
+      ne_eqb 0x45 n (λ e. h (inr (inr (inl (sym e))))),
+      ne_eqb 0xB2 n (λ e. h (inr (inr (inr (sym e))))),
+    ) refl
 
 pub number-of-row : (f : Packet) (call : Call) → IsRowCall call f → f.number ≡ call_number call
 unfolding call_number
 number-of-row f Version h = h.0
 number-of-row f (GemClose handle) h = h.0
+number-of-row f (Audit kind from) h = h.0
 number-of-row f (CreateDumb width height bpp) h = h.0
 number-of-row f (Unknown n) h = absurd h
 number-of-row f (BadLayout n) h = absurd h

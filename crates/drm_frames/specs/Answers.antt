@@ -1,7 +1,7 @@
 -- What a result is as a frame (own).
-use Rattle.std.specs.Prelude.{◌≡◌, ℕ, ◌^◌, ◌<◌, ◌&&◌, if◌then◌else◌, nat_eq, List, [], ◌∷◌, ◌++◌, length, find, drop, Option, Some, None, Result, Ok, Err}
+use Rattle.std.specs.Prelude.{◌≡◌, ℕ, ◌^◌, ◌<◌, ◌+◌, ◌*◌, ◌&&◌, if◌then◌else◌, nat_eq, nat_le, List, [], ◌∷◌, ◌++◌, length, find, drop, Option, Some, None, Result, Ok, Err}
 use Rattle.drm_table.specs.declared.answers.Answer.{Answer}
-use Rattle.drm_table.specs.declared.answers.Answer.TheVariants.{Done, Opened, Version, Dumb, Closed, Denied}
+use Rattle.drm_table.specs.declared.answers.Answer.TheVariants.{Done, Opened, Version, Dumb, Audit, Closed, Denied}
 use Rattle.drm_table.specs.declared.apart.Apart.{Apart}
 use Rattle.drm_table.specs.declared.apart.Apart.TheVariants.{JournalFull, NoMemory, Worn}
 use Rattle.drm_table.specs.declared.rules.Rule.{Rule}
@@ -9,6 +9,7 @@ use Rattle.drm_table.specs.declared.rules.Rule.TheVariants.{Unknown, Layout, NoC
 use Rattle.drm_table.specs.Rules.{rule_number, rule_errno, apart_number, apart_errno}
 use Rattle.drm_frames.specs.Number.{u32, u64, u32_in, u64_in}
 use Rattle.drm_frames.specs.Grammar.{Packet, packet, frame_text, if_size}
+use Rattle.drm_frames.specs.Pages.{page_text, FitsPage, rows_in}
 
 -- what the device gives back: an answer, or what stands apart
 abbrev pub Outcome : Type 0
@@ -22,6 +23,7 @@ answer_packet (Ok Done) = packet 0x1000 []
 answer_packet (Ok (Opened client)) = packet 0x1001 (u32 client)
 answer_packet (Ok (Version major minor patch)) = packet 0x1002 (u32 major ++ u32 minor ++ u32 patch)
 answer_packet (Ok (Dumb handle pitch size)) = packet 0x1004 (u32 handle ++ u32 pitch ++ u64 size)
+answer_packet (Ok (Audit page)) = packet 0x100B (page_text page)
 answer_packet (Ok Closed) = packet 0x100C []
 answer_packet (Ok (Denied rule)) = packet 0x2000 (u32 (rule_number rule) ++ u32 (rule_errno rule))
 answer_packet (Err apart) = packet 0x2001 (u32 (apart_number apart) ++ u32 (apart_errno apart))
@@ -31,6 +33,7 @@ abbrev pub FitsFields : Outcome → Type 0
 FitsFields (Ok (Opened client)) = client < 2 ^ 32
 FitsFields (Ok (Version major minor patch)) = (major < 2 ^ 32) × (minor < 2 ^ 32) × (patch < 2 ^ 32)
 FitsFields (Ok (Dumb handle pitch size)) = (handle < 2 ^ 32) × (pitch < 2 ^ 32) × (size < 2 ^ 64)
+FitsFields (Ok (Audit page)) = FitsPage page
 FitsFields outcome = Unit {0}
 
 -- The frame is this result.
@@ -47,6 +50,11 @@ unfoldable pub answer_text : Outcome → List ℕ
 answer_text outcome = frame_text (answer_packet outcome)
 
 -- ---- the same as a function
+
+-- what a count of at most 16 and so many rows say, and nothing behind them
+abbrev pub audit_in : List ℕ → Option Outcome
+audit_in fields =
+    if nat_le 4 (length fields) && nat_le (u32_in fields) 16 && nat_eq (length fields) (4 + 32 * u32_in fields) then Some (Ok (Audit (rows_in (u32_in fields) (drop 4 fields)))) else None
 
 -- every rule
 abbrev pub rules : List Rule
@@ -90,6 +98,7 @@ answer_in f =
     else if nat_eq f.number 0x1001 then if_size 4 f.fields (Ok (Opened (u32_in f.fields)))
     else if nat_eq f.number 0x1002 then if_size 12 f.fields (Ok (Version (u32_in f.fields) (u32_in (drop 4 f.fields)) (u32_in (drop 8 f.fields))))
     else if nat_eq f.number 0x1004 then if_size 16 f.fields (Ok (Dumb (u32_in f.fields) (u32_in (drop 4 f.fields)) (u64_in (drop 8 f.fields))))
+    else if nat_eq f.number 0x100B then audit_in f.fields
     else if nat_eq f.number 0x100C then if_size 0 f.fields (Ok Closed)
     else if nat_eq f.number 0x2000 then denied_in f.fields
     else if nat_eq f.number 0x2001 then refused_in f.fields

@@ -3,6 +3,7 @@ pub mod Turns
 pub mod Number
 pub mod Grammar
 pub mod Decoding
+pub mod Pages
 pub mod Requests
 pub mod Hellos
 pub mod Answers

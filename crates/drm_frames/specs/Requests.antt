@@ -1,7 +1,9 @@
 -- What a frame asks (own; the numbers and fields are those of drm-uapi).
-use Rattle.std.specs.Prelude.{◌≡◌, ℕ, ◌^◌, ◌<◌, ◌⊎◌, if◌then◌else◌, nat_eq, List, [], ◌++◌, drop, Option, Some, None}
+use Rattle.std.specs.Prelude.{◌≡◌, ℕ, ◌^◌, ◌<◌, ◌⊎◌, if◌then◌else◌, nat_eq, List, [], ◌++◌, length, drop, Option, Some, None}
+use Rattle.drm_table.specs.declared.audits.AuditKind.{AuditKind}
 use Rattle.drm_table.specs.declared.calls.Call.{Call}
-use Rattle.drm_table.specs.declared.calls.Call.TheVariants.{Unknown, BadLayout, Version, GemClose, CreateDumb}
+use Rattle.drm_table.specs.declared.calls.Call.TheVariants.{Unknown, BadLayout, Version, GemClose, Audit, CreateDumb}
+use Rattle.drm_table.specs.Audits.{kind_number, kind_of}
 use Rattle.drm_frames.specs.Number.{u32, u32_in}
 use Rattle.drm_frames.specs.Grammar.{Packet, IsPacket, frame_text, if_size}
 
@@ -11,6 +13,7 @@ use Rattle.drm_frames.specs.Grammar.{Packet, IsPacket, frame_text, if_size}
 abbrev pub IsRowCall : Call → Packet → Type 0
 IsRowCall Version f = (f.number ≡ 0x00) × (f.fields ≡ [])
 IsRowCall (GemClose handle) f = (f.number ≡ 0x09) × (handle < 2 ^ 32) × (f.fields ≡ u32 handle)
+IsRowCall (Audit kind from) f = (f.number ≡ 0x45) × (from < 2 ^ 32) × (f.fields ≡ u32 (kind_number kind) ++ u32 from)
 IsRowCall (CreateDumb width height bpp) f =
     (f.number ≡ 0xB2) × (width < 2 ^ 32) × (height < 2 ^ 32) × (bpp < 2 ^ 32) × (f.fields ≡ u32 width ++ u32 height ++ u32 bpp)
 IsRowCall (Unknown n) f = ⊥
@@ -18,7 +21,7 @@ IsRowCall (BadLayout n) f = ⊥
 
 -- the numbers of the table
 abbrev pub HasRow : ℕ → Type 0
-HasRow n = (n ≡ 0x00) ⊎ (n ≡ 0x09) ⊎ (n ≡ 0xB2)
+HasRow n = (n ≡ 0x00) ⊎ (n ≡ 0x09) ⊎ (n ≡ 0x45) ⊎ (n ≡ 0xB2)
 
 -- Every frame asks something: a row's call, a number without a row, or a row's number with other fields.
 abbrev pub Asks : Packet → Call → Type 0
@@ -46,10 +49,20 @@ abbrev pub or_bad : ℕ → Option Call → Call
 or_bad n None = BadLayout n
 or_bad n (Some call) = call
 
+-- the audit of a kind, where the kind's number is one's
+abbrev pub audit_of : Option AuditKind → ℕ → Option Call
+audit_of None from = None
+audit_of (Some kind) from = Some (Audit kind from)
+
+-- what the number of a kind and another number ask, and nothing behind them
+abbrev pub audit_in : List ℕ → Option Call
+audit_in fields = if nat_eq (length fields) 8 then audit_of (kind_of (u32_in fields)) (u32_in (drop 4 fields)) else None
+
 -- what the frame asks
 unfoldable pub request_of : Packet → Call
 request_of f =
     if nat_eq f.number 0x00 then or_bad f.number (if_size 0 f.fields Version)
     else if nat_eq f.number 0x09 then or_bad f.number (if_size 4 f.fields (GemClose (u32_in f.fields)))
+    else if nat_eq f.number 0x45 then or_bad f.number (audit_in f.fields)
     else if nat_eq f.number 0xB2 then or_bad f.number (if_size 12 f.fields (CreateDumb (u32_in f.fields) (u32_in (drop 4 f.fields)) (u32_in (drop 8 f.fields))))
     else Unknown f.number

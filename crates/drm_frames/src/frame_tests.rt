@@ -4,7 +4,7 @@ use crate::{
     Decoded, Frame, Hello, answer_of, call_of, decode, encode_answer, encode_call, encode_hello,
     hello_of,
 };
-use drm_table::{Answer, Apart, Call, Rule};
+use drm_table::{Answer, Apart, AuditKind, AuditPage, AuditRow, Call, Rule};
 use std::process::Abort;
 
 /// The frame that is all of the bytes.
@@ -107,6 +107,28 @@ fn calls_and_their_bytes(rt: HostRuntime) {
     assert_eq!(&rt; call_in(&create), Some(create_dumb));
 }
 
+fn check_audit(rt: &impl Abort, bytes: &[u8; 14], kind: AuditKind, from: u32) {
+    let call = Call::Audit { kind, from };
+    assert_eq!(rt; encode_call(&call).as_slice(), bytes.as_slice());
+    assert_eq!(rt; call_in(bytes), Some(call));
+}
+
+#[test]
+fn audits_and_their_bytes(rt: HostRuntime) {
+    check_audit(
+        &rt,
+        &[10, 0, 0, 0, 0x45, 0, 1, 0, 0, 0, 0, 0, 0, 0],
+        AuditKind::Client,
+        0,
+    );
+    check_audit(
+        &rt,
+        &[10, 0, 0, 0, 0x45, 0, 10, 0, 0, 0, 2, 1, 0, 0],
+        AuditKind::Device,
+        258,
+    );
+}
+
 #[test]
 fn frames_that_ask_no_row(rt: HostRuntime) {
     let no_row = [6, 0, 0, 0, 8, 0, 255, 255, 255, 255];
@@ -115,6 +137,20 @@ fn frames_that_ask_no_row(rt: HostRuntime) {
     assert_eq!(&rt; call_in(&no_row), Some(Call::Unknown(8)));
     assert_eq!(&rt; call_in(&too_long), Some(Call::BadLayout(0)));
     assert_eq!(&rt; call_in(&too_short), Some(Call::BadLayout(9)));
+}
+
+#[test]
+fn frames_that_are_no_audit(rt: HostRuntime) {
+    let frames: [&[u8]; 5] = [
+        &[10, 0, 0, 0, 0x45, 0, 0, 0, 0, 0, 0, 0, 0, 0],
+        &[10, 0, 0, 0, 0x45, 0, 11, 0, 0, 0, 0, 0, 0, 0],
+        &[10, 0, 0, 0, 0x45, 0, 1, 1, 0, 0, 0, 0, 0, 0],
+        &[9, 0, 0, 0, 0x45, 0, 1, 0, 0, 0, 0, 0, 0],
+        &[11, 0, 0, 0, 0x45, 0, 1, 0, 0, 0, 0, 0, 0, 0, 0],
+    ];
+    for bytes in frames {
+        assert_eq!(&rt; call_in(bytes), Some(Call::BadLayout(0x45)));
+    }
 }
 
 fn check_answer(rt: &impl Abort, bytes: &[u8], outcome: Result<Answer, Apart>) {
@@ -184,4 +220,72 @@ fn frames_that_are_no_result(rt: HostRuntime) {
     assert_eq!(&rt; answer_in(&rule_apart), None);
     assert_eq!(&rt; answer_in(&done_and_more), None);
     assert_eq!(&rt; answer_in(&no_answer), None);
+}
+
+/// The page of the first 16 of these rows.
+fn page_of(rows: &[AuditRow]) -> Result<Answer, Apart> {
+    let mut page = AuditPage::new();
+    for row in rows {
+        if page.rows().len() < 16 {
+            page.push(*row);
+        }
+    }
+    Ok(Answer::Audit { page })
+}
+
+#[test]
+fn pages_and_their_bytes(rt: HostRuntime) {
+    check_answer(&rt, &[6, 0, 0, 0, 0x0B, 0x10, 0, 0, 0, 0], page_of(&[]));
+    let row = AuditRow {
+        a: 1,
+        b: 28,
+        c: 258,
+        d: u64::MAX,
+    };
+    check_answer(
+        &rt,
+        &[
+            38, 0, 0, 0, 0x0B, 0x10, 1, 0, 0, 0, 1, 0, 0, 0, 0, 0, 0, 0, 28, 0, 0, 0, 0, 0, 0, 0,
+            2, 1, 0, 0, 0, 0, 0, 0, 255, 255, 255, 255, 255, 255, 255, 255,
+        ],
+        page_of(&[row]),
+    );
+}
+
+#[test]
+fn page_of_16_rows_and_its_bytes(rt: HostRuntime) {
+    let mut rows = [AuditRow::default(); 16];
+    let mut bytes = [0; 522];
+    bytes[0] = 6;
+    bytes[1] = 2;
+    bytes[4] = 0x0B;
+    bytes[5] = 0x10;
+    bytes[6] = 16;
+    for number in 0..16u8 {
+        let place = usize::from(number);
+        rows[place].a = u64::from(number) + 1;
+        bytes[10 + 32 * place] = number + 1;
+    }
+    check_answer(&rt, &bytes, page_of(&rows));
+}
+
+#[test]
+fn frames_that_are_no_page(rt: HostRuntime) {
+    let mut many = [0; 554];
+    many[0] = 38;
+    many[1] = 2;
+    many[4] = 0x0B;
+    many[5] = 0x10;
+    many[6] = 17;
+    let frames: [&[u8]; 5] = [
+        &many,
+        &[5, 0, 0, 0, 0x0B, 0x10, 0, 0, 0],
+        &[7, 0, 0, 0, 0x0B, 0x10, 0, 0, 0, 0, 0],
+        &[6, 0, 0, 0, 0x0B, 0x10, 1, 0, 0, 0],
+        &[6, 0, 0, 0, 0x0B, 0x10, 255, 255, 255, 255],
+    ];
+    for bytes in frames {
+        assert!(&rt; frame_in(bytes).is_some());
+        assert_eq!(&rt; answer_in(bytes), None);
+    }
 }

@@ -8,6 +8,7 @@ mod frame;
 mod hello;
 mod laws;
 mod number;
+mod pages;
 mod refusals;
 mod requests;
 mod results;

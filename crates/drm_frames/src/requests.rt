@@ -2,13 +2,13 @@
 ghost use Rattle.std.specs.Prelude.{◌≡◌, ◌<◌, ◌≤◌, [], drop, length};
 ghost use Rattle.drm_frames.specs.Grammar.{if_size, packet};
 ghost use Rattle.drm_frames.specs.Number.{u32_in as number32};
-ghost use Rattle.drm_frames.specs.Requests.{IsOfRow, IsRowCall, WritesCall, request_of};
+ghost use Rattle.drm_frames.specs.Requests.{IsOfRow, IsRowCall, WritesCall, audit_in, request_of};
 ghost use Rattle.drm_table.specs.declared.calls.Call.TheVariants as calls;
 
 use crate::frame::Frame;
 use crate::number::u32_in;
 use crate::text::{FrameBytes, framed};
-use drm_table::Call;
+use drm_table::{AuditKind, Call};
 
 fn version(fields: &[u8]) -> Option<Call>
     ensures { result ≡ if_size 0 fields.now calls.Version }
@@ -31,6 +31,20 @@ fn gem_close(fields: &[u8]) -> Option<Call>
     })
 }
 
+fn audit(fields: &[u8]) -> Option<Call>
+    ensures { result ≡ audit_in fields.now }
+{
+    if fields.len() != 8 {
+        return None;
+    }
+    let (_, from) = fields.split_at(4);
+    let kind = AuditKind::of_number(u32_in(fields))?;
+    Some(Call::Audit {
+        kind,
+        from: u32_in(from),
+    })
+}
+
 fn create_dumb(fields: &[u8]) -> Option<Call>
     ensures { result ≡ if_size 12 fields.now (calls.CreateDumb (number32 fields.now)
         (number32 (drop 4 fields.now)) (number32 (drop 8 fields.now))) }
@@ -48,7 +62,8 @@ fn create_dumb(fields: &[u8]) -> Option<Call>
 }
 
 /// What a frame asks: a row's call, `Unknown` where no row has the number, or `BadLayout` where the
-/// fields are not exactly those of the row (drm-uapi for the rows; the layout is own).
+/// fields are not exactly those of the row, or name a kind that no audit has (drm-uapi for the rows;
+/// the layout is own).
 #[tactic(auto, unfolding(crate::specs::Requests::request_of))]
 pub fn call_of(frame: &Frame) -> Call
     ensures { result ≡ request_of frame.now }
@@ -58,6 +73,7 @@ pub fn call_of(frame: &Frame) -> Call
     let call = match number {
         0x00 => version(fields),
         0x09 => gem_close(fields),
+        0x45 => audit(fields),
         0xB2 => create_dumb(fields),
         _ => return Call::Unknown(number),
     };
@@ -80,6 +96,11 @@ fn push_call(fields: &mut FrameBytes, call: &Call) -> u16
         Call::GemClose { handle } => {
             fields.push_u32(*handle);
             0x09
+        }
+        Call::Audit { kind, from } => {
+            fields.push_u32(kind.number());
+            fields.push_u32(*from);
+            0x45
         }
         Call::CreateDumb { width, height, bpp } => {
             fields.push_u32(*width);

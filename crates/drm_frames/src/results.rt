@@ -1,14 +1,18 @@
 //! Which result a frame is.
 ghost use Rattle.std.specs.Prelude.{◌≡◌, Ok, drop};
-ghost use Rattle.drm_frames.specs.Answers.{answer_in, denied_in, refused_in};
+ghost use Rattle.drm_frames.specs.Answers.{answer_in, audit_in, denied_in, refused_in};
 ghost use Rattle.drm_frames.specs.Grammar.{if_size};
 ghost use Rattle.drm_frames.specs.Number.{u32_in as number32, u64_in as number64};
 ghost use Rattle.drm_table.specs.declared.answers.Answer.TheVariants as answers;
 
 use crate::frame::Frame;
 use crate::number::{u32_in, u64_in};
+use crate::pages::page_of;
 use crate::refusals::{apart_of, rule_of};
 use drm_table::{Answer, Apart};
+
+/// How many rows of an audit a page has at most (own).
+const MOST_ROWS: usize = 16;
 
 fn bare(fields: &[u8], answer: Answer) -> Option<Result<Answer, Apart>>
     ensures { result ≡ if_size 0 fields.now (Ok answer) }
@@ -63,6 +67,22 @@ fn dumb(fields: &[u8]) -> Option<Result<Answer, Apart>>
     }))
 }
 
+fn audit(fields: &[u8]) -> Option<Result<Answer, Apart>>
+    ensures { result ≡ audit_in fields.now }
+{
+    if fields.len() < 4 {
+        return None;
+    }
+    let count = u32_in(fields) as usize;
+    if count > MOST_ROWS || fields.len() != 4 + 32 * count {
+        return None;
+    }
+    let (_, rows) = fields.split_at(4);
+    Some(Ok(Answer::Audit {
+        page: page_of(count, rows),
+    }))
+}
+
 fn denied(fields: &[u8]) -> Option<Result<Answer, Apart>>
     ensures { result ≡ denied_in fields.now }
 {
@@ -89,8 +109,8 @@ fn refused(fields: &[u8]) -> Option<Result<Answer, Apart>>
     }
 }
 
-/// The result that the frame is. `None` where it is none: another number, other fields, the number
-/// of no rule, or an errno that is not the rule's own (own).
+/// The result that the frame is. `None` where it is none: another number, other fields, a page
+/// of more than 16 rows, the number of no rule, or an errno that is not the rule's own (own).
 #[tactic(auto, unfolding(crate::specs::Answers::answer_in))]
 pub fn answer_of(frame: &Frame) -> Option<Result<Answer, Apart>>
     ensures { result ≡ answer_in frame.now }
@@ -101,6 +121,7 @@ pub fn answer_of(frame: &Frame) -> Option<Result<Answer, Apart>>
         0x1001 => opened(fields),
         0x1002 => version(fields),
         0x1004 => dumb(fields),
+        0x100B => audit(fields),
         0x100C => bare(fields, Answer::Closed),
         0x2000 => denied(fields),
         0x2001 => refused(fields),

@@ -3,7 +3,7 @@ use Rattle.std.proofs.Common.{◌≡◌, ℕ, suc, ◌+◌, ◌≤◌, nat_lt, B
 use Rattle.std.specs.Option.{is_some}
 use Rattle.std.proofs.lemmas.Bool.{ltb-false}
 use Rattle.drm_table.specs.declared.calls.Call.{Call}
-use Rattle.drm_table.specs.declared.calls.Call.TheVariants.{Unknown, BadLayout, Version, GemClose, CreateDumb}
+use Rattle.drm_table.specs.declared.calls.Call.TheVariants.{Unknown, BadLayout, Version, GemClose, Audit, CreateDumb}
 use Rattle.drm_table.specs.declared.events.Event.{Event}
 use Rattle.drm_table.specs.declared.events.Event.TheVariants.{Open, Ask, Close}
 use Rattle.drm_table.specs.declared.events.Opening.{Opening}
@@ -59,6 +59,7 @@ asked-kept w c (Unknown number) = record { limits = refl; steps = refl }
 asked-kept w c (BadLayout number) = record { limits = refl; steps = refl }
 asked-kept w c Version = record { limits = refl; steps = refl }
 asked-kept w c (GemClose handle) = record { limits = refl; steps = refl }
+asked-kept w c (Audit kind from) = record { limits = refl; steps = refl }
 asked-kept w c (CreateDumb width height bpp) = record { limits = refl; steps = refl }
 
 changed-kept : (w : Rows) (event : Event) → IsKept w (changed w event)
@@ -122,6 +123,7 @@ asked-count w c (Unknown number) = refl
 asked-count w c (BadLayout number) = refl
 asked-count w c Version = refl
 asked-count w c (GemClose handle) = refl
+asked-count w c (Audit kind from) = refl
 asked-count w c (CreateDumb width height bpp) = refl
 
 without-found : {X : Type 0} (p : X → Bool) → (xs : List X) → is_some (find p xs) ≡ true → length (without p xs) + 1 ≤ length xs

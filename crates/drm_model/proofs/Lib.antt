@@ -1,6 +1,9 @@
 pub mod Closings
 pub mod Journals
 pub mod Lists
+pub mod Orders
+pub mod Births
+pub mod Counts
 pub mod Numbers
 pub mod Runs
 pub mod WorkedBufferIsMadeAndClosed
@@ -11,3 +14,5 @@ pub mod WorkedUnknownCallsOfNobody
 pub mod WorkedRenderAndLeaseOpenings
 pub mod WorkedHandlesAreLimited
 pub mod WorkedClosingsThatAreDeniedAreNoted
+pub mod WorkedAuditIsForRoot
+pub mod WorkedAuditPages

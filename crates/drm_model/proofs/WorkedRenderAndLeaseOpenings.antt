@@ -9,8 +9,10 @@ use Rattle.drm_table.specs.declared.events.Event.{Event}
 use Rattle.drm_table.specs.declared.events.Event.TheVariants.{Open, Ask, Close}
 use Rattle.drm_table.specs.declared.events.Opening.TheVariants.{Primary, Render, Lease}
 use Rattle.drm_table.specs.declared.limits.Limits.{Limits}
+use Rattle.drm_table.specs.Audits.{kind_number, kind_of, kind_name}
 use Rattle.drm_table.specs.Limits.{are_in_range}
 use Rattle.drm_table.specs.Table.{call_table, row_of, call_number, flags_of}
+use Rattle.drm_model.specs.Audit.{audit_rows, rising_rows, audit_page}
 use Rattle.drm_model.specs.Buffers.{dumb_pitch, dumb_size, with_object}
 use Rattle.drm_model.specs.Change.{asked, changed, swept, after}
 use Rattle.drm_model.specs.Clients.{opening_checks, opened, closed}
@@ -54,5 +56,5 @@ answers =
     []
 
 pub render_and_lease_openings : results (empty_rows test_topology limits) events ≡ answers
-unfolding are_in_range call_table row_of call_number flags_of dumb_pitch dumb_size with_object asked changed swept after opening_checks opened closed ended chain_within numbers_from least_within least answer_to answer_of reply results no_room run rows_of is_topology own_checks admission_checks checks verdict
+unfolding kind_number kind_of kind_name are_in_range call_table row_of call_number flags_of audit_rows rising_rows audit_page dumb_pitch dumb_size with_object asked changed swept after opening_checks opened closed ended chain_within numbers_from least_within least answer_to answer_of reply results no_room run rows_of is_topology own_checks admission_checks checks verdict
 render_and_lease_openings = refl

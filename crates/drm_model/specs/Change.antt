@@ -3,7 +3,7 @@ use Rattle.std.specs.Prelude.{ℕ, ◌+◌, ◌==◌, Bool, ◌&&◌, ◌||◌, 
 use Rattle.std.specs.List.{list_any}
 use Rattle.std.specs.Option.{is_some}
 use Rattle.drm_table.specs.declared.calls.Call.{Call}
-use Rattle.drm_table.specs.declared.calls.Call.TheVariants.{Unknown, BadLayout, Version, GemClose, CreateDumb}
+use Rattle.drm_table.specs.declared.calls.Call.TheVariants.{Unknown, BadLayout, Version, GemClose, Audit, CreateDumb}
 use Rattle.drm_table.specs.declared.events.Event.{Event}
 use Rattle.drm_table.specs.declared.events.Event.TheVariants.{Open, Ask, Close}
 use Rattle.drm_table.specs.declared.rules.Rule.{Rule}
@@ -19,6 +19,7 @@ asked w c (Unknown number) = w
 asked w c (BadLayout number) = w
 asked w c Version = w
 asked w c (GemClose handle) = gem_close_rows w c handle
+asked w c (Audit kind from) = w
 asked w c (CreateDumb width height bpp) = create_dumb_rows w c width height bpp
 
 -- what an accepted event does

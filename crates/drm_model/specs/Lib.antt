@@ -1,9 +1,12 @@
+pub mod Orders
+pub mod Births
 pub mod Numbers
 pub mod Topology
 pub mod Rows
 pub mod Masters
 pub mod Leases
 pub mod Capabilities
+pub mod Audit
 pub mod Buffers
 pub mod Clients
 pub mod Verdict

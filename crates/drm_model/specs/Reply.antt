@@ -1,15 +1,17 @@
 -- What the device answers.
 use Rattle.std.specs.Prelude.{ℕ, Option, None, Some}
 use Rattle.drm_table.specs.declared.answers.Answer.{Answer}
+use Rattle.drm_table.specs.declared.answers.Answer.TheVariants as answers
 use Rattle.drm_table.specs.declared.answers.Answer.TheVariants.{Done, Opened, Closed, Denied}
 use Rattle.drm_table.specs.declared.calls.Call.{Call}
-use Rattle.drm_table.specs.declared.calls.Call.TheVariants.{Unknown, BadLayout, Version, GemClose, CreateDumb}
+use Rattle.drm_table.specs.declared.calls.Call.TheVariants.{Unknown, BadLayout, Version, GemClose, Audit, CreateDumb}
 use Rattle.drm_table.specs.declared.events.Event.{Event}
 use Rattle.drm_table.specs.declared.events.Event.TheVariants.{Open, Ask, Close}
 use Rattle.drm_table.specs.declared.rules.Rule.{Rule}
 use Rattle.drm_model.specs.Rows.{Rows, birth}
 use Rattle.drm_model.specs.Verdict.{verdict}
 use Rattle.drm_model.specs.Capabilities.{version_answer}
+use Rattle.drm_model.specs.Audit.{audit_page}
 use Rattle.drm_model.specs.Buffers.{create_dumb_answer}
 
 -- the answer to an accepted call; what it shows stands with the call
@@ -18,6 +20,7 @@ answer_to w c (Unknown number) = Done
 answer_to w c (BadLayout number) = Done
 answer_to w c Version = version_answer
 answer_to w c (GemClose handle) = Done
+answer_to w c (Audit kind from) = answers.Audit (audit_page w kind from)
 answer_to w c (CreateDumb width height bpp) = create_dumb_answer w c width height bpp
 
 -- the answer to an accepted event

@@ -2,7 +2,7 @@
 -- first three is this project's own, that of the row's flags is drm_ioctl_permit's.
 use Rattle.std.specs.Prelude.{ℕ, Bool, true, false, List, [], ◌∷◌, ◌++◌, Option}
 use Rattle.drm_table.specs.declared.calls.Call.{Call}
-use Rattle.drm_table.specs.declared.calls.Call.TheVariants.{Unknown as UnknownCall, BadLayout, Version, GemClose, CreateDumb}
+use Rattle.drm_table.specs.declared.calls.Call.TheVariants.{Unknown as UnknownCall, BadLayout, Version, GemClose, Audit, CreateDumb}
 use Rattle.drm_table.specs.declared.events.Event.{Event}
 use Rattle.drm_table.specs.declared.events.Event.TheVariants.{Open, Ask, Close}
 use Rattle.drm_table.specs.declared.rules.Rule.{Rule}
@@ -30,6 +30,7 @@ own_checks w c (UnknownCall number) = []
 own_checks w c (BadLayout number) = []
 own_checks w c Version = []
 own_checks w c (GemClose handle) = gem_close_checks w c handle
+own_checks w c (Audit kind from) = []
 own_checks w c (CreateDumb width height bpp) = create_dumb_checks w c width height bpp
 
 -- what comes before them: the call is known and laid out, its client is open, and its row's flags let the client make it

@@ -10,7 +10,8 @@ ghost use Rattle.drm_table.specs.declared.rules.Rule.{Rule};
 ghost use Rattle.drm_model.specs.Rows.{Rows, is_open};
 ghost use Rattle.drm_model.specs.Verdict.{verdict};
 ghost use Rattle.drm_model.specs.Change.{after, noted};
-ghost use Rattle.drm_model.specs.Run.{Step, Answers, run, noted_events};
+ghost use Rattle.drm_model.specs.Births.{BirthsRise};
+ghost use Rattle.drm_model.specs.Run.{Step, Answers, History, run, noted_events, rows_of};
 
 /// A denial changes no row: it is noted, and that is all.
 pub fn denials_change_no_row()
@@ -33,4 +34,10 @@ pub fn rows_are_those_of_noted_events()
 /// The closing of an open client is always carried out: the journal has its place, and it takes no memory.
 pub fn closings_are_carried_out()
     ensures { (w : Rows) (c : ℕ) (result : Result Answer Apart) (v : Rows) → is_open w c ≡ true → Step w (Close c) result v → result ≡ Ok Closed }
+{}
+
+/// Births rise: after any events clients, masters and objects stand in the order of the steps that made them, and no two of
+/// a kind have the same number.
+pub fn births_rise()
+    ensures { (h : History) → BirthsRise (rows_of h).steps (rows_of h) }
 {}

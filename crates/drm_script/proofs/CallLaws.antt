@@ -1,12 +1,17 @@
 -- A call is read from just the words that spell it.
-use Rattle.std.proofs.Common.{◌≡◌, ℕ, List, [], ◌∷◌, refl, sym, ap, subst, ◌∙◌, Some, None, Option, codes, IsSome, is_some, cond}
+use Rattle.std.proofs.Common.{◌≡◌, ℕ, List, [], ◌∷◌, refl, sym, ap, subst, ◌∙◌, Some, None, Option, codes, IsSome, is_some, cond, arith, Bool, true, false, eqb, ◌==◌}
+use Rattle.std.specs.List.{find}
+use Rattle.std.proofs.lemmas.Bool.Decides.{nat_tests}
+use Rattle.drm_table.specs.declared.audits.AuditKind.{AuditKind}
+use Rattle.drm_table.specs.declared.audits.AuditKind.TheVariants as variants
 use Rattle.drm_table.specs.declared.calls.Call.{Call}
 use Rattle.drm_table.specs.declared.calls.Call.TheVariants as calls
+use Rattle.drm_table.specs.Audits.{kinds, kind_number, kind_of}
 use Rattle.drm_table.specs.Table.{TableRow, row_of}
 use Rattle.drm_script.specs.declared.calls.CallWord.{CallWord}
 use Rattle.drm_script.specs.declared.calls.CallWord.TheVariants as words
 use Rattle.drm_script.specs.declared.calls.TheConstants.{CALL_WORDS}
-use Rattle.drm_script.specs.Calls.{call_text, call_word_of, raw_call, raw_at, version_at, gem_close_at, create_dumb_at, call_fields_at, call_at}
+use Rattle.drm_script.specs.Calls.{call_text, call_word_of, raw_call, raw_at, version_at, gem_close_at, audit_at, create_dumb_at, call_fields_at, call_at}
 use Rattle.drm_script.specs.Fields.{Words}
 use Rattle.drm_script.specs.Grammar.{SpellEach, SpellsNumber, call_parts}
 use Rattle.drm_script.specs.Grammar.Part.{number, row_number, rowless_number}
@@ -67,6 +72,46 @@ gem_close_read (w ∷ []) handle s = rw (number32_at_some w [] handle s.0) refl
 gem_close_read [] handle s = absurd s
 gem_close_read (w ∷ v ∷ ws) handle s = absurd s.1
 
+-- the kind that is found has the number
+found_kind_at : (n : ℕ) (kind : AuditKind) (k : AuditKind) (b : Bool) (other : Option AuditKind) → b ≡ eqb (kind_number k) n → (other ≡ Some kind → n ≡ kind_number kind)
+    → cond b (Some k) other ≡ Some kind → n ≡ kind_number kind
+found_kind_at n kind k true other t more e =
+    let same : kind_number k ≡ n = grind (arith, nat_tests) in
+    sym same ∙ ap kind_number (some_same _ _ e)
+found_kind_at n kind k false other t more e = more e
+
+found_kind : (n : ℕ) (kind : AuditKind) (all : List AuditKind) → find (λ k. kind_number k == n) all ≡ Some kind → n ≡ kind_number kind
+found_kind n kind [] e = absurd (cc)
+found_kind n kind (k ∷ all) e = found_kind_at n kind k (kind_number k == n) _ refl (found_kind n kind all) e
+
+kind_named : (n : ℕ) (kind : AuditKind) → kind_of n ≡ Some kind → n ≡ kind_number kind
+unfolding kind_of
+kind_named n kind e = found_kind n kind kinds e
+
+kind_found : (kind : AuditKind) → kind_of (kind_number kind) ≡ Some kind
+unfolding kind_of kind_number
+kind_found variants.Client = refl
+kind_found _ = refl
+
+audit_reads : (ws : Words) (call : Call) → audit_at ws ≡ Some call → SpellEach (call_parts call) (codes "audit" ∷ ws)
+unfolding audit_at
+audit_reads ws call e =
+    let a = number_bind 32 ws _ call e in
+    let k = bind_some (kind_of a.n) _ call a.goes_on in
+    let b = number_bind 32 a.rest _ call k.goes_on in
+    let z = end_bind b.rest _ call b.goes_on in
+    let words : ws ≡ a.w ∷ b.w ∷ [] = words_behind a.words (words_behind b.words z.0) in
+    let P : ℕ → Type 0 = λ n. SpellsNumber 32 n a.w in
+    let number : SpellsNumber 32 (kind_number k.step) a.w = subst P (kind_named a.n k.step k.made) a.spells in
+    spelled call_parts (codes "audit") ws (a.w ∷ b.w ∷ []) call (calls.Audit k.step b.n) words (some_same _ _ z.1) (refl, (number, (b.spells, tt)))
+
+audit_read : (ws : Words) (kind : AuditKind) (from : ℕ) → SpellEach (number 32 (kind_number kind) ∷ number 32 from ∷ []) ws → audit_at ws ≡ Some (calls.Audit kind from)
+unfolding audit_at
+audit_read (v ∷ w ∷ []) kind from s = rw (number32_at_some v _ (kind_number kind) s.0) (rw (kind_found kind) (rw (number32_at_some w _ from s.1.0) refl))
+audit_read [] kind from s = absurd s
+audit_read (v ∷ []) kind from s = absurd s.1
+audit_read (v ∷ w ∷ x ∷ ws) kind from s = absurd s.1.1
+
 create_dumb_reads : (ws : Words) (call : Call) → create_dumb_at ws ≡ Some call → SpellEach (call_parts call) (codes "create_dumb" ∷ ws)
 unfolding create_dumb_at
 create_dumb_reads ws call e =
@@ -91,6 +136,7 @@ fields_read : (name : CallWord) (ws : Words) (call : Call) → call_fields_at na
 fields_read words.Raw ws call e = raw_reads ws call e
 fields_read words.Version ws call e = version_reads ws call e
 fields_read words.GemClose ws call e = gem_close_reads ws call e
+fields_read words.Audit ws call e = audit_reads ws call e
 fields_read words.CreateDumb ws call e = create_dumb_reads ws call e
 
 pub call_reads : (ws : Words) (call : Call) → call_at ws ≡ Some call → SpellEach (call_parts call) ws
@@ -108,6 +154,7 @@ call_word_read w ws (calls.Unknown n) s = rw s.0 (rowless_read ws n s.1)
 call_word_read w ws (calls.BadLayout n) s = rw s.0 (row_read ws n s.1)
 call_word_read w ws calls.Version s = rw s.0 (version_read ws s.1)
 call_word_read w ws (calls.GemClose handle) s = rw s.0 (gem_close_read ws handle s.1)
+call_word_read w ws (calls.Audit kind from) s = rw s.0 (audit_read ws kind from s.1)
 call_word_read w ws (calls.CreateDumb width height bpp) s = rw s.0 (create_dumb_read ws width height bpp s.1)
 
 no_call : (call : Call) → SpellEach (call_parts call) [] → ⊥
@@ -115,6 +162,7 @@ no_call (calls.Unknown n) s = s
 no_call (calls.BadLayout n) s = s
 no_call calls.Version s = s
 no_call (calls.GemClose handle) s = s
+no_call (calls.Audit kind from) s = s
 no_call (calls.CreateDumb width height bpp) s = s
 
 pub call_read : (ws : Words) (call : Call) → SpellEach (call_parts call) ws → call_at ws ≡ Some call

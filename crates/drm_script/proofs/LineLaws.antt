@@ -1,8 +1,8 @@
 -- No line end stands within the words of an answer.
-use Rattle.std.proofs.Common.{refl, ◌≡◌, ◌≢◌, ℕ, ◌/◌, ◌%◌, List, [], ◌∷◌, arith, Bool, true, false, cond, zero, suc, not, eqb, Result, Ok, Err, decimal, All}
+use Rattle.std.proofs.Common.{refl, ◌≡◌, ◌≢◌, ℕ, ◌/◌, ◌%◌, List, [], ◌∷◌, arith, Bool, true, false, cond, zero, suc, not, eqb, ◌∙◌, Result, Ok, Err, decimal, All}
 use Rattle.std.specs.Cmp.Derive.{both_true}
 use Rattle.std.specs.Fmt.{digits, digits_onto, digit_glyph}
-use Rattle.std.specs.List.{list_all}
+use Rattle.std.specs.List.{list_all, flat_map}
 use Rattle.std.proofs.lemmas.Bool.Decides.{nat_tests}
 use Rattle.std.proofs.lemmas.List.Folds.{list_all-append}
 use Rattle.std.proofs.lemmas.List.Sums.{AllPass-from_list_all}
@@ -13,7 +13,8 @@ use Rattle.drm_table.specs.declared.apart.Apart.TheVariants as aparts
 use Rattle.drm_table.specs.declared.rules.Rule.{Rule}
 use Rattle.drm_table.specs.declared.rules.Rule.TheVariants as rules
 use Rattle.drm_table.specs.Rules.{rule_name, apart_name}
-use Rattle.drm_script.specs.Lines.{answer_words}
+use Rattle.drm_table.specs.declared.audits.AuditRow.{AuditRow}
+use Rattle.drm_script.specs.Lines.{row_behind, page_words, answer_words}
 
 -- no byte of the text is a line end
 abbrev is_bare : List ℕ → Bool
@@ -48,12 +49,23 @@ apart_name_bare aparts.JournalFull = refl
 apart_name_bare aparts.NoMemory = refl
 apart_name_bare aparts.Worn = refl
 
+row_bare : (row : AuditRow) → is_bare (row_behind row) ≡ true
+row_bare row = simp (list_all-append, decimal_bare)
+
+rows_bare : (rows : List AuditRow) → is_bare (flat_map row_behind rows) ≡ true
+rows_bare [] = refl
+rows_bare (row ∷ rows) = list_all-append (λ b. not (eqb b 10)) (row_behind row) (flat_map row_behind rows) ∙ both_true (row_bare row) (rows_bare rows)
+
+page_bare : (rows : List AuditRow) → is_bare (page_words rows) ≡ true
+page_bare rows = simp (list_all-append, decimal_bare, rows_bare)
+
 outcome_bare : (outcome : Result Answer Apart) → is_bare (answer_words outcome) ≡ true
 outcome_bare (Ok answers.Done) = refl
 outcome_bare (Ok answers.Closed) = refl
 outcome_bare (Ok (answers.Opened client)) = simp decimal_bare
 outcome_bare (Ok (answers.Version major minor patch)) = simp (list_all-append, decimal_bare)
 outcome_bare (Ok (answers.Dumb handle pitch size)) = simp (list_all-append, decimal_bare)
+outcome_bare (Ok (answers.Audit page)) = page_bare page
 outcome_bare (Ok (answers.Denied rule)) = simp (list_all-append, decimal_bare, rule_name_bare)
 outcome_bare (Err apart) = simp (list_all-append, decimal_bare, apart_name_bare)
 

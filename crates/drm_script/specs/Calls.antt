@@ -3,6 +3,7 @@ use Rattle.std.specs.Prelude.{ℕ, List, Option, Some, codes, find, is_some, if�
 use Rattle.std.specs.Str.{bytes_eq}
 use Rattle.drm_table.specs.declared.calls.Call.{Call}
 use Rattle.drm_table.specs.declared.calls.Call.TheVariants as calls
+use Rattle.drm_table.specs.Audits.{kind_of}
 use Rattle.drm_table.specs.Table.{row_of}
 use Rattle.drm_script.specs.declared.calls.CallWord.{CallWord}
 use Rattle.drm_script.specs.declared.calls.CallWord.TheVariants as words
@@ -14,6 +15,7 @@ abbrev pub call_text : CallWord → List ℕ
 call_text words.Raw = codes "raw"
 call_text words.Version = codes "version"
 call_text words.GemClose = codes "gem_close"
+call_text words.Audit = codes "audit"
 call_text words.CreateDumb = codes "create_dumb"
 
 -- the call that a word names
@@ -42,6 +44,14 @@ gem_close_at ws = do
   end ← end_at handle.1
   Some (calls.GemClose handle.0)
 
+unfoldable pub audit_at : Words → Option Call
+audit_at ws = do
+  number ← number_at 32 ws
+  kind ← kind_of number.0
+  from ← number_at 32 number.1
+  end ← end_at from.1
+  Some (calls.Audit kind from.0)
+
 unfoldable pub create_dumb_at : Words → Option Call
 create_dumb_at ws = do
   width ← number_at 32 ws
@@ -55,6 +65,7 @@ abbrev pub call_fields_at : CallWord → Words → Option Call
 call_fields_at words.Raw ws = raw_at ws
 call_fields_at words.Version ws = version_at ws
 call_fields_at words.GemClose ws = gem_close_at ws
+call_fields_at words.Audit ws = audit_at ws
 call_fields_at words.CreateDumb ws = create_dumb_at ws
 
 -- the call that the words spell

@@ -7,6 +7,7 @@ use Rattle.drm_table.specs.declared.calls.Call.TheVariants as calls
 use Rattle.drm_table.specs.declared.events.Opening.{Opening}
 use Rattle.drm_table.specs.declared.events.Opening.TheVariants as openings
 use Rattle.drm_table.specs.declared.limits.Limits.{Limits}
+use Rattle.drm_table.specs.Audits.{kind_number}
 use Rattle.drm_table.specs.Limits.{are_in_range}
 use Rattle.drm_table.specs.Table.{row_of}
 use Rattle.drm_script.specs.declared.commands.Command.{Command}
@@ -55,6 +56,7 @@ call_parts (calls.Unknown n) = word (codes "raw") ∷ rowless_number n ∷ []
 call_parts (calls.BadLayout n) = word (codes "raw") ∷ row_number n ∷ []
 call_parts calls.Version = word (codes "version") ∷ []
 call_parts (calls.GemClose handle) = word (codes "gem_close") ∷ number 32 handle ∷ []
+call_parts (calls.Audit kind from) = word (codes "audit") ∷ number 32 (kind_number kind) ∷ number 32 from ∷ []
 call_parts (calls.CreateDumb width height bpp) = word (codes "create_dumb") ∷ number 32 width ∷ number 32 height ∷ number 32 bpp ∷ []
 
 -- the commands

@@ -1,9 +1,13 @@
 -- The line that each answer writes (own).
-use Rattle.std.specs.Prelude.{ℕ, List, [], ◌∷◌, ◌++◌, codes, decimal, Result, Ok, Err}
+use Rattle.std.specs.Prelude.{ℕ, List, [], ◌∷◌, ◌++◌, codes, decimal, length, Result, Ok, Err}
+use Rattle.std.specs.List.{flat_map}
 use Rattle.drm_table.specs.declared.rules.Rule.{Rule}
 use Rattle.drm_table.specs.declared.answers.Answer.{Answer}
 use Rattle.drm_table.specs.declared.answers.Answer.TheVariants as answers
 use Rattle.drm_table.specs.declared.apart.Apart.{Apart}
+use Rattle.drm_table.specs.declared.audits.AuditKind.{AuditKind}
+use Rattle.drm_table.specs.declared.audits.AuditRow.{AuditRow}
+use Rattle.drm_table.specs.Audits.{kind_name}
 use Rattle.drm_table.specs.Rules.{rule_number, rule_name, rule_errno, apart_number, apart_name, apart_errno}
 
 -- the three numbers of the version
@@ -13,6 +17,18 @@ version_words major minor patch = codes "version " ++ decimal major ++ codes " "
 -- the handle, the bytes of a row, and those of the whole
 abbrev pub dumb_words : ℕ → ℕ → ℕ → List ℕ
 dumb_words handle pitch size = codes "dumb " ++ decimal handle ++ codes " " ++ decimal pitch ++ codes " " ++ decimal size
+
+-- the four numbers of a row of an audit
+abbrev pub row_numbers : AuditRow → List ℕ
+row_numbers row = decimal row.a ++ codes " " ++ decimal row.b ++ codes " " ++ decimal row.c ++ codes " " ++ decimal row.d
+
+-- a row behind the number of rows, or behind another row
+abbrev pub row_behind : AuditRow → List ℕ
+row_behind row = codes " | " ++ row_numbers row
+
+-- the number of rows, and each of them
+abbrev pub page_words : List AuditRow → List ℕ
+page_words rows = codes "rows " ++ decimal (length rows) ++ flat_map row_behind rows
 
 -- the rule's number, its name and its errno
 abbrev pub denied_words : Rule → List ℕ
@@ -29,9 +45,14 @@ answer_words (Ok answers.Closed) = codes "closed"
 answer_words (Ok (answers.Opened client)) = codes "client " ++ decimal client
 answer_words (Ok (answers.Version major minor patch)) = version_words major minor patch
 answer_words (Ok (answers.Dumb handle pitch size)) = dumb_words handle pitch size
+answer_words (Ok (answers.Audit page)) = page_words page
 answer_words (Ok (answers.Denied rule)) = denied_words rule
 answer_words (Err apart) = apart_words apart
 
 -- the words, and the line end
 abbrev pub answer_line : Result Answer Apart → List ℕ
 answer_line outcome = answer_words outcome ++ 10 ∷ []
+
+-- the line of a row in a listing: the name of its kind, its numbers, and the line end
+abbrev pub audit_line : AuditKind → AuditRow → List ℕ
+audit_line kind row = kind_name kind ++ codes " " ++ row_numbers row ++ 10 ∷ []

@@ -1,12 +1,12 @@
 //! The words and fields of each call.
 
 ghost use Rattle.std.specs.Prelude.{◌≡◌};
-ghost use Rattle.drm_script.specs.Calls.{call_text, call_word_of, raw_call, raw_at, gem_close_at, create_dumb_at, version_at, call_fields_at, call_at};
+ghost use Rattle.drm_script.specs.Calls.{call_text, call_word_of, raw_call, raw_at, gem_close_at, audit_at, create_dumb_at, version_at, call_fields_at, call_at};
 ghost use Rattle.drm_script.specs.Words.{words_of};
 
 use crate::numbers::{u16_word, u32_word};
 use crate::words::{end_of, next_word};
-use drm_table::{Call, row};
+use drm_table::{AuditKind, Call, row};
 
 /// The words that name a call.
 #[derive(Clone, Copy)]
@@ -14,13 +14,15 @@ pub(crate) enum CallWord {
     Raw,
     Version,
     GemClose,
+    Audit,
     CreateDumb,
 }
 
-pub(crate) const CALL_WORDS: [CallWord; 4] = [
+pub(crate) const CALL_WORDS: [CallWord; 5] = [
     CallWord::Raw,
     CallWord::Version,
     CallWord::GemClose,
+    CallWord::Audit,
     CallWord::CreateDumb,
 ];
 
@@ -32,6 +34,7 @@ impl CallWord {
             CallWord::Raw => b"raw",
             CallWord::Version => b"version",
             CallWord::GemClose => b"gem_close",
+            CallWord::Audit => b"audit",
             CallWord::CreateDumb => b"create_dumb",
         }
     }
@@ -82,6 +85,17 @@ fn gem_close(text: &[u8]) -> Option<Call>
     Some(Call::GemClose { handle })
 }
 
+#[tactic(auto, unfolding(crate::specs::Calls::audit_at))]
+fn audit(text: &[u8]) -> Option<Call>
+    ensures { result ≡ audit_at (words_of text.now) }
+{
+    let (number, rest) = u32_word(text)?;
+    let kind = AuditKind::of_number(number)?;
+    let (from, rest) = u32_word(rest)?;
+    end_of(rest)?;
+    Some(Call::Audit { kind, from })
+}
+
 #[tactic(auto, unfolding(crate::specs::Calls::create_dumb_at))]
 fn create_dumb(text: &[u8]) -> Option<Call>
     ensures { result ≡ create_dumb_at (words_of text.now) }
@@ -101,6 +115,7 @@ fn call_fields(word: CallWord, text: &[u8]) -> Option<Call>
         CallWord::Raw => raw(text),
         CallWord::Version => version(text),
         CallWord::GemClose => gem_close(text),
+        CallWord::Audit => audit(text),
         CallWord::CreateDumb => create_dumb(text),
     }
 }

@@ -1,6 +1,7 @@
 //! The lines of a script: what each one says, and the line that each answer writes. No memory is taken.
 #![tactic(auto)]
 
+mod audits;
 mod calls;
 mod commands;
 mod labels;
@@ -10,16 +11,19 @@ mod lines;
 mod numbers;
 mod openings;
 mod reading;
+mod texts;
 mod words;
 
+pub use audits::audit_line;
 pub use commands::Command;
 pub use labels::Label;
 pub use laws::{
     answers_take_one_line, reads_limits_lines, reads_the_grammar, refuses_all_other_lines,
     skips_comments_and_blank_lines, words_stand_between_spaces,
 };
-pub use lines::{LINE, LineText, line_of};
+pub use lines::line_of;
 pub use reading::{Reading, read_line};
+pub use texts::{LINE, LineText, push_number};
 
 #[cfg(test)]
 mod tests;

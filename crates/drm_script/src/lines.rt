@@ -1,50 +1,14 @@
 //! The line that each answer writes.
 
-ghost use Rattle.std.specs.Prelude.{◌≡◌, ◌≤◌, ◌+◌, ◌<◌, ◌++◌, length, decimal, codes};
+ghost use Rattle.std.specs.Prelude.{◌≡◌, ◌≤◌, ◌<◌, ◌++◌, length};
 ghost use Rattle.arrayvec.specs.ArrayString.{array_string_len};
 ghost use Rattle.drm_table.specs.Rules.{rule_name, apart_name};
 ghost use Rattle.drm_script.specs.Lines.{answer_words, answer_line, version_words, dumb_words, denied_words, apart_words};
 
+use crate::audits::push_page;
+use crate::texts::{LINE, LineText, push_number};
 use arrayvec::ArrayString;
 use drm_table::{Answer, Apart, Rule};
-use std::marker::Model;
-
-/// How many bytes the line of an answer has at most, with its end (own).
-pub const LINE: usize = 96;
-
-/// The line of an answer, with its end. Contracts see its bytes.
-#[derive(Drop)]
-pub struct LineText {
-    text: ArrayString<LINE>,
-}
-
-impl Model for LineText {
-    ghost use Rattle.std.specs.Prelude.{List, ℕ};
-
-    ghost Value = { List ℕ };
-
-    ghost view = { λ line. line.text.bytes };
-}
-
-impl LineText {
-    /// The bytes, of which the last is the line end.
-    pub fn as_bytes(&self) -> &[u8]
-        ensures bytes { result.now ≡ self.now }
-        ensures fits { length result.now ≤ LINE }
-    {
-        self.text.as_str().as_bytes()
-    }
-}
-
-/// A number in decimal digits.
-fn push_number(text: &mut ArrayString<LINE>, number: u64)
-    requires { array_string_len text.old + 20 ≤ LINE }
-    ensures bytes { text.new.bytes ≡ text.old.bytes ++ decimal number }
-    ensures len { array_string_len text.new ≤ array_string_len text.old + 20 }
-{
-    let mut buffer = itoa::Buffer::new();
-    text.push_str(buffer.format(number));
-}
 
 /// The name of a rule, and that it is short.
 fn name_of(rule: Rule) -> &'static str
@@ -140,6 +104,7 @@ fn push_answer(text: &mut ArrayString<LINE>, outcome: &Result<Answer, Apart>)
                 size,
             },
         ) => push_dumb(text, *handle, *pitch, *size),
+        Ok(Answer::Audit { page }) => push_page(text, page),
         Ok(Answer::Denied(rule)) => push_denied(text, *rule),
         Err(apart) => push_apart(text, *apart),
     }
@@ -154,5 +119,5 @@ pub fn line_of(outcome: &Result<Answer, Apart>) -> LineText
     let mut text = ArrayString::new();
     push_answer(&mut text, outcome);
     text.push_str("\n");
-    LineText { text }
+    LineText::new(text)
 }

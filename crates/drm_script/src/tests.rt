@@ -1,7 +1,8 @@
 //! Lines with their readings, and answers with their lines.
 
-use crate::{Command, LINE, Label, Reading, line_of, read_line};
-use drm_table::{Answer, Apart, Call, Limits, Opening, Rule};
+use crate::{Command, LINE, Label, LineText, Reading, audit_line, line_of, push_number, read_line};
+use arrayvec::ArrayString;
+use drm_table::{Answer, Apart, AuditKind, AuditPage, AuditRow, Call, Limits, Opening, Rule};
 use std::process::Abort;
 use std::test::Fail;
 
@@ -70,7 +71,26 @@ fn calls_are_read(rt: HostRuntime) -> Result<(), Fail> {
             bpp: 32,
         },
     );
+    asks(
+        &rt,
+        b"a audit 1 0",
+        a,
+        Call::Audit {
+            kind: AuditKind::Client,
+            from: 0,
+        },
+    );
+    asks(
+        &rt,
+        b"a audit 010 4294967295",
+        a,
+        Call::Audit {
+            kind: AuditKind::Device,
+            from: 4_294_967_295,
+        },
+    );
     asks(&rt, b"a raw 0", a, Call::BadLayout(0));
+    asks(&rt, b"a raw 69", a, Call::BadLayout(69));
     asks(&rt, b"a raw 178", a, Call::BadLayout(178));
     asks(&rt, b"a raw 1", a, Call::Unknown(1));
     asks(&rt, b"a raw 65535", a, Call::Unknown(65_535));
@@ -111,7 +131,7 @@ fn comments_and_blank_lines_are_skipped(rt: HostRuntime) {
 
 #[test]
 fn other_lines_are_malformed(rt: HostRuntime) {
-    let lines: [&[u8]; 33] = [
+    let lines: [&[u8]; 40] = [
         &[b'#'; 256],
         &[b' '; 256],
         b"# \xc8",
@@ -142,6 +162,13 @@ fn other_lines_are_malformed(rt: HostRuntime) {
         b"a gem_close 1_000",
         b"a gem_close 4294967296",
         b"a gem_close 18446744073709551617",
+        b"a audit",
+        b"a audit 1",
+        b"a audit 0 0",
+        b"a audit 11 0",
+        b"a audit client 0",
+        b"a audit 1 4294967296",
+        b"a audit 1 0 0",
         b"a raw 65536",
         b"limits 4 8 8 8 8 4 4",
         b"limits 4 8 8 8 8 4 4 50 1",
@@ -209,4 +236,60 @@ fn answers_have_their_lines(rt: HostRuntime) {
         assert_eq!(rt; line.as_bytes(), text);
         assert!(rt; line.as_bytes().len() <= LINE);
     }
+}
+
+fn row(a: u64, b: u64, c: u64, d: u64) -> AuditRow {
+    AuditRow { a, b, c, d }
+}
+
+/// Writes a page of these rows, of which it has the first 16.
+fn page_line(rows: &[AuditRow]) -> LineText {
+    let mut page = AuditPage::new();
+    for row in rows {
+        if page.rows().len() < 16 {
+            page.push(*row);
+        }
+    }
+    line_of(&Ok(Answer::Audit { page }))
+}
+
+#[test]
+fn pages_have_their_lines(rt: HostRuntime) {
+    let three = [row(1, 28, 1, 0), row(2, 0, 1, 0), row(7, 6, 1, 0)];
+    let pages: [(&[AuditRow], &[u8]); 3] = [
+        (&[], b"rows 0\n"),
+        (&[row(1, 0, 0, 0)], b"rows 1 | 1 0 0 0\n"),
+        (&three, b"rows 3 | 1 28 1 0 | 2 0 1 0 | 7 6 1 0\n"),
+    ];
+    for (rows, text) in pages {
+        assert_eq!(rt; page_line(rows).as_bytes(), text);
+    }
+    let greatest = page_line(&[row(u64::MAX, u64::MAX, u64::MAX, u64::MAX); 16]);
+    assert_eq!(rt; greatest.as_bytes().len(), 1_384);
+}
+
+#[test]
+fn rows_have_their_lines(rt: HostRuntime) {
+    let rows: [(AuditKind, AuditRow, &[u8]); 3] = [
+        (AuditKind::Client, row(1, 28, 1, 0), b"client 1 28 1 0\n"),
+        (
+            AuditKind::Framebuffer,
+            row(1, 2, 3, u64::MAX),
+            b"framebuffer 1 2 3 18446744073709551615\n",
+        ),
+        (AuditKind::Device, row(0, 10, 2, 7), b"device 0 10 2 7\n"),
+    ];
+    for (kind, row, text) in rows {
+        assert_eq!(rt; audit_line(kind, &row).as_bytes(), text);
+    }
+}
+
+#[test]
+fn numbers_are_written_behind_the_text(rt: HostRuntime) {
+    let mut text = ArrayString::<32>::new();
+    text.push_str("turns ");
+    push_number(&mut text, 0);
+    assert_eq!(rt; text.as_str(), "turns 0");
+    push_number(&mut text, u64::MAX);
+    assert_eq!(rt; text.as_str(), "turns 018446744073709551615");
 }

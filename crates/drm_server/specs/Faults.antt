@@ -1,7 +1,10 @@
 -- How the program tells of a fault (own): a line on standard error, and its exit status.
 use Rattle.std.specs.Prelude.{ℕ, List, ◌++◌, codes, decimal}
+use Rattle.drm_listeners.specs.Classes.{class_word}
 use Rattle.drm_server.specs.declared.faults.Fault.{Fault}
-use Rattle.drm_server.specs.declared.faults.Fault.TheVariants.{ScriptLine, Read, Write, Turns, Memory, CommandLine}
+use Rattle.drm_server.specs.declared.faults.Fault.TheVariants.{ScriptLine, Read, Write, Turns, Memory, Thread, Turn, CommandLine, Listen, Accept}
+use Rattle.drm_listeners.specs.declared.serve_faults.ServeFault.{ServeFault}
+use Rattle.drm_listeners.specs.declared.serve_faults.ServeFault.TheVariants as serving
 
 -- 1 is a fault outside, 2 a malformed script, 3 a refused command line
 abbrev pub fault_status : Fault → ℕ
@@ -10,7 +13,11 @@ fault_status Read = 1
 fault_status Write = 1
 fault_status Turns = 1
 fault_status Memory = 1
+fault_status Thread = 1
+fault_status Turn = 1
 fault_status CommandLine = 3
+fault_status (Listen class) = 1
+fault_status (Accept class) = 1
 
 abbrev pub fault_words : Fault → List ℕ
 fault_words (ScriptLine number) = codes "script line " ++ decimal number
@@ -18,7 +25,18 @@ fault_words Read = codes "read"
 fault_words Write = codes "write"
 fault_words Turns = codes "turns"
 fault_words Memory = codes "memory"
+fault_words Thread = codes "thread"
+fault_words Turn = codes "turn"
 fault_words CommandLine = codes "command line"
+fault_words (Listen class) = codes "listen " ++ class_word class
+fault_words (Accept class) = codes "accept " ++ class_word class
 
 abbrev pub fault_line : Fault → List ℕ
 fault_line fault = codes "fault: " ++ fault_words fault
+
+-- the fault that the program tells of where not all connections were served
+abbrev pub fault_of_serving : ServeFault → Fault
+fault_of_serving (serving.Accept class) = Accept class
+fault_of_serving serving.NoThread = Thread
+fault_of_serving serving.NoMemory = Memory
+fault_of_serving serving.TurnOut = Turn

@@ -1,8 +1,10 @@
--- What the program ends with, by how the script's run ended (own).
+-- What the program ends with, by how the script's run or the listing ended (own).
 use Rattle.std.specs.Prelude.{ℕ, List, [], Option, None, Some}
 use Rattle.std.specs.Option.{option_map_or}
 use Rattle.drm_server.specs.declared.run.ScriptEnd.{ScriptEnd}
 use Rattle.drm_server.specs.declared.run.ScriptEnd.TheVariants as ends
+use Rattle.drm_server.specs.declared.listing.ListEnd.{ListEnd}
+use Rattle.drm_server.specs.declared.listing.ListEnd.TheVariants as list_ends
 use Rattle.drm_server.specs.declared.faults.Fault.{Fault}
 use Rattle.drm_server.specs.declared.faults.Fault.TheVariants as faults
 use Rattle.drm_server.specs.Faults.{fault_status, fault_line}
@@ -16,8 +18,15 @@ fault_of ends.WriteFault = Some faults.Write
 fault_of ends.TurnsUsed = Some faults.Turns
 fault_of ends.NoMemory = Some faults.Memory
 
-abbrev pub script_status : ScriptEnd → ℕ
-script_status end = option_map_or fault_status (fault_of end) 0
+-- the fault that the end of a listing is, if it is one
+abbrev pub fault_of_listing : ListEnd → Option Fault
+fault_of_listing list_ends.Done = None
+fault_of_listing list_ends.WriteFault = Some faults.Write
+fault_of_listing list_ends.TurnsUsed = Some faults.Turns
 
-abbrev pub script_line : ScriptEnd → List ℕ
-script_line end = option_map_or fault_line (fault_of end) []
+-- status 0 and no line where there is no fault
+abbrev pub status_by : Option Fault → ℕ
+status_by fault = option_map_or fault_status fault 0
+
+abbrev pub line_by : Option Fault → List ℕ
+line_by fault = option_map_or fault_line fault []

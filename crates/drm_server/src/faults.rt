@@ -2,9 +2,12 @@
 
 ghost use Rattle.std.specs.Prelude.{◌≡◌, ◌+◌, ◌≤◌, ◌++◌, length, decimal};
 ghost use Rattle.arrayvec.specs.ArrayString.{array_string_len};
+ghost use Rattle.drm_listeners.specs.Classes as classes;
 ghost use Rattle.drm_server.specs.Faults as faults;
 
 use arrayvec::ArrayString;
+use drm_listeners::{ServeFault, class_word};
+use drm_sessions::Class;
 use std::marker::Model;
 
 /// How many bytes a fault line has at most.
@@ -21,10 +24,18 @@ pub enum Fault {
     Write,
     /// No turn was left.
     Turns,
-    /// No memory for the device, or for what the command line says.
+    /// No memory for the device, for the threads and their sessions, or for what the command line says.
     Memory,
+    /// A thread could not be started.
+    Thread,
+    /// The shared device was not there at the end.
+    Turn,
     /// The command line was refused.
     CommandLine,
+    /// The socket of this class could not be bound.
+    Listen(Class),
+    /// A connection on the socket of this class could not be accepted.
+    Accept(Class),
 }
 
 /// The line that tells of a fault, without a line end; empty where there is none.
@@ -70,6 +81,15 @@ fn push_number(text: &mut ArrayString<LINE>, number: u64)
     text.push_str(buffer.format(number));
 }
 
+fn push_class(text: &mut ArrayString<LINE>, action: &str, class: Class)
+    requires text { array_string_len text.old ≤ 8 }
+    requires action { length action.now ≤ 8 }
+    ensures { text.new.bytes ≡ text.old.bytes ++ (action.now ++ classes.class_word class) }
+{
+    text.push_str(action);
+    text.push_str(class_word(class));
+}
+
 fn push_words(text: &mut ArrayString<LINE>, fault: Fault)
     requires { array_string_len text.old ≤ 8 }
     ensures { text.new.bytes ≡ text.old.bytes ++ faults.fault_words fault }
@@ -83,7 +103,11 @@ fn push_words(text: &mut ArrayString<LINE>, fault: Fault)
         Fault::Write => text.push_str("write"),
         Fault::Turns => text.push_str("turns"),
         Fault::Memory => text.push_str("memory"),
+        Fault::Thread => text.push_str("thread"),
+        Fault::Turn => text.push_str("turn"),
         Fault::CommandLine => text.push_str("command line"),
+        Fault::Listen(class) => push_class(text, "listen ", class),
+        Fault::Accept(class) => push_class(text, "accept ", class),
     }
 }
 
@@ -93,9 +117,10 @@ impl Fault {
         ensures { result ≡ faults.fault_status self }
     {
         match self {
-            Fault::Read | Fault::Write | Fault::Turns | Fault::Memory => 1,
             Fault::ScriptLine(_) => 2,
             Fault::CommandLine => 3,
+            Fault::Read | Fault::Write | Fault::Turns | Fault::Memory | Fault::Thread => 1,
+            Fault::Turn | Fault::Listen(_) | Fault::Accept(_) => 1,
         }
     }
 
@@ -107,5 +132,18 @@ impl Fault {
         text.push_str("fault: ");
         push_words(&mut text, self);
         FaultLine { text }
+    }
+}
+
+impl From<ServeFault> for Fault {
+    ghost from_gives = { λ serving fault. fault ≡ faults.fault_of_serving serving };
+
+    fn from(fault: ServeFault) -> Fault {
+        match fault {
+            ServeFault::Accept(class) => Fault::Accept(class),
+            ServeFault::NoThread => Fault::Thread,
+            ServeFault::NoMemory => Fault::Memory,
+            ServeFault::TurnOut => Fault::Turn,
+        }
     }
 }

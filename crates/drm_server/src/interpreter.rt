@@ -1,10 +1,7 @@
 //! The device of a script and the clients that its labels stand for, asked line by line.
 
-ghost use Rattle.std.specs.Prelude.{◌≡◌, true, [], IfSome};
-ghost use Rattle.drm_table.specs.Limits as ranges;
-ghost use Rattle.drm_server.specs.Script as script;
-
-use drm_device::{Device, Limits, NewFault, Topology};
+use crate::devices::make_device;
+use drm_device::{Device, Limits};
 use drm_frames::{Sink, Written, put_all};
 use drm_script::{Command, Label, Reading, line_of, read_line};
 use drm_table::{Answer, Apart, Event};
@@ -25,28 +22,6 @@ pub(crate) enum LineEnd {
 pub(crate) struct Interpreter {
     device: Option<Device>,
     labels: [u32; 26],
-}
-
-/// The topology of each script's device: two CRTCs, two planes, two encoders and two connectors.
-fn test_topology() -> Topology
-    ensures { result ≡ script.test_topology }
-{
-    match Topology::new(2, &[1, 2], &[3, 2], &[5, 6]) {
-        Some(topology) => topology,
-        None => unreachable!(),
-    }
-}
-
-/// An empty device, if there is memory for it.
-fn make(alloc: Global, limits: Limits) -> Option<Device>
-    requires { ranges.are_in_range limits ≡ true }
-    ensures { IfSome result (λ device. device ≡ record { topology = script.test_topology; limits = limits; journal = [] }) }
-{
-    match Device::new(alloc, test_topology(), limits) {
-        Ok(device) => Some(device),
-        Err(NewFault::NoMemory) => None,
-        Err(NewFault::BadLimits) => unreachable!(),
-    }
 }
 
 impl Interpreter {
@@ -95,7 +70,7 @@ impl Interpreter {
         match &mut self.device {
             Some(device) => Some(device.step(event)),
             None => {
-                let mut device = make(alloc, Limits::PROGRAM)?;
+                let mut device = make_device(alloc, Limits::PROGRAM)?;
                 let outcome = device.step(event);
                 self.device = Some(device);
                 Some(outcome)
@@ -161,7 +136,7 @@ impl Interpreter {
         if self.device.is_some() {
             return LineEnd::Malformed;
         }
-        let Some(device) = make(alloc, limits) else {
+        let Some(device) = make_device(alloc, limits) else {
             return LineEnd::NoMemory;
         };
         self.device = Some(device);

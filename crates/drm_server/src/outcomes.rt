@@ -1,10 +1,11 @@
 //! What the program ends with.
 
 ghost use Rattle.std.specs.Prelude.{◌≡◌};
-ghost use Rattle.drm_server.specs.Outcomes.{fault_of, script_status, script_line};
+ghost use Rattle.drm_server.specs.Outcomes.{fault_of, fault_of_listing, line_by, status_by};
 ghost use Rattle.drm_server.specs.Faults.{fault_status, fault_line};
 
 use crate::faults::{Fault, FaultLine};
+use crate::listing::ListEnd;
 use crate::run::ScriptEnd;
 
 /// An exit status, and the line that tells of the fault on standard error; empty where there is none.
@@ -38,16 +39,42 @@ pub fn outcome_of_fault(fault: Fault) -> Outcome
     }
 }
 
-/// What `drm_server run` ends with, by how the run of its script ended: status 0 and no line where it is done (own).
-pub fn outcome_of(end: &ScriptEnd) -> Outcome
-    ensures status { result.status ≡ script_status end.now }
-    ensures line { result.line ≡ script_line end.now }
+fn outcome_by(fault: Option<Fault>) -> Outcome
+    ensures status { result.status ≡ status_by fault }
+    ensures line { result.line ≡ line_by fault }
 {
-    match script_fault(end) {
+    match fault {
         Some(fault) => outcome_of_fault(fault),
         None => Outcome {
             status: 0,
             line: FaultLine::empty(),
         },
     }
+}
+
+/// What `drm_server run` ends with, by how the run of its script ended: status 0 and no line where it is done (own).
+pub fn outcome_of(end: &ScriptEnd) -> Outcome
+    ensures status { result.status ≡ status_by (fault_of end.now) }
+    ensures line { result.line ≡ line_by (fault_of end.now) }
+{
+    outcome_by(script_fault(end))
+}
+
+fn listing_fault(end: &ListEnd) -> Option<Fault>
+    ensures { result ≡ fault_of_listing end.now }
+{
+    match end {
+        ListEnd::Done => None,
+        ListEnd::WriteFault => Some(Fault::Write),
+        ListEnd::TurnsUsed => Some(Fault::Turns),
+    }
+}
+
+/// What `drm_server serve` ends with once all sessions have ended, by how the listing ended: status 0 and no line where it is
+/// done (own).
+pub fn outcome_of_listing(end: &ListEnd) -> Outcome
+    ensures status { result.status ≡ status_by (fault_of_listing end.now) }
+    ensures line { result.line ≡ line_by (fault_of_listing end.now) }
+{
+    outcome_by(listing_fault(end))
 }

@@ -12,10 +12,11 @@ use Rattle.drm_model.specs.Run.{History, Step, Answers, no_room, noted_events, r
 use Rattle.drm_model.specs.Results.{result_by, rows_by, results}
 use Rattle.drm_frames.specs.Answers.{Outcome}
 use Rattle.drm_frames.specs.Grammar.{Packet}
+use Rattle.drm_turns.specs.Turns.{Steps, history_after}
 use Rattle.drm_sessions.specs.declared.class.Class.{Class}
 use Rattle.drm_sessions.specs.Runs.{Exchange, exchange, Runs, events, outcomes}
 use Rattle.drm_sessions.specs.Serving.{Makes, Follows}
-use Rattle.drm_sessions.specs.Device.{Steps, history_after, noted_all, HasMemory, result_of, asks_after, results_from, session_results}
+use Rattle.drm_sessions.specs.Device.{noted_all, HasMemory, result_of, asks_after, results_from, session_results}
 
 pub Runs-answers : (old new : History) (log : List Exchange) → Runs Steps old log new → Answers (rows_of old) (events log) (outcomes log) (rows_of new)
 unfolding Answers

@@ -8,3 +8,5 @@ pub mod Mapping
 pub mod Openings
 pub mod DeviceRuns
 pub mod SameInput
+pub mod Sharing
+pub mod Matching

@@ -17,6 +17,7 @@ use Rattle.drm_frames.specs.declared.decoding.Decoded.{Decoded}
 use Rattle.drm_frames.specs.declared.decoding.Decoded.TheVariants.{Whole, NeedMore, TooLong}
 use Rattle.drm_frames.proofs.DecodingLaws.{one-decoding, text-reads}
 use Rattle.drm_frames.proofs.FrameLaws.{one-text}
+use Rattle.drm_turns.specs.Turns.{Steps}
 use Rattle.drm_sessions.specs.declared.class.Class.{Class}
 use Rattle.drm_sessions.specs.declared.end.SessionEnd.{SessionEnd}
 use Rattle.drm_sessions.specs.declared.end.SessionEnd.TheVariants as ends
@@ -24,7 +25,7 @@ use Rattle.drm_sessions.specs.Opening.{opening_in}
 use Rattle.drm_sessions.specs.Reading.{StopsAt}
 use Rattle.drm_sessions.specs.Runs.{Exchange, asked, outcomes, session_text}
 use Rattle.drm_sessions.specs.Serving.{Because}
-use Rattle.drm_sessions.specs.Device.{Steps, HasMemory, result_of, asks_after, results_from, session_results, DeviceSession, HaveSameInput, OneBegins, IsReadOut}
+use Rattle.drm_sessions.specs.Device.{HasMemory, result_of, asks_after, results_from, session_results, DeviceSession, HaveSameInput, OneBegins, IsReadOut}
 use Rattle.drm_sessions.proofs.DeviceRuns.{Runs-front, session-results-found}
 
 -- ---- one list begins another

@@ -7,8 +7,9 @@ use Rattle.drm_table.specs.declared.events.Opening.{Opening}
 use Rattle.drm_table.specs.declared.answers.Answer.TheVariants.{Opened}
 use Rattle.drm_table.specs.declared.apart.Apart.TheVariants.{NoMemory}
 use Rattle.drm_model.specs.Rows.{Rows}
-use Rattle.drm_model.specs.Run.{History, Step, Answers, no_room, noted_in, noted_events, rows_of}
+use Rattle.drm_model.specs.Run.{History, Answers, no_room, noted_events, rows_of}
 use Rattle.drm_model.specs.Results.{result_by, results}
+use Rattle.drm_turns.specs.Turns.{Steps}
 use Rattle.drm_frames.specs.Answers.{Outcome}
 use Rattle.drm_frames.specs.Grammar.{Packet}
 use Rattle.drm_frames.specs.Streams.{SourceAccount, SinkAccount}
@@ -19,16 +20,6 @@ use Rattle.drm_sessions.specs.declared.end.SessionEnd.TheVariants as ends
 use Rattle.drm_sessions.specs.Opening.{opening_in}
 use Rattle.drm_sessions.specs.Runs.{asked, events, outcomes}
 use Rattle.drm_sessions.specs.Serving.{Serves}
-
--- what is answered is noted, and what stands apart leaves the device as it was
-abbrev pub history_after : History → Event → Outcome → History
-history_after old event (Ok answer) = noted_in old event
-history_after old event (Err apart) = old
-
--- The device answered the event from its rows.
-pub record Steps (old : History) (event : Event) (result : Outcome) (new : History) : Type 0 where
-  pub step : Step (rows_of old) event result (rows_of new)
-  pub history : new ≡ history_after old event result
 
 -- the history with these events more
 abbrev pub noted_all : History → List Event → History

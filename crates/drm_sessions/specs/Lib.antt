@@ -5,3 +5,6 @@ pub mod Runs
 pub mod Ends
 pub mod Serving
 pub mod Device
+pub mod Shared
+pub mod Matched
+pub mod Jobs

@@ -1,7 +1,8 @@
 //! A device that one session has alone.
 
 ghost use Rattle.std.specs.Prelude.{◌≡◌, ◌^◌, ◌+◌, ◌<◌};
-ghost use Rattle.drm_sessions.specs.Device.{ServesAlone, Steps};
+ghost use Rattle.drm_turns.specs.Turns.{Steps};
+ghost use Rattle.drm_sessions.specs.Device.{ServesAlone};
 ghost use Rattle.drm_sessions.specs.Serving.{Costs};
 
 use crate::access::{Access, Gate};

@@ -1,3 +1,4 @@
+pub mod Audits
 pub mod Limits
 pub mod Permit
 pub mod Rules

@@ -3,7 +3,7 @@ use Rattle.std.specs.Prelude.{ℕ, ◌==◌, Option, List, [], ◌∷◌, find, 
 use Rattle.std.specs.Option.{option_map_or}
 use Rattle.drm_table.specs.declared.flags.RowFlags.{RowFlags}
 use Rattle.drm_table.specs.declared.calls.Call.{Call}
-use Rattle.drm_table.specs.declared.calls.Call.TheVariants.{Unknown, BadLayout, Version, GemClose, CreateDumb}
+use Rattle.drm_table.specs.declared.calls.Call.TheVariants.{Unknown, BadLayout, Version, GemClose, Audit, CreateDumb}
 
 -- the caller is root
 abbrev pub root_only : RowFlags
@@ -36,6 +36,7 @@ unfoldable pub call_table : List TableRow
 call_table =
     table_row 0 (codes "VERSION") render_allow
     ∷ table_row 9 (codes "GEM_CLOSE") render_allow
+    ∷ table_row 69 (codes "AUDIT") root_only
     ∷ table_row 178 (codes "MODE_CREATE_DUMB") no_flags
     ∷ []
 
@@ -49,6 +50,7 @@ call_number (Unknown number) = number
 call_number (BadLayout number) = number
 call_number Version = 0
 call_number (GemClose handle) = 9
+call_number (Audit kind from) = 69
 call_number (CreateDumb width height bpp) = 178
 
 -- the flags of a call's row, and none where it has no row

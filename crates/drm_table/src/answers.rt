@@ -1,5 +1,6 @@
 //! What the device answers.
 
+use crate::audits::AuditPage;
 use crate::rules::Rule;
 
 /// The answer of a step that is noted in the journal.
@@ -13,6 +14,8 @@ pub enum Answer {
     Version { major: u32, minor: u32, patch: u32 },
     /// A dumb buffer: its handle, the bytes of a row and the bytes of the whole (drm-uapi, `DRM_IOCTL_MODE_CREATE_DUMB`).
     Dumb { handle: u32, pitch: u32, size: u64 },
+    /// Rows of an audit, as they stood before the step (own).
+    Audit { page: AuditPage },
     /// The client was closed.
     Closed,
     /// The first rule that fails. No row was changed.

@@ -2,9 +2,11 @@
 
 ghost use Rattle.std.specs.Prelude.{◌≡◌};
 
+use crate::audits::AuditKind;
 use crate::flags::RowFlags;
 use crate::lookup::row;
 use bitflags::Flags;
+use std::alloc::AllocError;
 
 /// A request, one variant for each row of the table, and two for what has none.
 #[derive(PartialEq, Eq, Debug, Drop)]
@@ -17,8 +19,37 @@ pub enum Call {
     Version,
     /// Give a handle back (drm-gem(7)).
     GemClose { handle: u32 },
+    /// Up to 16 rows of a kind, after the first `from` (own).
+    Audit { kind: AuditKind, from: u32 },
     /// A buffer for scan-out, of a width and height in pixels and of bits a pixel (drm-uapi, dumb buffers).
     CreateDumb { width: u32, height: u32, bpp: u32 },
+}
+
+/// The same call. It takes no memory and never fails.
+impl Clone for Call {
+    ghost use Rattle.std.specs.Prelude.{◌≡◌, ⊤};
+
+    ghost is_clone = { λ call copy. copy ≡ call };
+
+    ghost is_infallible = { λ _. ⊤ };
+
+    fn clone(&self) -> Result<Call, AllocError> {
+        Ok(match self {
+            Call::Unknown(number) => Call::Unknown(*number),
+            Call::BadLayout(number) => Call::BadLayout(*number),
+            Call::Version => Call::Version,
+            Call::GemClose { handle } => Call::GemClose { handle: *handle },
+            Call::Audit { kind, from } => Call::Audit {
+                kind: *kind,
+                from: *from,
+            },
+            Call::CreateDumb { width, height, bpp } => Call::CreateDumb {
+                width: *width,
+                height: *height,
+                bpp: *bpp,
+            },
+        })
+    }
 }
 
 impl Call {
@@ -33,6 +64,7 @@ impl Call {
             Call::Unknown(number) | Call::BadLayout(number) => *number,
             Call::Version => 0x00,
             Call::GemClose { .. } => 0x09,
+            Call::Audit { .. } => 0x45,
             Call::CreateDumb { .. } => 0xB2,
         }
     }

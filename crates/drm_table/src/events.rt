@@ -1,6 +1,7 @@
 //! What reaches the device.
 
 use crate::calls::Call;
+use std::alloc::AllocError;
 
 /// How a client is opened.
 #[derive(Clone, Copy, PartialEq, Eq, Debug)]
@@ -22,4 +23,21 @@ pub enum Event {
     Ask(u32, Call),
     /// The client of this number goes, or its connection broke.
     Close(u32),
+}
+
+/// The same event. It takes no memory and never fails.
+impl Clone for Event {
+    ghost use Rattle.std.specs.Prelude.{◌≡◌, ⊤};
+
+    ghost is_clone = { λ event copy. copy ≡ event };
+
+    ghost is_infallible = { λ _. ⊤ };
+
+    fn clone(&self) -> Result<Event, AllocError> {
+        match self {
+            Event::Open(opening) => Ok(Event::Open(*opening)),
+            Event::Ask(client, call) => Ok(Event::Ask(*client, call.clone()?)),
+            Event::Close(client) => Ok(Event::Close(*client)),
+        }
+    }
 }

@@ -3,6 +3,7 @@
 
 mod answers;
 mod apart;
+mod audits;
 mod calls;
 mod events;
 mod flags;
@@ -14,6 +15,7 @@ mod rules;
 
 pub use answers::Answer;
 pub use apart::Apart;
+pub use audits::{AuditKind, AuditPage, AuditRow};
 pub use calls::Call;
 pub use events::{Event, Opening};
 pub use flags::RowFlags;

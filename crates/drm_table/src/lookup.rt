@@ -23,6 +23,10 @@ pub fn row(number: u16) -> Option<Row>
             name: "GEM_CLOSE",
             flags: RowFlags::RENDER_ALLOW,
         }),
+        0x45 => Some(Row {
+            name: "AUDIT",
+            flags: RowFlags::ROOT_ONLY,
+        }),
         0xB2 => Some(Row {
             name: "MODE_CREATE_DUMB",
             flags: RowFlags::empty(),

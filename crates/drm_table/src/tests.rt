@@ -134,6 +134,55 @@ fn rows_of_the_table(rt: HostRuntime) -> Result<(), Fail> {
     Ok(())
 }
 
+const KINDS: [(u32, &str); 10] = [
+    (1, "client"),
+    (2, "master"),
+    (3, "object"),
+    (4, "name"),
+    (5, "token"),
+    (6, "hold"),
+    (7, "grant"),
+    (8, "framebuffer"),
+    (9, "shown"),
+    (10, "device"),
+];
+
+#[test]
+fn kinds_of_an_audit(rt: HostRuntime) -> Result<(), Fail> {
+    for (number, name) in KINDS {
+        let kind = AuditKind::of_number(number).ok_or("a number has no kind")?;
+        assert_eq!(&rt; kind.number(), number);
+        assert_eq!(&rt; kind.name(), name);
+        assert_eq!(&rt; AuditKind::ALL[number as usize - 1], kind);
+    }
+    assert!(&rt; AuditKind::of_number(0).is_none());
+    assert!(&rt; AuditKind::of_number(11).is_none());
+    let audit = row(0x45).ok_or("AUDIT has no row")?;
+    assert_eq!(&rt; audit.name, "AUDIT");
+    assert_eq!(&rt; audit.flags, RowFlags::ROOT_ONLY);
+    Ok(())
+}
+
+#[test]
+fn pages_and_copies(rt: HostRuntime) -> Result<(), Fail> {
+    let row = AuditRow {
+        a: 1,
+        b: 28,
+        c: 1,
+        d: 0,
+    };
+    let mut page = AuditPage::new();
+    page.push(row);
+    assert_eq!(&rt; page.rows(), [row].as_slice());
+    let call = Call::Audit {
+        kind: AuditKind::Hold,
+        from: 16,
+    };
+    let event = Event::Ask(7, call);
+    assert_eq!(&rt; event.clone()?, event);
+    Ok(())
+}
+
 #[test]
 fn ranges_of_the_limits(rt: HostRuntime) {
     assert!(&rt; are_in_range(Limits::PROGRAM));

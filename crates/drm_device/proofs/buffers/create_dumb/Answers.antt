@@ -16,6 +16,9 @@ use Rattle.drm_device.specs.declared.state.Object.{Object}
 use Rattle.drm_device.specs.declared.state.State.{State}
 use Rattle.drm_table.specs.declared.limits.Limits.{Limits}
 use Rattle.drm_device.specs.Refinement.{OwesCall, Stands}
+use Rattle.std.specs.List.{insert}
+use Rattle.drm_device.specs.Refinement.{place_among}
+use Rattle.drm_device.proofs.Holds.{free_is_new}
 use Rattle.drm_device.proofs.Booleans.{pushed}
 use Rattle.drm_device.proofs.Laws.{with_held_object}
 use Rattle.drm_device.proofs.Lookups.{free_handle_is}
@@ -111,7 +114,8 @@ returns c = λ w s a.
     (accepted w c.args.client c.args.pixels.width c.args.pixels.height c.args.pixels.bpp c.in-Some.handle a (sym c.is_dumb_shape.ensures ∙ c.if-not-is_dumb_shape.false) some room)
     (rw (← handle, c.dumb_pitch-pitch.ensures.value, size) refl)
     (unswept _ (with_object w c.args.client (dumb_size c.args.pixels.width c.args.pixels.height c.args.pixels.bpp)) (with_held_object w object_row hold_row refl s.well_formed)
-    (more_held c.args.state.now w c.push_reserved.new.self c.push_reserved-2.new.self object hold object_row hold_row
+    (more_held c.args.state.now w c.push_reserved.new.self c.add_hold.new.holds object hold object_row hold_row
     (pushed object c.push_reserved.ensures.items c.in_ok-reserve.ensures.items)
-    (pushed hold c.push_reserved-2.ensures.items c.in_ok-reserve-2.ensures.items)
+    (c.add_hold.ensures ∙ ap (λ hs. insert hs (place_among hs hold) hold) c.in_ok-reserve-2.ensures.items)
+    (free_is_new c.args.state.now.holds.items c.args.client c.in-Some.handle c.args.limits.handles (rw (← c.deref.ensures.value) (sym c.free_handle.ensures ∙ c.in-Some.is)))
     (rw (s.birth_is, ← size) refl) (rw (s.birth_is, ← handle) refl) s.rows))

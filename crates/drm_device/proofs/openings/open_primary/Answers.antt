@@ -40,9 +40,10 @@ founding s w cs ms b root e f i h = record {
   clients = rw (h.clients, i, e) (sym (map-append client_row_of s.clients.items (founder b root ∷ [])));
   masters = rw (h.masters, i, f) (sym (map-append master_row_of s.masters.items (b ∷ [])));
   holds = h.holds;
+  holds_in_order = h.holds_in_order;
   objects = h.objects;
   device_master = ap Some i;
-  none_yet = record { magics = h.none_yet.magics; names = h.none_yet.names; tokens = h.none_yet.tokens; grants = h.none_yet.grants; framebuffers = h.none_yet.framebuffers; shown = h.none_yet.shown };
+  none_yet = record { magics = h.none_yet.magics; names = h.none_yet.names; tokens = h.none_yet.tokens; grants = h.none_yet.grants; framebuffers = h.none_yet.framebuffers; shown = h.none_yet.shown; last_token = h.none_yet.last_token; last_lease_token = h.none_yet.last_lease_token };
 }
 
 pub returns-then-len-limits : goal.returns-then-len-limits

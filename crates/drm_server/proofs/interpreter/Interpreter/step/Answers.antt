@@ -4,9 +4,9 @@ use Rattle.drm_model.specs.Run.{rows_of}
 use Rattle.drm_server.proofs.InterpreterLemmas.{step_some, step_none}
 use Rattle.drm_server.proofs.interpreter.Interpreter.step.Goals as goal
 
-pub make-requires : goal.make-requires
+pub make_device-requires : goal.make_device-requires
 unfolding are_in_range
-make-requires c = refl
+make_device-requires c = refl
 
 pub returns-in-Some-clause-some : goal.returns-in-Some-clause-some
 returns-in-Some-clause-some c =

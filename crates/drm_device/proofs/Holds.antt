@@ -1,0 +1,70 @@
+-- Handles in the order of their clients and numbers.
+use Rattle.std.proofs.Common.{◌≡◌, ℕ, zero, suc, ◌+◌, ◌==◌, ◌≤◌, nat_lt, Bool, true, false, cond, ◌&&◌, ◌||◌, List, [], ◌∷◌, ◌++◌, map, find, filter, length, Some, refl, sym, ◌∙◌, ap, subst, arith}
+use Rattle.std.specs.List.{list_any, insert, AllByRecursion}
+use Rattle.std.specs.Option.{is_some}
+use Rattle.std.proofs.lemmas.Bool.Decides.{nat_tests}
+use Rattle.drm_model.specs.Orders.{SameRows, InOrder}
+use Rattle.drm_model.specs.Numbers.{is_among, least}
+use Rattle.drm_model.specs.Rows.{HoldRow}
+use Rattle.drm_model.proofs.Lists.{all_weaker, map-append, is_some-find, is_among-map_filter}
+use Rattle.drm_model.proofs.Numbers.{least-is_free}
+use Rattle.drm_model.proofs.Orders.{same-append, same-insert, same-map, same-refl, same-trans}
+use Rattle.drm_device.specs.declared.state.Hold.{Hold}
+use Rattle.drm_device.specs.Refinement.{comes_before, place_among, hold_row_of}
+
+abbrev pub AreInOrder : List Hold → Type 0
+AreInOrder holds = InOrder (λ x y. comes_before x y ≡ true) holds
+
+abbrev is_key : Hold → Hold → Bool
+is_key y x = (x.client == y.client) && (x.handle == y.handle)
+
+before-trans : (x y z : Hold) → comes_before x y ≡ true → comes_before y z ≡ true → comes_before x z ≡ true
+before-trans x y z h k = grind (arith, nat_tests)
+
+before-other : (x y : Hold) → is_key y x ≡ false → comes_before x y ≡ false → comes_before y x ≡ true
+before-other x y h k = grind (arith, nat_tests)
+
+before-not : (x y z : Hold) → comes_before x y ≡ false → comes_before x z ≡ true → comes_before z y ≡ false
+before-not x y z h k = grind (arith, nat_tests)
+
+none_before : (y : Hold) → (xs : List Hold) → AllByRecursion (λ x. comes_before x y ≡ false) xs → place_among xs y ≡ 0
+none_before y [] h = refl
+none_before y (x ∷ xs) h = ap (λ b. length (cond b (x ∷ filter (λ z. comes_before z y) xs) (filter (λ z. comes_before z y) xs))) h.0 ∙ none_before y xs h.1
+
+all_inserted : (P : Hold → Type 0) → (xs : List Hold) (i : ℕ) (y : Hold) → P y → AllByRecursion P xs → AllByRecursion P (insert xs i y)
+all_inserted P xs zero y p h = (p, h)
+all_inserted P [] (suc i) y p h = (p, tt)
+all_inserted P (x ∷ xs) (suc i) y p h = (h.0, all_inserted P xs i y p h.1)
+
+-- one more handle, where it belongs
+pub in_order_insert : (xs : List Hold) (y : Hold) → AreInOrder xs → AllByRecursion (λ x. is_key y x ≡ false) xs → AreInOrder (insert xs (place_among xs y) y)
+in_order_insert [] y h k = (tt, tt)
+in_order_insert (x ∷ xs) y h k =
+    elim (comes_before x y) as (λ b. comes_before x y ≡ b → AreInOrder (insert (x ∷ xs) (length (cond b (x ∷ filter (λ z. comes_before z y) xs) (filter (λ z. comes_before z y) xs))) y)) [
+      | true ↦ λ e. (all_inserted (λ z. comes_before x z ≡ true) xs (place_among xs y) y e h.0, in_order_insert xs y h.1 k.1)
+      | false ↦ λ e.
+          let first : comes_before y x ≡ true = before-other x y k.0 e in
+          let none : place_among xs y ≡ 0 = none_before y xs (all_weaker (λ z. comes_before x z ≡ true) (λ z. comes_before z y ≡ false) (λ z j. before-not x y z e j) xs h.0) in
+          subst (λ n. AreInOrder (insert (x ∷ xs) n y)) (sym none) ((first, all_weaker (λ z. comes_before x z ≡ true) (λ z. comes_before y z ≡ true) (λ z j. before-trans y x z first j) xs h.0), h)
+    ] refl
+
+none_passes : {X : Type 0} (p : X → Bool) → (xs : List X) → list_any p xs ≡ false → AllByRecursion (λ x. p x ≡ false) xs
+none_passes p [] h = tt
+none_passes p (x ∷ xs) h =
+    elim (p x) as (λ b. p x ≡ b → (b || list_any p xs) ≡ false → (p x ≡ false) × AllByRecursion (λ x. p x ≡ false) xs)
+    [ true ↦ λ e k. absurd (let no : true ≡ false = k in cc) | false ↦ λ e k. (e, none_passes p xs k) ] refl h
+
+-- no handle is the free one
+pub free_is_new : (hs : List Hold) (c n last : ℕ) → least (is_among (map (λ (x : Hold). x.handle) (filter (λ (x : Hold). x.client == c) hs))) 1 last ≡ Some n →
+    AllByRecursion (λ (x : Hold). ((x.client == c) && (x.handle == n)) ≡ false) hs
+free_is_new hs c n last h =
+    none_passes (λ (x : Hold). (x.client == c) && (x.handle == n)) hs
+    (sym (is_some-find (λ (x : Hold). (x.client == c) && (x.handle == n)) hs) ∙ sym (is_among-map_filter (λ (x : Hold). x.client == c) (λ (x : Hold). x.handle) n hs)
+    ∙ least-is_free (is_among (map (λ (x : Hold). x.handle) (filter (λ (x : Hold). x.client == c) hs))) 1 last n h)
+
+-- the rows with one more are the same
+pub more_rows : (rows : List HoldRow) (xs : List Hold) (i : ℕ) (y : Hold) → SameRows rows (map hold_row_of xs) → SameRows (rows ++ hold_row_of y ∷ []) (map hold_row_of (insert xs i y))
+more_rows rows xs i y h =
+    same-trans (rows ++ hold_row_of y ∷ []) (map hold_row_of xs ++ hold_row_of y ∷ []) (map hold_row_of (insert xs i y))
+    (same-append rows (map hold_row_of xs) (hold_row_of y ∷ []) (hold_row_of y ∷ []) h (same-refl (hold_row_of y ∷ [])))
+    (subst (λ zs. SameRows zs (map hold_row_of (insert xs i y))) (map-append hold_row_of xs (y ∷ [])) (same-map hold_row_of (xs ++ y ∷ []) (insert xs i y) (same-insert xs xs i y (same-refl xs))))

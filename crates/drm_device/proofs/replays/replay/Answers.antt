@@ -1,0 +1,50 @@
+use Rattle.std.proofs.Common.{◌≡◌, ℕ, ◌+◌, ◌<◌, false, refl, sym, ap, ◌∙◌, arith, Err, Ok, Result, List, Some, take, length, subst}
+use Rattle.std.specs.Prelude.{◌↔◌, slice_get}
+use Rattle.drm_table.specs.declared.events.Event.{Event}
+use Rattle.drm_table.specs.declared.limits.Limits.{Limits}
+use Rattle.drm_model.specs.Topology.{Topology}
+use Rattle.drm_table.specs.declared.apart.Apart.{Apart}
+use Rattle.drm_table.specs.declared.events.Event.TheVariants.{Open}
+use Rattle.drm_table.specs.declared.events.Opening.TheVariants.{Primary}
+use Rattle.std.proofs.Common.{get_or}
+use Rattle.std.proofs.lemmas.Option.{slice_get-get_or}
+use Rattle.std.proofs.lemmas.List.{take_all}
+use Rattle.drm_model.specs.Run.{History, rows_of, Step}
+use Rattle.drm_device.specs.declared.device.NewFault.{NewFault}
+use Rattle.drm_device.specs.declared.device.NewFault.TheVariants.{BadLimits, NoMemory}
+use Rattle.drm_device.specs.declared.replays.ReplayFault.TheVariants.{New}
+use Rattle.drm_table.specs.Limits.{are_in_range}
+use Rattle.drm_device.specs.Replay.{IsReplay, StopsAt, history_before}
+use Rattle.drm_device.proofs.replays.replay.Goals as goal
+
+new_fault : (t : Topology) (limits : Limits) (events : List Event) (fault : NewFault) → ((fault ≡ BadLimits) → are_in_range limits ≡ false) → IsReplay t limits events (Err (New fault))
+unfolding IsReplay
+new_fault t limits events BadLimits h = h refl
+new_fault t limits events NoMemory h = tt
+
+refused_at : (event : Event) (apart : Apart) (device next before : History) → next ≡ device → device ≡ before → Step (rows_of device) event (Err apart) (rows_of next) → Step (rows_of before) event (Err apart) (rows_of before)
+refused_at event apart device next before e f h =
+    subst (λ d. Step (rows_of d) event (Err apart) (rows_of d)) f (subst (λ n. Step (rows_of device) event (Err apart) (rows_of n)) e h)
+
+pub returns-in-Err : goal.returns-in-Err
+returns-in-Err c = new_fault c.args.topology c.args.limits c.args.events.now c.in-Err.fault (λ e. c.in-Err.ensures.bad_limits.0 (ap Err e))
+
+pub returns-in-Err-step : goal.returns-in-Err-step
+unfolding IsReplay
+returns-in-Err-step c =
+    let index = c.loop-index.index in
+    let at : c.loop-index.device ≡ history_before c.args.topology c.args.limits c.args.events.now index = c.loop-index.invariant in
+    let same : c.step.new.self ≡ c.loop-index.device = c.in-Err-step.ensures.err in (
+      index,
+      refl,
+      record {
+        within = c.loop-index-test.true;
+        event = get_or c.args.events.now index (Open (Primary false));
+        is_there = slice_get-get_or c.args.events.now index (Open (Primary false)) c.loop-index-test.true;
+        refused = refused_at (get_or c.args.events.now index (Open (Primary false))) c.in-Err-step.apart c.loop-index.device c.step.new.self _ same at (subst (λ event. Step (rows_of c.loop-index.device) event (Err c.in-Err-step.apart) (rows_of c.step.new.self)) c.copy_of.ensures c.in-Err-step.ensures.step);
+      },
+    )
+
+pub returns : goal.returns
+unfolding IsReplay
+returns c = c.loop-index.invariant ∙ ap (λ j. record { topology = c.args.topology; limits = c.args.limits; journal = j }) (take_all c.loop-index.index c.args.events.now c.loop-index-test.false)

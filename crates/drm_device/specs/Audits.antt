@@ -1,0 +1,23 @@
+-- What the functions of an audit owe.
+use Rattle.std.specs.Prelude.{◌≡◌, ℕ, List, Option, slice_get}
+use Rattle.drm_table.specs.declared.audits.AuditKind.{AuditKind}
+use Rattle.drm_table.specs.declared.audits.AuditRow.{AuditRow}
+use Rattle.drm_model.specs.Rows.{Rows}
+use Rattle.drm_model.specs.Births.{BirthsRise}
+use Rattle.drm_model.specs.Audit.{audit_rows, rising_rows, audit_page}
+use Rattle.drm_device.specs.declared.state.State.{State}
+use Rattle.drm_device.specs.Refinement.{Represents}
+
+-- the lists stand for rows of so many steps
+pub record StandsAfter (s : State) (steps : ℕ) (w : Rows) : Type 0 where
+  pub rows : Represents s w
+  pub births : BirthsRise w.steps w
+  pub steps_are : w.steps ≡ steps
+
+-- the row of a kind at a place, in the order of the rows' numbers, whichever rows the lists stand for
+unfoldable pub IsRowAt : State → ℕ → AuditKind → ℕ → Option AuditRow → Type 0
+IsRowAt s steps kind place row = (w : Rows) → StandsAfter s steps w → row ≡ slice_get (rising_rows (audit_rows w kind)) place
+
+-- the page of a kind behind the first rows, whichever rows the lists stand for
+unfoldable pub IsPage : State → ℕ → AuditKind → ℕ → List AuditRow → Type 0
+IsPage s steps kind from page = (w : Rows) → StandsAfter s steps w → page ≡ audit_page w kind from

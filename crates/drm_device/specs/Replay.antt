@@ -1,0 +1,28 @@
+-- What a replay gives.
+use Rattle.std.specs.Prelude.{◌≡◌, ℕ, ◌+◌, ◌<◌, false, List, Result, Ok, Err, Some, slice_get, take, length}
+use Rattle.drm_table.specs.declared.apart.Apart.{Apart}
+use Rattle.drm_table.specs.declared.events.Event.{Event}
+use Rattle.drm_table.specs.declared.limits.Limits.{Limits}
+use Rattle.drm_model.specs.Topology.{Topology}
+use Rattle.drm_model.specs.Run.{History, rows_of, Step}
+use Rattle.drm_device.specs.declared.device.NewFault.{NewFault}
+use Rattle.drm_device.specs.declared.device.NewFault.TheVariants.{BadLimits, NoMemory}
+use Rattle.drm_device.specs.declared.replays.ReplayFault.{ReplayFault}
+use Rattle.drm_device.specs.declared.replays.ReplayFault.TheVariants.{New, Stopped}
+use Rattle.drm_table.specs.Limits.{are_in_range}
+
+abbrev pub history_before : Topology → Limits → List Event → ℕ → History
+history_before topology limits events n = record { topology = topology; limits = limits; journal = take n events }
+
+-- the event at this place is the first that is not noted, and why
+pub record StopsAt (topology : Topology) (limits : Limits) (events : List Event) (index : ℕ) (apart : Apart) : Type 0 where
+  pub within : index < length events
+  pub event : Event
+  pub is_there : slice_get events index ≡ Some event
+  pub refused : Step (rows_of (history_before topology limits events index)) event (Err apart) (rows_of (history_before topology limits events index))
+
+unfoldable pub IsReplay : Topology → Limits → List Event → Result History ReplayFault → Type 0
+IsReplay topology limits events (Ok device) = device ≡ record { topology = topology; limits = limits; journal = events }
+IsReplay topology limits events (Err (New BadLimits)) = are_in_range limits ≡ false
+IsReplay topology limits events (Err (New NoMemory)) = Unit {0}
+IsReplay topology limits events (Err (Stopped at apart)) = (index : ℕ) × (at ≡ index + 1) × StopsAt topology limits events index apart

@@ -1,0 +1,158 @@
+//! AUDIT: the rows of a kind, in pages.
+
+ghost use Rattle.std.specs.Prelude.{◌≡◌, ◌==◌, ◌≤◌, ℕ, Ok, [], filter, length, slice_get, if◌then◌else◌};
+ghost use Rattle.drm_table.specs.declared.calls.Call.TheVariants.{Audit};
+ghost use Rattle.drm_table.specs.declared.limits.Limits as table;
+ghost use Rattle.drm_model.specs.Rows.{Rows};
+ghost use Rattle.drm_model.specs.Audit as model;
+ghost use Rattle.drm_model.specs.Audit.{audit_row, client_audit, hold_audit, master_audit};
+ghost use Rattle.drm_device.specs.Refinement.{OwesCall, client_row_of, hold_row_of, master_row_of};
+ghost use Rattle.drm_device.specs.Audits.{IsPage, IsRowAt};
+
+use crate::state::{Client, Hold, Object, State};
+use drm_table::{Answer, AuditKind, AuditPage, AuditRow};
+
+/// How many rows a page has at most.
+const PAGE: usize = 16;
+
+/// AUDIT: a page of rows, as they stand before the step of this number. It takes no memory and asks for no limit.
+pub fn audit(state: &State, birth: u32, kind: AuditKind, from: u32) -> Answer
+    requires { 1 ≤ birth }
+    ensures { (limits : table.Limits) (client : ℕ) → OwesCall state.now limits birth client (Audit kind from) (Ok result) state.now }
+{
+    Answer::Audit {
+        page: page_of(state, birth - 1, kind, from),
+    }
+}
+
+/// The page of a kind behind the first rows, where so many steps were noted.
+pub fn page_of(state: &State, steps: u32, kind: AuditKind, from: u32) -> AuditPage
+    ensures { IsPage state.now steps kind from result }
+{
+    let mut page = AuditPage::new();
+    for place in 0..PAGE {
+        match row_at(state, steps, kind, from as usize + place) {
+            Some(row) => page.push(row),
+            None => return page,
+        }
+    }
+    page
+}
+
+/// The row of a kind at a place, from 0, in the order of the rows' numbers; none past the last.
+fn row_at(state: &State, steps: u32, kind: AuditKind, place: usize) -> Option<AuditRow>
+    ensures { IsRowAt state.now steps kind place result }
+{
+    match kind {
+        AuditKind::Client => Some(client_row(item_at(&state.clients, place)?)),
+        AuditKind::Master => Some(master_row(item_at(&state.masters, place)?)),
+        AuditKind::Object => Some(object_row(item_at(&state.objects, place)?, &state.holds)),
+        AuditKind::Hold => Some(hold_row(item_at(&state.holds, place)?)),
+        AuditKind::Device => item_at(&[device_row(state.device_master, steps)], place),
+        // no call makes these yet
+        AuditKind::Name
+        | AuditKind::Token
+        | AuditKind::Grant
+        | AuditKind::Framebuffer
+        | AuditKind::Shown => None,
+    }
+}
+
+/// The item at a place, from 0.
+fn item_at<T: Copy>(items: &[T], place: usize) -> Option<T>
+    ensures { result ≡ slice_get items.now place }
+{
+    items.get(place).copied()
+}
+
+/// What is told of a client: nobody has a magic yet.
+fn client_row(client: Client) -> AuditRow
+    ensures { (w : Rows) → w.magics ≡ [] → result ≡ client_audit w (client_row_of client) }
+{
+    AuditRow {
+        a: client.number as u64,
+        b: flag(client.render, 1)
+            + flag(client.root, 2)
+            + flag(client.authenticated, 4)
+            + flag(client.once_master, 8)
+            + flag(client.is_master, 16),
+        c: or_zero(client.master),
+        d: 0,
+    }
+}
+
+fn master_row(master: u32) -> AuditRow
+    ensures { result ≡ master_audit (master_row_of master) }
+{
+    AuditRow {
+        a: master as u64,
+        ..AuditRow::default()
+    }
+}
+
+/// What is told of an object: handles alone refer to objects yet.
+fn object_row(object: Object, holds: &[Hold]) -> AuditRow
+    ensures { result ≡ audit_row object.number object.size (length (filter (λ x. x.object == object.number) holds.now)) 0 }
+{
+    AuditRow {
+        a: object.number as u64,
+        b: object.size,
+        c: handles_of(holds, object.number) as u64,
+        d: 0,
+    }
+}
+
+fn hold_row(hold: Hold) -> AuditRow
+    ensures { result ≡ hold_audit (hold_row_of hold) }
+{
+    AuditRow {
+        a: hold.client as u64,
+        b: hold.handle as u64,
+        c: hold.object as u64,
+        d: 0,
+    }
+}
+
+/// What is told of the device: no token was given yet.
+fn device_row(device_master: Option<u32>, steps: u32) -> AuditRow
+    ensures { result ≡ audit_row (model.or_zero device_master) 0 0 steps }
+{
+    AuditRow {
+        a: or_zero(device_master),
+        b: 0,
+        c: 0,
+        d: steps as u64,
+    }
+}
+
+/// The number of a flag that is set.
+fn flag(is_set: bool, number: u64) -> u64
+    ensures value { result ≡ (if is_set then number else 0) }
+    ensures small { result ≤ number }
+{
+    if is_set { number } else { 0 }
+}
+
+/// A number, or 0 for none.
+fn or_zero(number: Option<u32>) -> u64
+    ensures { result ≡ model.or_zero number }
+{
+    match number {
+        Some(number) => number as u64,
+        None => 0,
+    }
+}
+
+/// How many handles name the object.
+fn handles_of(holds: &[Hold], object: u32) -> usize
+    ensures count { result ≡ length (filter (λ x. x.object == object) holds.now) }
+    ensures within { result ≤ length holds.now }
+{
+    let mut count = 0;
+    for hold in holds {
+        if hold.object == object {
+            count += 1;
+        }
+    }
+    count
+}

@@ -1,0 +1,54 @@
+//! A device made from a journal.
+
+ghost use Rattle.std.specs.Prelude.{◌≡◌};
+ghost use Rattle.drm_device.specs.Replay.{IsReplay};
+
+use crate::device::{Device, NewFault};
+use crate::topologies::Topology;
+use drm_table::{Apart, Event, Limits};
+use std::alloc::Global;
+
+/// Why a replay gives no device.
+#[derive(Clone, Copy, PartialEq, Eq, Debug)]
+pub enum ReplayFault {
+    /// There is no device to begin with.
+    New(NewFault),
+    /// The event of this number, from 1, is the first that was not noted.
+    Stopped { at: usize, apart: Apart },
+}
+
+/// A new device that was asked these events in turn: its journal is the events, and its rows are those that they leave.
+///
+/// It stops at the first event that the journal has no place for, or that wants a row for which memory is refused.
+pub fn replay(
+    alloc: Global,
+    topology: Topology,
+    limits: Limits,
+    events: &[Event],
+) -> Result<Device, ReplayFault>
+    ensures { IsReplay topology limits events.now result }
+{
+    let mut device = match Device::new(alloc, topology, limits) {
+        Ok(device) => device,
+        Err(fault) => return Err(ReplayFault::New(fault)),
+    };
+    for (index, event) in events.iter().enumerate() {
+        if let Err(apart) = device.step(copy_of(event)) {
+            return Err(ReplayFault::Stopped {
+                at: index + 1,
+                apart,
+            });
+        }
+    }
+    Ok(device)
+}
+
+/// The same event.
+fn copy_of(event: &Event) -> Event
+    ensures { result ≡ event.now }
+{
+    match event.clone() {
+        Ok(copy) => copy,
+        Err(_) => unreachable!(),
+    }
+}

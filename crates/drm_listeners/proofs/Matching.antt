@@ -1,0 +1,24 @@
+-- Lists that are matched member by member.
+use Rattle.std.proofs.Common.{◌≡◌, List, [], ◌∷◌, ◌++◌, All, length, refl, ap, suc}
+use Rattle.std.proofs.lemmas.List.Elements.{All-nil, All-cons, All-head, All-tail}
+use Rattle.drm_sessions.specs.Matched.{Matched}
+
+-- one more of each
+pub Matched-push : {X Y : Type 0} (R : X → Y → Type 0) (xs : List X) (ys : List Y) (x : X) (y : Y) → Matched R xs ys → R x y → Matched R (xs ++ x ∷ []) (ys ++ y ∷ [])
+Matched-push R [] [] x y m r = (r, tt)
+Matched-push R [] (b ∷ ys) x y m r = absurd m
+Matched-push R (a ∷ xs) [] x y m r = absurd m
+Matched-push R (a ∷ xs) (b ∷ ys) x y m r = (m.0, Matched-push R xs ys x y m.1 r)
+
+pub Matched-length : {X Y : Type 0} (R : X → Y → Type 0) (xs : List X) (ys : List Y) → Matched R xs ys → length ys ≡ length xs
+Matched-length R [] [] m = refl
+Matched-length R [] (b ∷ ys) m = absurd m
+Matched-length R (a ∷ xs) [] m = absurd m
+Matched-length R (a ∷ xs) (b ∷ ys) m = ap suc (Matched-length R xs ys m.1)
+
+-- what holds of each of the first, and carries over
+pub Matched-all : {X Y : Type 0} (P : X → Type 0) (R : X → Y → Type 0) (Q : Y → Type 0) → ((x : X) (y : Y) → P x → R x y → Q y) → (xs : List X) (ys : List Y) → All P xs → Matched R xs ys → All Q ys
+Matched-all P R Q step [] [] a m = All-nil Q
+Matched-all P R Q step [] (b ∷ ys) a m = absurd m
+Matched-all P R Q step (x ∷ xs) [] a m = absurd m
+Matched-all P R Q step (x ∷ xs) (y ∷ ys) a m = All-cons Q y ys (step x y (All-head P x xs a) m.0) (Matched-all P R Q step xs ys (All-tail P x xs a) m.1)

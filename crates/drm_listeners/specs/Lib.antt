@@ -1,0 +1,4 @@
+pub mod Classes
+pub mod Connections
+pub mod Listeners
+pub mod Serving

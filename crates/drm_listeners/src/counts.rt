@@ -1,0 +1,12 @@
+//! How many connections are served.
+
+/// How many connections each listener accepts.
+#[derive(Clone, Copy, Debug, PartialEq, Eq)]
+pub struct Counts {
+    /// Connections of class `Card`.
+    pub cards: u8,
+    /// Connections of class `Render`.
+    pub renders: u8,
+    /// Connections of class `Root`.
+    pub roots: u8,
+}

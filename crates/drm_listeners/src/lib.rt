@@ -1,0 +1,14 @@
+//! Serving the connections of three listeners on one device that they share.
+#![tactic(auto)]
+
+mod classes;
+mod connections;
+mod counts;
+mod listeners;
+mod serve_faults;
+mod serving;
+
+pub use classes::class_word;
+pub use counts::Counts;
+pub use serve_faults::ServeFault;
+pub use serving::serve_all;

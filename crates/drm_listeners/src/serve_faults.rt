@@ -1,0 +1,22 @@
+//! Why not all connections were served.
+
+use crate::classes::class_word;
+use drm_sessions::Class;
+use thiserror::Error;
+
+/// Why not all connections were served (own).
+#[derive(Clone, Copy, Debug, PartialEq, Eq, Error)]
+pub enum ServeFault {
+    /// A connection on the listener of this class could not be accepted.
+    #[error("a connection on the {} socket could not be accepted", class_word(*.0))]
+    Accept(Class),
+    /// A thread could not be started, for whatever cause.
+    #[error("a thread could not be started")]
+    NoThread,
+    /// No memory for the threads or for their sessions.
+    #[error("there was no memory to serve the connections")]
+    NoMemory,
+    /// The shared device was not there at the end.
+    #[error("the device was out at the end")]
+    TurnOut,
+}

@@ -1,0 +1,105 @@
+//! Serving the connections of three listeners.
+
+ghost use Rattle.std.specs.Prelude.{◌≡◌, ◌≢◌, ◌+◌, ◌≤◌, ◌++◌, Err, All, IfOk, OnOk, vec_len};
+ghost use Rattle.drm_turns.specs.Seats.{fresh};
+ghost use Rattle.drm_sessions.specs.declared.class.Class.TheVariants.{Card, Render, Root};
+ghost use Rattle.drm_listeners.specs.declared.serve_faults.ServeFault.TheVariants.{TurnOut};
+ghost use Rattle.drm_listeners.specs.Connections.{IsSessionOf};
+ghost use Rattle.drm_listeners.specs.Serving.{AreSessionsOf, card_sessions, connections, render_sessions, root_sessions};
+
+use crate::connections::ServedListener;
+use crate::counts::Counts;
+use crate::listeners::{ByClass, serve_listeners};
+use crate::serve_faults::ServeFault;
+use drm_device::Device;
+use drm_sessions::Session;
+use drm_turns::{Seat, SharedDevice};
+use std::alloc::Global;
+use std::os::unix::net::UnixListener;
+use std::sync::Wait;
+use std::thread::Threads;
+
+// Takes in the seats of the listeners, and gives their sessions one behind another.
+fn gather(
+    shared: &SharedDevice,
+    seat: &mut Seat,
+    served: ByClass<ServedListener>,
+) -> Result<Vec<Session>, ServeFault>
+    requires seat { seat.old ≡ fresh }
+    requires few { (served.card.seat.joined ≤ 255) × (served.render.seat.joined ≤ 255) × (served.root.seat.joined ≤ 255) }
+    ensures sessions { IfOk result (λ sessions. sessions.items
+        ≡ served.card.sessions.items ++ (served.render.sessions.items ++ served.root.sessions.items)) }
+    ensures seats { seat.new.joined ≡ served.card.seat.joined + served.render.seat.joined + served.root.seat.joined + 3 }
+    ensures turn { result ≢ Err TurnOut }
+{
+    let ByClass { card, render, root } = served;
+    shared.join(seat, card.seat);
+    shared.join(seat, render.seat);
+    shared.join(seat, root.seat);
+    let mut sessions = card.sessions;
+    let mut renders = render.sessions;
+    let mut roots = root.sessions;
+    sessions
+        .append(&mut renders)
+        .map_err(|_| ServeFault::NoMemory)?;
+    sessions
+        .append(&mut roots)
+        .map_err(|_| ServeFault::NoMemory)?;
+    Ok(sessions)
+}
+
+// Serves the listeners through seats that are split off and joined again.
+fn serve_shared<R: Wait + Threads + Sync>(
+    rt: &R,
+    alloc: Global,
+    shared: &SharedDevice,
+    seat: &mut Seat,
+    sockets: ByClass<&UnixListener>,
+    counts: Counts,
+) -> Result<Vec<Session>, ServeFault>
+    requires { seat.old ≡ fresh }
+    ensures sessions { IfOk result (λ sessions. AreSessionsOf counts sessions.items) }
+    ensures seats { OnOk result (seat.new.joined ≡ connections counts + 3) }
+    ensures turn { result ≢ Err TurnOut }
+{
+    let seats = ByClass {
+        card: shared.split(seat),
+        render: shared.split(seat),
+        root: shared.split(seat),
+    };
+    let served = serve_listeners(rt, alloc, shared, seats, sockets, counts)?;
+    gather(shared, seat, served)
+}
+
+/// Accepts so many connections on the three listeners and serves each in a thread of its own, on one device that they
+/// share, until all have ended (own). It may wait.
+///
+/// The device and the sessions are given back: first those of `card`, then those of `render`, then those of `root`, each
+/// listener's in the order in which they were accepted. A session makes at most 1,000,000 reads and writes, and its
+/// connection is closed as it ends. However a session ends, the others go on.
+///
+/// On a fault the threads that were started are waited for, and then the device is dropped. `NoThread` comes where a thread
+/// can't be started, for whatever cause. `TurnOut` doesn't come today.
+pub fn serve_all<R: Wait + Threads + Sync>(
+    rt: &R,
+    alloc: Global,
+    device: Device,
+    card: &UnixListener,
+    render: &UnixListener,
+    root: &UnixListener,
+    counts: Counts,
+) -> Result<(Device, Vec<Session>), ServeFault>
+    ensures count { IfOk result (λ served. vec_len served.1 ≡ connections counts) }
+    ensures cards { IfOk result (λ served. All (IsSessionOf Card) (card_sessions counts served.1.items)) }
+    ensures renders { IfOk result (λ served. All (IsSessionOf Render) (render_sessions counts served.1.items)) }
+    ensures roots { IfOk result (λ served. All (IsSessionOf Root) (root_sessions counts served.1.items)) }
+    ensures turn { result ≢ Err TurnOut }
+{
+    let Ok((shared, mut seat)) = SharedDevice::new(alloc, device) else {
+        return Err(ServeFault::NoMemory);
+    };
+    let sockets = ByClass { card, render, root };
+    let sessions = serve_shared(rt, alloc, &shared, &mut seat, sockets, counts)?;
+    let device = shared.close(seat).map_err(|_| ServeFault::TurnOut)?;
+    Ok((device, sessions))
+}

@@ -1,0 +1,76 @@
+-- Made by tools/worked_rows.py: the worked row audit_pages, as the definitions compute it.
+use Rattle.std.proofs.Common.{◌≡◌, true, List, ◌∷◌, Result, Ok, refl, []}
+use Rattle.drm_table.specs.declared.answers.Answer.{Answer}
+use Rattle.drm_table.specs.declared.answers.Answer.TheVariants.{Done, Opened, Dumb, Audit as AuditIs, Denied}
+use Rattle.drm_table.specs.declared.apart.Apart.{Apart}
+use Rattle.drm_table.specs.declared.rules.Rule.TheVariants.{RootOnly as DeniedRootOnly}
+use Rattle.drm_table.specs.declared.calls.Call.TheVariants.{GemClose, Audit, CreateDumb}
+use Rattle.drm_table.specs.declared.events.Event.{Event}
+use Rattle.drm_table.specs.declared.events.Event.TheVariants.{Open, Ask}
+use Rattle.drm_table.specs.declared.events.Opening.TheVariants.{Primary, Render}
+use Rattle.drm_table.specs.declared.limits.Limits.{Limits}
+use Rattle.drm_table.specs.declared.audits.AuditKind.TheVariants.{Client as OfClient, Master as OfMaster, Object as OfObject, Hold as OfHold, Device as OfDevice}
+use Rattle.drm_table.specs.Audits.{kind_number, kind_of, kind_name}
+use Rattle.drm_table.specs.Limits.{are_in_range}
+use Rattle.drm_table.specs.Table.{call_table, row_of, call_number, flags_of}
+use Rattle.drm_model.specs.Audit.{audit_rows, rising_rows, audit_page}
+use Rattle.drm_model.specs.Buffers.{dumb_pitch, dumb_size, with_object}
+use Rattle.drm_model.specs.Change.{asked, changed, swept, after}
+use Rattle.drm_model.specs.Clients.{opening_checks, opened, closed}
+use Rattle.drm_model.specs.Leases.{ended}
+use Rattle.drm_model.specs.Masters.{chain_within}
+use Rattle.drm_model.specs.Numbers.{numbers_from, least_within, least}
+use Rattle.drm_model.specs.Reply.{answer_to, answer_of, reply}
+use Rattle.drm_model.specs.Results.{results}
+use Rattle.drm_model.specs.Run.{no_room, run, rows_of}
+use Rattle.drm_model.specs.Topology.{is_topology}
+use Rattle.drm_model.specs.Verdict.{own_checks, admission_checks, checks, verdict}
+use Rattle.drm_model.specs.Audit.{audit_row}
+use Rattle.drm_model.specs.Rows.{empty_rows}
+use Rattle.drm_model.specs.Topology.{Topology}
+
+abbrev test_topology : Topology
+test_topology = record { crtcs = 2; planes = 1 ∷ 2 ∷ []; encoders = 3 ∷ 2 ∷ []; connectors = 5 ∷ 6 ∷ [] }
+
+abbrev limits : Limits
+limits = record { clients = 64; handles = 65535; names = 65535; tokens = 65535; objects = 65535; framebuffers = 64; lessees = 64; journal = 100000 }
+
+abbrev events : List Event
+events =
+    Open (Primary true) ∷
+    Open Render ∷
+    Ask 2 (Audit OfClient 0) ∷
+    Ask 1 (CreateDumb 64 64 32) ∷
+    Ask 1 (CreateDumb 1 1 32) ∷
+    Ask 1 (Audit OfClient 1) ∷
+    Ask 1 (Audit OfMaster 0) ∷
+    Ask 1 (Audit OfObject 0) ∷
+    Ask 1 (Audit OfHold 0) ∷
+    Ask 1 (Audit OfHold 2) ∷
+    Ask 1 (Audit OfDevice 0) ∷
+    Ask 1 (GemClose 1) ∷
+    Ask 1 (CreateDumb 1 1 8) ∷
+    Ask 1 (Audit OfHold 0) ∷
+    []
+
+abbrev answers : List (Result Answer Apart)
+answers =
+    Ok (Opened 1) ∷
+    Ok (Opened 2) ∷
+    Ok (Denied DeniedRootOnly) ∷
+    Ok (Dumb 1 256 16384) ∷
+    Ok (Dumb 2 64 4096) ∷
+    Ok (AuditIs ((audit_row 2 1 0 0) ∷ [])) ∷
+    Ok (AuditIs ((audit_row 1 0 0 0) ∷ [])) ∷
+    Ok (AuditIs ((audit_row 4 16384 1 0) ∷ (audit_row 5 4096 1 0) ∷ [])) ∷
+    Ok (AuditIs ((audit_row 1 1 4 0) ∷ (audit_row 1 2 5 0) ∷ [])) ∷
+    Ok (AuditIs ([])) ∷
+    Ok (AuditIs ((audit_row 1 0 0 10) ∷ [])) ∷
+    Ok Done ∷
+    Ok (Dumb 1 64 4096) ∷
+    Ok (AuditIs ((audit_row 1 1 13 0) ∷ (audit_row 1 2 5 0) ∷ [])) ∷
+    []
+
+pub audit_pages : results (empty_rows test_topology limits) events ≡ answers
+unfolding kind_number kind_of kind_name are_in_range call_table row_of call_number flags_of audit_rows rising_rows audit_page dumb_pitch dumb_size with_object asked changed swept after opening_checks opened closed ended chain_within numbers_from least_within least answer_to answer_of reply results no_room run rows_of is_topology own_checks admission_checks checks verdict
+audit_pages = refl

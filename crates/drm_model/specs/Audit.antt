@@ -1,0 +1,73 @@
+-- AUDIT: the rows of a kind, in pages (all of it is this project's own).
+use Rattle.std.specs.Prelude.{ℕ, ◌+◌, ◌==◌, nat_lt, nat_le, Bool, false, ◌&&◌, ◌||◌, List, [], ◌∷◌, length, Option, unwrap_or, find, map, filter, take, drop, if◌then◌else◌}
+use Rattle.std.specs.Option.{option_map_or}
+use Rattle.drm_table.specs.declared.audits.AuditKind.{AuditKind}
+use Rattle.drm_table.specs.declared.audits.AuditKind.TheVariants.{Client, Master, Object, Name, Token, Hold, Grant, Framebuffer, Shown, Device}
+use Rattle.drm_table.specs.declared.audits.AuditRow.{AuditRow}
+use Rattle.drm_model.specs.Rows.{Rows, ClientRow, MasterRow, MagicRow, HoldRow, ObjectRow, NameRow, TokenRow, GrantRow, FramebufferRow, ShownRow}
+
+abbrev pub audit_row : ℕ → ℕ → ℕ → ℕ → AuditRow
+audit_row a b c d = record { a = a; b = b; c = c; d = d }
+
+-- 0 stands for none
+abbrev pub or_zero : Option ℕ → ℕ
+or_zero number = unwrap_or number 0
+
+abbrev pub flag : Bool → ℕ → ℕ
+flag b n = if b then n else 0
+
+abbrev pub magic_row : Rows → ℕ → Option MagicRow
+magic_row w c = find (λ row. row.client == c) w.magics
+
+abbrev pub client_flags : Rows → ClientRow → ℕ
+client_flags w row =
+    flag row.render 1 + flag row.root 2 + flag row.authenticated 4 + flag row.once_master 8 + flag row.is_master 16
+    + flag (option_map_or (λ (magic : MagicRow). magic.spent) (magic_row w row.client) false) 32
+
+abbrev pub client_audit : Rows → ClientRow → AuditRow
+client_audit w row =
+    audit_row row.client (client_flags w row) (or_zero row.master) (option_map_or (λ (magic : MagicRow). magic.number) (magic_row w row.client) 0)
+
+abbrev pub hold_count : Rows → ℕ → ℕ
+hold_count w o = length (filter (λ row. row.object == o) w.holds)
+
+abbrev pub reference_count : Rows → ℕ → ℕ
+reference_count w o = length (filter (λ row. row.object == o) w.tokens) + length (filter (λ row. row.object == o) w.framebuffers)
+
+abbrev pub master_audit : MasterRow → AuditRow
+master_audit row = audit_row row.master (or_zero row.lessor) row.lessee_id (or_zero row.lease_token)
+
+abbrev pub object_audit : Rows → ObjectRow → AuditRow
+object_audit w row = audit_row row.object row.size (hold_count w row.object) (reference_count w row.object)
+
+abbrev pub hold_audit : HoldRow → AuditRow
+hold_audit row = audit_row row.client row.handle row.object (or_zero row.place)
+
+-- the rows of a kind
+unfoldable pub audit_rows : Rows → AuditKind → List AuditRow
+audit_rows w Client = map (client_audit w) w.clients
+audit_rows w Master = map master_audit w.masters
+audit_rows w Object = map (object_audit w) w.objects
+audit_rows w Name = map (λ (row : NameRow). audit_row row.name row.object 0 0) w.names
+audit_rows w Token = map (λ (row : TokenRow). audit_row row.token row.client row.object 0) w.tokens
+audit_rows w Hold = map hold_audit w.holds
+audit_rows w Grant = map (λ (row : GrantRow). audit_row row.master row.mode_object 0 0) w.grants
+audit_rows w Framebuffer = map (λ (row : FramebufferRow). audit_row row.framebuffer row.client row.object 0) w.framebuffers
+audit_rows w Shown = map (λ (row : ShownRow). audit_row row.shower row.framebuffer 0 0) w.shown
+audit_rows w Device = audit_row (or_zero w.device_master) w.last_token w.last_lease_token w.steps ∷ []
+
+-- rows rise by a, then by b
+abbrev pub is_before : AuditRow → AuditRow → Bool
+is_before x y = nat_lt x.a y.a || ((x.a == y.a) && nat_le x.b y.b)
+
+abbrev pub row_inserted : AuditRow → List AuditRow → List AuditRow
+row_inserted row [] = row ∷ []
+row_inserted row (x ∷ xs) = if is_before row x then row ∷ x ∷ xs else x ∷ row_inserted row xs
+
+unfoldable pub rising_rows : List AuditRow → List AuditRow
+rising_rows [] = []
+rising_rows (x ∷ xs) = row_inserted x (rising_rows xs)
+
+-- at most 16 rows, after the first `from`
+unfoldable pub audit_page : Rows → AuditKind → ℕ → List AuditRow
+audit_page w kind from = take 16 (drop from (rising_rows (audit_rows w kind)))

@@ -1,0 +1,213 @@
+//! Sessions over real Unix sockets, with the clients in a thread of this process.
+
+use drm_device::{Device, Limits, Topology};
+use drm_server::{Counts, ListEnd, ServeFault, list_audit, serve_all};
+use drm_sessions::{Class, Session, SessionEnd};
+use drm_test_streams::CutSink;
+use std::alloc::Global;
+use std::io::{Read, Write};
+use std::net::{Net, Shutdown};
+use std::os::unix::net::{UnixListener, UnixStream};
+use std::test::Fail;
+use std::{env, fs, io, process, thread};
+
+/// A hello for a node, and VERSION.
+const HELLO_VERSION: [u8; 24] = [
+    0x0e, 0, 0, 0, 0, 1, 1, 0, 0, 0, 0, 0, 0, 0, 0, 0, 0, 0, 2, 0, 0, 0, 0, 0,
+];
+
+/// Client 1 was opened, and the version is 1.0.0.
+const ANSWERS: [u8; 28] = [
+    6, 0, 0, 0, 1, 0x10, 1, 0, 0, 0, 0x0e, 0, 0, 0, 2, 0x10, 1, 0, 0, 0, 0, 0, 0, 0, 0, 0, 0, 0,
+];
+
+/// The paths of the three sockets of a test.
+#[derive(Drop)]
+struct Places {
+    card: String,
+    render: String,
+    root: String,
+}
+
+/// The sockets of a test.
+#[derive(Drop)]
+struct Sockets {
+    card: UnixListener,
+    render: UnixListener,
+    root: UnixListener,
+}
+
+/// The path of a socket of this test.
+fn place(rt: &HostRuntime, alloc: Global, name: &str) -> io::Result<String> {
+    let folder = env::temp_dir(rt)?;
+    let folder = folder.as_path().to_str().unwrap_or("/tmp");
+    let id = process::id(rt.process());
+    Ok(format!(in alloc; "{folder}/drm_{id}_{name}")?)
+}
+
+fn choose_places(rt: &HostRuntime, alloc: Global) -> io::Result<Places> {
+    Ok(Places {
+        card: place(rt, alloc, "card")?,
+        render: place(rt, alloc, "render")?,
+        root: place(rt, alloc, "root")?,
+    })
+}
+
+fn bind(rt: &HostRuntime, places: &Places) -> io::Result<Sockets> {
+    Ok(Sockets {
+        card: UnixListener::bind(rt, places.card.as_str())?,
+        render: UnixListener::bind(rt, places.render.as_str())?,
+        root: UnixListener::bind(rt, places.root.as_str())?,
+    })
+}
+
+fn remove(rt: &HostRuntime, places: &Places) -> io::Result<()> {
+    fs::remove_file(rt, places.card.as_str())?;
+    fs::remove_file(rt, places.render.as_str())?;
+    fs::remove_file(rt, places.root.as_str())
+}
+
+/// A new device.
+fn device(alloc: Global) -> Result<Device, Fail> {
+    let topology = Topology::new(2, &[1, 2], &[3, 2], &[5, 6]).ok_or("no topology")?;
+    Ok(Device::new(alloc, topology, Limits::PROGRAM)?)
+}
+
+/// Sends the text, ends its writing, and gives what came back.
+fn ask<R: Net>(rt: &R, alloc: Global, path: &str, text: &[u8]) -> io::Result<Vec<u8>> {
+    let mut stream = UnixStream::connect(rt, path)?;
+    stream.write_all(text)?;
+    stream.shutdown(Shutdown::Write)?;
+    let mut answers = Vec::new(alloc);
+    stream.read_to_end(&mut answers)?;
+    Ok(answers)
+}
+
+/// Opens a client, and gives its connection once the answer is read.
+fn open<R: Net>(rt: &R, path: &str) -> io::Result<UnixStream> {
+    let (hello, _) = HELLO_VERSION.split_at(18);
+    let mut stream = UnixStream::connect(rt, path)?;
+    stream.write_all(hello)?;
+    let mut answer = [0; 10];
+    stream.read_exact(&mut answer)?;
+    Ok(stream)
+}
+
+/// Opens four clients, which are all open before the first goes.
+fn open_four<R: Net>(rt: &R, places: &Places) -> io::Result<()> {
+    let root = open(rt, places.root.as_str())?;
+    let render = open(rt, places.render.as_str())?;
+    let card = open(rt, places.card.as_str())?;
+    let other = open(rt, places.card.as_str())?;
+    for stream in [&card, &other, &render, &root] {
+        stream.shutdown(Shutdown::Both)?;
+    }
+    Ok(())
+}
+
+#[test]
+fn serves_one_connection(rt: HostRuntime) -> Result<(), Fail> {
+    let alloc: Global = rt.alloc();
+    let places = choose_places(&rt, alloc)?;
+    let sockets = bind(&rt, &places)?;
+    let device = device(alloc)?;
+    let counts = Counts {
+        cards: 1,
+        renders: 0,
+        roots: 0,
+    };
+    let (answers, served) = thread::join(
+        &rt,
+        || ask(&rt, alloc, places.card.as_str(), &HELLO_VERSION),
+        || {
+            serve_all(
+                &rt,
+                alloc,
+                device,
+                &sockets.card,
+                &sockets.render,
+                &sockets.root,
+                counts,
+            )
+        },
+    );
+    remove(&rt, &places)?;
+    assert_eq!(&rt; answers?.as_slice(), ANSWERS.as_slice());
+    let (device, sessions) = served?;
+    let session = Session {
+        end: SessionEnd::Ended,
+        client: 1,
+        steps: 3,
+    };
+    assert_eq!(&rt; sessions.as_slice(), [session].as_slice());
+    let mut listing: CutSink<64> = CutSink::new(64);
+    assert_eq!(&rt; list_audit(&device, &mut listing, 1_000), ListEnd::Done);
+    assert_eq!(&rt; listing.written(), b"device 0 0 0 3\n");
+    Ok(())
+}
+
+#[test]
+fn serves_four_connections_at_once(rt: HostRuntime) -> Result<(), Fail> {
+    let alloc: Global = rt.alloc();
+    let places = choose_places(&rt, alloc)?;
+    let sockets = bind(&rt, &places)?;
+    let device = device(alloc)?;
+    let counts = Counts {
+        cards: 2,
+        renders: 1,
+        roots: 1,
+    };
+    let (opened, served) = thread::join(
+        &rt,
+        || open_four(&rt, &places),
+        || {
+            serve_all(
+                &rt,
+                alloc,
+                device,
+                &sockets.card,
+                &sockets.render,
+                &sockets.root,
+                counts,
+            )
+        },
+    );
+    remove(&rt, &places)?;
+    opened?;
+    let (device, sessions) = served?;
+    let ended = |client: u32| Session {
+        end: SessionEnd::Ended,
+        client,
+        steps: 2,
+    };
+    let order = [ended(3), ended(4), ended(2), ended(1)];
+    assert_eq!(&rt; sessions.as_slice(), order.as_slice());
+    assert_eq!(&rt; device.journal().len(), 8);
+    Ok(())
+}
+
+#[test]
+fn tells_of_a_connection_that_is_not_accepted(rt: HostRuntime) -> Result<(), Fail> {
+    let alloc: Global = rt.alloc();
+    let places = choose_places(&rt, alloc)?;
+    let sockets = bind(&rt, &places)?;
+    sockets.render.set_nonblocking(true)?;
+    let device = device(alloc)?;
+    let counts = Counts {
+        cards: 0,
+        renders: 1,
+        roots: 0,
+    };
+    let served = serve_all(
+        &rt,
+        alloc,
+        device,
+        &sockets.card,
+        &sockets.render,
+        &sockets.root,
+        counts,
+    );
+    remove(&rt, &places)?;
+    assert_eq!(&rt; served.err(), Some(ServeFault::Accept(Class::Render)));
+    Ok(())
+}

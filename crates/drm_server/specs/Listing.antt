@@ -1,0 +1,43 @@
+-- The listing of what a device holds (own).
+use Rattle.std.specs.Prelude.{◌≡◌, ℕ, ◌+◌, ◌<◌, ◌≤◌, List, [], ◌++◌, length}
+use Rattle.std.specs.List.{flat_map}
+use Rattle.drm_table.specs.declared.audits.AuditKind.{AuditKind}
+use Rattle.drm_table.specs.Audits.{kinds}
+use Rattle.drm_model.specs.Rows.{Rows}
+use Rattle.drm_model.specs.Audit.{audit_rows, rising_rows}
+use Rattle.drm_frames.specs.Streams.{SinkAccount}
+use Rattle.drm_frames.specs.Turns.{Took, Pays, PaysPart}
+use Rattle.drm_frames.specs.declared.turns.Written.{Written}
+use Rattle.drm_frames.specs.declared.turns.Written.TheVariants as written
+use Rattle.drm_script.specs.Lines.{audit_line}
+use Rattle.drm_server.specs.declared.listing.ListEnd.{ListEnd}
+use Rattle.drm_server.specs.declared.listing.ListEnd.TheVariants as ends
+
+-- a line for each row of a kind, in the order of the rows' numbers
+abbrev pub kind_text : Rows → AuditKind → List ℕ
+kind_text w kind = flat_map (audit_line kind) (rising_rows (audit_rows w kind))
+
+-- the lines of all kinds, rising by number
+unfoldable pub audit_text : Rows → List ℕ
+audit_text w = flat_map (kind_text w) kinds
+
+-- what came of writing a text: the whole was written, or a front of it that isn't; each call cost a turn
+abbrev pub WritesOut : Written → SinkAccount → SinkAccount → List ℕ → ℕ → ℕ → Type 0
+WritesOut written.Whole old new text had has = Pays old new text had has
+WritesOut written.Fault old new text had has = PaysPart old new text had has × (old.counts.faults < new.counts.faults)
+WritesOut written.TurnsUsed old new text had has = PaysPart old new text had has × (has ≡ 0)
+
+-- why a listing ended, by what was not written and what the sink's account shows
+abbrev pub Because : ListEnd → List ℕ → SinkAccount → SinkAccount → ℕ → Type 0
+Because ends.Done later old new turns = later ≡ []
+Because ends.WriteFault later old new turns = (0 < length later) × (old.counts.faults < new.counts.faults)
+Because ends.TurnsUsed later old new turns = (0 < length later) × (new.counts.calls ≡ old.counts.calls + turns)
+
+-- A listing: what it wrote, a front of the whole, at what cost, and why it ended.
+pub record Lists (w : Rows) (old new : SinkAccount) (turns : ℕ) (end : ListEnd) : Type 0 where
+  pub written : List ℕ
+  pub later : List ℕ
+  pub parts : audit_text w ≡ written ++ later
+  pub took : Took old new written
+  pub turns_at_most : new.counts.calls ≤ old.counts.calls + turns
+  pub because : Because end later old new turns

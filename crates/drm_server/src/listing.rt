@@ -1,0 +1,79 @@
+//! Listing what a device holds.
+
+ghost use Rattle.std.specs.Prelude.{◌≡◌, ◌<◌, ◌+◌, ◌^◌};
+ghost use Rattle.std.specs.List.{flat_map};
+ghost use Rattle.drm_model.specs.Run.{rows_of};
+ghost use Rattle.drm_script.specs.Lines as lines;
+ghost use Rattle.drm_server.specs.Listing.{Lists, WritesOut, kind_text};
+
+use drm_device::Device;
+use drm_frames::{Sink, Written, put_all};
+use drm_script::audit_line;
+use drm_table::{AuditKind, AuditRow};
+
+/// How many rows a page of an audit has at most.
+const PAGE: u32 = 16;
+
+/// More pages than any kind has.
+const PAGES: u32 = 1 << 27;
+
+/// How a listing ends (own).
+#[derive(Clone, Copy, Debug, PartialEq, Eq)]
+pub enum ListEnd {
+    /// All rows are written.
+    Done,
+    /// The sink failed; a front of the lines is written.
+    WriteFault,
+    /// A call of the sink was wanted, and no turn was left for it; a front of the lines is written.
+    TurnsUsed,
+}
+
+/// Writes a line for each row of the device, kind by kind, the rows of a kind in the order of their numbers, in at most so
+/// many calls of the sink. A line has the kind's name and the row's four numbers (own).
+pub fn list_audit<K: Sink>(device: &Device, sink: &mut K, turns: u64) -> ListEnd
+    requires { (K.account sink.old).counts.calls + turns < 2 ^ 48 }
+    ensures { Lists (rows_of device.now) (K.account sink.old) (K.account sink.new) turns result }
+{
+    let mut left = turns;
+    for kind in AuditKind::ALL {
+        match list_kind(device, kind, sink, &mut left) {
+            Written::Whole => {}
+            Written::Fault => return ListEnd::WriteFault,
+            Written::TurnsUsed => return ListEnd::TurnsUsed,
+        }
+    }
+    ListEnd::Done
+}
+
+/// Writes the lines of a kind.
+fn list_kind<K: Sink>(device: &Device, kind: AuditKind, sink: &mut K, turns: &mut u64) -> Written
+    requires { (K.account sink.old).counts.calls + turns.old < 2 ^ 48 }
+    ensures { WritesOut result (K.account sink.old) (K.account sink.new) (kind_text (rows_of device.now) kind) turns.old turns.new }
+{
+    for number in 0..PAGES {
+        let page = device.audit(kind, number * PAGE);
+        let rows = page.rows();
+        if rows.is_empty() {
+            return Written::Whole;
+        }
+        match list_rows(kind, rows, sink, turns) {
+            Written::Whole => {}
+            stopped => return stopped,
+        }
+    }
+    Written::Whole
+}
+
+/// Writes the lines of some rows of a kind.
+fn list_rows<K: Sink>(kind: AuditKind, rows: &[AuditRow], sink: &mut K, turns: &mut u64) -> Written
+    requires { (K.account sink.old).counts.calls + turns.old < 2 ^ 48 }
+    ensures { WritesOut result (K.account sink.old) (K.account sink.new) (flat_map (lines.audit_line kind) rows.now) turns.old turns.new }
+{
+    for row in rows {
+        match put_all(sink, audit_line(kind, row).as_bytes(), turns) {
+            Written::Whole => {}
+            stopped => return stopped,
+        }
+    }
+    Written::Whole
+}

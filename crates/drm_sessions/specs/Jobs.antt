@@ -1,0 +1,18 @@
+-- A job, and what came of it.
+use Rattle.std.specs.Prelude.{◌+◌, ◌^◌, ◌<◌}
+use Rattle.drm_turns.specs.Seats.{fresh}
+use Rattle.drm_frames.specs.Streams.{SourceAccount, SinkAccount}
+use Rattle.drm_sessions.specs.declared.jobs.Job.{Job}
+use Rattle.drm_sessions.specs.declared.jobs.Finished.{Finished}
+use Rattle.drm_sessions.specs.Serving.{Costs}
+use Rattle.drm_sessions.specs.Shared.{ServesShared}
+
+-- The calls of each side, with the job's turns, can be counted.
+pub record HasTurns {G S K : Type 0} (source_account : S → SourceAccount) (sink_account : K → SinkAccount) (job : Job G S K) : Type 0 where
+  pub source : (source_account job.source).counts.calls + job.turns < 2 ^ 48
+  pub sink : (sink_account job.sink).counts.calls + job.turns < 2 ^ 48
+
+-- The job was served through a seat of its own, from its source and into its sink.
+pub record IsServed {G S K : Type 0} (source_account : S → SourceAccount) (sink_account : K → SinkAccount) (job : Job G S K) (finished : Finished S K) : Type 0 where
+  pub serves : ServesShared job.class fresh fresh (source_account job.source) (source_account finished.source) (sink_account job.sink) (sink_account finished.sink) finished.session
+  pub costs : Costs (source_account job.source) (source_account finished.source) (sink_account job.sink) (sink_account finished.sink) job.turns finished.session.end

@@ -1,0 +1,122 @@
+//! A session that is to be served in a thread of its own.
+
+ghost use Rattle.std.specs.Prelude.{◌≡◌, IfSome};
+ghost use Rattle.drm_turns.specs.Seats.{fresh};
+ghost use Rattle.drm_sessions.specs.Jobs.{HasTurns, IsServed};
+
+use crate::access::Gate;
+use crate::class::Class;
+use crate::end::Session;
+use crate::through::{Served, serve_through};
+use drm_frames::{Sink, Source};
+use drm_turns::{Seat, SharedDevice};
+use std::snapshot::Snapshot;
+use std::sync::Wait;
+use std::thread::{Promise, PromisedHandle, Scope, Threads};
+
+/// A session that is to be served.
+#[derive(Drop)]
+pub struct Job<G, S, K> {
+    /// What is called before each of its requests.
+    pub gate: G,
+    /// The class of its listener.
+    pub class: Class,
+    /// Where its frames come from.
+    pub source: S,
+    /// Where its answers go.
+    pub sink: K,
+    /// How many calls of the source and the sink it may make together.
+    pub turns: u64,
+}
+
+/// A session that was served, with the source and the sink as it left them.
+#[derive(Drop)]
+pub struct Finished<S, K> {
+    pub session: Session,
+    pub source: S,
+    pub sink: K,
+}
+
+/// What a job's thread gives back.
+#[derive(Drop)]
+pub(crate) struct Returned<S, K> {
+    pub(crate) finished: Finished<S, K>,
+    pub(crate) seat: Seat,
+}
+
+/// That a thread serves the job that it was given.
+#[derive(Drop)]
+pub(crate) struct JobServed<G, S, K>(Snapshot<Job<G, S, K>>);
+
+impl<G, S: Source, K: Sink> Promise<Returned<S, K>> for JobServed<G, S, K> {
+    ghost kept_by = { λ promise returned. IsServed S.account K.account promise.0.value returned.finished
+        × (returned.seat ≡ fresh) };
+}
+
+/// A thread that serves a job.
+pub(crate) type JobHandle<G, S, K> = PromisedHandle<Returned<S, K>, JobServed<G, S, K>>;
+
+// Serves the job.
+fn run_job<R: Wait, G: Gate + Drop, S: Source, K: Sink>(
+    rt: &R,
+    shared: &SharedDevice,
+    seat: Seat,
+    job: Job<G, S, K>,
+) -> Returned<S, K>
+    requires turns { HasTurns S.account K.account job }
+    requires seat { seat ≡ fresh }
+    ensures served { IsServed S.account K.account job result.finished }
+    ensures seat { result.seat ≡ fresh }
+{
+    let Job {
+        mut gate,
+        class,
+        mut source,
+        mut sink,
+        turns,
+    } = job;
+    let Served { session, seat } = serve_through(
+        rt,
+        shared,
+        seat,
+        &mut gate,
+        class,
+        &mut source,
+        &mut sink,
+        turns,
+    );
+    Returned {
+        finished: Finished {
+            session,
+            source,
+            sink,
+        },
+        seat,
+    }
+}
+
+/// Starts a thread that serves the job, where one can be made.
+pub(crate) fn start_job<
+    's,
+    E: 's,
+    R: Wait + Threads + Sync,
+    G: Gate + Send + Drop + 's,
+    S: Source + Send + Drop + 's,
+    K: Sink + Send + Drop + 's,
+>(
+    scope: &Scope<'s, E>,
+    rt: &'s R,
+    shared: &'s SharedDevice,
+    seat: Seat,
+    job: Job<G, S, K>,
+) -> Option<JobHandle<G, S, K>>
+    requires turns { HasTurns S.account K.account job }
+    requires seat { seat ≡ fresh }
+    ensures { IfSome result (λ handle. handle.promise.0.value ≡ job) }
+{
+    let promise = JobServed(Snapshot::of(&job));
+    match scope.spawn_with(promise, move || run_job(rt, shared, seat, job)) {
+        Ok(handle) => Some(handle),
+        Err(_) => None,
+    }
+}

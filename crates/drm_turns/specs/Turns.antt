@@ -1,0 +1,22 @@
+-- What one call does to the device that it has locked.
+use Rattle.std.specs.Prelude.{◌≡◌, Result, Ok, Err}
+use Rattle.drm_table.specs.declared.answers.Answer.{Answer}
+use Rattle.drm_table.specs.declared.apart.Apart.{Apart}
+use Rattle.drm_table.specs.declared.events.Event.{Event}
+use Rattle.drm_model.specs.Run.{History, Step, noted_in, rows_of}
+
+-- what is answered is noted, and what stands apart leaves the device as it was
+abbrev pub history_after : History → Event → Result Answer Apart → History
+history_after old event (Ok answer) = noted_in old event
+history_after old event (Err apart) = old
+
+-- The device answered the event from its rows, which are those of its journal.
+pub record Steps (old : History) (event : Event) (result : Result Answer Apart) (new : History) : Type 0 where
+  pub step : Step (rows_of old) event result (rows_of new)
+  pub history : new ≡ history_after old event result
+
+-- Some device that was locked answered the event, and was let go as the step left it.
+pub record Turn (event : Event) (result : Result Answer Apart) : Type 0 where
+  pub before : History
+  pub after : History
+  pub steps : Steps before event result after
