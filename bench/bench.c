@@ -211,6 +211,7 @@ int main(int count, char **words) {
     signal(SIGPIPE, SIG_IGN);
     printf("%11s  %28s  %28s  %s\n", "", "drm_server", "echo", "server / echo");
     printf("connections  requests/s  50%% us  99%% us  requests/s  50%% us  99%% us  requests/s  50%% us  99%% us\n");
+    fflush(stdout);
     for (size_t i = 0; i < sizeof connections / sizeof *connections; i++) {
         snprintf(path, sizeof path, "%s/echo%zu", folder, i);
         pid_t child = start_echo(path, connections[i]);

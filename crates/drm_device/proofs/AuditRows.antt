@@ -1,13 +1,12 @@
 -- The rows of an audit, by the lists that stand for them.
-use Rattle.std.proofs.Common.{◌≡◌, ℕ, ◌+◌, ◌==◌, ◌<◌, nat_lt, Bool, true, false, List, [], ◌∷◌, map, filter, length, Option, None, Some, refl, sym, ◌∙◌, ap, arith}
+use Rattle.std.proofs.Common.{◌≡◌, ℕ, ◌==◌, ◌<◌, true, List, [], ◌∷◌, map, filter, length, Option, refl, sym, ◌∙◌, ap, arith}
 use Rattle.std.specs.Prelude.{slice_get}
 use Rattle.std.specs.Option.{option_map}
 use Rattle.std.proofs.lemmas.Bool.Decides.{nat_tests}
 use Rattle.std.proofs.lemmas.Option.{slice_get-map}
 use Rattle.drm_table.specs.declared.audits.AuditRow.{AuditRow}
 use Rattle.drm_table.specs.declared.audits.AuditKind.TheVariants.{Client, Master, Object, Hold, Device}
-use Rattle.drm_model.specs.Rows.{Rows, ClientRow, MasterRow, ObjectRow, HoldRow}
-use Rattle.drm_model.specs.Orders.{SameRows, InOrder}
+use Rattle.drm_model.specs.Rows.{Rows, HoldRow}
 use Rattle.drm_model.specs.Births.{MadeInTurn}
 use Rattle.drm_model.specs.Audit.{audit_row, or_zero, is_before, client_audit, master_audit, object_audit, hold_audit, hold_count, audit_rows, rising_rows}
 use Rattle.drm_model.proofs.Lists.{map-map, filter-map, length-map}

@@ -5,7 +5,6 @@ use Rattle.drm_table.specs.declared.events.Event.{Event}
 use Rattle.drm_table.specs.declared.limits.Limits.{Limits}
 use Rattle.drm_model.specs.Topology.{Topology}
 use Rattle.drm_model.specs.Run.{History, rows_of, Step}
-use Rattle.drm_device.specs.declared.device.NewFault.{NewFault}
 use Rattle.drm_device.specs.declared.device.NewFault.TheVariants.{BadLimits, NoMemory}
 use Rattle.drm_device.specs.declared.replays.ReplayFault.{ReplayFault}
 use Rattle.drm_device.specs.declared.replays.ReplayFault.TheVariants.{New, Stopped}

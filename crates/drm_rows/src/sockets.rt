@@ -142,7 +142,7 @@ fn serves_one_connection(rt: HostRuntime) -> Result<(), Fail> {
     assert_eq!(&rt; sessions.as_slice(), [session].as_slice());
     let mut listing: CutSink<64> = CutSink::new(64);
     assert_eq!(&rt; list_audit(&device, &mut listing, 1_000), ListEnd::Done);
-    assert_eq!(&rt; listing.written(), b"device 0 0 0 3\n");
+    assert_eq!(&rt; listing.written(), b"device 0 0 0 3\n".as_slice());
     Ok(())
 }
 

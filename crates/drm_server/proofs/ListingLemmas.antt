@@ -1,14 +1,13 @@
 -- Writing a listing, text by text.
-use Rattle.std.proofs.Common.{◌≡◌, ℕ, zero, suc, ◌+◌, ◌*◌, ◌<◌, ◌≤◌, List, [], ◌∷◌, ◌++◌, length, length-append, take, drop, refl, sym, ◌∙◌, ap, subst, arith, get_or}
+use Rattle.std.proofs.Common.{◌≡◌, ℕ, zero, suc, ◌+◌, ◌<◌, ◌≤◌, List, [], ◌∷◌, ◌++◌, length, length-append, take, drop, refl, sym, ◌∙◌, ap, arith, get_or}
 use Rattle.std.specs.List.{flat_map}
 use Rattle.std.proofs.lemmas.Grind.{flat_map-append}
 use Rattle.std.proofs.lemmas.List.{take-append-drop}
 use Rattle.drm_frames.specs.Streams.{SinkAccount}
-use Rattle.drm_frames.specs.Turns.{Took, Pays, PaysPart, Writes}
+use Rattle.drm_frames.specs.Turns.{Pays, PaysPart, Writes}
 use Rattle.drm_frames.specs.declared.turns.Written.{Written}
 use Rattle.drm_frames.specs.declared.turns.Written.TheVariants as written
 use Rattle.drm_frames.proofs.Accounts.{Took-none, Took-then}
-use Rattle.drm_server.specs.declared.listing.ListEnd.{ListEnd}
 use Rattle.drm_server.specs.declared.listing.ListEnd.TheVariants as ends
 use Rattle.drm_model.specs.Rows.{Rows}
 use Rattle.drm_server.specs.Listing.{Lists, WritesOut, audit_text}

@@ -7,6 +7,7 @@ ghost use Rattle.drm_server.specs.Faults as faults;
 
 use arrayvec::ArrayString;
 use drm_listeners::{ServeFault, class_word};
+use drm_script::push_number;
 use drm_sessions::Class;
 use std::marker::Model;
 
@@ -70,15 +71,6 @@ impl FaultLine {
     {
         self.text.as_str()
     }
-}
-
-fn push_number(text: &mut ArrayString<LINE>, number: u64)
-    requires { array_string_len text.old + 20 ≤ LINE }
-    ensures bytes { text.new.bytes ≡ text.old.bytes ++ decimal number }
-    ensures len { array_string_len text.new ≤ array_string_len text.old + 20 }
-{
-    let mut buffer = itoa::Buffer::new();
-    text.push_str(buffer.format(number));
 }
 
 fn push_class(text: &mut ArrayString<LINE>, action: &str, class: Class)

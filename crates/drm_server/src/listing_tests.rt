@@ -1,5 +1,7 @@
 //! Listings of a small device, whole and cut.
 
+ghost use Rattle.std.specs.Prelude.{◌+◌, ◌<◌, ◌^◌};
+
 use crate::{ListEnd, list_audit};
 use drm_device::{Device, Topology, replay};
 use drm_table::{Call, Event, Limits, Opening};

@@ -29,11 +29,14 @@ pub struct Job<G, S, K> {
     pub turns: u64,
 }
 
-/// A session that was served, with the source and the sink as it left them.
+/// A session that was served, with its source and its sink.
 #[derive(Drop)]
 pub struct Finished<S, K> {
+    /// How it ended, and what it did.
     pub session: Session,
+    /// The source, as the session left it.
     pub source: S,
+    /// The sink, as the session left it.
     pub sink: K,
 }
 

@@ -129,7 +129,7 @@ pub fn serve_many<
     seat: &mut Seat,
     jobs: Vec<Job<G, S, K>>,
 ) -> Result<Vec<Finished<S, K>>, ManyFault>
-    requires { All (λ job. HasTurns S.account K.account job) jobs.items }
+    requires turns { All (λ job. HasTurns S.account K.account job) jobs.items }
     ensures served { IfOk result (λ sessions. Matched
         (λ job finished. IsServed S.account K.account job finished) jobs.items sessions.items) }
     // The jobs' seats come with one that took them in.

@@ -33,14 +33,14 @@ impl<'a, R: Wait> Model for Through<'a, R> {
 impl<'a, R: Wait> Through<'a, R> {
     /// The shared device, through this seat of it.
     pub fn new(rt: &'a R, shared: &'a SharedDevice, seat: Seat) -> Through<'a, R>
-        ensures { result ≡ seat }
+        ensures seat { result ≡ seat }
     {
         Through { rt, shared, seat }
     }
 
     /// Gives the seat back.
     pub fn into_seat(self) -> Seat
-        ensures { result ≡ self.entry }
+        ensures seat { result ≡ self.entry }
     {
         let Through { seat, .. } = self;
         seat
@@ -58,6 +58,7 @@ impl<R: Wait> Access for Through<'_, R> {
 /// A session that was served through a seat.
 #[derive(Drop)]
 pub struct Served {
+    /// How it ended, and what it did.
     pub session: Session,
     /// The seat, as it was handed in.
     pub seat: Seat,

@@ -42,8 +42,8 @@ fn step_locked(device: &mut MutexGuard<'_, Device>, event: Event) -> Result<Answ
 }
 
 impl SharedDevice {
-    /// Shares the device, and gives the first seat. It takes no memory today and is never refused; a refusal gives the
-    /// device back.
+    /// Shares the device, and gives the first seat. Without memory there is no shared device, and the device is given
+    /// back; today it takes no memory and is never refused.
     pub fn new(_alloc: Global, device: Device) -> Result<(SharedDevice, Seat), (Device, NoMemory)>
         ensures shared { IsOk result }
         ensures seat { IfOk result (λ made. made.1 ≡ fresh) }
@@ -81,9 +81,9 @@ impl SharedDevice {
         seat.take_in(other);
     }
 
-    /// The device, once nobody shares it. Today it is always there.
+    /// The device, once nobody shares it. A device that is still out with a call is an error, which today never comes.
     pub fn close(self, _seat: Seat) -> Result<Device, TurnOut>
-        ensures { IsOk result }
+        ensures closed { IsOk result }
     {
         Ok(self.device.into_inner())
     }

@@ -1,4 +1,4 @@
-use Rattle.std.proofs.Common.{◌≡◌, None, refl, ◌∙◌, ap, arith}
+use Rattle.std.proofs.Common.{ap, arith}
 use Rattle.drm_table.specs.declared.answers.Answer.TheVariants as answers
 use Rattle.drm_table.specs.declared.calls.Call.TheVariants.{Audit}
 use Rattle.drm_table.specs.declared.events.Event.TheVariants.{Ask}

@@ -1,4 +1,4 @@
-use Rattle.std.proofs.Common.{◌≡◌, ℕ, ◌+◌, [], ◌∷◌, ◌++◌, take, drop, length, length-append, refl, sym, ◌∙◌, ap, arith}
+use Rattle.std.proofs.Common.{◌≡◌, ◌+◌, [], ◌∷◌, ◌++◌, take, drop, length, length-append, ◌∙◌, ap, arith}
 use Rattle.drm_model.specs.Audit.{audit_rows, rising_rows, audit_page}
 use Rattle.drm_device.specs.Audits.{IsPage, IsRowAt}
 use Rattle.drm_device.proofs.Pages.{page-more, page-end}

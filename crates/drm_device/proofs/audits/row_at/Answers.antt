@@ -1,6 +1,5 @@
 use Rattle.std.proofs.Common.{◌≡◌, ℕ, [], ◌∷◌, None, Some, Option, List, refl, sym, ◌∙◌, ap, length, filter, ◌==◌, ◌⊎◌, inl, inr}
 use Rattle.std.specs.Prelude.{slice_get}
-use Rattle.drm_table.specs.declared.audits.AuditRow.{AuditRow}
 use Rattle.drm_model.specs.Audit.{client_audit, master_audit, object_audit, hold_audit, audit_row, audit_rows, rising_rows}
 use Rattle.drm_device.specs.declared.state.Client.{Client}
 use Rattle.drm_device.specs.declared.state.Hold.{Hold}

@@ -1,5 +1,5 @@
 use Rattle.std.proofs.Common.{◌≡◌, ◌+◌, ◌≤◌, filter, length, drop}
-use Rattle.drm_device.specs.Refinement.{comes_before, place_among}
+use Rattle.drm_device.specs.Refinement.{comes_before}
 use Rattle.drm_device.proofs.buffers.place_among.Given as goal
 
 abbrev pub invariant-loop-other : goal.invariant-loop-other

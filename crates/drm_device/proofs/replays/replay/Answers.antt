@@ -1,5 +1,4 @@
-use Rattle.std.proofs.Common.{◌≡◌, ℕ, ◌+◌, ◌<◌, false, refl, sym, ap, ◌∙◌, arith, Err, Ok, Result, List, Some, take, length, subst}
-use Rattle.std.specs.Prelude.{◌↔◌, slice_get}
+use Rattle.std.proofs.Common.{◌≡◌, false, refl, ap, ◌∙◌, Err, List, subst}
 use Rattle.drm_table.specs.declared.events.Event.{Event}
 use Rattle.drm_table.specs.declared.limits.Limits.{Limits}
 use Rattle.drm_model.specs.Topology.{Topology}
@@ -14,7 +13,7 @@ use Rattle.drm_device.specs.declared.device.NewFault.{NewFault}
 use Rattle.drm_device.specs.declared.device.NewFault.TheVariants.{BadLimits, NoMemory}
 use Rattle.drm_device.specs.declared.replays.ReplayFault.TheVariants.{New}
 use Rattle.drm_table.specs.Limits.{are_in_range}
-use Rattle.drm_device.specs.Replay.{IsReplay, StopsAt, history_before}
+use Rattle.drm_device.specs.Replay.{IsReplay, history_before}
 use Rattle.drm_device.proofs.replays.replay.Goals as goal
 
 new_fault : (t : Topology) (limits : Limits) (events : List Event) (fault : NewFault) → ((fault ≡ BadLimits) → are_in_range limits ≡ false) → IsReplay t limits events (Err (New fault))

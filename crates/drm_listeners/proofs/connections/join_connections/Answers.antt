@@ -1,4 +1,4 @@
-use Rattle.std.proofs.Common.{◌≡◌, ◌≤◌, ◌+◌, ◌∷◌, [], ◌++◌, length, ap, length-append, arith}
+use Rattle.std.proofs.Common.{◌∷◌, [], length, ap, length-append, arith}
 use Rattle.drm_listeners.specs.Connections.{IsSessionOf}
 use Rattle.drm_listeners.proofs.Matching.{Matched-push}
 use Rattle.drm_listeners.proofs.connections.join_connections.Goals as goal

@@ -1,5 +1,5 @@
-use Rattle.std.proofs.Common.{◌≡◌, subst, arith, vec_len}
-use Rattle.drm_listeners.specs.Connections.{IsSessionOf, IsServed}
+use Rattle.std.proofs.Common.{◌≡◌, subst, arith}
+use Rattle.drm_listeners.specs.Connections.{IsSessionOf}
 use Rattle.drm_listeners.proofs.Matching.{Matched-all, Matched-length}
 use Rattle.drm_listeners.proofs.connections.serve_in_scope.Goals as goal
 

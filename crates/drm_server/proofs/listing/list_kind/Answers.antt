@@ -1,4 +1,4 @@
-use Rattle.std.proofs.Common.{◌≡◌, ℕ, ◌∙◌, ◌++◌, ◌+◌, ◌*◌, ◌^◌, ◌<◌, ◌≤◌, ◌==◌, List, [], ◌∷◌, refl, sym, ap, subst, take, drop, length, arith, true}
+use Rattle.std.proofs.Common.{◌≡◌, ℕ, ◌∙◌, ◌+◌, ◌*◌, ◌^◌, ◌<◌, ◌≤◌, List, [], ◌∷◌, refl, sym, ap, subst, take, drop, length, arith}
 use Rattle.std.specs.List.{flat_map}
 use Rattle.std.proofs.lemmas.Bool.{eqb-true}
 use Rattle.drm_table.specs.declared.audits.AuditRow.{AuditRow}
@@ -6,9 +6,8 @@ use Rattle.drm_model.specs.Audit.{audit_rows, rising_rows, audit_page}
 use Rattle.drm_model.specs.Run.{rows_of}
 use Rattle.drm_frames.specs.Turns.{Pays}
 use Rattle.drm_script.specs.Lines as lines
-use Rattle.drm_server.specs.Listing.{WritesOut, kind_text}
+use Rattle.drm_server.specs.Listing.{WritesOut}
 use Rattle.drm_server.proofs.ListingLemmas.{pays-none, pays-then, stops, next-page, whole-page, last-page, all-taken}
-use Rattle.drm_server.proofs.listing.list_kind.Given.{Over}
 use Rattle.drm_server.proofs.listing.list_kind.Goals as goal
 
 empty : (xs : List AuditRow) → length xs ≡ 0 → xs ≡ []

@@ -1,8 +1,7 @@
-use Rattle.std.proofs.Common.{◌≡◌, ◌∙◌, ◌++◌, refl, sym, ap, subst, take, drop, arith, suc, get_or}
+use Rattle.std.proofs.Common.{◌∙◌, subst, take, drop, arith, suc}
 use Rattle.std.specs.List.{flat_map}
 use Rattle.drm_frames.specs.Turns.{Pays, Writes}
 use Rattle.drm_script.specs.Lines as lines
-use Rattle.drm_server.specs.Listing.{WritesOut}
 use Rattle.drm_server.proofs.ListingLemmas.{pays-none, pays-then, stops, writes_out, next-text, whole-text, all-taken}
 use Rattle.drm_server.proofs.listing.list_rows.Goals as goal
 

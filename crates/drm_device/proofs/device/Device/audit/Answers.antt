@@ -1,4 +1,4 @@
-use Rattle.std.proofs.Common.{◌≡◌, ℕ, ◌^◌, ◌<◌, length, sym, ◌∙◌, arith}
+use Rattle.std.proofs.Common.{◌^◌, ◌<◌, length, sym, ◌∙◌, arith}
 use Rattle.drm_model.specs.Audit.{audit_rows, rising_rows}
 use Rattle.drm_model.specs.Run.{rows_of}
 use Rattle.drm_model.proofs.Births.{births_rise}
