@@ -4,7 +4,7 @@ use Rattle.drm_table.specs.declared.apart.Apart.{Apart}
 use Rattle.drm_table.specs.declared.events.Event.{Event}
 use Rattle.drm_table.specs.declared.limits.Limits.{Limits}
 use Rattle.drm_model.specs.Topology.{Topology}
-use Rattle.drm_model.specs.Run.{History, rows_of, Step}
+use Rattle.drm_model.specs.Run.{History, FoundRoom, rows_of, start_of, Step}
 use Rattle.drm_device.specs.declared.device.NewFault.TheVariants.{BadLimits, NoMemory}
 use Rattle.drm_device.specs.declared.replays.ReplayFault.{ReplayFault}
 use Rattle.drm_device.specs.declared.replays.ReplayFault.TheVariants.{New, Stopped}
@@ -13,9 +13,10 @@ use Rattle.drm_table.specs.Limits.{are_in_range}
 abbrev pub history_before : Topology → Limits → List Event → ℕ → History
 history_before topology limits events n = record { topology = topology; limits = limits; journal = take n events }
 
--- the event at this place is the first that is not noted, and why
+-- the events before this place found room, so that they were noted; the one at it is refused, and why
 pub record StopsAt (topology : Topology) (limits : Limits) (events : List Event) (index : ℕ) (apart : Apart) : Type 0 where
   pub within : index < length events
+  pub found_room : FoundRoom (start_of (history_before topology limits events index)) (take index events)
   pub event : Event
   pub is_there : slice_get events index ≡ Some event
   pub refused : Step (rows_of (history_before topology limits events index)) event (Err apart) (rows_of (history_before topology limits events index))

@@ -32,10 +32,10 @@ pub fn replay(
         Ok(device) => device,
         Err(fault) => return Err(ReplayFault::New(fault)),
     };
-    for (index, event) in events.iter().enumerate() {
+    for event in events {
         if let Err(apart) = device.step(copy_of(event)) {
             return Err(ReplayFault::Stopped {
-                at: index + 1,
+                at: device.journal().len() + 1,
                 apart,
             });
         }

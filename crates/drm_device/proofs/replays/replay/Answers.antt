@@ -1,4 +1,4 @@
-use Rattle.std.proofs.Common.{◌≡◌, false, refl, ap, ◌∙◌, Err, List, subst}
+use Rattle.std.proofs.Common.{◌≡◌, ◌+◌, length, arith, false, refl, ap, ◌∙◌, Err, List, subst}
 use Rattle.drm_table.specs.declared.events.Event.{Event}
 use Rattle.drm_table.specs.declared.limits.Limits.{Limits}
 use Rattle.drm_model.specs.Topology.{Topology}
@@ -7,8 +7,8 @@ use Rattle.drm_table.specs.declared.events.Event.TheVariants.{Open}
 use Rattle.drm_table.specs.declared.events.Opening.TheVariants.{Primary}
 use Rattle.std.proofs.Common.{get_or}
 use Rattle.std.proofs.lemmas.Option.{slice_get-get_or}
-use Rattle.std.proofs.lemmas.List.{take_all}
-use Rattle.drm_model.specs.Run.{History, rows_of, Step}
+use Rattle.std.proofs.lemmas.List.{take_all, length-take-le}
+use Rattle.drm_model.specs.Run.{History, FoundRoom, rows_of, start_of, Step}
 use Rattle.drm_device.specs.declared.device.NewFault.{NewFault}
 use Rattle.drm_device.specs.declared.device.NewFault.TheVariants.{BadLimits, NoMemory}
 use Rattle.drm_device.specs.declared.replays.ReplayFault.TheVariants.{New}
@@ -31,19 +31,23 @@ returns-in-Err c = new_fault c.args.topology c.args.limits c.args.events.now c.i
 pub returns-in-Err-step : goal.returns-in-Err-step
 unfolding IsReplay
 returns-in-Err-step c =
-    let index = c.loop-index.index in
-    let at : c.loop-index.device ≡ history_before c.args.topology c.args.limits c.args.events.now index = c.loop-index.invariant in
-    let same : c.step.new.self ≡ c.loop-index.device = c.in-Err-step.ensures.err in (
+    let index = c.loop-event.event-index in
+    let at : c.loop-event.device ≡ history_before c.args.topology c.args.limits c.args.events.now index = c.loop-event.invariant in
+    let same : c.step.new.self ≡ c.loop-event.device = c.in-Err-step.ensures.err in
+    let noted : c.step.new.self ≡ history_before c.args.topology c.args.limits c.args.events.now index = same ∙ at in
+    let count : length c.journal.result.now ≡ index =
+    ap length (c.journal.ensures.events ∙ ap (λ (h : History). h.journal) noted) ∙ length-take-le index c.args.events.now (omega (arith, c.loop-event-test.true)) in (
       index,
-      refl,
+      ap (λ n. n + 1) count,
       record {
-        within = c.loop-index-test.true;
+        within = c.loop-event-test.true;
+        found_room = subst (λ (h : History). FoundRoom (start_of h) h.journal) noted c.journal.ensures.found_room;
         event = get_or c.args.events.now index (Open (Primary false));
-        is_there = slice_get-get_or c.args.events.now index (Open (Primary false)) c.loop-index-test.true;
-        refused = refused_at (get_or c.args.events.now index (Open (Primary false))) c.in-Err-step.apart c.loop-index.device c.step.new.self _ same at (subst (λ event. Step (rows_of c.loop-index.device) event (Err c.in-Err-step.apart) (rows_of c.step.new.self)) c.copy_of.ensures c.in-Err-step.ensures.step);
+        is_there = slice_get-get_or c.args.events.now index (Open (Primary false)) c.loop-event-test.true;
+        refused = refused_at (get_or c.args.events.now index (Open (Primary false))) c.in-Err-step.apart c.loop-event.device c.step.new.self _ same at (subst (λ event. Step (rows_of c.loop-event.device) event (Err c.in-Err-step.apart) (rows_of c.step.new.self)) c.copy_of.ensures c.in-Err-step.ensures.step);
       },
     )
 
 pub returns : goal.returns
 unfolding IsReplay
-returns c = c.loop-index.invariant ∙ ap (λ j. record { topology = c.args.topology; limits = c.args.limits; journal = j }) (take_all c.loop-index.index c.args.events.now c.loop-index-test.false)
+returns c = c.loop-event.invariant ∙ ap (λ j. record { topology = c.args.topology; limits = c.args.limits; journal = j }) (take_all c.loop-event.event-index c.args.events.now c.loop-event-test.false)
