@@ -18,8 +18,15 @@ HELLO = 0x0100
 CALLS = {
     "version": (0x00, ""),
     "gem_close": (0x09, "I"),
+    "get_cap": (0x0C, "Q"),
+    "set_client_cap": (0x0D, "QQ"),
+    "buf_create": (0x40, "Q"),
+    "stamp_write": (0x41, "IQ"),
+    "stamp_read": (0x42, "I"),
+    "list_handles": (0x44, "I"),
     "audit": (0x45, "II"),
     "create_dumb": (0xB2, "III"),
+    "destroy_dumb": (0xB4, "I"),
 }
 
 # the answers with fields of a fixed number
@@ -27,9 +34,12 @@ ANSWERS = {
     0x1000: ("done", ""),
     0x1001: ("client", "I"),
     0x1002: ("version", "III"),
+    0x1003: ("number", "Q"),
     0x1004: ("dumb", "IIQ"),
+    0x1005: ("buffer", "IQ"),
     0x100C: ("closed", ""),
 }
+LIST = 0x1007
 AUDIT = 0x100B
 DENIED = 0x2000
 APART = 0x2001
@@ -75,6 +85,9 @@ def words(number, fields):
     if number in ANSWERS:
         name, layout = ANSWERS[number]
         return " ".join([name, *map(str, struct.unpack("<" + layout, fields))])
+    if number == LIST:
+        count, *ids = struct.unpack(f"<{len(fields) // 4}I", fields)
+        return "list " + (",".join(map(str, ids)) or "-")
     if number == AUDIT:
         count, = struct.unpack_from("<I", fields)
         rows = struct.iter_unpack("<4Q", fields[4:])

@@ -11,7 +11,29 @@ import re
 MODEL = pathlib.Path("crates/drm_model")
 TABLE = pathlib.Path("crates/drm_table/specs")
 # the script's word of each call, and the variant that stands for it
-CALLS = {"version": "Version", "gem_close": "GemClose", "audit": "Audit", "create_dumb": "CreateDumb"}
+CALLS = {
+    "version": "Version",
+    "gem_close": "GemClose",
+    "get_cap": "GetCap",
+    "set_client_cap": "SetClientCap",
+    "buf_create": "BufCreate",
+    "stamp_write": "StampWrite",
+    "stamp_read": "StampRead",
+    "list_handles": "ListHandles",
+    "audit": "Audit",
+    "create_dumb": "CreateDumb",
+    "destroy_dumb": "DestroyDumb",
+}
+# the word of each answer that is told by numbers, and the variant that stands for it
+ANSWERS = {
+    "done": "Done",
+    "closed": "Closed",
+    "client": "Opened",
+    "version": "VersionIs",
+    "number": "Number",
+    "dumb": "Dumb",
+    "buffer": "Buffer",
+}
 # the kinds of an audit, by number from 1
 KINDS = "Client Master Object Name Token Hold Grant Framebuffer Shown Device".split()
 LIMITS = "clients handles names tokens objects framebuffers lessees journal".split()
@@ -62,8 +84,10 @@ def answer(text, denials):
     if word == "rows":
         rows = [term("audit_row", *row.split()) for row in text.split(" | ")[1:]]
         return term("Ok", term("AuditIs", "(" + "".join(f"{row} ∷ " for row in rows) + "[])"))
-    name = {"done": "Done", "closed": "Closed", "client": "Opened", "version": "VersionIs", "dumb": "Dumb"}[word]
-    return term("Ok", term(name, *rest))
+    if word == "list":
+        ids = [] if rest[0] == "-" else rest[0].split(",")
+        return term("Ok", term("ListIs", "(" + "".join(f"{one} ∷ " for one in ids) + "[])"))
+    return term("Ok", term(ANSWERS[word], *rest))
 
 
 def opening(words):
@@ -115,7 +139,7 @@ def lemma(name, lines):
     uses = [
         "use Rattle.std.proofs.Common.{◌≡◌, true, false, List, [], ◌∷◌, Result, Ok, Err, refl}",
         "use Rattle.drm_table.specs.declared.answers.Answer.{Answer}",
-        "use Rattle.drm_table.specs.declared.answers.Answer.TheVariants.{Done, Opened, Version as VersionIs, Dumb, Audit as AuditIs, Closed, Denied}",
+        "use Rattle.drm_table.specs.declared.answers.Answer.TheVariants.{Done, Opened, Version as VersionIs, Number, Dumb, Buffer, List as ListIs, Audit as AuditIs, Closed, Denied}",
         "use Rattle.drm_table.specs.declared.apart.Apart.{Apart}",
         "use Rattle.drm_table.specs.declared.apart.Apart.TheVariants.{JournalFull}",
         f"use Rattle.drm_table.specs.declared.rules.Rule.TheVariants.{{{denials}}}",

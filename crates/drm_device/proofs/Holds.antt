@@ -1,5 +1,5 @@
 -- Handles in the order of their clients and numbers.
-use Rattle.std.proofs.Common.{◌≡◌, ℕ, zero, suc, ◌==◌, Bool, true, false, cond, ◌&&◌, ◌||◌, List, [], ◌∷◌, ◌++◌, map, filter, length, Some, refl, sym, ◌∙◌, ap, subst, arith}
+use Rattle.std.proofs.Common.{◌≡◌, ℕ, zero, suc, ◌==◌, nat_le, Bool, true, false, not, cond, ◌&&◌, ◌||◌, List, [], ◌∷◌, ◌++◌, map, filter, find, length, Some, refl, sym, ◌∙◌, ap, subst, arith, eq-eqb}
 use Rattle.std.specs.List.{list_any, insert, AllByRecursion}
 use Rattle.std.proofs.lemmas.Bool.Decides.{nat_tests}
 use Rattle.drm_model.specs.Orders.{SameRows, InOrder}
@@ -7,7 +7,7 @@ use Rattle.drm_model.specs.Numbers.{is_among, least}
 use Rattle.drm_model.specs.Rows.{HoldRow}
 use Rattle.drm_model.proofs.Lists.{all_weaker, map-append, is_some-find, is_among-map_filter}
 use Rattle.drm_model.proofs.Numbers.{least-is_free}
-use Rattle.drm_model.proofs.Orders.{same-append, same-insert, same-map, same-refl, same-trans}
+use Rattle.drm_model.proofs.Orders.{RisesTo, same-append, same-insert, same-map, same-refl, same-trans}
 use Rattle.drm_device.specs.declared.state.Hold.{Hold}
 use Rattle.drm_device.specs.Refinement.{comes_before, place_among, hold_row_of}
 
@@ -67,3 +67,42 @@ more_rows rows xs i y h =
     same-trans (rows ++ hold_row_of y ∷ []) (map hold_row_of xs ++ hold_row_of y ∷ []) (map hold_row_of (insert xs i y))
     (same-append rows (map hold_row_of xs) (hold_row_of y ∷ []) (hold_row_of y ∷ []) h (same-refl (hold_row_of y ∷ [])))
     (subst (λ zs. SameRows zs (map hold_row_of (insert xs i y))) (map-append hold_row_of xs (y ∷ [])) (same-map hold_row_of (xs ++ y ∷ []) (insert xs i y) (same-insert xs xs i y (same-refl xs))))
+
+-- ---- what a handle names
+
+key_after : (x z : Hold) (c h : ℕ) → ((x.client == c) && (x.handle == h)) ≡ true → comes_before x z ≡ true → ((z.client == c) && (z.handle == h)) ≡ false
+key_after x z c h e k = grind (arith, nat_tests)
+
+-- no later hold has the key of an earlier one
+none_alike : (x : Hold) (c h : ℕ) → ((x.client == c) && (x.handle == h)) ≡ true → (xs : List Hold) → AllByRecursion (λ z. comes_before x z ≡ true) xs → (o : ℕ) → list_any (λ (z : Hold). ((z.client == c) && (z.handle == h)) && not (z.object == o)) xs ≡ false
+none_alike x c h e [] k o = refl
+none_alike x c h e (z ∷ zs) k o = rw (key_after x z c h e k.0) (none_alike x c h e zs k.1 o)
+
+handle_after : (x z : Hold) (c : ℕ) → (x.client == c) ≡ true → (z.client == c) ≡ true → comes_before x z ≡ true → RisesTo nat_le x.handle z.handle
+handle_after x z c e f h = (grind (arith, nat_tests), grind (arith, nat_tests))
+
+later_handles : (x : Hold) (c : ℕ) → (x.client == c) ≡ true → (xs : List Hold) → AllByRecursion (λ z. comes_before x z ≡ true) xs → AllByRecursion (RisesTo nat_le x.handle) (map (λ (x : Hold). x.handle) (filter (λ (x : Hold). x.client == c) xs))
+later_handles x c e [] h = tt
+later_handles x c e (z ∷ zs) h =
+    elim (z.client == c) as (λ b. (z.client == c) ≡ b → AllByRecursion (RisesTo nat_le x.handle) (map (λ (x : Hold). x.handle) (cond b (z ∷ filter (λ (x : Hold). x.client == c) zs) (filter (λ (x : Hold). x.client == c) zs))))
+    [ true ↦ λ f. (handle_after x z c e f h.0, later_handles x c e zs h.1) | false ↦ λ f. later_handles x c e zs h.1 ] refl
+
+-- the holds of a key name one object
+pub one_object : (c h : ℕ) → (xs : List Hold) → AreInOrder xs → (y : Hold) → find (λ (x : Hold). (x.client == c) && (x.handle == h)) xs ≡ Some y → list_any (λ (x : Hold). ((x.client == c) && (x.handle == h)) && not (x.object == y.object)) xs ≡ false
+one_object c h [] k y e = refl
+one_object c h (x ∷ xs) k y e =
+    elim ((x.client == c) && (x.handle == h)) as (λ b. ((x.client == c) && (x.handle == h)) ≡ b → cond b (Some x) (find (λ (x : Hold). (x.client == c) && (x.handle == h)) xs) ≡ Some y →
+    ((b && not (x.object == y.object)) || list_any (λ (x : Hold). ((x.client == c) && (x.handle == h)) && not (x.object == y.object)) xs) ≡ false) [
+      | true ↦ λ is j.
+          let same : x ≡ y = let s : Some x ≡ Some y = j in cc in
+          let first : not (x.object == y.object) ≡ false = ap (λ (z : Hold). not (z.object == y.object)) same ∙ ap not (eq-eqb y.object y.object refl) in
+          rw first (none_alike x c h is xs k.0 y.object)
+      | false ↦ λ is j. one_object c h xs k.1 y j
+    ] refl e
+
+-- handles of one client rise
+pub handles_rise : (c : ℕ) → (xs : List Hold) → AreInOrder xs → InOrder (RisesTo nat_le) (map (λ (x : Hold). x.handle) (filter (λ (x : Hold). x.client == c) xs))
+handles_rise c [] h = tt
+handles_rise c (x ∷ xs) h =
+    elim (x.client == c) as (λ b. (x.client == c) ≡ b → InOrder (RisesTo nat_le) (map (λ (x : Hold). x.handle) (cond b (x ∷ filter (λ (x : Hold). x.client == c) xs) (filter (λ (x : Hold). x.client == c) xs))))
+    [ true ↦ λ e. (later_handles x c e xs h.0, handles_rise c xs h.1) | false ↦ λ e. handles_rise c xs h.1 ] refl

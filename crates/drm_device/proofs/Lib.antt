@@ -9,3 +9,11 @@ pub mod Devices
 pub mod Lookups
 pub mod Sweeps
 pub mod Ids
+pub mod Contents
+pub mod Ties
+pub mod Naming
+pub mod Joined
+pub mod Tied
+pub mod Opened
+pub mod Released
+pub mod Made

@@ -1,5 +1,5 @@
 -- The cases of an outcome.
-use Rattle.std.proofs.Common.{◌≡◌, ℕ, List, [], ◌∷◌, ◌++◌, None, Some, Ok, Err, refl, sym, ◌∙◌, ap, subst, cond, true, false, ◌<◌, ◌≤◌, ◌==◌, ◌&&◌, length, map}
+use Rattle.std.proofs.Common.{◌≡◌, ℕ, List, [], ◌∷◌, ◌++◌, Option, None, Some, Ok, Err, refl, sym, ◌∙◌, ap, subst, cond, true, false, ◌<◌, ◌≤◌, ◌==◌, ◌&&◌, length, map, inl, inr, arith, length-append}
 use Rattle.std.specs.declared.alloc.AllocError.{AllocError}
 use Rattle.drm_table.specs.declared.answers.Answer.{Answer}
 use Rattle.drm_table.specs.declared.answers.Answer.TheVariants.{Denied}
@@ -9,7 +9,9 @@ use Rattle.drm_table.specs.declared.events.Event.TheVariants.{Open, Ask}
 use Rattle.drm_table.specs.declared.events.Opening.{Opening}
 use Rattle.drm_table.specs.declared.rules.Rule.{Rule}
 use Rattle.drm_table.specs.Permit.{Check, first_failing, permit_checks}
-use Rattle.drm_model.specs.Rows.{Rows, ClientRow, HoldRow, ObjectRow, client_row, has_client_room, has_object_room}
+use Rattle.std.specs.Option.{unwrap_or}
+use Rattle.drm_model.specs.Buffers.{with_object}
+use Rattle.drm_model.specs.Rows.{Rows, ClientRow, HoldRow, ObjectRow, birth, client_row, free_handle, has_client_room, has_object_room}
 use Rattle.drm_model.specs.Verdict.{verdict, checks, admission_checks, own_checks, is_known, is_laid_out}
 use Rattle.drm_model.specs.Clients.{opening_checks}
 use Rattle.drm_model.specs.Change.{after, after_verdict, changed, swept, noted}
@@ -27,12 +29,14 @@ use Rattle.drm_model.proofs.Lists.{filter_all, length-map, map-append}
 use Rattle.drm_device.specs.declared.state.Client.{Client}
 use Rattle.drm_device.specs.declared.state.State.{State}
 use Rattle.drm_device.specs.Laws.{WellFormed}
-use Rattle.drm_device.specs.Refinement.{Represents, Outcome, Stands, client_row_of, master_row_of, hold_row_of, object_row_of, comes_before, place_among}
+use Rattle.drm_device.specs.Parts.{IsTied, HaveLimits, object_of}
+use Rattle.drm_device.proofs.Devices.{represented_count}
+use Rattle.drm_device.specs.Refinement.{Lists, lists_of, Represents, Outcome, MadeBuffer, Stands, client_row_of, master_row_of, hold_row_of, object_row_of, comes_before, place_among}
 use Rattle.drm_model.specs.Orders.{SameRows, InOrder}
 use Rattle.std.specs.List.{insert, AllByRecursion}
 use Rattle.drm_device.proofs.Holds.{more_rows, in_order_insert}
 
-pub represents_noted : (s : State) (w : Rows) → Represents s w → Represents s (noted w)
+pub represents_noted : (s : Lists) (w : Rows) → Represents s w → Represents s (noted w)
 represents_noted s w h = record {
   clients = h.clients;
   masters = h.masters;
@@ -44,24 +48,24 @@ represents_noted s w h = record {
 }
 
 -- a denial
-pub denied : (s : State) (w : Rows) (event : Event) (rule : Rule) → verdict w event ≡ Some rule → Represents s w → Outcome w event (Ok (Denied rule)) s
+pub denied : (s : State) (w : Rows) (event : Event) (rule : Rule) → verdict w event ≡ Some rule → Represents (lists_of s) w → Outcome w event (Ok (Denied rule)) s
 unfolding reply after
 denied s w event rule e h =
-    (ap (λ v. reply_by v w event) (sym e), subst (λ v. Represents s (after_verdict v w event)) (sym e) (represents_noted s w h))
+    (ap (λ v. reply_by v w event) (sym e), subst (λ v. Represents (lists_of s) (after_verdict v w event)) (sym e) (represents_noted (lists_of s) w h))
 
 -- an event that is carried out
-pub carried : (s : State) (w : Rows) (event : Event) (answer : Answer) → verdict w event ≡ None → answer ≡ answer_of w event → Represents s (swept (changed w event)) → Outcome w event (Ok answer) s
+pub carried : (s : State) (w : Rows) (event : Event) (answer : Answer) → verdict w event ≡ None → answer ≡ answer_of w event → Represents (lists_of s) (swept (changed w event)) → Outcome w event (Ok answer) s
 unfolding reply after
 carried s w event answer e a h =
-    (a ∙ ap (λ v. reply_by v w event) (sym e), subst (λ v. Represents s (after_verdict v w event)) (sym e) (represents_noted s (swept (changed w event)) h))
+    (a ∙ ap (λ v. reply_by v w event) (sym e), subst (λ v. Represents (lists_of s) (after_verdict v w event)) (sym e) (represents_noted (lists_of s) (swept (changed w event)) h))
 
 -- want of memory
-pub refused : (s : State) (w : Rows) (event : Event) (error : AllocError) → verdict w event ≡ None → IsLonger w (changed w event) → Represents s w → Outcome w event (Err error) s
+pub refused : (s : State) (w : Rows) (event : Event) (error : AllocError) → verdict w event ≡ None → IsLonger w (changed w event) → Represents (lists_of s) w → Outcome w event (Err error) s
 unfolding Growing
 refused s w event error e l h = ((e, l), h)
 
 -- rows from which a sweep takes nothing
-pub unswept : (s : State) (w : Rows) → WellFormed w → Represents s w → Represents s (swept w)
+pub unswept : (s : Lists) (w : Rows) → WellFormed w → Represents s w → Represents s (swept w)
 unfolding swept
 unswept s w k h = record {
   clients = h.clients;
@@ -88,19 +92,16 @@ pub call_verdict : (w : Rows) (c : ℕ) (call : Call) → first_failing (admissi
 unfolding verdict checks
 call_verdict w c call h = first_failing-append (admission_checks w c call) (own_checks w c call) h
 
-pub client_count : (s : State) (limits : Limits) (b : ℕ) (w : Rows) → Stands s limits b w → length w.clients ≡ vec_len s.clients
-client_count s limits b w h = ap length h.rows.clients ∙ length-map client_row_of s.clients.items ∙ sym s.clients.ok.0
+pub no_client_room : (s : State) (limits : Limits) (b : ℕ) (w : Rows) → IsTied s → Stands s limits b w → limits.clients ≤ vec_len s.members → has_client_room w ≡ false
+no_client_room s limits b w t h many =
+    rw (represented_count s w t h.rows, ap (λ (l : Limits). l.clients) h.limits_are) (le-ltb (vec_len s.members) limits.clients many)
 
-pub no_client_room : (s : State) (limits : Limits) (b : ℕ) (w : Rows) → Stands s limits b w → limits.clients ≤ vec_len s.clients → has_client_room w ≡ false
-no_client_room s limits b w h many =
-    rw (client_count s limits b w h, ap (λ (l : Limits). l.clients) h.limits_are) (le-ltb (vec_len s.clients) limits.clients many)
-
-pub client_room : (s : State) (limits : Limits) (b : ℕ) (w : Rows) → Stands s limits b w → vec_len s.clients < limits.clients → has_client_room w ≡ true
-client_room s limits b w h few =
-    rw (client_count s limits b w h, ap (λ (l : Limits). l.clients) h.limits_are) (lt-ltb (vec_len s.clients) limits.clients few)
+pub client_room : (s : State) (limits : Limits) (b : ℕ) (w : Rows) → IsTied s → Stands s limits b w → vec_len s.members < limits.clients → has_client_room w ≡ true
+client_room s limits b w t h few =
+    rw (represented_count s w t h.rows, ap (λ (l : Limits). l.clients) h.limits_are) (lt-ltb (vec_len s.members) limits.clients few)
 
 -- other storage for the same items
-pub same_clients : (s : State) (w : Rows) (v : Vec Client) → v.items ≡ s.clients.items → Represents s w → Represents (record s { clients = v }) w
+pub same_clients : (s : Lists) (w : Rows) (v : List Client) → v ≡ s.clients → Represents s w → Represents (record s { clients = v }) w
 same_clients s w v e h = record {
   clients = h.clients ∙ ap (map client_row_of) (sym e);
   masters = h.masters;
@@ -112,9 +113,9 @@ same_clients s w v e h = record {
 }
 
 -- one more client
-pub more_clients : (s : State) (w : Rows) (v : Vec Client) (x : Client) (row : ClientRow) → v.items ≡ s.clients.items ++ x ∷ [] → client_row_of x ≡ row → Represents s w → Represents (record s { clients = v }) (record w { clients = w.clients ++ row ∷ [] })
+pub more_clients : (s : Lists) (w : Rows) (v : List Client) (x : Client) (row : ClientRow) → v ≡ s.clients ++ x ∷ [] → client_row_of x ≡ row → Represents s w → Represents (record s { clients = v }) (record w { clients = w.clients ++ row ∷ [] })
 more_clients s w v x row e r h = record {
-  clients = rw (h.clients, ← r, e) (sym (map-append client_row_of s.clients.items (x ∷ [])));
+  clients = rw (h.clients, ← r, e) (sym (map-append client_row_of s.clients (x ∷ [])));
   masters = h.masters;
   holds = h.holds;
   holds_in_order = h.holds_in_order;
@@ -140,7 +141,7 @@ unfolding admission_checks
 admitted_by_permit w c call row k l o = rw (k, l, o) refl
 
 -- the lists with other storage, and with one more row
-pub same_masters : (s : State) (w : Rows) (v : Vec ℕ) → v.items ≡ s.masters.items → Represents s w → Represents (record s { masters = v }) w
+pub same_masters : (s : Lists) (w : Rows) (v : List ℕ) → v ≡ s.masters → Represents s w → Represents (record s { masters = v }) w
 same_masters s w v e h = record {
   clients = h.clients;
   masters = h.masters ∙ ap (map master_row_of) (sym e);
@@ -151,7 +152,7 @@ same_masters s w v e h = record {
   none_yet = h.none_yet;
 }
 
-pub same_objects : (s : State) (w : Rows) (v : Vec Object) → v.items ≡ s.objects.items → Represents s w → Represents (record s { objects = v }) w
+pub same_objects : (s : Lists) (w : Rows) (v : List Object) → v ≡ s.objects → Represents s w → Represents (record s { objects = v }) w
 same_objects s w v e h = record {
   clients = h.clients;
   masters = h.masters;
@@ -162,7 +163,7 @@ same_objects s w v e h = record {
   none_yet = h.none_yet;
 }
 
-pub same_holds : (s : State) (w : Rows) (v : Vec Hold) → v.items ≡ s.holds.items → Represents s w → Represents (record s { holds = v }) w
+pub same_holds : (s : Lists) (w : Rows) (v : List Hold) → v ≡ s.holds → Represents s w → Represents (record s { holds = v }) w
 same_holds s w v e h = record {
   clients = h.clients;
   masters = h.masters;
@@ -173,27 +174,39 @@ same_holds s w v e h = record {
   none_yet = h.none_yet;
 }
 
-pub more_held : (s : State) (w : Rows) (os : Vec Object) (hs : Vec Hold) (x : Object) (y : Hold) (row : ObjectRow) (hold : HoldRow) →
-    os.items ≡ s.objects.items ++ x ∷ [] → hs.items ≡ insert s.holds.items (place_among s.holds.items y) y → AllByRecursion (λ (z : Hold). ((z.client == y.client) && (z.handle == y.handle)) ≡ false) s.holds.items →
+pub more_held : (s : Lists) (w : Rows) (os : List Object) (hs : List Hold) (x : Object) (y : Hold) (row : ObjectRow) (hold : HoldRow) →
+    os ≡ s.objects ++ x ∷ [] → hs ≡ insert s.holds (place_among s.holds y) y → AllByRecursion (λ (z : Hold). ((z.client == y.client) && (z.handle == y.handle)) ≡ false) s.holds →
     object_row_of x ≡ row → hold_row_of y ≡ hold → Represents s w →
     Represents (record s { objects = os; holds = hs }) (record w { objects = w.objects ++ row ∷ []; holds = w.holds ++ hold ∷ [] })
 more_held s w os hs x y row hold e f fresh p q h = record {
   clients = h.clients;
   masters = h.masters;
-  holds = rw (← q, f) (more_rows w.holds s.holds.items (place_among s.holds.items y) y h.holds);
-  holds_in_order = rw f (in_order_insert s.holds.items y h.holds_in_order fresh);
-  objects = rw (h.objects, ← p, e) (sym (map-append object_row_of s.objects.items (x ∷ [])));
+  holds = rw (← q, f) (more_rows w.holds s.holds (place_among s.holds y) y h.holds);
+  holds_in_order = rw f (in_order_insert s.holds y h.holds_in_order fresh);
+  objects = rw (h.objects, ← p, e) (sym (map-append object_row_of s.objects (x ∷ [])));
   device_master = h.device_master;
   none_yet = record { magics = h.none_yet.magics; names = h.none_yet.names; tokens = h.none_yet.tokens; grants = h.none_yet.grants; framebuffers = h.none_yet.framebuffers; shown = h.none_yet.shown; last_token = h.none_yet.last_token; last_lease_token = h.none_yet.last_lease_token };
 }
 
-object_count : (s : State) (w : Rows) → Represents s w → length w.objects ≡ vec_len s.objects
-object_count s w h = ap length h.objects ∙ length-map object_row_of s.objects.items ∙ sym s.objects.ok.0
+object_count : (s : State) (w : Rows) → Represents (lists_of s) w → length w.objects ≡ length s.objects.objects
+object_count s w h = ap length h.objects ∙ length-map object_row_of (lists_of s).objects ∙ length-map object_of s.objects.objects
 
-pub no_object_room : (s : State) (limits : Limits) (b : ℕ) (w : Rows) → Stands s limits b w → limits.objects ≤ vec_len s.objects → has_object_room w ≡ false
-no_object_room s limits b w h many =
-    rw (object_count s w h.rows, ap (λ (l : Limits). l.objects) h.limits_are) (le-ltb (vec_len s.objects) limits.objects many)
+pub no_object_room : (s : State) (limits : Limits) (b : ℕ) (w : Rows) → HaveLimits s limits → Stands s limits b w → s.objects.limit ≤ length s.objects.objects → has_object_room w ≡ false
+no_object_room s limits b w k h many =
+    rw (object_count s w h.rows, ap (λ (l : Limits). l.objects) h.limits_are, ← k.objects) (le-ltb (length s.objects.objects) s.objects.limit many)
 
-pub object_room : (s : State) (limits : Limits) (b : ℕ) (w : Rows) → Stands s limits b w → vec_len s.objects < limits.objects → has_object_room w ≡ true
-object_room s limits b w h few =
-    rw (object_count s w h.rows, ap (λ (l : Limits). l.objects) h.limits_are) (lt-ltb (vec_len s.objects) limits.objects few)
+pub object_room : (s : State) (limits : Limits) (b : ℕ) (w : Rows) → HaveLimits s limits → Stands s limits b w → length s.objects.objects < s.objects.limit → has_object_room w ≡ true
+object_room s limits b w k h few =
+    rw (object_count s w h.rows, ap (λ (l : Limits). l.objects) h.limits_are, ← k.objects) (lt-ltb (length s.objects.objects) s.objects.limit few)
+
+-- a new buffer makes the list of handles longer
+pub longer : (w : Rows) (c size : ℕ) → IsLonger w (with_object w c size)
+unfolding with_object
+longer w c size = inr (inr (inr (inl (omega (arith, length-append w.holds (record { client = c; handle = unwrap_or (free_handle w c) 0; object = birth w; place = None } ∷ []))))))
+
+-- what making a buffer came to, by the handle
+pub made_none : (w : Rows) (c size : ℕ) (s : State) (r : Option ℕ) → r ≡ None → MadeBuffer w c size (Ok r) s → MadeBuffer w c size (Ok None) s
+made_none w c size s r e h = subst (λ o. MadeBuffer w c size (Ok o) s) e h
+
+pub made_some : (w : Rows) (c size : ℕ) (s : State) (r : Option ℕ) (handle : ℕ) → r ≡ Some handle → MadeBuffer w c size (Ok r) s → MadeBuffer w c size (Ok (Some handle)) s
+made_some w c size s r handle e h = subst (λ o. MadeBuffer w c size (Ok o) s) e h

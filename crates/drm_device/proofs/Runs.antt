@@ -1,7 +1,7 @@
 -- The laws that all rows of a run keep.
 use Rattle.std.proofs.Common.{◌≡◌, ℕ, Bool, true, false, List, [], ◌∷◌, Option, None, Some, refl, ◌∙◌}
 use Rattle.drm_table.specs.declared.calls.Call.{Call}
-use Rattle.drm_table.specs.declared.calls.Call.TheVariants.{Unknown, BadLayout, Version, GemClose, Audit, CreateDumb}
+use Rattle.drm_table.specs.declared.calls.Call.TheVariants.{Unknown, BadLayout, Version, GemClose, GetCap, SetClientCap, BufCreate, StampWrite, StampRead, ListHandles, Audit, CreateDumb, DestroyDumb}
 use Rattle.drm_table.specs.declared.events.Event.{Event}
 use Rattle.drm_table.specs.declared.events.Event.TheVariants.{Open, Ask, Close}
 use Rattle.drm_table.specs.declared.events.Opening.TheVariants.{Primary, Render, Lease}
@@ -48,8 +48,15 @@ flat_asked w c (Unknown number) h = h
 flat_asked w c (BadLayout number) h = h
 flat_asked w c Version h = h
 flat_asked w c (GemClose handle) h = h
+flat_asked w c (GetCap cap) h = h
+flat_asked w c (SetClientCap cap value) h = h
+flat_asked w c (BufCreate size) h = h
+flat_asked w c (StampWrite handle stamp) h = h
+flat_asked w c (StampRead handle) h = h
+flat_asked w c (ListHandles from) h = h
 flat_asked w c (Audit kind from) h = h
 flat_asked w c (CreateDumb width height bpp) h = h
+flat_asked w c (DestroyDumb handle) h = h
 
 flat_changed : (w : Rows) (event : Event) → IsFlat w.masters → IsFlat (changed w event).masters
 unfolding changed opened closed

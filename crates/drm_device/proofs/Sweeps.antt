@@ -21,7 +21,7 @@ use Rattle.drm_device.proofs.Laws.{IsFlat, holds_master, living_flat}
 use Rattle.drm_device.proofs.Booleans.{all_map, list_any_agree, or_right}
 use Rattle.drm_model.specs.Orders.{SameRows, InOrder}
 use Rattle.drm_model.proofs.Orders.{same-any, same-filter, in_order_filter}
-use Rattle.drm_device.specs.Refinement.{Represents, comes_before, is_same, client_row_of, hold_row_of, object_row_of, master_row_of}
+use Rattle.drm_device.specs.Refinement.{Lists, lists_of, Represents, comes_before, is_same, client_row_of, hold_row_of, object_row_of, master_row_of}
 
 and_none : (b : Bool) → (b && false) ≡ false
 and_none true = refl
@@ -57,20 +57,20 @@ kept_holds : (p : HoldRow → Bool) (rows : List HoldRow) (old new : List Hold) 
 kept_holds p rows old new e h = subst (λ xs. SameRows (filter p rows) xs) (filter-map p hold_row_of old ∙ ap (map hold_row_of) (sym e)) (same-filter p rows (map hold_row_of old) h)
 
 -- a handle goes, and with it what it alone named
-pub released : (s : State) (w : Rows) (c n : ℕ) (hs : Vec Hold) (os : Vec Object) → Represents s w → WellFormed w →
-    hs.items ≡ filter (λ (x : Hold). not ((x.client == c) && (x.handle == n))) s.holds.items →
-    os.items ≡ filter (λ (x : Object). list_any (λ (hold : Hold). hold.object == x.number) hs.items) s.objects.items →
+pub released : (s : Lists) (w : Rows) (c n : ℕ) (hs : List Hold) (os : List Object) → Represents s w → WellFormed w →
+    hs ≡ filter (λ (x : Hold). not ((x.client == c) && (x.handle == n))) s.holds →
+    os ≡ filter (λ (x : Object). list_any (λ (hold : Hold). hold.object == x.number) hs) s.objects →
     Represents (record s { holds = hs; objects = os }) (swept (record w { holds = without (is_hold c n) w.holds }))
 unfolding swept
 released s w c n hs os h k e f =
     let v : Rows = record w { holds = without (is_hold c n) w.holds } in
-    let holds : SameRows v.holds (map hold_row_of hs.items) = kept_holds (λ row. not (is_hold c n row)) w.holds s.holds.items hs.items e h.holds in
+    let holds : SameRows v.holds (map hold_row_of hs) = kept_holds (λ row. not (is_hold c n row)) w.holds s.holds hs e h.holds in
     record {
       clients = h.clients;
       masters = filter_all _ w.masters k.living ∙ h.masters;
       holds = holds;
-      holds_in_order = subst (InOrder (λ x y. comes_before x y ≡ true)) (sym e) (in_order_filter (λ x y. comes_before x y ≡ true) _ s.holds.items h.holds_in_order);
-      objects = swept_objects v hs.items s.objects.items holds h.none_yet.tokens h.none_yet.framebuffers h.objects ∙ ap (map object_row_of) (sym f);
+      holds_in_order = subst (InOrder (λ x y. comes_before x y ≡ true)) (sym e) (in_order_filter (λ x y. comes_before x y ≡ true) _ s.holds h.holds_in_order);
+      objects = swept_objects v hs s.objects holds h.none_yet.tokens h.none_yet.framebuffers h.objects ∙ ap (map object_row_of) (sym f);
       device_master = h.device_master;
       none_yet = record { magics = h.none_yet.magics; names = ap (filter _) h.none_yet.names; tokens = h.none_yet.tokens; grants = h.none_yet.grants; framebuffers = h.none_yet.framebuffers; shown = ap (filter _) h.none_yet.shown; last_token = h.none_yet.last_token; last_lease_token = h.none_yet.last_lease_token };
     }
@@ -92,11 +92,11 @@ no_master None = refl
 no_master (Some d) = refl
 
 -- what a client's own master gave goes, and the device's master if it was that
-ended_if_represents : (s : State) (w : Rows) (b : Bool) (m : Option ℕ) → Represents s w → Represents (record s { device_master = if b && is_same s.device_master m then None else s.device_master }) (ended_if w b m)
+ended_if_represents : (s : Lists) (w : Rows) (b : Bool) (m : Option ℕ) → Represents s w → Represents (record s { device_master = if b && is_same s.device_master m then None else s.device_master }) (ended_if w b m)
 unfolding ended
 ended_if_represents s w true (Some m) h = record {
   clients = h.clients;
-  masters = ap (map _) h.masters ∙ unleased (λ row. is_under w.masters m row.master) s.masters.items;
+  masters = ap (map _) h.masters ∙ unleased (λ row. is_under w.masters m row.master) s.masters;
   holds = h.holds;
   holds_in_order = h.holds_in_order;
   objects = h.objects;
@@ -164,11 +164,11 @@ swept_masters v cs ms e f =
     ∙ ap (map master_row_of) (filter_agree_within (is_living v) named ms (all_weaker (λ m. is_among ms m ≡ true) (λ m. is_living v m ≡ named m) living ms (all_among ms)))
 
 -- a client goes, with its handles, what they alone named, and the masters that no client names any more
-pub gone : (s : State) (w : Rows) (c : ℕ) (caller : Client) (cs : Vec Client) (ms : Vec ℕ) (hs : Vec Hold) (os : Vec Object) (device : Option ℕ) → Represents s w → client_row w c ≡ Some (client_row_of caller) →
-    cs.items ≡ filter (λ (x : Client). not (x.number == c)) s.clients.items →
-    hs.items ≡ filter (λ (x : Hold). not (x.client == c)) s.holds.items →
-    os.items ≡ filter (λ (x : Object). list_any (λ (hold : Hold). hold.object == x.number) hs.items) s.objects.items →
-    ms.items ≡ filter (λ m. list_any (λ (x : Client). is_option m x.master) cs.items) s.masters.items →
+pub gone : (s : Lists) (w : Rows) (c : ℕ) (caller : Client) (cs : List Client) (ms : List ℕ) (hs : List Hold) (os : List Object) (device : Option ℕ) → Represents s w → client_row w c ≡ Some (client_row_of caller) →
+    cs ≡ filter (λ (x : Client). not (x.number == c)) s.clients →
+    hs ≡ filter (λ (x : Hold). not (x.client == c)) s.holds →
+    os ≡ filter (λ (x : Object). list_any (λ (hold : Hold). hold.object == x.number) hs) s.objects →
+    ms ≡ filter (λ m. list_any (λ (x : Client). is_option m x.master) cs) s.masters →
     device ≡ (if caller.is_master && is_same s.device_master caller.master then None else s.device_master) →
     Represents (record { clients = cs; masters = ms; holds = hs; objects = os; device_master = device }) (swept (closed w c))
 unfolding swept closed
@@ -177,16 +177,16 @@ gone s w c caller cs ms hs os device h row e f g i d =
     let r : Represents (record s { device_master = if caller.is_master && is_same s.device_master caller.master then None else s.device_master }) u =
     subst (λ o. Represents (record s { device_master = if caller.is_master && is_same s.device_master caller.master then None else s.device_master }) (ended_own w o)) (sym row) (ended_if_represents s w caller.is_master caller.master h) in
     let v : Rows = closed w c in
-    let clients : v.clients ≡ map client_row_of cs.items = ap (without (λ (x : ClientRow). x.client == c)) h.clients ∙ filter-map (λ (x : ClientRow). not (x.client == c)) client_row_of s.clients.items ∙ ap (map client_row_of) (sym e) in
-    let holds : SameRows v.holds (map hold_row_of hs.items) = kept_holds (λ (x : HoldRow). not (x.client == c)) w.holds s.holds.items hs.items f h.holds in
+    let clients : v.clients ≡ map client_row_of cs = ap (without (λ (x : ClientRow). x.client == c)) h.clients ∙ filter-map (λ (x : ClientRow). not (x.client == c)) client_row_of s.clients ∙ ap (map client_row_of) (sym e) in
+    let holds : SameRows v.holds (map hold_row_of hs) = kept_holds (λ (x : HoldRow). not (x.client == c)) w.holds s.holds hs f h.holds in
     let tokens : v.tokens ≡ [] = ap (without (λ (x : TokenRow). x.client == c)) h.none_yet.tokens in
     let framebuffers : v.framebuffers ≡ [] = ap (without (λ (x : FramebufferRow). x.client == c)) h.none_yet.framebuffers in
     record {
       clients = clients;
-      masters = swept_masters v cs.items s.masters.items clients r.masters ∙ ap (map master_row_of) (sym i);
+      masters = swept_masters v cs s.masters clients r.masters ∙ ap (map master_row_of) (sym i);
       holds = holds;
-      holds_in_order = subst (InOrder (λ x y. comes_before x y ≡ true)) (sym f) (in_order_filter (λ x y. comes_before x y ≡ true) _ s.holds.items h.holds_in_order);
-      objects = swept_objects v hs.items s.objects.items holds tokens framebuffers r.objects ∙ ap (map object_row_of) (sym g);
+      holds_in_order = subst (InOrder (λ x y. comes_before x y ≡ true)) (sym f) (in_order_filter (λ x y. comes_before x y ≡ true) _ s.holds h.holds_in_order);
+      objects = swept_objects v hs s.objects holds tokens framebuffers r.objects ∙ ap (map object_row_of) (sym g);
       device_master = r.device_master ∙ sym d;
       none_yet = record { magics = ap (without _) h.none_yet.magics; names = ap (filter _) r.none_yet.names; tokens = tokens; grants = r.none_yet.grants; framebuffers = framebuffers; shown = ap (filter _) r.none_yet.shown; last_token = r.none_yet.last_token; last_lease_token = r.none_yet.last_lease_token };
     }

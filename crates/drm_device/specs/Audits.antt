@@ -6,11 +6,11 @@ use Rattle.drm_model.specs.Rows.{Rows}
 use Rattle.drm_model.specs.Births.{BirthsRise}
 use Rattle.drm_model.specs.Audit.{audit_rows, rising_rows, audit_page}
 use Rattle.drm_device.specs.declared.state.State.{State}
-use Rattle.drm_device.specs.Refinement.{Represents}
+use Rattle.drm_device.specs.Refinement.{Represents, lists_of}
 
 -- the lists stand for rows of so many steps
 pub record StandsAfter (s : State) (steps : ℕ) (w : Rows) : Type 0 where
-  pub rows : Represents s w
+  pub rows : Represents (lists_of s) w
   pub births : BirthsRise w.steps w
   pub steps_are : w.steps ≡ steps
 

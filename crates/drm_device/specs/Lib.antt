@@ -1,4 +1,5 @@
 pub mod Laws
+pub mod Parts
 pub mod Refinement
 pub mod Audits
 pub mod Topologies

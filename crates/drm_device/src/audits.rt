@@ -1,15 +1,18 @@
 //! AUDIT: the rows of a kind, in pages.
 
-ghost use Rattle.std.specs.Prelude.{◌≡◌, ◌==◌, ◌≤◌, ℕ, Ok, [], filter, length, slice_get, if◌then◌else◌};
+ghost use Rattle.std.specs.Prelude.{◌≡◌, ◌≤◌, ℕ, Ok, [], slice_get, if◌then◌else◌};
 ghost use Rattle.drm_table.specs.declared.calls.Call.TheVariants.{Audit};
 ghost use Rattle.drm_table.specs.declared.limits.Limits as table;
 ghost use Rattle.drm_model.specs.Rows.{Rows};
 ghost use Rattle.drm_model.specs.Audit as model;
 ghost use Rattle.drm_model.specs.Audit.{audit_row, client_audit, hold_audit, master_audit};
-ghost use Rattle.drm_device.specs.Refinement.{OwesCall, client_row_of, hold_row_of, master_row_of};
+ghost use Rattle.drm_device.specs.Refinement.{OwesCall, lists_of, client_row_of, hold_row_of, master_row_of};
+ghost use Rattle.drm_device.specs.Parts.{IsTied};
 ghost use Rattle.drm_device.specs.Audits.{IsPage, IsRowAt};
 
-use crate::state::{Client, Hold, Object, State};
+use crate::clients::client_at;
+use crate::state::{Client, Hold, State};
+use drm_gem::Object as Kept;
 use drm_table::{Answer, AuditKind, AuditPage, AuditRow};
 
 /// How many rows a page has at most.
@@ -17,7 +20,8 @@ const PAGE: usize = 16;
 
 /// AUDIT: a page of rows, as they stand before the step of this number. It takes no memory and asks for no limit.
 pub fn audit(state: &State, birth: u32, kind: AuditKind, from: u32) -> Answer
-    requires { 1 ≤ birth }
+    requires birth { 1 ≤ birth }
+    requires tied { IsTied state.now }
     ensures { (limits : table.Limits) (client : ℕ) → OwesCall state.now limits birth client (Audit kind from) (Ok result) state.now }
 {
     Answer::Audit {
@@ -27,6 +31,7 @@ pub fn audit(state: &State, birth: u32, kind: AuditKind, from: u32) -> Answer
 
 /// The page of a kind behind the first rows, where so many steps were noted.
 pub fn page_of(state: &State, steps: u32, kind: AuditKind, from: u32) -> AuditPage
+    requires { IsTied state.now }
     ensures { IsPage state.now steps kind from result }
 {
     let mut page = AuditPage::new();
@@ -41,13 +46,14 @@ pub fn page_of(state: &State, steps: u32, kind: AuditKind, from: u32) -> AuditPa
 
 /// The row of a kind at a place, from 0, in the order of the rows' numbers; none past the last.
 fn row_at(state: &State, steps: u32, kind: AuditKind, place: usize) -> Option<AuditRow>
+    requires { IsTied state.now }
     ensures { IsRowAt state.now steps kind place result }
 {
     match kind {
-        AuditKind::Client => Some(client_row(item_at(&state.clients, place)?)),
+        AuditKind::Client => Some(client_row(client_at(state, place)?)),
         AuditKind::Master => Some(master_row(item_at(&state.masters, place)?)),
-        AuditKind::Object => Some(object_row(item_at(&state.objects, place)?, &state.holds)),
-        AuditKind::Hold => Some(hold_row(item_at(&state.holds, place)?)),
+        AuditKind::Object => Some(object_row(state.objects.nth(place)?)),
+        AuditKind::Hold => Some(hold_row(hold_at(state, place)?)),
         AuditKind::Device => item_at(&[device_row(state.device_master, steps)], place),
         // no call makes these yet
         AuditKind::Name
@@ -59,7 +65,7 @@ fn row_at(state: &State, steps: u32, kind: AuditKind, place: usize) -> Option<Au
 }
 
 /// The item at a place, from 0.
-fn item_at<T: Copy>(items: &[T], place: usize) -> Option<T>
+pub fn item_at<T: Copy>(items: &[T], place: usize) -> Option<T>
     ensures { result ≡ slice_get items.now place }
 {
     items.get(place).copied()
@@ -90,16 +96,29 @@ fn master_row(master: u32) -> AuditRow
     }
 }
 
-/// What is told of an object: handles alone refer to objects yet.
-fn object_row(object: Object, holds: &[Hold]) -> AuditRow
-    ensures { result ≡ audit_row object.number object.size (length (filter (λ x. x.object == object.number) holds.now)) 0 }
+/// What is told of an object.
+fn object_row(object: Kept) -> AuditRow
+    ensures { result ≡ audit_row object.birth object.size object.holds object.refs }
 {
     AuditRow {
-        a: object.number as u64,
+        a: object.birth as u64,
         b: object.size,
-        c: handles_of(holds, object.number) as u64,
-        d: 0,
+        c: object.holds as u64,
+        d: object.refs as u64,
     }
+}
+
+/// The handle at a place, from 0, in the order of clients and handles; none past the last.
+fn hold_at(state: &State, place: usize) -> Option<Hold>
+    requires { IsTied state.now }
+    ensures { result ≡ slice_get (lists_of state.now).holds place }
+{
+    let hold = state.files.nth_hold(place)?;
+    Some(Hold {
+        client: hold.client,
+        handle: hold.handle,
+        object: state.objects.birth(hold.object),
+    })
 }
 
 fn hold_row(hold: Hold) -> AuditRow
@@ -141,18 +160,4 @@ fn or_zero(number: Option<u32>) -> u64
         Some(number) => number as u64,
         None => 0,
     }
-}
-
-/// How many handles name the object.
-fn handles_of(holds: &[Hold], object: u32) -> usize
-    ensures count { result ≡ length (filter (λ x. x.object == object) holds.now) }
-    ensures within { result ≤ length holds.now }
-{
-    let mut count = 0;
-    for hold in holds {
-        if hold.object == object {
-            count += 1;
-        }
-    }
-    count
 }

@@ -1,17 +1,20 @@
 //! Buffers and their handles.
 
-ghost use Rattle.std.specs.Prelude.{◌≡◌, ◌==◌, ◌<◌, ◌≤◌, ◌*◌, ◌&&◌, ℕ, Ok, not, filter, length};
-ghost use Rattle.std.specs.List.{insert, list_any};
-ghost use Rattle.std.specs.Vec.{vec_len, vec_capacity};
-ghost use Rattle.drm_table.specs.declared.calls.Call.TheVariants.{GemClose, CreateDumb};
+ghost use Rattle.std.specs.Prelude.{◌≡◌, ◌≤◌, ◌*◌, ℕ, true, Ok};
+ghost use Rattle.drm_files.specs.Files.{is_present};
+ghost use Rattle.drm_table.specs.declared.calls.Call.TheVariants.{GemClose, BufCreate, CreateDumb, DestroyDumb};
 ghost use Rattle.drm_table.specs.declared.limits.Limits as table;
 ghost use Rattle.drm_model.specs.Buffers as model;
-ghost use Rattle.drm_device.specs.Refinement.{OwesCall, comes_before, place_among};
+ghost use Rattle.drm_device.specs.Parts.{IsTied, HaveLimits, IsLater, IsKept};
+ghost use Rattle.drm_device.specs.Refinement.{OwesCall, MakesBuffer};
 
-use crate::clients::{free_handle, hold_of};
-use crate::state::{Hold, Object, State};
+use crate::state::State;
+use drm_gem::CreateFault;
 use drm_table::{Answer, Limits, Rule};
 use std::alloc::AllocError;
+
+/// The most bytes that a buffer may have: 64 GiB (own).
+const MOST_BYTES: u64 = 68_719_476_736;
 
 /// What a dumb buffer is for: pixels in a row, rows, and bits a pixel.
 #[derive(Clone, Copy)]
@@ -29,33 +32,21 @@ pub fn create_dumb(
     client: u32,
     pixels: Pixels,
 ) -> Result<Answer, AllocError>
-    requires { limits.handles ≤ 65535 }
-    ensures { OwesCall state.old limits birth client (CreateDumb pixels.width pixels.height pixels.bpp) result state.new }
+    requires tied { IsTied state.old }
+    requires limits { HaveLimits state.old limits }
+    requires later { IsLater state.old birth }
+    requires present { is_present state.old.files client ≡ true }
+    ensures owes { OwesCall state.old limits birth client (CreateDumb pixels.width pixels.height pixels.bpp) result state.new }
+    ensures kept { IsKept state.old state.new }
 {
     if !is_dumb_shape(pixels) {
         return Ok(Answer::Denied(Rule::BadSize));
     }
-    let Some(handle) = free_handle(&state.holds, client, limits.handles) else {
-        return Ok(Answer::Denied(Rule::Full));
-    };
-    if state.objects.len() >= limits.objects as usize {
-        return Ok(Answer::Denied(Rule::Full));
-    }
     let pitch = dumb_pitch(pixels.width, pixels.bpp);
     let size = dumb_size(pitch, pixels.height);
-    state.objects.reserve(1)?;
-    state.holds.reserve(1)?;
-    state.objects.push_reserved(Object {
-        number: birth,
-        size,
-        stamp: 0,
-    });
-    let hold = Hold {
-        client,
-        handle,
-        object: birth,
+    let Some(handle) = new_buffer(state, limits, birth, client, size)? else {
+        return Ok(Answer::Denied(Rule::Full));
     };
-    add_hold(&mut state.holds, hold);
     Ok(Answer::Dumb {
         handle,
         pitch,
@@ -63,34 +54,62 @@ pub fn create_dumb(
     })
 }
 
-/// Puts a handle where it belongs, in the order of clients and numbers. Its place is reserved.
-fn add_hold(holds: &mut Vec<Hold>, hold: Hold)
-    requires { vec_len holds.old < vec_capacity holds.old }
-    ensures { holds.new.items ≡ insert holds.old.items (place_among holds.old.items hold) hold }
+/// BUF_CREATE: a new object of so many bytes, rounded up to whole pages, and a handle of it. Where memory is refused
+/// nothing changes.
+pub fn buf_create(
+    state: &mut State,
+    limits: Limits,
+    birth: u32,
+    client: u32,
+    size: u64,
+) -> Result<Answer, AllocError>
+    requires tied { IsTied state.old }
+    requires limits { HaveLimits state.old limits }
+    requires later { IsLater state.old birth }
+    requires present { is_present state.old.files client ≡ true }
+    ensures owes { OwesCall state.old limits birth client (BufCreate size) result state.new }
+    ensures kept { IsKept state.old state.new }
 {
-    let place = place_among(holds, hold);
-    let _ = holds.insert(place, hold);
-}
-
-/// How many handles stand before this one.
-fn place_among(holds: &[Hold], hold: Hold) -> usize
-    ensures place { result ≡ place_among holds.now hold }
-    ensures within { result ≤ length holds.now }
-{
-    let mut place = 0;
-    for other in holds {
-        if comes_before(*other, hold) {
-            place += 1;
-        }
+    if !is_buffer_size(size) {
+        return Ok(Answer::Denied(Rule::BadSize));
     }
-    place
+    let size = buffer_size(size);
+    let Some(handle) = new_buffer(state, limits, birth, client, size)? else {
+        return Ok(Answer::Denied(Rule::Full));
+    };
+    Ok(Answer::Buffer { handle, size })
 }
 
-/// Whether a handle stands before another: by client, and by handle of the same client.
-fn comes_before(one: Hold, other: Hold) -> bool
-    ensures { result ≡ comes_before one other }
+/// Makes an object of so many bytes and a handle of it, and answers the handle; none where the client has every handle or
+/// as many objects are there as may be. Where memory is refused nothing changes.
+fn new_buffer(
+    state: &mut State,
+    limits: Limits,
+    birth: u32,
+    client: u32,
+    size: u64,
+) -> Result<Option<u32>, AllocError>
+    requires tied { IsTied state.old }
+    requires limits { HaveLimits state.old limits }
+    requires later { IsLater state.old birth }
+    requires present { is_present state.old.files client ≡ true }
+    ensures makes { MakesBuffer state.old limits birth client size result state.new }
+    ensures kept { IsKept state.old state.new }
 {
-    one.client < other.client || one.client == other.client && one.handle < other.handle
+    if !state.files.has_room(client) {
+        return Ok(None);
+    }
+    let made = match state.objects.create(birth, size) {
+        Ok(made) => made,
+        Err(CreateFault::Full) => return Ok(None),
+        Err(CreateFault::NoMemory) => return Err(AllocError),
+    };
+    let Ok(handle) = state.files.add_handle(client, made, None) else {
+        // the object goes again, since nothing names it
+        let _dead = state.objects.unhold(made);
+        return Err(AllocError);
+    };
+    Ok(Some(handle))
 }
 
 /// Whether a dumb buffer may have this shape.
@@ -124,39 +143,34 @@ fn dumb_size(pitch: u32, height: u32) -> u64
     (pitch as u64 * height as u64 + 4095) / 4096 * 4096
 }
 
-/// GEM_CLOSE: the handle goes, and the object with its last handle. It takes no memory and asks for no limit.
+/// Whether a buffer may have so many bytes.
+fn is_buffer_size(size: u64) -> bool
+    ensures { result ≡ model.is_buffer_size size }
+{
+    1 <= size && size <= MOST_BYTES
+}
+
+/// The bytes of a buffer of at least so many: whole pages.
+fn buffer_size(size: u64) -> u64
+    requires { size ≤ 68719476736 }
+    ensures { result ≡ model.buffer_size size }
+{
+    (size + 4095) / 4096 * 4096
+}
+
+/// GEM_CLOSE and MODE_DESTROY_DUMB: the handle goes, and the object with its last handle. It takes no memory and asks for
+/// no limit.
 pub fn gem_close(state: &mut State, client: u32, handle: u32) -> Answer
-    ensures { (limits : table.Limits) (birth : ℕ) → OwesCall state.old limits birth client (GemClose handle) (Ok result) state.new }
+    requires tied { IsTied state.old }
+    requires present { is_present state.old.files client ≡ true }
+    ensures destroy { (limits : table.Limits) (birth : ℕ) → OwesCall state.old limits birth client (DestroyDumb handle) (Ok result) state.new }
+    ensures close { (limits : table.Limits) (birth : ℕ) → OwesCall state.old limits birth client (GemClose handle) (Ok result) state.new }
+    ensures kept { IsKept state.old state.new }
 {
-    if hold_of(&state.holds, client, handle).is_none() {
+    let Some(object) = state.files.object_of(client, handle) else {
         return Answer::Denied(Rule::NoHandleToClose);
-    }
-    remove_hold(&mut state.holds, client, handle);
-    sweep_objects(&mut state.objects, &state.holds);
+    };
+    let _object = state.files.drop_handle(client, handle);
+    let _dead = state.objects.unhold(object);
     Answer::Done
-}
-
-fn remove_hold(holds: &mut Vec<Hold>, client: u32, handle: u32)
-    ensures { holds.new.items ≡ filter (λ x. not ((x.client == client) && (x.handle == handle))) holds.old.items }
-{
-    holds.retain(|x| x.client != client || x.handle != handle);
-}
-
-/// Objects that no handle names go.
-pub fn sweep_objects(objects: &mut Vec<Object>, holds: &[Hold])
-    ensures { objects.new.items ≡ filter (λ x. list_any (λ hold. hold.object == x.number) holds.now) objects.old.items }
-{
-    objects.retain(|x| has_handle(holds, x.number));
-}
-
-/// Whether a handle names the object.
-fn has_handle(holds: &[Hold], object: u32) -> bool
-    ensures { result ≡ list_any (λ hold. hold.object == object) holds.now }
-{
-    for hold in holds {
-        if hold.object == object {
-            return true;
-        }
-    }
-    false
 }

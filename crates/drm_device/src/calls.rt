@@ -1,14 +1,18 @@
 //! The calls: who may make one, and which function carries it out.
 
-ghost use Rattle.std.specs.Prelude.{◌≡◌, ◌≤◌};
+ghost use Rattle.std.specs.Prelude.{◌≡◌, ◌≤◌, true, IfNone};
+ghost use Rattle.drm_files.specs.Files.{is_present};
+ghost use Rattle.drm_device.specs.Parts.{IsTied, HaveLimits, IsLater, IsKept};
 ghost use Rattle.drm_table.specs.declared.events.Event.TheVariants.{Ask};
 ghost use Rattle.drm_model.specs.Verdict as model;
 ghost use Rattle.drm_device.specs.Refinement.{Owes, OwesCall, IsAdmission, is_same, standing_by};
 
 use crate::audits::audit;
-use crate::buffers::{Pixels, create_dumb, gem_close};
-use crate::capabilities::version;
+use crate::buffers::{Pixels, buf_create, create_dumb, gem_close};
+use crate::capabilities::{get_cap, set_client_cap, version};
 use crate::clients::client_of;
+use crate::lists::list_handles;
+use crate::stamps::{stamp_read, stamp_write};
 use crate::state::{Client, State};
 use drm_table::{Answer, Call, Limits, Rule, Standing, permit};
 use std::alloc::AllocError;
@@ -21,9 +25,12 @@ pub fn ask(
     client: u32,
     call: &Call,
 ) -> Result<Answer, AllocError>
-    requires handles { limits.handles ≤ 65535 }
+    requires tied { IsTied state.old }
+    requires limits { HaveLimits state.old limits }
+    requires later { IsLater state.old birth }
     requires birth { 1 ≤ birth }
-    ensures { Owes state.old limits birth (Ask client call.now) result state.new }
+    ensures owes { Owes state.old limits birth (Ask client call.now) result state.new }
+    ensures kept { IsKept state.old state.new }
 {
     if let Some(rule) = admission(state, client, call) {
         return Ok(Answer::Denied(rule));
@@ -33,7 +40,9 @@ pub fn ask(
 
 /// The first rule that fails, of those that every call is tested for.
 fn admission(state: &State, client: u32, call: &Call) -> Option<Rule>
-    ensures { IsAdmission state.now client call.now result }
+    requires { IsTied state.now }
+    ensures first { IsAdmission state.now client call.now result }
+    ensures present { IfNone result (is_present state.now.files client ≡ true) }
 {
     if !is_known(call) {
         return Some(Rule::Unknown);
@@ -41,7 +50,7 @@ fn admission(state: &State, client: u32, call: &Call) -> Option<Rule>
     if !is_laid_out(call) {
         return Some(Rule::Layout);
     }
-    match client_of(&state.clients, client) {
+    match client_of(state, client) {
         None => Some(Rule::NoClient),
         Some(caller) => permit(call.flags(), standing_of(caller, state.device_master)),
     }
@@ -91,9 +100,13 @@ fn carry_out(
     client: u32,
     call: &Call,
 ) -> Result<Answer, AllocError>
-    requires handles { limits.handles ≤ 65535 }
+    requires tied { IsTied state.old }
+    requires limits { HaveLimits state.old limits }
+    requires later { IsLater state.old birth }
     requires birth { 1 ≤ birth }
-    ensures { OwesCall state.old limits birth client call.now result state.new }
+    requires present { is_present state.old.files client ≡ true }
+    ensures owes { OwesCall state.old limits birth client call.now result state.new }
+    ensures kept { IsKept state.old state.new }
 {
     match call {
         // these two are never admitted
@@ -101,6 +114,12 @@ fn carry_out(
         Call::BadLayout(_) => Ok(Answer::Denied(Rule::Layout)),
         Call::Version => Ok(version()),
         Call::GemClose { handle } => Ok(gem_close(state, client, *handle)),
+        Call::GetCap { cap } => Ok(get_cap(state, client, *cap)),
+        Call::SetClientCap { cap, value } => Ok(set_client_cap(state, client, *cap, *value)),
+        Call::BufCreate { size } => buf_create(state, limits, birth, client, *size),
+        Call::StampWrite { handle, stamp } => Ok(stamp_write(state, client, *handle, *stamp)),
+        Call::StampRead { handle } => Ok(stamp_read(state, client, *handle)),
+        Call::ListHandles { from } => Ok(list_handles(state, client, *from)),
         Call::Audit { kind, from } => Ok(audit(state, birth, *kind, *from)),
         Call::CreateDumb { width, height, bpp } => {
             let pixels = Pixels {
@@ -110,5 +129,6 @@ fn carry_out(
             };
             create_dumb(state, limits, birth, client, pixels)
         }
+        Call::DestroyDumb { handle } => Ok(gem_close(state, client, *handle)),
     }
 }

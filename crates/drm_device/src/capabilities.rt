@@ -1,9 +1,19 @@
 //! What the device tells of itself.
 
-ghost use Rattle.std.specs.Prelude.{◌≡◌};
+ghost use Rattle.std.specs.Prelude.{◌≡◌, ℕ, Ok};
+ghost use Rattle.drm_table.specs.declared.calls.Call.TheVariants.{GetCap, SetClientCap};
+ghost use Rattle.drm_table.specs.declared.limits.Limits as table;
 ghost use Rattle.drm_model.specs.Capabilities.{version_answer};
+ghost use Rattle.drm_device.specs.Refinement.{OwesCall};
 
-use drm_table::Answer;
+use crate::state::State;
+use drm_table::{Answer, Rule};
+
+/// Whether there are dumb buffers (drm-uapi, `DRM_CAP_DUMB_BUFFER`).
+const DUMB_BUFFER: u64 = 0x1;
+
+/// Which directions of PRIME there are (drm-uapi, `DRM_CAP_PRIME`).
+const PRIME: u64 = 0x5;
 
 /// VERSION: the version of the interface.
 pub fn version() -> Answer
@@ -14,4 +24,24 @@ pub fn version() -> Answer
         minor: 0,
         patch: 0,
     }
+}
+
+/// GET_CAP: dumb buffers there are, and PRIME in both directions. It takes no memory and asks for no limit.
+pub fn get_cap(state: &State, client: u32, cap: u64) -> Answer
+    ensures { (limits : table.Limits) (birth : ℕ) → OwesCall state.now limits birth client (GetCap cap) (Ok result) state.now }
+{
+    if cap == DUMB_BUFFER {
+        return Answer::Number { value: 1 };
+    }
+    if cap == PRIME {
+        return Answer::Number { value: 3 };
+    }
+    Answer::Denied(Rule::BadCap)
+}
+
+/// SET_CLIENT_CAP: there is none that a client may set (own). It takes no memory and asks for no limit.
+pub fn set_client_cap(state: &State, client: u32, cap: u64, value: u64) -> Answer
+    ensures { (limits : table.Limits) (birth : ℕ) → OwesCall state.now limits birth client (SetClientCap cap value) (Ok result) state.now }
+{
+    Answer::Denied(Rule::BadCap)
 }

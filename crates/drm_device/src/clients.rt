@@ -1,42 +1,57 @@
-//! Look-ups in the lists, and which numbers are free.
+//! Look-ups of clients.
 
-ghost use Rattle.std.specs.Prelude.{◌≡◌, ◌==◌, ◌≤◌, ◌<◌, ◌&&◌, find, filter, map};
-ghost use Rattle.drm_model.specs.Numbers.{is_among, least};
+ghost use Rattle.std.specs.Prelude.{◌≡◌, ◌==◌, true, find, slice_get, IfSome};
+ghost use Rattle.drm_files.specs.Files.{is_present};
+ghost use Rattle.drm_device.specs.Parts.{IsTied, join};
+ghost use Rattle.drm_device.specs.Refinement.{lists_of};
 
-use crate::state::{Client, Hold};
+use crate::audits::item_at;
+use crate::state::{Client, Member, State};
+use drm_files::FileFlags;
 
 /// The client of this number, if it is open.
-pub fn client_of(clients: &[Client], number: u32) -> Option<Client>
-    ensures { result ≡ find (λ x. x.number == number) clients.now }
+pub fn client_of(state: &State, number: u32) -> Option<Client>
+    requires { IsTied state.now }
+    ensures client { result ≡ find (λ x. x.number == number) (lists_of state.now).clients }
+    ensures present { IfSome result (λ x. is_present state.now.files number ≡ true) }
 {
-    for client in clients {
-        if client.number == number {
-            return Some(*client);
-        }
-    }
-    None
+    let flags = state.files.flags_of(number)?;
+    let member = member_of(&state.members, number)?;
+    Some(joined(flags, member))
 }
 
-/// The client's hold of this handle, if it has one.
-pub fn hold_of(holds: &[Hold], client: u32, handle: u32) -> Option<Hold>
-    ensures { result ≡ find (λ x. (x.client == client) && (x.handle == handle)) holds.now }
+/// The client at a place, from 0, in the order of numbers; none past the last.
+pub fn client_at(state: &State, place: usize) -> Option<Client>
+    requires { IsTied state.now }
+    ensures { result ≡ slice_get (lists_of state.now).clients place }
 {
-    for hold in holds {
-        if hold.client == client && hold.handle == handle {
-            return Some(*hold);
-        }
-    }
-    None
+    let file = state.files.nth_client(place)?;
+    let member = item_at(&state.members, place)?;
+    Some(joined(file.flags, member))
 }
 
-/// The least handle up to the last that the client doesn't hold.
-pub fn free_handle(holds: &[Hold], client: u32, last: u32) -> Option<u32>
-    requires { last ≤ 65535 }
-    ensures { result ≡ least (is_among (map (λ x. x.handle) (filter (λ x. x.client == client) holds.now))) 1 last }
+/// What is kept of a client, in one.
+fn joined(flags: FileFlags, member: Member) -> Client
+    ensures { result ≡ join flags member }
 {
-    for handle in 1..last + 1 {
-        if hold_of(holds, client, handle).is_none() {
-            return Some(handle);
+    Client {
+        number: member.client,
+        render: flags.render,
+        root: flags.root,
+        authenticated: flags.authenticated,
+        once_master: member.once_master,
+        is_master: member.is_master,
+        master: member.master,
+    }
+}
+
+/// How the client of this number stands to masters, if it is open.
+fn member_of(members: &[Member], number: u32) -> Option<Member>
+    ensures { result ≡ find (λ x. x.client == number) members.now }
+{
+    for member in members {
+        if member.client == number {
+            return Some(*member);
         }
     }
     None

@@ -10,6 +10,8 @@ use crate::clients::client_of;
 use crate::events::advance;
 use crate::state::State;
 use crate::topologies::Topology;
+use drm_files::Files;
+use drm_gem::Objects;
 use drm_table::{Answer, Apart, AuditKind, AuditPage, Event, Limits, are_in_range};
 use std::alloc::Global;
 use std::marker::Model;
@@ -63,10 +65,10 @@ impl Device {
             limits,
             journal,
             state: State {
-                clients: Vec::new(alloc),
+                files: Files::new(alloc, limits.clients, limits.handles),
+                members: Vec::new(alloc),
                 masters: Vec::new(alloc),
-                holds: Vec::new(alloc),
-                objects: Vec::new(alloc),
+                objects: Objects::new(alloc, limits.objects),
                 device_master: None,
             },
         })
@@ -99,12 +101,12 @@ impl Device {
         ensures { result ≡ not (no_room (rows_of self.now) event.now) }
     {
         let left = self.limits.journal as usize - self.journal.len();
-        let clients = self.state.clients.len();
+        let clients = self.state.members.len();
         match event {
             Event::Open(_) => left >= clients + 2,
             Event::Ask(_, _) => left >= clients + 1,
             Event::Close(client) => {
-                client_of(&self.state.clients, *client).is_some() || left >= clients + 1
+                client_of(&self.state, *client).is_some() || left >= clients + 1
             }
         }
     }
@@ -131,6 +133,6 @@ impl Device {
     pub fn journal_left(&self) -> u32
         ensures left { result + length self.now.journal + length (rows_of self.now).clients ≡ self.now.limits.journal }
     {
-        self.limits.journal - self.journal.len() as u32 - self.state.clients.len() as u32
+        self.limits.journal - self.journal.len() as u32 - self.state.members.len() as u32
     }
 }

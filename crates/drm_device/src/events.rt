@@ -1,6 +1,7 @@
 //! One event, by its kind.
 
 ghost use Rattle.std.specs.Prelude.{◌≤◌};
+ghost use Rattle.drm_device.specs.Parts.{IsTied, HaveLimits, IsLater, IsKept};
 ghost use Rattle.drm_device.specs.Refinement.{Owes};
 
 use crate::calls::ask;
@@ -17,9 +18,12 @@ pub fn advance(
     birth: u32,
     event: &Event,
 ) -> Result<Answer, AllocError>
-    requires handles { limits.handles ≤ 65535 }
+    requires tied { IsTied state.old }
+    requires limits { HaveLimits state.old limits }
+    requires later { IsLater state.old birth }
     requires birth { 1 ≤ birth }
-    ensures { Owes state.old limits birth event.now result state.new }
+    ensures kept { IsKept state.old state.new }
+    ensures owes { Owes state.old limits birth event.now result state.new }
 {
     match event {
         Event::Open(opening) => open(state, limits, birth, *opening),

@@ -9,8 +9,10 @@ mod clients;
 mod closings;
 mod device;
 mod events;
+mod lists;
 mod openings;
 mod replays;
+mod stamps;
 mod state;
 mod theorems;
 mod topologies;
@@ -21,5 +23,7 @@ pub use replays::{ReplayFault, replay};
 pub use theorems::rows_follow_the_journal;
 pub use topologies::Topology;
 
+#[cfg(test)]
+mod buffer_tests;
 #[cfg(test)]
 mod tests;

@@ -1,10 +1,15 @@
 //! How a client comes to be.
 
+ghost use Rattle.std.specs.Prelude.{◌≡◌, ◌<◌, ◌∷◌, ◌++◌, [], true, length, OnOk, OnErr, if◌then◌else◌};
+ghost use Rattle.std.specs.List.{AllByRecursion};
+ghost use Rattle.drm_files.specs.Files.{client};
 ghost use Rattle.drm_table.specs.declared.events.Event.TheVariants.{Open};
 ghost use Rattle.drm_table.specs.declared.events.Opening.TheVariants.{Primary, Render};
+ghost use Rattle.drm_device.specs.Parts.{IsTied, HaveLimits, IsLater, IsKept};
 ghost use Rattle.drm_device.specs.Refinement.{Owes};
 
-use crate::state::{Client, State};
+use crate::state::{Member, State};
+use drm_files::Files;
 use drm_table::{Answer, Limits, Opening, Rule};
 use std::alloc::AllocError;
 
@@ -15,7 +20,11 @@ pub fn open(
     birth: u32,
     opening: Opening,
 ) -> Result<Answer, AllocError>
-    ensures { Owes state.old limits birth (Open opening) result state.new }
+    requires tied { IsTied state.old }
+    requires limits { HaveLimits state.old limits }
+    requires later { IsLater state.old birth }
+    ensures owes { Owes state.old limits birth (Open opening) result state.new }
+    ensures kept { IsKept state.old state.new }
 {
     match opening {
         Opening::Primary { root } => open_primary(state, limits, birth, root),
@@ -32,32 +41,32 @@ fn open_primary(
     birth: u32,
     root: bool,
 ) -> Result<Answer, AllocError>
-    ensures { Owes state.old limits birth (Open (Primary root)) result state.new }
+    requires tied { IsTied state.old }
+    requires limits { HaveLimits state.old limits }
+    requires later { IsLater state.old birth }
+    ensures owes { Owes state.old limits birth (Open (Primary root)) result state.new }
+    ensures kept { IsKept state.old state.new }
 {
-    if state.clients.len() >= limits.clients as usize {
+    if state.members.len() >= limits.clients as usize {
         return Ok(Answer::Denied(Rule::Full));
     }
-    state.clients.reserve(1)?;
+    state.members.reserve(1)?;
     let Some(master) = state.device_master else {
         state.masters.reserve(1)?;
+        open_file(&mut state.files, birth, false, root, true)?;
         state.masters.push_reserved(birth);
         state.device_master = Some(birth);
-        state.clients.push_reserved(Client {
-            number: birth,
-            render: false,
-            root,
-            authenticated: true,
+        state.members.push_reserved(Member {
+            client: birth,
             once_master: true,
             is_master: true,
             master: Some(birth),
         });
         return Ok(Answer::Opened { client: birth });
     };
-    state.clients.push_reserved(Client {
-        number: birth,
-        render: false,
-        root,
-        authenticated: root,
+    open_file(&mut state.files, birth, false, root, false)?;
+    state.members.push_reserved(Member {
+        client: birth,
         once_master: false,
         is_master: false,
         master: Some(master),
@@ -67,20 +76,45 @@ fn open_primary(
 
 /// A render client, which has no master.
 fn open_render(state: &mut State, limits: Limits, birth: u32) -> Result<Answer, AllocError>
-    ensures { Owes state.old limits birth (Open Render) result state.new }
+    requires tied { IsTied state.old }
+    requires limits { HaveLimits state.old limits }
+    requires later { IsLater state.old birth }
+    ensures owes { Owes state.old limits birth (Open Render) result state.new }
+    ensures kept { IsKept state.old state.new }
 {
-    if state.clients.len() >= limits.clients as usize {
+    if state.members.len() >= limits.clients as usize {
         return Ok(Answer::Denied(Rule::Full));
     }
-    state.clients.reserve(1)?;
-    state.clients.push_reserved(Client {
-        number: birth,
-        render: true,
-        root: false,
-        authenticated: false,
+    state.members.reserve(1)?;
+    open_file(&mut state.files, birth, true, false, false)?;
+    state.members.push_reserved(Member {
+        client: birth,
         once_master: false,
         is_master: false,
         master: None,
     });
     Ok(Answer::Opened { client: birth })
+}
+
+/// Opens the file of a client that is newer than all; a founder is authenticated whether it is root or not. Where memory is
+/// refused nothing changes.
+fn open_file(
+    files: &mut Files,
+    number: u32,
+    render: bool,
+    root: bool,
+    founder: bool,
+) -> Result<(), AllocError>
+    requires newest { AllByRecursion (λ f. f.client < number) files.old.clients }
+    requires room { length files.old.clients < files.old.limit }
+    ensures ok { OnOk result (files.new ≡ record files.old { clients = files.old.clients ++ client number (record { render = render; root = root; authenticated = if founder then true else root }) ∷ [] }) }
+    ensures err { OnErr result (files.new ≡ files.old) }
+{
+    if let Err(_fault) = files.open(number, render, root) {
+        return Err(AllocError);
+    }
+    if founder {
+        files.set_authenticated(number);
+    }
+    Ok(())
 }

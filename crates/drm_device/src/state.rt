@@ -1,4 +1,7 @@
-//! What the device keeps, in plain lists.
+//! What the device keeps.
+
+use drm_files::Files;
+use drm_gem::Objects;
 
 /// An open client.
 #[derive(Clone, Copy)]
@@ -13,11 +16,21 @@ pub struct Client {
     pub master: Option<u32>,
 }
 
+/// How an open client stands to masters.
+#[derive(Clone, Copy)]
+pub struct Member {
+    pub client: u32,
+    pub once_master: bool,
+    pub is_master: bool,
+    pub master: Option<u32>,
+}
+
 /// A handle of a client.
 #[derive(Clone, Copy)]
 pub struct Hold {
     pub client: u32,
     pub handle: u32,
+    /// The number of the step that made its object.
     pub object: u32,
 }
 
@@ -32,12 +45,14 @@ pub struct Object {
     pub stamp: u64,
 }
 
-/// The lists. A master is the number of the step that made it.
+/// The parts, and the lists that have no part yet. A master is the number of the step that made it.
 #[derive(Drop)]
 pub struct State {
-    pub clients: Vec<Client>,
+    /// The open clients, with their flags and handles.
+    pub files: Files,
+    /// How each of them stands to masters, in the order of their numbers.
+    pub members: Vec<Member>,
     pub masters: Vec<u32>,
-    pub holds: Vec<Hold>,
-    pub objects: Vec<Object>,
+    pub objects: Objects,
     pub device_master: Option<u32>,
 }

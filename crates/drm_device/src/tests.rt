@@ -5,9 +5,9 @@ use drm_table::{Answer, Apart, AuditKind, AuditRow, Call, Event, Opening, Rule};
 use std::process::Abort;
 use std::test::Fail;
 
-const CARD: Event = Event::Open(Opening::Primary { root: false });
+pub(crate) const CARD: Event = Event::Open(Opening::Primary { root: false });
 
-const RENDER: Event = Event::Open(Opening::Render);
+pub(crate) const RENDER: Event = Event::Open(Opening::Render);
 
 const VERSION: Answer = Answer::Version {
     major: 1,
@@ -43,7 +43,7 @@ const fn dumb(handle: u32, pitch: u32, size: u64) -> Result<Answer, Apart> {
     })
 }
 
-const fn denied(rule: Rule) -> Result<Answer, Apart> {
+pub(crate) const fn denied(rule: Rule) -> Result<Answer, Apart> {
     Ok(Answer::Denied(rule))
 }
 
@@ -52,13 +52,13 @@ fn test_topology() -> Option<Topology> {
     Topology::new(2, &[1, 2], &[3, 2], &[5, 6])
 }
 
-fn device(rt: &HostRuntime, limits: Limits) -> Result<Device, Fail> {
+pub(crate) fn device(rt: &HostRuntime, limits: Limits) -> Result<Device, Fail> {
     let topology = test_topology().ok_or("no topology")?;
     Ok(Device::new(rt.alloc(), topology, limits)?)
 }
 
 /// Steps through the events, in order, and compares each answer.
-fn answers<const N: usize>(
+pub(crate) fn answers<const N: usize>(
     rt: &impl Abort,
     device: &mut Device,
     rows: [(Event, Result<Answer, Apart>); N],

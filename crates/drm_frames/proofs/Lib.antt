@@ -8,9 +8,13 @@ pub mod FieldLaws
 pub mod Frames
 pub mod FrameLaws
 pub mod DecodingLaws
+pub mod Shapes
+pub mod ListLaws
+pub mod CallTexts
 pub mod CallLaws
 pub mod RowLaws
 pub mod HelloLaws
 pub mod RuleLaws
+pub mod AnswerTexts
 pub mod AnswerLaws
 pub mod ReadBack

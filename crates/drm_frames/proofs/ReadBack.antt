@@ -8,9 +8,9 @@ use Rattle.drm_frames.specs.Requests.{WritesCall, request_of}
 use Rattle.drm_frames.specs.Hellos.{IsToken, hello_packet, hello_text, hello_in}
 use Rattle.drm_frames.specs.Answers.{Outcome, FitsFields, answer_packet, answer_text, answer_in}
 use Rattle.drm_frames.proofs.DecodingLaws.{text-reads}
-use Rattle.drm_frames.proofs.CallLaws.{row-found}
+use Rattle.drm_frames.proofs.CallTexts.{row-found}
 use Rattle.drm_frames.proofs.HelloLaws as hellos
-use Rattle.drm_frames.proofs.AnswerLaws as answers
+use Rattle.drm_frames.proofs.AnswerTexts as answers
 
 pub call-back : (call : Call) (text : List ℕ) → WritesCall call text → (f : Packet) × ReadsAs text f × (request_of f ≡ call)
 call-back call text w =

@@ -8,7 +8,7 @@ use drm_table::{Answer, Apart, AuditKind, AuditPage, AuditRow, Call, Rule};
 use std::process::Abort;
 
 /// The frame that is all of the bytes.
-fn frame_in(bytes: &[u8]) -> Option<Frame> {
+pub(crate) fn frame_in(bytes: &[u8]) -> Option<Frame> {
     match decode(bytes) {
         Decoded::Whole(frame, used) if used == bytes.len() => Some(frame),
         _ => None,
@@ -19,11 +19,11 @@ fn hello_in(bytes: &[u8]) -> Option<Hello> {
     hello_of(&frame_in(bytes)?)
 }
 
-fn call_in(bytes: &[u8]) -> Option<Call> {
+pub(crate) fn call_in(bytes: &[u8]) -> Option<Call> {
     Some(call_of(&frame_in(bytes)?))
 }
 
-fn answer_in(bytes: &[u8]) -> Option<Result<Answer, Apart>> {
+pub(crate) fn answer_in(bytes: &[u8]) -> Option<Result<Answer, Apart>> {
     answer_of(&frame_in(bytes)?)
 }
 
@@ -153,7 +153,7 @@ fn frames_that_are_no_audit(rt: HostRuntime) {
     }
 }
 
-fn check_answer(rt: &impl Abort, bytes: &[u8], outcome: Result<Answer, Apart>) {
+pub(crate) fn check_answer(rt: &impl Abort, bytes: &[u8], outcome: Result<Answer, Apart>) {
     assert_eq!(rt; encode_answer(&outcome).as_slice(), bytes);
     assert_eq!(rt; answer_in(bytes), Some(outcome));
 }

@@ -4,9 +4,11 @@
 
 mod answers;
 mod decoding;
+mod fields;
 mod frame;
 mod hello;
 mod laws;
+mod lists;
 mod number;
 mod pages;
 mod refusals;
@@ -36,5 +38,7 @@ pub use turns::{Refill, Written, put_all, take_some};
 
 #[cfg(test)]
 mod frame_tests;
+#[cfg(test)]
+mod row_tests;
 #[cfg(test)]
 mod tests;

@@ -1,11 +1,13 @@
 //! Which result a frame is.
 ghost use Rattle.std.specs.Prelude.{◌≡◌, Ok, drop};
-ghost use Rattle.drm_frames.specs.Answers.{answer_in, audit_in, denied_in, refused_in};
+ghost use Rattle.drm_frames.specs.Answers.{answer_in, audit_in, denied_in, list_in, refused_in};
 ghost use Rattle.drm_frames.specs.Grammar.{if_size};
 ghost use Rattle.drm_frames.specs.Number.{u32_in as number32, u64_in as number64};
 ghost use Rattle.drm_table.specs.declared.answers.Answer.TheVariants as answers;
 
+use crate::fields::{one_u32, one_u64, u32_and_u64};
 use crate::frame::Frame;
+use crate::lists::list_of;
 use crate::number::{u32_in, u64_in};
 use crate::pages::page_of;
 use crate::refusals::{apart_of, rule_of};
@@ -13,6 +15,9 @@ use drm_table::{Answer, Apart};
 
 /// How many rows of an audit a page has at most (own).
 const MOST_ROWS: usize = 16;
+
+/// How many ids a list has at most (own).
+const MOST_IDS: usize = 64;
 
 fn bare(fields: &[u8], answer: Answer) -> Option<Result<Answer, Apart>>
     ensures { result ≡ if_size 0 fields.now (Ok answer) }
@@ -27,12 +32,8 @@ fn bare(fields: &[u8], answer: Answer) -> Option<Result<Answer, Apart>>
 fn opened(fields: &[u8]) -> Option<Result<Answer, Apart>>
     ensures { result ≡ if_size 4 fields.now (Ok (answers.Opened (number32 fields.now))) }
 {
-    if fields.len() != 4 {
-        return None;
-    }
-    Some(Ok(Answer::Opened {
-        client: u32_in(fields),
-    }))
+    let client = one_u32(fields)?;
+    Some(Ok(Answer::Opened { client }))
 }
 
 fn version(fields: &[u8]) -> Option<Result<Answer, Apart>>
@@ -51,6 +52,13 @@ fn version(fields: &[u8]) -> Option<Result<Answer, Apart>>
     }))
 }
 
+fn number(fields: &[u8]) -> Option<Result<Answer, Apart>>
+    ensures { result ≡ if_size 8 fields.now (Ok (answers.Number (number64 fields.now))) }
+{
+    let value = one_u64(fields)?;
+    Some(Ok(Answer::Number { value }))
+}
+
 fn dumb(fields: &[u8]) -> Option<Result<Answer, Apart>>
     ensures { result ≡ if_size 16 fields.now (Ok (answers.Dumb (number32 fields.now)
         (number32 (drop 4 fields.now)) (number64 (drop 8 fields.now)))) }
@@ -64,6 +72,30 @@ fn dumb(fields: &[u8]) -> Option<Result<Answer, Apart>>
         handle: u32_in(fields),
         pitch: u32_in(after_handle),
         size: u64_in(after_pitch),
+    }))
+}
+
+fn buffer(fields: &[u8]) -> Option<Result<Answer, Apart>>
+    ensures { result ≡ if_size 12 fields.now (Ok (answers.Buffer (number32 fields.now)
+        (number64 (drop 4 fields.now)))) }
+{
+    let (handle, size) = u32_and_u64(fields)?;
+    Some(Ok(Answer::Buffer { handle, size }))
+}
+
+fn list(fields: &[u8]) -> Option<Result<Answer, Apart>>
+    ensures { result ≡ list_in fields.now }
+{
+    if fields.len() < 4 {
+        return None;
+    }
+    let count = u32_in(fields) as usize;
+    if count > MOST_IDS || fields.len() != 4 + 4 * count {
+        return None;
+    }
+    let (_, ids) = fields.split_at(4);
+    Some(Ok(Answer::List {
+        list: list_of(count, ids),
     }))
 }
 
@@ -109,8 +141,9 @@ fn refused(fields: &[u8]) -> Option<Result<Answer, Apart>>
     }
 }
 
-/// The result that the frame is. `None` where it is none: another number, other fields, a page
-/// of more than 16 rows, the number of no rule, or an errno that is not the rule's own (own).
+/// The result that the frame is. `None` where it is none: another number, other fields, a list of
+/// more than 64 ids, a page of more than 16 rows, the number of no rule, or an errno that is not the
+/// rule's own (own).
 #[tactic(auto, unfolding(crate::specs::Answers::answer_in))]
 pub fn answer_of(frame: &Frame) -> Option<Result<Answer, Apart>>
     ensures { result ≡ answer_in frame.now }
@@ -120,7 +153,10 @@ pub fn answer_of(frame: &Frame) -> Option<Result<Answer, Apart>>
         0x1000 => bare(fields, Answer::Done),
         0x1001 => opened(fields),
         0x1002 => version(fields),
+        0x1003 => number(fields),
         0x1004 => dumb(fields),
+        0x1005 => buffer(fields),
+        0x1007 => list(fields),
         0x100B => audit(fields),
         0x100C => bare(fields, Answer::Closed),
         0x2000 => denied(fields),

@@ -1,19 +1,19 @@
 -- Births rise along a run.
-use Rattle.std.proofs.Common.{◌≡◌, ℕ, ◌+◌, ◌<◌, ◌≤◌, Bool, true, false, List, [], ◌∷◌, ◌++◌, map, filter, Option, None, Some, refl, sym, subst, arith}
+use Rattle.std.proofs.Common.{◌≡◌, ℕ, ◌+◌, ◌==◌, ◌<◌, ◌≤◌, Bool, true, false, List, [], ◌∷◌, ◌++◌, map, filter, Option, None, Some, refl, sym, subst, arith}
 use Rattle.std.specs.Prelude.{if◌then◌else◌}
 use Rattle.std.specs.List.{AllByRecursion}
 use Rattle.drm_table.specs.declared.calls.Call.{Call}
-use Rattle.drm_table.specs.declared.calls.Call.TheVariants.{Unknown, BadLayout, Version, GemClose, Audit, CreateDumb}
+use Rattle.drm_table.specs.declared.calls.Call.TheVariants.{Unknown, BadLayout, Version, GemClose, GetCap, SetClientCap, BufCreate, StampWrite, StampRead, ListHandles, Audit, CreateDumb, DestroyDumb}
 use Rattle.drm_table.specs.declared.events.Event.{Event}
 use Rattle.drm_table.specs.declared.events.Event.TheVariants.{Open, Ask, Close}
 use Rattle.drm_table.specs.declared.events.Opening.TheVariants.{Primary, Render, Lease}
 use Rattle.drm_table.specs.declared.rules.Rule.{Rule}
 use Rattle.drm_model.specs.Orders.{InOrder}
 use Rattle.drm_model.specs.Births.{MadeInTurn, BirthsRise}
-use Rattle.drm_model.specs.Rows.{Rows, ClientRow, MasterRow, ObjectRow, birth, empty_rows, is_option, client_row}
+use Rattle.drm_model.specs.Rows.{Rows, ClientRow, MasterRow, ObjectRow, birth, empty_rows, is_option, client_row, object_of}
 use Rattle.drm_model.specs.Masters.{is_under}
 use Rattle.drm_model.specs.Leases.{ended}
-use Rattle.drm_model.specs.Buffers.{with_object}
+use Rattle.drm_model.specs.Buffers.{with_object, with_stamp}
 use Rattle.drm_model.specs.Clients.{opened, opened_primary, closed, ended_own, ended_if}
 use Rattle.drm_model.specs.Verdict.{verdict}
 use Rattle.drm_model.specs.Change.{after, after_verdict, changed, asked, swept, noted}
@@ -91,14 +91,26 @@ opened_primary-births : (w : Rows) (root : Bool) (m : Option ℕ) → BirthsRise
 opened_primary-births w root None h = record { clients = turn-push client_birth w.steps w.clients _ refl h.clients; masters = turn-push master_birth w.steps w.masters _ refl h.masters; objects = (later w h).objects }
 opened_primary-births w root (Some m) h = record { clients = turn-push client_birth w.steps w.clients _ refl h.clients; masters = (later w h).masters; objects = (later w h).objects }
 
+-- another stamp is no other object
+stamped : (b : Bool) (row : ObjectRow) (stamp : ℕ) → (if b then record row { stamp = stamp } else row).object ≡ row.object
+stamped true row stamp = refl
+stamped false row stamp = refl
+
 asked-births : (w : Rows) (c : ℕ) (call : Call) → BirthsRise w.steps w → BirthsRise (birth w) (asked w c call)
-unfolding asked with_object
+unfolding asked with_object with_stamp
 asked-births w c (Unknown number) h = later w h
 asked-births w c (BadLayout number) h = later w h
 asked-births w c Version h = later w h
 asked-births w c (GemClose handle) h = record { clients = (later w h).clients; masters = (later w h).masters; objects = (later w h).objects }
+asked-births w c (GetCap cap) h = later w h
+asked-births w c (SetClientCap cap value) h = later w h
+asked-births w c (BufCreate size) h = record { clients = (later w h).clients; masters = (later w h).masters; objects = turn-push object_birth w.steps w.objects _ refl h.objects }
+asked-births w c (StampWrite handle stamp) h = record { clients = (later w h).clients; masters = (later w h).masters; objects = turn-map object_birth _ (λ row. stamped (row.object == object_of w c handle) row stamp) (birth w) w.objects (later w h).objects }
+asked-births w c (StampRead handle) h = later w h
+asked-births w c (ListHandles from) h = later w h
 asked-births w c (Audit kind from) h = later w h
 asked-births w c (CreateDumb width height bpp) h = record { clients = (later w h).clients; masters = (later w h).masters; objects = turn-push object_birth w.steps w.objects _ refl h.objects }
+asked-births w c (DestroyDumb handle) h = record { clients = (later w h).clients; masters = (later w h).masters; objects = (later w h).objects }
 
 changed-births : (w : Rows) (event : Event) → BirthsRise w.steps w → BirthsRise (birth w) (changed w event)
 unfolding changed opened

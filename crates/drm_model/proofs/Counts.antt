@@ -3,7 +3,7 @@ use Rattle.std.proofs.Common.{ℕ, suc, ◌+◌, ◌≤◌, Bool, true, false, c
 use Rattle.drm_table.specs.declared.audits.AuditKind.{AuditKind}
 use Rattle.drm_table.specs.declared.audits.AuditKind.TheVariants as kinds
 use Rattle.drm_table.specs.declared.calls.Call.{Call}
-use Rattle.drm_table.specs.declared.calls.Call.TheVariants.{Unknown, BadLayout, Version, GemClose, Audit, CreateDumb}
+use Rattle.drm_table.specs.declared.calls.Call.TheVariants.{Unknown, BadLayout, Version, GemClose, GetCap, SetClientCap, BufCreate, StampWrite, StampRead, ListHandles, Audit, CreateDumb, DestroyDumb}
 use Rattle.drm_table.specs.declared.events.Event.{Event}
 use Rattle.drm_table.specs.declared.events.Event.TheVariants.{Open, Ask, Close}
 use Rattle.drm_table.specs.declared.events.Opening.TheVariants.{Primary, Render, Lease}
@@ -12,7 +12,7 @@ use Rattle.drm_model.specs.Births.{FewRows}
 use Rattle.drm_model.specs.Audit.{audit_rows}
 use Rattle.drm_model.specs.Rows.{Rows, ClientRow, birth, empty_rows, client_row}
 use Rattle.drm_model.specs.Leases.{ended}
-use Rattle.drm_model.specs.Buffers.{with_object}
+use Rattle.drm_model.specs.Buffers.{with_object, with_stamp}
 use Rattle.drm_model.specs.Clients.{opened, opened_primary, closed, ended_own, ended_if}
 use Rattle.drm_model.specs.Verdict.{verdict}
 use Rattle.drm_model.specs.Change.{after, after_verdict, changed, asked, swept, noted}
@@ -100,17 +100,30 @@ opened_primary-few w root None h =
 opened_primary-few w root (Some m) h = with_client-few w w.steps _ h
 
 asked-few : (w : Rows) (c : ℕ) (call : Call) → FewRows w.steps w → FewRows (birth w) (asked w c call)
-unfolding asked with_object
+unfolding asked with_object with_stamp
 asked-few w c (Unknown number) h = later w w.steps h
 asked-few w c (BadLayout number) h = later w w.steps h
 asked-few w c Version h = later w w.steps h
 asked-few w c (GemClose handle) h =
     let k = later w w.steps h in
     record { clients = k.clients; masters = k.masters; holds = few-filter _ w.holds (birth w) k.holds; objects = k.objects; names = k.names; tokens = k.tokens; grants = k.grants; framebuffers = k.framebuffers; shown = k.shown }
+asked-few w c (GetCap cap) h = later w w.steps h
+asked-few w c (SetClientCap cap value) h = later w w.steps h
+asked-few w c (BufCreate size) h =
+    let k = later w w.steps h in
+    record { clients = k.clients; masters = k.masters; holds = few-push w.holds _ w.steps h.holds; objects = few-push w.objects _ w.steps h.objects; names = k.names; tokens = k.tokens; grants = k.grants; framebuffers = k.framebuffers; shown = k.shown }
+asked-few w c (StampWrite handle stamp) h =
+    let k = later w w.steps h in
+    record { clients = k.clients; masters = k.masters; holds = k.holds; objects = few-map _ w.objects (birth w) k.objects; names = k.names; tokens = k.tokens; grants = k.grants; framebuffers = k.framebuffers; shown = k.shown }
+asked-few w c (StampRead handle) h = later w w.steps h
+asked-few w c (ListHandles from) h = later w w.steps h
 asked-few w c (Audit kind from) h = later w w.steps h
 asked-few w c (CreateDumb width height bpp) h =
     let k = later w w.steps h in
     record { clients = k.clients; masters = k.masters; holds = few-push w.holds _ w.steps h.holds; objects = few-push w.objects _ w.steps h.objects; names = k.names; tokens = k.tokens; grants = k.grants; framebuffers = k.framebuffers; shown = k.shown }
+asked-few w c (DestroyDumb handle) h =
+    let k = later w w.steps h in
+    record { clients = k.clients; masters = k.masters; holds = few-filter _ w.holds (birth w) k.holds; objects = k.objects; names = k.names; tokens = k.tokens; grants = k.grants; framebuffers = k.framebuffers; shown = k.shown }
 
 changed-few : (w : Rows) (event : Event) → FewRows w.steps w → FewRows (birth w) (changed w event)
 unfolding changed opened

@@ -9,7 +9,10 @@ pub mod Runs
 pub mod WorkedBufferIsMadeAndClosed
 pub mod WorkedDumbShapes
 pub mod WorkedFullJournal
-pub mod WorkedUnknownCallsAndClients
+pub mod WorkedBuffersAndTheirHandles
+pub mod WorkedBuffersOfBadSizes
+pub mod WorkedStampsOfBuffers
+pub mod WorkedCapabilitiesAndUnknownCalls
 pub mod WorkedUnknownCallsOfNobody
 pub mod WorkedRenderAndLeaseOpenings
 pub mod WorkedHandlesAreLimited

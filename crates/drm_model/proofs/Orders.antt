@@ -1,12 +1,12 @@
 -- Rows in an order, and in any order.
-use Rattle.std.proofs.Common.{◌≡◌, ℕ, zero, suc, ◌+◌, ◌==◌, nat_lt, Bool, true, false, cond, ◌&&◌, ◌||◌, List, [], ◌∷◌, ◌++◌, map, filter, length, refl, sym, ◌∙◌, ap, arith, length-append, eq-eqb, subst, ◌⊎◌, inl, inr, ⊎_elim}
+use Rattle.std.proofs.Common.{◌≡◌, ℕ, zero, suc, ◌+◌, ◌==◌, nat_lt, nat_le, Bool, true, false, cond, ◌&&◌, ◌||◌, List, [], ◌∷◌, ◌++◌, map, filter, length, refl, sym, ◌∙◌, ap, arith, length-append, eq-eqb, subst, ◌⊎◌, inl, inr, ⊎_elim}
 use Rattle.std.specs.List.{list_any, insert, AllByRecursion}
 use Rattle.std.proofs.lemmas.Bool.{eqb-true, lt-ltb}
 use Rattle.std.proofs.lemmas.Bool.Decides.{nat_tests}
 use Rattle.std.proofs.lemmas.List.Elements.{filter-append}
 use Rattle.drm_table.specs.declared.audits.AuditRow.{AuditRow}
-use Rattle.drm_model.specs.Orders.{SameRows, InOrder}
-use Rattle.drm_model.specs.Audit.{is_before, row_inserted, rising_rows}
+use Rattle.drm_model.specs.Orders.{SameRows, InOrder, inserted_by, sorted_by}
+use Rattle.drm_model.specs.Audit.{is_before}
 use Rattle.drm_model.proofs.Lists.{filter-map, length-map, all_weaker, all_append}
 
 pub all_filter : {X : Type 0} (P : X → Type 0) (p : X → Bool) → (xs : List X) → AllByRecursion P xs → AllByRecursion P (filter p xs)
@@ -106,84 +106,128 @@ pub in_order_weaker : {X : Type 0} (before after : X → X → Type 0) → ((x y
 in_order_weaker before after f [] h = tt
 in_order_weaker before after f (x ∷ xs) h = (all_weaker (before x) (after x) (f x) xs h.0, in_order_weaker before after f xs h.1)
 
--- ---- rows that rise
+-- ---- rows that are sorted
+
+-- an order by a test: of two rows one may stand before the other, and `is` tells whether they are the same
+pub record IsOrder {X : Type 0} (before is : X → X → Bool) : Type 0 where
+  pub total : (x y : X) → before x y ≡ false → before y x ≡ true
+  pub trans : (x y z : X) → before x y ≡ true → before y z ≡ true → before x z ≡ true
+  pub itself : (x : X) → is x x ≡ true
+  pub same : (x y : X) → is x y ≡ true → x ≡ y
 
 -- x stands before y and y not before x
-abbrev pub RisesTo : AuditRow → AuditRow → Type 0
-RisesTo x y = (is_before x y ≡ true) × (is_before y x ≡ false)
+abbrev pub RisesTo : {X : Type 0} → (X → X → Bool) → X → X → Type 0
+RisesTo before x y = (before x y ≡ true) × (before y x ≡ false)
 
-inserted-first : (x : AuditRow) → (xs : List AuditRow) → AllByRecursion (λ y. is_before x y ≡ true) xs → row_inserted x xs ≡ x ∷ xs
-inserted-first x [] h = refl
-inserted-first x (y ∷ ys) h = ap (λ b. cond b (x ∷ y ∷ ys) (y ∷ row_inserted x ys)) h.0
+abbrev Sorted : {X : Type 0} → (X → X → Bool) → List X → Type 0
+Sorted before xs = InOrder (λ x y. before x y ≡ true) xs
 
--- rows that rise are as they are
-pub rising-rows : (xs : List AuditRow) → InOrder (λ x y. is_before x y ≡ true) xs → rising_rows xs ≡ xs
-unfolding rising_rows
-rising-rows [] h = refl
-rising-rows (x ∷ xs) h = ap (row_inserted x) (rising-rows xs h.1) ∙ inserted-first x xs h.0
+inserted-first : {X : Type 0} (before : X → X → Bool) (x : X) → (xs : List X) → AllByRecursion (λ y. before x y ≡ true) xs → inserted_by before x xs ≡ x ∷ xs
+inserted-first before x [] h = refl
+inserted-first before x (y ∷ ys) h = ap (λ b. cond b (x ∷ y ∷ ys) (y ∷ inserted_by before x ys)) h.0
 
-before-total : (x y : AuditRow) → is_before x y ≡ false → is_before y x ≡ true
-before-total x y h = grind (arith, nat_tests)
+-- rows that are sorted are as they are
+pub sorted-as_is : {X : Type 0} (before : X → X → Bool) → (xs : List X) → InOrder (λ x y. before x y ≡ true) xs → sorted_by before xs ≡ xs
+unfolding sorted_by
+sorted-as_is before [] h = refl
+sorted-as_is before (x ∷ xs) h = ap (inserted_by before x) (sorted-as_is before xs h.1) ∙ inserted-first before x xs h.0
 
-before-trans : (x y z : AuditRow) → is_before x y ≡ true → is_before y z ≡ true → is_before x z ≡ true
-before-trans x y z h k = grind (arith, nat_tests)
+all_inserted : {X : Type 0} (before : X → X → Bool) (P : X → Type 0) (x : X) → (ys : List X) → P x → AllByRecursion P ys → AllByRecursion P (inserted_by before x ys)
+all_inserted before P x [] p h = (p, tt)
+all_inserted before P x (y ∷ ys) p h =
+    elim (before x y) as (λ b. AllByRecursion P (cond b (x ∷ y ∷ ys) (y ∷ inserted_by before x ys)))
+    [ true ↦ (p, h) | false ↦ (h.0, all_inserted before P x ys p h.1) ]
 
-all_inserted : (P : AuditRow → Type 0) (x : AuditRow) → (ys : List AuditRow) → P x → AllByRecursion P ys → AllByRecursion P (row_inserted x ys)
-all_inserted P x [] p h = (p, tt)
-all_inserted P x (y ∷ ys) p h =
-    elim (is_before x y) as (λ b. AllByRecursion P (cond b (x ∷ y ∷ ys) (y ∷ row_inserted x ys)))
-    [ true ↦ (p, h) | false ↦ (h.0, all_inserted P x ys p h.1) ]
-
-inserted-in_order : (x : AuditRow) → (ys : List AuditRow) → InOrder (λ u v. is_before u v ≡ true) ys → InOrder (λ u v. is_before u v ≡ true) (row_inserted x ys)
-inserted-in_order x [] h = (tt, tt)
-inserted-in_order x (y ∷ ys) h =
-    elim (is_before x y) as (λ b. is_before x y ≡ b → InOrder (λ u v. is_before u v ≡ true) (cond b (x ∷ y ∷ ys) (y ∷ row_inserted x ys))) [
-      | true ↦ λ e. ((e, all_weaker (λ z. is_before y z ≡ true) (λ z. is_before x z ≡ true) (λ z k. before-trans x y z e k) ys h.0), h)
-      | false ↦ λ e. (all_inserted (λ z. is_before y z ≡ true) x ys (before-total x y e) h.0, inserted-in_order x ys h.1)
+inserted-in_order : {X : Type 0} (before is : X → X → Bool) (order : IsOrder before is) (x : X) → (ys : List X) → Sorted before ys → Sorted before (inserted_by before x ys)
+inserted-in_order before is order x [] h = (tt, tt)
+inserted-in_order before is order x (y ∷ ys) h =
+    elim (before x y) as (λ b. before x y ≡ b → Sorted before (cond b (x ∷ y ∷ ys) (y ∷ inserted_by before x ys))) [
+      | true ↦ λ e. ((e, all_weaker (λ z. before y z ≡ true) (λ z. before x z ≡ true) (λ z k. order.trans x y z e k) ys h.0), h)
+      | false ↦ λ e. (all_inserted before (λ z. before y z ≡ true) x ys (order.total x y e) h.0, inserted-in_order before is order x ys h.1)
     ] refl
 
-rising-in_order : (xs : List AuditRow) → InOrder (λ u v. is_before u v ≡ true) (rising_rows xs)
-unfolding rising_rows
-rising-in_order [] = tt
-rising-in_order (x ∷ xs) = inserted-in_order x (rising_rows xs) (rising-in_order xs)
+sorted-in_order : {X : Type 0} (before is : X → X → Bool) (order : IsOrder before is) → (xs : List X) → Sorted before (sorted_by before xs)
+unfolding sorted_by
+sorted-in_order before is order [] = tt
+sorted-in_order before is order (x ∷ xs) = inserted-in_order before is order x (sorted_by before xs) (sorted-in_order before is order xs)
 
-ahead : (b : Bool) (x : AuditRow) (us vs : List AuditRow) → length us ≡ length vs → length (cond b (x ∷ us) us) ≡ length (cond b (x ∷ vs) vs)
+ahead : {X : Type 0} (b : Bool) (x : X) (us vs : List X) → length us ≡ length vs → length (cond b (x ∷ us) us) ≡ length (cond b (x ∷ vs) vs)
 ahead true x us vs h = ap (λ n. suc n) h
 ahead false x us vs h = h
 
-behind : (b c : Bool) (x y : AuditRow) (us vs : List AuditRow) → length us ≡ length (cond b (x ∷ vs) vs) → length (cond c (y ∷ us) us) ≡ length (cond b (x ∷ cond c (y ∷ vs) vs) (cond c (y ∷ vs) vs))
+behind : {X : Type 0} (b c : Bool) (x y : X) (us vs : List X) → length us ≡ length (cond b (x ∷ vs) vs) → length (cond c (y ∷ us) us) ≡ length (cond b (x ∷ cond c (y ∷ vs) vs) (cond c (y ∷ vs) vs))
 behind true true x y us vs h = ap (λ n. suc n) h
 behind true false x y us vs h = h
 behind false true x y us vs h = ap (λ n. suc n) h
 behind false false x y us vs h = h
 
-count-inserted : (test : AuditRow → Bool) (x : AuditRow) → (ys : List AuditRow) → length (filter test (row_inserted x ys)) ≡ length (filter test (x ∷ ys))
-count-inserted test x [] = refl
-count-inserted test x (y ∷ ys) =
-    elim (is_before x y) as (λ b. length (filter test (cond b (x ∷ y ∷ ys) (y ∷ row_inserted x ys))) ≡ length (filter test (x ∷ y ∷ ys))) [
+count-inserted : {X : Type 0} (before : X → X → Bool) (test : X → Bool) (x : X) → (ys : List X) → length (filter test (inserted_by before x ys)) ≡ length (filter test (x ∷ ys))
+count-inserted before test x [] = refl
+count-inserted before test x (y ∷ ys) =
+    elim (before x y) as (λ b. length (filter test (cond b (x ∷ y ∷ ys) (y ∷ inserted_by before x ys))) ≡ length (filter test (x ∷ y ∷ ys))) [
       | true ↦ refl
-      | false ↦ behind (test x) (test y) x y (filter test (row_inserted x ys)) (filter test ys) (count-inserted test x ys)
+      | false ↦ behind (test x) (test y) x y (filter test (inserted_by before x ys)) (filter test ys) (count-inserted before test x ys)
     ]
 
-same-rising : (xs : List AuditRow) → SameRows (rising_rows xs) xs
-unfolding rising_rows
-same-rising [] = λ test. refl
-same-rising (x ∷ xs) = λ test. count-inserted test x (rising_rows xs) ∙ ahead (test x) x (filter test (rising_rows xs)) (filter test xs) (same-rising xs test)
+same-sorted : {X : Type 0} (before : X → X → Bool) → (xs : List X) → SameRows (sorted_by before xs) xs
+unfolding sorted_by
+same-sorted before [] = λ test. refl
+same-sorted before (x ∷ xs) = λ test. count-inserted before test x (sorted_by before xs) ∙ ahead (test x) x (filter test (sorted_by before xs)) (filter test xs) (same-sorted before xs test)
 
 all_pass : {X : Type 0} (xs : List X) → filter (λ x. true) xs ≡ xs
 all_pass [] = refl
 all_pass (x ∷ xs) = ap (λ l. x ∷ l) (all_pass xs)
 
-pub length-rising : (xs : List AuditRow) → length (rising_rows xs) ≡ length xs
-length-rising xs = sym (ap length (all_pass (rising_rows xs))) ∙ same-rising xs (λ x. true) ∙ ap length (all_pass xs)
+pub length-sorted : {X : Type 0} (before : X → X → Bool) (xs : List X) → length (sorted_by before xs) ≡ length xs
+length-sorted before xs = sym (ap length (all_pass (sorted_by before xs))) ∙ same-sorted before xs (λ x. true) ∙ ap length (all_pass xs)
 
 -- ---- rows that rise are told by which rows they are
 
-abbrev is_row : AuditRow → AuditRow → Bool
-is_row x y = (x.a == y.a) && (x.b == y.b) && (x.c == y.c) && (x.d == y.d)
+found_in : {X : Type 0} (before is : X → X → Bool) (order : IsOrder before is) (P : X → Type 0) (x : X) → (ys : List X) → AllByRecursion P ys → list_any (is x) ys ≡ true → P x
+found_in before is order P x [] h k = absurd (let e : false ≡ true = k in cc)
+found_in before is order P x (y ∷ ys) h k =
+    elim (is x y) as (λ b. is x y ≡ b → (b || list_any (is x) ys) ≡ true → P x)
+    [ true ↦ λ e j. subst P (sym (order.same x y e)) h.0 | false ↦ λ e j. found_in before is order P x ys h.1 j ] refl k
 
-is_row-refl : (x : AuditRow) → is_row x x ≡ true
-is_row-refl x = rw (eq-eqb x.a x.a refl, eq-eqb x.b x.b refl, eq-eqb x.c x.c refl, eq-eqb x.d x.d refl) refl
+-- a row is the first, or what holds of the rest holds of it
+found : {X : Type 0} (before is : X → X → Bool) (order : IsOrder before is) (P : X → Type 0) (x y : X) → (ys : List X) → AllByRecursion P ys → list_any (is x) (y ∷ ys) ≡ true → (x ≡ y) ⊎ P x
+found before is order P x y ys h k =
+    elim (is x y) as (λ b. is x y ≡ b → (b || list_any (is x) ys) ≡ true → (x ≡ y) ⊎ P x)
+    [ true ↦ λ e j. inl (order.same x y e) | false ↦ λ e j. inr (found_in before is order P x ys h j) ] refl k
+
+same_head : {X : Type 0} (before is : X → X → Bool) (order : IsOrder before is) (x y : X) (xs ys : List X) → AllByRecursion (λ z. before x z ≡ true) xs → AllByRecursion (RisesTo before y) ys → SameRows (x ∷ xs) (y ∷ ys) → x ≡ y
+same_head {X = X} before is order x y xs ys h k same =
+    let x_there : list_any (is x) (y ∷ ys) ≡ true = sym (same-any (is x) (x ∷ xs) (y ∷ ys) same) ∙ ap (λ b. b || list_any (is x) xs) (order.itself x) in
+    let y_there : list_any (is y) (x ∷ xs) ≡ true = same-any (is y) (x ∷ xs) (y ∷ ys) same ∙ ap (λ b. b || list_any (is y) ys) (order.itself y) in
+    ⊎_elim (λ e. e)
+    (λ (r : RisesTo before y x). ⊎_elim (λ e. sym e) (λ (b : before x y ≡ true). absurd (let e : false ≡ true = sym r.1 ∙ b in cc)) (found before is order (λ z. before x z ≡ true) y x xs h y_there))
+    (found before is order (RisesTo before y) x y ys k x_there)
+
+without : {X : Type 0} (b : Bool) (x : X) (us vs : List X) → length (cond b (x ∷ us) us) ≡ length (cond b (x ∷ vs) vs) → length us ≡ length vs
+without true x us vs h = let e : suc (length us) ≡ suc (length vs) = h in omega (arith, e)
+without false x us vs h = h
+
+same_tail : {X : Type 0} (x : X) (xs ys : List X) → SameRows (x ∷ xs) (x ∷ ys) → SameRows xs ys
+same_tail x xs ys h = λ test. without (test x) x (filter test xs) (filter test ys) (h test)
+
+rising-unique : {X : Type 0} (before is : X → X → Bool) (order : IsOrder before is) → (xs ys : List X) → Sorted before xs → InOrder (RisesTo before) ys → SameRows xs ys → xs ≡ ys
+rising-unique before is order [] [] h k same = refl
+rising-unique before is order [] (y ∷ ys) h k same = absurd (let e : 0 ≡ suc _ = same (λ z. true) in cc)
+rising-unique before is order (x ∷ xs) [] h k same = absurd (let e : suc _ ≡ 0 = same (λ z. true) in cc)
+rising-unique before is order (x ∷ xs) (y ∷ ys) h k same =
+    let e : x ≡ y = same_head before is order x y xs ys h.0 k.0 same in
+    let same' : SameRows (x ∷ xs) (x ∷ ys) = subst (λ z. SameRows (x ∷ xs) (z ∷ ys)) (sym e) same in
+    ap (λ z. z ∷ xs) e ∙ ap (λ zs. y ∷ zs) (rising-unique before is order xs ys h.1 k.1 (same_tail x xs ys same'))
+
+-- the rows in their order are those that rise and are the same rows
+pub sorted-same : {X : Type 0} (before is : X → X → Bool) (order : IsOrder before is) (xs ys : List X) → InOrder (RisesTo before) ys → SameRows xs ys → sorted_by before xs ≡ ys
+sorted-same before is order xs ys h same =
+    rising-unique before is order (sorted_by before xs) ys (sorted-in_order before is order xs) h (same-trans (sorted_by before xs) xs ys (same-sorted before xs) same)
+
+-- ---- the rows of an audit, and numbers
+
+abbrev pub is_row : AuditRow → AuditRow → Bool
+is_row x y = (x.a == y.a) && (x.b == y.b) && (x.c == y.c) && (x.d == y.d)
 
 and_left : (a b : Bool) → (a && b) ≡ true → a ≡ true
 and_left true b h = refl
@@ -206,40 +250,25 @@ is_row-same x y h =
     ∙ ap (λ n. record { a = y.a; b = y.b; c = n; d = x.d }) c
     ∙ ap (λ n. record { a = y.a; b = y.b; c = y.c; d = n }) d
 
-found_in : (P : AuditRow → Type 0) (x : AuditRow) → (ys : List AuditRow) → AllByRecursion P ys → list_any (is_row x) ys ≡ true → P x
-found_in P x [] h k = absurd (let e : false ≡ true = k in cc)
-found_in P x (y ∷ ys) h k =
-    elim (is_row x y) as (λ b. is_row x y ≡ b → (b || list_any (is_row x) ys) ≡ true → P x)
-    [ true ↦ λ e j. subst P (sym (is_row-same x y e)) h.0 | false ↦ λ e j. found_in P x ys h.1 j ] refl k
+before-total : (x y : AuditRow) → is_before x y ≡ false → is_before y x ≡ true
+before-total x y h = grind (arith, nat_tests)
 
--- a row is the first, or what holds of the rest holds of it
-found : (P : AuditRow → Type 0) (x y : AuditRow) → (ys : List AuditRow) → AllByRecursion P ys → list_any (is_row x) (y ∷ ys) ≡ true → (x ≡ y) ⊎ P x
-found P x y ys h k =
-    elim (is_row x y) as (λ b. is_row x y ≡ b → (b || list_any (is_row x) ys) ≡ true → (x ≡ y) ⊎ P x)
-    [ true ↦ λ e j. inl (is_row-same x y e) | false ↦ λ e j. inr (found_in P x ys h j) ] refl k
+before-trans : (x y z : AuditRow) → is_before x y ≡ true → is_before y z ≡ true → is_before x z ≡ true
+before-trans x y z h k = grind (arith, nat_tests)
 
-same_head : (x y : AuditRow) (xs ys : List AuditRow) → AllByRecursion (λ z. is_before x z ≡ true) xs → AllByRecursion (RisesTo y) ys → SameRows (x ∷ xs) (y ∷ ys) → x ≡ y
-same_head x y xs ys h k same =
-    let x_there : list_any (is_row x) (y ∷ ys) ≡ true = sym (same-any (is_row x) (x ∷ xs) (y ∷ ys) same) ∙ ap (λ b. b || list_any (is_row x) xs) (is_row-refl x) in
-    let y_there : list_any (is_row y) (x ∷ xs) ≡ true = same-any (is_row y) (x ∷ xs) (y ∷ ys) same ∙ ap (λ b. b || list_any (is_row y) ys) (is_row-refl y) in
-    ⊎_elim (λ e. e) (λ (r : RisesTo y x). ⊎_elim (λ e. sym e) (λ (b : is_before x y ≡ true). absurd (let e : false ≡ true = sym r.1 ∙ b in cc)) (found (λ z. is_before x z ≡ true) y x xs h y_there)) (found (RisesTo y) x y ys k x_there)
+pub order_of_rows : IsOrder is_before is_row
+order_of_rows = record {
+  total = before-total;
+  trans = before-trans;
+  itself = λ x. rw (eq-eqb x.a x.a refl, eq-eqb x.b x.b refl, eq-eqb x.c x.c refl, eq-eqb x.d x.d refl) refl;
+  same = is_row-same;
+}
 
-without : {X : Type 0} (b : Bool) (x : X) (us vs : List X) → length (cond b (x ∷ us) us) ≡ length (cond b (x ∷ vs) vs) → length us ≡ length vs
-without true x us vs h = let e : suc (length us) ≡ suc (length vs) = h in omega (arith, e)
-without false x us vs h = h
+le-total : (x y : ℕ) → nat_le x y ≡ false → nat_le y x ≡ true
+le-total x y h = grind (arith, nat_tests)
 
-same_tail : {X : Type 0} (x : X) (xs ys : List X) → SameRows (x ∷ xs) (x ∷ ys) → SameRows xs ys
-same_tail x xs ys h = λ test. without (test x) x (filter test xs) (filter test ys) (h test)
+le-trans : (x y z : ℕ) → nat_le x y ≡ true → nat_le y z ≡ true → nat_le x z ≡ true
+le-trans x y z h k = grind (arith, nat_tests)
 
-rising-unique : (xs ys : List AuditRow) → InOrder (λ u v. is_before u v ≡ true) xs → InOrder RisesTo ys → SameRows xs ys → xs ≡ ys
-rising-unique [] [] h k same = refl
-rising-unique [] (y ∷ ys) h k same = absurd (let e : 0 ≡ suc _ = same (λ z. true) in cc)
-rising-unique (x ∷ xs) [] h k same = absurd (let e : suc _ ≡ 0 = same (λ z. true) in cc)
-rising-unique (x ∷ xs) (y ∷ ys) h k same =
-    let e : x ≡ y = same_head x y xs ys h.0 k.0 same in
-    let same' : SameRows (x ∷ xs) (x ∷ ys) = subst (λ z. SameRows (x ∷ xs) (z ∷ ys)) (sym e) same in
-    ap (λ z. z ∷ xs) e ∙ ap (λ zs. y ∷ zs) (rising-unique xs ys h.1 k.1 (same_tail x xs ys same'))
-
--- the rows in their order are those that rise and are the same rows
-pub rising-same : (xs ys : List AuditRow) → InOrder RisesTo ys → SameRows xs ys → rising_rows xs ≡ ys
-rising-same xs ys h same = rising-unique (rising_rows xs) ys (rising-in_order xs) h (same-trans (rising_rows xs) xs ys (same-rising xs) same)
+pub order_of_numbers : IsOrder nat_le (λ x y. x == y)
+order_of_numbers = record { total = le-total; trans = le-trans; itself = λ x. eq-eqb x x refl; same = λ x y h. eqb-true x y h }

@@ -1,10 +1,10 @@
 -- Made by tools/worked_rows.py: the worked row render_and_lease_openings, as the definitions compute it.
 use Rattle.std.proofs.Common.{◌≡◌, false, List, ◌∷◌, Result, Ok, refl, []}
 use Rattle.drm_table.specs.declared.answers.Answer.{Answer}
-use Rattle.drm_table.specs.declared.answers.Answer.TheVariants.{Opened, Closed, Denied}
+use Rattle.drm_table.specs.declared.answers.Answer.TheVariants.{Opened, Buffer, Closed, Denied}
 use Rattle.drm_table.specs.declared.apart.Apart.{Apart}
 use Rattle.drm_table.specs.declared.rules.Rule.TheVariants.{NoClient as DeniedNoClient, NoLeaseToken as DeniedNoLeaseToken, RenderAllow as DeniedRenderAllow}
-use Rattle.drm_table.specs.declared.calls.Call.TheVariants.{Version, CreateDumb}
+use Rattle.drm_table.specs.declared.calls.Call.TheVariants.{Version, BufCreate, CreateDumb}
 use Rattle.drm_table.specs.declared.events.Event.{Event}
 use Rattle.drm_table.specs.declared.events.Event.TheVariants.{Open, Ask, Close}
 use Rattle.drm_table.specs.declared.events.Opening.TheVariants.{Primary, Render, Lease}
@@ -12,13 +12,14 @@ use Rattle.drm_table.specs.declared.limits.Limits.{Limits}
 use Rattle.drm_table.specs.Audits.{kind_number, kind_of, kind_name}
 use Rattle.drm_table.specs.Limits.{are_in_range}
 use Rattle.drm_table.specs.Table.{call_table, row_of, call_number, flags_of}
-use Rattle.drm_model.specs.Audit.{audit_rows, rising_rows, audit_page}
-use Rattle.drm_model.specs.Buffers.{dumb_pitch, dumb_size, with_object}
+use Rattle.drm_model.specs.Audit.{audit_rows, audit_page}
+use Rattle.drm_model.specs.Buffers.{dumb_pitch, dumb_size, buffer_size, with_object, with_stamp}
 use Rattle.drm_model.specs.Change.{asked, changed, swept, after}
 use Rattle.drm_model.specs.Clients.{opening_checks, opened, closed}
 use Rattle.drm_model.specs.Leases.{ended}
 use Rattle.drm_model.specs.Masters.{chain_within}
 use Rattle.drm_model.specs.Numbers.{numbers_from, least_within, least}
+use Rattle.drm_model.specs.Orders.{sorted_by}
 use Rattle.drm_model.specs.Reply.{answer_to, answer_of, reply}
 use Rattle.drm_model.specs.Results.{results}
 use Rattle.drm_model.specs.Run.{no_room, run, rows_of}
@@ -38,6 +39,7 @@ events =
     Open (Primary false) ∷
     Open Render ∷
     Ask 2 (CreateDumb 1 1 32) ∷
+    Ask 2 (BufCreate 4096) ∷
     Open (Lease 1 false) ∷
     Ask 0 Version ∷
     Close 2 ∷
@@ -49,6 +51,7 @@ answers =
     Ok (Opened 1) ∷
     Ok (Opened 2) ∷
     Ok (Denied DeniedRenderAllow) ∷
+    Ok (Buffer 1 4096) ∷
     Ok (Denied DeniedNoLeaseToken) ∷
     Ok (Denied DeniedNoClient) ∷
     Ok Closed ∷
@@ -56,5 +59,5 @@ answers =
     []
 
 pub render_and_lease_openings : results (empty_rows test_topology limits) events ≡ answers
-unfolding kind_number kind_of kind_name are_in_range call_table row_of call_number flags_of audit_rows rising_rows audit_page dumb_pitch dumb_size with_object asked changed swept after opening_checks opened closed ended chain_within numbers_from least_within least answer_to answer_of reply results no_room run rows_of is_topology own_checks admission_checks checks verdict
+unfolding kind_number kind_of kind_name are_in_range call_table row_of call_number flags_of audit_rows audit_page dumb_pitch dumb_size buffer_size with_object with_stamp asked changed swept after opening_checks opened closed ended chain_within numbers_from least_within least sorted_by answer_to answer_of reply results no_room run rows_of is_topology own_checks admission_checks checks verdict
 render_and_lease_openings = refl

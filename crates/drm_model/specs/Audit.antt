@@ -4,6 +4,7 @@ use Rattle.std.specs.Option.{option_map_or}
 use Rattle.drm_table.specs.declared.audits.AuditKind.{AuditKind}
 use Rattle.drm_table.specs.declared.audits.AuditKind.TheVariants.{Client, Master, Object, Name, Token, Hold, Grant, Framebuffer, Shown, Device}
 use Rattle.drm_table.specs.declared.audits.AuditRow.{AuditRow}
+use Rattle.drm_model.specs.Orders.{sorted_by}
 use Rattle.drm_model.specs.Rows.{Rows, ClientRow, MasterRow, MagicRow, HoldRow, ObjectRow, NameRow, TokenRow, GrantRow, FramebufferRow, ShownRow}
 
 abbrev pub audit_row : ℕ → ℕ → ℕ → ℕ → AuditRow
@@ -60,13 +61,8 @@ audit_rows w Device = audit_row (or_zero w.device_master) w.last_token w.last_le
 abbrev pub is_before : AuditRow → AuditRow → Bool
 is_before x y = nat_lt x.a y.a || ((x.a == y.a) && nat_le x.b y.b)
 
-abbrev pub row_inserted : AuditRow → List AuditRow → List AuditRow
-row_inserted row [] = row ∷ []
-row_inserted row (x ∷ xs) = if is_before row x then row ∷ x ∷ xs else x ∷ row_inserted row xs
-
-unfoldable pub rising_rows : List AuditRow → List AuditRow
-rising_rows [] = []
-rising_rows (x ∷ xs) = row_inserted x (rising_rows xs)
+abbrev pub rising_rows : List AuditRow → List AuditRow
+rising_rows rows = sorted_by is_before rows
 
 -- at most 16 rows, after the first `from`
 unfoldable pub audit_page : Rows → AuditKind → ℕ → List AuditRow

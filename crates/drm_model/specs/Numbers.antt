@@ -1,6 +1,7 @@
 -- Which number is given (the kernel's IDR: the lowest free).
-use Rattle.std.specs.Prelude.{ℕ, ◌+◌, ◌-◌, zero, suc, ◌==◌, Bool, true, false, List, [], ◌∷◌, Option, None, Some}
+use Rattle.std.specs.Prelude.{ℕ, ◌+◌, ◌-◌, zero, suc, ◌==◌, nat_le, Bool, true, false, List, [], ◌∷◌, Option, None, Some}
 use Rattle.std.specs.List.{list_any}
+use Rattle.drm_model.specs.Orders.{sorted_by}
 
 abbrev pub is_among : List ℕ → ℕ → Bool
 is_among numbers n = list_any (λ x. x == n) numbers
@@ -18,3 +19,7 @@ least_within is_taken first (suc count) = elim (is_taken first) [ true ↦ least
 -- the least number from first to last that isn't taken, or none
 unfoldable pub least : (ℕ → Bool) → ℕ → ℕ → Option ℕ
 least is_taken first last = least_within is_taken first (last + 1 - first)
+
+-- the same numbers, each not below the one before
+abbrev pub rising : List ℕ → List ℕ
+rising numbers = sorted_by nat_le numbers

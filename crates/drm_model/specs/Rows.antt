@@ -1,7 +1,7 @@
 -- The rows of a device: flat lists, in which a client, a master or an object is named by its birth, the number of the
 -- step that made it (births are this project's own; what a row stands for is in drm-uapi, drm-mm, drm(7) and drm-gem(7)).
 use Rattle.std.specs.Prelude.{ℕ, ◌+◌, ◌==◌, Bool, false, not, ◌&&◌, nat_lt, List, [], ◌∷◌, ◌++◌, length, Option, None, Some, unwrap_or, find, map, filter}
-use Rattle.std.specs.Option.{is_some, option_and_then}
+use Rattle.std.specs.Option.{is_some, option_map, option_and_then}
 use Rattle.drm_table.specs.declared.limits.Limits.{Limits}
 use Rattle.drm_model.specs.Numbers.{is_among, least}
 use Rattle.drm_model.specs.Topology.{Topology}
@@ -155,6 +155,13 @@ hold_row w c h = find (is_hold c h) w.holds
 
 abbrev pub has_handle : Rows → ℕ → ℕ → Bool
 has_handle w c h = is_some (hold_row w c h)
+
+-- the object that the client's handle names; 0 where it has no such handle
+abbrev pub object_of : Rows → ℕ → ℕ → ℕ
+object_of w c h = unwrap_or (option_map (λ (row : HoldRow). row.object) (hold_row w c h)) 0
+
+abbrev pub object_row : Rows → ℕ → Option ObjectRow
+object_row w o = find (λ row. row.object == o) w.objects
 
 abbrev pub handles_of : Rows → ℕ → List ℕ
 handles_of w c = map (λ row. row.handle) (filter (λ row. row.client == c) w.holds)

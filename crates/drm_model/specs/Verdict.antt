@@ -2,7 +2,7 @@
 -- first three is this project's own, that of the row's flags is drm_ioctl_permit's.
 use Rattle.std.specs.Prelude.{ℕ, Bool, true, false, List, [], ◌∷◌, ◌++◌, Option}
 use Rattle.drm_table.specs.declared.calls.Call.{Call}
-use Rattle.drm_table.specs.declared.calls.Call.TheVariants.{Unknown as UnknownCall, BadLayout, Version, GemClose, Audit, CreateDumb}
+use Rattle.drm_table.specs.declared.calls.Call.TheVariants.{Unknown as UnknownCall, BadLayout, Version, GemClose, GetCap, SetClientCap, BufCreate, StampWrite, StampRead, ListHandles, Audit, CreateDumb, DestroyDumb}
 use Rattle.drm_table.specs.declared.events.Event.{Event}
 use Rattle.drm_table.specs.declared.events.Event.TheVariants.{Open, Ask, Close}
 use Rattle.drm_table.specs.declared.rules.Rule.{Rule}
@@ -11,7 +11,8 @@ use Rattle.drm_table.specs.Permit.{Check, check, first_failing, permit_checks}
 use Rattle.drm_table.specs.Table.{flags_of}
 use Rattle.drm_model.specs.Rows.{Rows, is_open}
 use Rattle.drm_model.specs.Masters.{standing_of}
-use Rattle.drm_model.specs.Buffers.{gem_close_checks, create_dumb_checks}
+use Rattle.drm_model.specs.Capabilities.{get_cap_checks, set_client_cap_checks}
+use Rattle.drm_model.specs.Buffers.{gem_close_checks, buf_create_checks, create_dumb_checks, stamp_checks}
 use Rattle.drm_model.specs.Clients.{opening_checks}
 
 -- whether a row has the number
@@ -30,8 +31,15 @@ own_checks w c (UnknownCall number) = []
 own_checks w c (BadLayout number) = []
 own_checks w c Version = []
 own_checks w c (GemClose handle) = gem_close_checks w c handle
+own_checks w c (GetCap cap) = get_cap_checks cap
+own_checks w c (SetClientCap cap value) = set_client_cap_checks
+own_checks w c (BufCreate size) = buf_create_checks w c size
+own_checks w c (StampWrite handle stamp) = stamp_checks w c handle
+own_checks w c (StampRead handle) = stamp_checks w c handle
+own_checks w c (ListHandles from) = []
 own_checks w c (Audit kind from) = []
 own_checks w c (CreateDumb width height bpp) = create_dumb_checks w c width height bpp
+own_checks w c (DestroyDumb handle) = gem_close_checks w c handle
 
 -- what comes before them: the call is known and laid out, its client is open, and its row's flags let the client make it
 unfoldable pub admission_checks : Rows → ℕ → Call → List Check

@@ -14,7 +14,7 @@ use Rattle.drm_table.specs.declared.rules.Rule.{Rule}
 use Rattle.drm_table.specs.declared.rules.Rule.TheVariants as rules
 use Rattle.drm_table.specs.Rules.{rule_name, apart_name}
 use Rattle.drm_table.specs.declared.audits.AuditRow.{AuditRow}
-use Rattle.drm_script.specs.Lines.{row_behind, page_words, answer_words}
+use Rattle.drm_script.specs.Lines.{row_behind, page_words, id_behind, list_words, answer_words}
 
 -- no byte of the text is a line end
 abbrev is_bare : List ℕ → Bool
@@ -59,12 +59,23 @@ rows_bare (row ∷ rows) = list_all-append (λ b. not (eqb b 10)) (row_behind ro
 page_bare : (rows : List AuditRow) → is_bare (page_words rows) ≡ true
 page_bare rows = simp (list_all-append, decimal_bare, rows_bare)
 
+ids_bare : (ids : List ℕ) → is_bare (flat_map id_behind ids) ≡ true
+ids_bare [] = refl
+ids_bare (id ∷ ids) = list_all-append (λ b. not (eqb b 10)) (id_behind id) (flat_map id_behind ids) ∙ both_true (decimal_bare id) (ids_bare ids)
+
+list_bare : (ids : List ℕ) → is_bare (list_words ids) ≡ true
+list_bare [] = refl
+list_bare (id ∷ ids) = simp (list_all-append, decimal_bare, ids_bare)
+
 outcome_bare : (outcome : Result Answer Apart) → is_bare (answer_words outcome) ≡ true
 outcome_bare (Ok answers.Done) = refl
 outcome_bare (Ok answers.Closed) = refl
 outcome_bare (Ok (answers.Opened client)) = simp decimal_bare
 outcome_bare (Ok (answers.Version major minor patch)) = simp (list_all-append, decimal_bare)
+outcome_bare (Ok (answers.Number value)) = simp decimal_bare
 outcome_bare (Ok (answers.Dumb handle pitch size)) = simp (list_all-append, decimal_bare)
+outcome_bare (Ok (answers.Buffer handle size)) = simp (list_all-append, decimal_bare)
+outcome_bare (Ok (answers.List ids)) = list_bare ids
 outcome_bare (Ok (answers.Audit page)) = page_bare page
 outcome_bare (Ok (answers.Denied rule)) = simp (list_all-append, decimal_bare, rule_name_bare)
 outcome_bare (Err apart) = simp (list_all-append, decimal_bare, apart_name_bare)

@@ -56,8 +56,15 @@ call_parts (calls.Unknown n) = word (codes "raw") ∷ rowless_number n ∷ []
 call_parts (calls.BadLayout n) = word (codes "raw") ∷ row_number n ∷ []
 call_parts calls.Version = word (codes "version") ∷ []
 call_parts (calls.GemClose handle) = word (codes "gem_close") ∷ number 32 handle ∷ []
+call_parts (calls.GetCap cap) = word (codes "get_cap") ∷ number 64 cap ∷ []
+call_parts (calls.SetClientCap cap value) = word (codes "set_client_cap") ∷ number 64 cap ∷ number 64 value ∷ []
+call_parts (calls.BufCreate size) = word (codes "buf_create") ∷ number 64 size ∷ []
+call_parts (calls.StampWrite handle stamp) = word (codes "stamp_write") ∷ number 32 handle ∷ number 64 stamp ∷ []
+call_parts (calls.StampRead handle) = word (codes "stamp_read") ∷ number 32 handle ∷ []
+call_parts (calls.ListHandles from) = word (codes "list_handles") ∷ number 32 from ∷ []
 call_parts (calls.Audit kind from) = word (codes "audit") ∷ number 32 (kind_number kind) ∷ number 32 from ∷ []
 call_parts (calls.CreateDumb width height bpp) = word (codes "create_dumb") ∷ number 32 width ∷ number 32 height ∷ number 32 bpp ∷ []
+call_parts (calls.DestroyDumb handle) = word (codes "destroy_dumb") ∷ number 32 handle ∷ []
 
 -- the commands
 abbrev pub command_parts : Command → List Part

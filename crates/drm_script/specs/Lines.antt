@@ -18,6 +18,23 @@ version_words major minor patch = codes "version " ++ decimal major ++ codes " "
 abbrev pub dumb_words : ℕ → ℕ → ℕ → List ℕ
 dumb_words handle pitch size = codes "dumb " ++ decimal handle ++ codes " " ++ decimal pitch ++ codes " " ++ decimal size
 
+-- the handle, and the bytes of the buffer
+abbrev pub buffer_words : ℕ → ℕ → List ℕ
+buffer_words handle size = codes "buffer " ++ decimal handle ++ codes " " ++ decimal size
+
+-- an id behind another
+abbrev pub id_behind : ℕ → List ℕ
+id_behind id = codes "," ++ decimal id
+
+-- the ids joined by commas, or a dash where there are none
+abbrev pub joined_ids : List ℕ → List ℕ
+joined_ids [] = codes "-"
+joined_ids (id ∷ ids) = decimal id ++ flat_map id_behind ids
+
+-- ids or handles
+abbrev pub list_words : List ℕ → List ℕ
+list_words ids = codes "list " ++ joined_ids ids
+
 -- the four numbers of a row of an audit
 abbrev pub row_numbers : AuditRow → List ℕ
 row_numbers row = decimal row.a ++ codes " " ++ decimal row.b ++ codes " " ++ decimal row.c ++ codes " " ++ decimal row.d
@@ -44,7 +61,10 @@ answer_words (Ok answers.Done) = codes "done"
 answer_words (Ok answers.Closed) = codes "closed"
 answer_words (Ok (answers.Opened client)) = codes "client " ++ decimal client
 answer_words (Ok (answers.Version major minor patch)) = version_words major minor patch
+answer_words (Ok (answers.Number value)) = codes "number " ++ decimal value
 answer_words (Ok (answers.Dumb handle pitch size)) = dumb_words handle pitch size
+answer_words (Ok (answers.Buffer handle size)) = buffer_words handle size
+answer_words (Ok (answers.List ids)) = list_words ids
 answer_words (Ok (answers.Audit page)) = page_words page
 answer_words (Ok (answers.Denied rule)) = denied_words rule
 answer_words (Err apart) = apart_words apart

@@ -1,10 +1,10 @@
 //! The words and fields of each call.
 
 ghost use Rattle.std.specs.Prelude.{◌≡◌};
-ghost use Rattle.drm_script.specs.Calls.{call_text, call_word_of, raw_call, raw_at, gem_close_at, audit_at, create_dumb_at, version_at, call_fields_at, call_at};
+ghost use Rattle.drm_script.specs.Calls.{call_text, call_word_of, raw_call, raw_at, gem_close_at, get_cap_at, set_client_cap_at, buf_create_at, stamp_write_at, stamp_read_at, list_handles_at, audit_at, create_dumb_at, destroy_dumb_at, version_at, call_fields_at, call_at};
 ghost use Rattle.drm_script.specs.Words.{words_of};
 
-use crate::numbers::{u16_word, u32_word};
+use crate::numbers::{u16_word, u32_word, u64_word};
 use crate::words::{end_of, next_word};
 use drm_table::{AuditKind, Call, row};
 
@@ -14,16 +14,30 @@ pub(crate) enum CallWord {
     Raw,
     Version,
     GemClose,
+    GetCap,
+    SetClientCap,
+    BufCreate,
+    StampWrite,
+    StampRead,
+    ListHandles,
     Audit,
     CreateDumb,
+    DestroyDumb,
 }
 
-pub(crate) const CALL_WORDS: [CallWord; 5] = [
+pub(crate) const CALL_WORDS: [CallWord; 12] = [
     CallWord::Raw,
     CallWord::Version,
     CallWord::GemClose,
+    CallWord::GetCap,
+    CallWord::SetClientCap,
+    CallWord::BufCreate,
+    CallWord::StampWrite,
+    CallWord::StampRead,
+    CallWord::ListHandles,
     CallWord::Audit,
     CallWord::CreateDumb,
+    CallWord::DestroyDumb,
 ];
 
 impl CallWord {
@@ -34,8 +48,15 @@ impl CallWord {
             CallWord::Raw => b"raw",
             CallWord::Version => b"version",
             CallWord::GemClose => b"gem_close",
+            CallWord::GetCap => b"get_cap",
+            CallWord::SetClientCap => b"set_client_cap",
+            CallWord::BufCreate => b"buf_create",
+            CallWord::StampWrite => b"stamp_write",
+            CallWord::StampRead => b"stamp_read",
+            CallWord::ListHandles => b"list_handles",
             CallWord::Audit => b"audit",
             CallWord::CreateDumb => b"create_dumb",
+            CallWord::DestroyDumb => b"destroy_dumb",
         }
     }
 }
@@ -85,6 +106,62 @@ fn gem_close(text: &[u8]) -> Option<Call>
     Some(Call::GemClose { handle })
 }
 
+#[tactic(auto, unfolding(crate::specs::Calls::get_cap_at))]
+fn get_cap(text: &[u8]) -> Option<Call>
+    ensures { result ≡ get_cap_at (words_of text.now) }
+{
+    let (cap, rest) = u64_word(text)?;
+    end_of(rest)?;
+    Some(Call::GetCap { cap })
+}
+
+#[tactic(auto, unfolding(crate::specs::Calls::set_client_cap_at))]
+fn set_client_cap(text: &[u8]) -> Option<Call>
+    ensures { result ≡ set_client_cap_at (words_of text.now) }
+{
+    let (cap, rest) = u64_word(text)?;
+    let (value, rest) = u64_word(rest)?;
+    end_of(rest)?;
+    Some(Call::SetClientCap { cap, value })
+}
+
+#[tactic(auto, unfolding(crate::specs::Calls::buf_create_at))]
+fn buf_create(text: &[u8]) -> Option<Call>
+    ensures { result ≡ buf_create_at (words_of text.now) }
+{
+    let (size, rest) = u64_word(text)?;
+    end_of(rest)?;
+    Some(Call::BufCreate { size })
+}
+
+#[tactic(auto, unfolding(crate::specs::Calls::stamp_write_at))]
+fn stamp_write(text: &[u8]) -> Option<Call>
+    ensures { result ≡ stamp_write_at (words_of text.now) }
+{
+    let (handle, rest) = u32_word(text)?;
+    let (stamp, rest) = u64_word(rest)?;
+    end_of(rest)?;
+    Some(Call::StampWrite { handle, stamp })
+}
+
+#[tactic(auto, unfolding(crate::specs::Calls::stamp_read_at))]
+fn stamp_read(text: &[u8]) -> Option<Call>
+    ensures { result ≡ stamp_read_at (words_of text.now) }
+{
+    let (handle, rest) = u32_word(text)?;
+    end_of(rest)?;
+    Some(Call::StampRead { handle })
+}
+
+#[tactic(auto, unfolding(crate::specs::Calls::list_handles_at))]
+fn list_handles(text: &[u8]) -> Option<Call>
+    ensures { result ≡ list_handles_at (words_of text.now) }
+{
+    let (from, rest) = u32_word(text)?;
+    end_of(rest)?;
+    Some(Call::ListHandles { from })
+}
+
 #[tactic(auto, unfolding(crate::specs::Calls::audit_at))]
 fn audit(text: &[u8]) -> Option<Call>
     ensures { result ≡ audit_at (words_of text.now) }
@@ -107,6 +184,15 @@ fn create_dumb(text: &[u8]) -> Option<Call>
     Some(Call::CreateDumb { width, height, bpp })
 }
 
+#[tactic(auto, unfolding(crate::specs::Calls::destroy_dumb_at))]
+fn destroy_dumb(text: &[u8]) -> Option<Call>
+    ensures { result ≡ destroy_dumb_at (words_of text.now) }
+{
+    let (handle, rest) = u32_word(text)?;
+    end_of(rest)?;
+    Some(Call::DestroyDumb { handle })
+}
+
 /// The call of a word and its fields.
 fn call_fields(word: CallWord, text: &[u8]) -> Option<Call>
     ensures { result ≡ call_fields_at word (words_of text.now) }
@@ -115,8 +201,15 @@ fn call_fields(word: CallWord, text: &[u8]) -> Option<Call>
         CallWord::Raw => raw(text),
         CallWord::Version => version(text),
         CallWord::GemClose => gem_close(text),
+        CallWord::GetCap => get_cap(text),
+        CallWord::SetClientCap => set_client_cap(text),
+        CallWord::BufCreate => buf_create(text),
+        CallWord::StampWrite => stamp_write(text),
+        CallWord::StampRead => stamp_read(text),
+        CallWord::ListHandles => list_handles(text),
         CallWord::Audit => audit(text),
         CallWord::CreateDumb => create_dumb(text),
+        CallWord::DestroyDumb => destroy_dumb(text),
     }
 }
 

@@ -8,6 +8,7 @@ mod labels;
 mod laws;
 mod limits_line;
 mod lines;
+mod lists;
 mod numbers;
 mod openings;
 mod reading;
@@ -25,5 +26,7 @@ pub use lines::line_of;
 pub use reading::{Reading, read_line};
 pub use texts::{LINE, LineText, push_number};
 
+#[cfg(test)]
+mod row_tests;
 #[cfg(test)]
 mod tests;

@@ -1,11 +1,12 @@
 //! The line that each answer writes.
 
-ghost use Rattle.std.specs.Prelude.{◌≡◌, ◌≤◌, ◌<◌, ◌++◌, length};
+ghost use Rattle.std.specs.Prelude.{◌≡◌, ◌≤◌, ◌<◌, ◌++◌, Ok, decimal, length};
 ghost use Rattle.arrayvec.specs.ArrayString.{array_string_len};
 ghost use Rattle.drm_table.specs.Rules.{rule_name, apart_name};
-ghost use Rattle.drm_script.specs.Lines.{answer_words, answer_line, version_words, dumb_words, denied_words, apart_words};
+ghost use Rattle.drm_script.specs.Lines.{answer_words, answer_line, version_words, dumb_words, buffer_words, denied_words, apart_words};
 
 use crate::audits::push_page;
+use crate::lists::push_list;
 use crate::texts::{LINE, LineText, push_number};
 use arrayvec::ArrayString;
 use drm_table::{Answer, Apart, Rule};
@@ -78,34 +79,62 @@ fn push_apart(text: &mut ArrayString<LINE>, apart: Apart)
     push_number(text, u64::from(apart.errno()));
 }
 
-fn push_answer(text: &mut ArrayString<LINE>, outcome: &Result<Answer, Apart>)
+fn push_buffer(text: &mut ArrayString<LINE>, handle: u32, bytes: u64)
+    requires { array_string_len text.old ≡ 0 }
+    ensures bytes { text.new.bytes ≡ text.old.bytes ++ buffer_words handle bytes }
+    ensures len { array_string_len text.new < LINE }
+{
+    text.push_str("buffer ");
+    push_number(text, u64::from(handle));
+    text.push_str(" ");
+    push_number(text, bytes);
+}
+
+/// A word and a number.
+fn push_word(text: &mut ArrayString<LINE>, word: &str, number: u64)
+    requires empty { array_string_len text.old ≡ 0 }
+    requires short { length word.now ≤ 16 }
+    ensures bytes { text.new.bytes ≡ text.old.bytes ++ word.now ++ decimal number }
+    ensures len { array_string_len text.new < LINE }
+{
+    text.push_str(word);
+    push_number(text, number);
+}
+
+fn push_answer(text: &mut ArrayString<LINE>, answer: &Answer)
+    requires { array_string_len text.old ≡ 0 }
+    ensures bytes { text.new.bytes ≡ text.old.bytes ++ answer_words (Ok answer.now) }
+    ensures len { array_string_len text.new < LINE }
+{
+    match answer {
+        Answer::Done => text.push_str("done"),
+        Answer::Closed => text.push_str("closed"),
+        Answer::Opened { client } => push_word(text, "client ", u64::from(*client)),
+        Answer::Version {
+            major,
+            minor,
+            patch,
+        } => push_version(text, *major, *minor, *patch),
+        Answer::Number { value } => push_word(text, "number ", *value),
+        Answer::Dumb {
+            handle,
+            pitch,
+            size,
+        } => push_dumb(text, *handle, *pitch, *size),
+        Answer::Buffer { handle, size } => push_buffer(text, *handle, *size),
+        Answer::List { list } => push_list(text, list),
+        Answer::Audit { page } => push_page(text, page),
+        Answer::Denied(rule) => push_denied(text, *rule),
+    }
+}
+
+fn push_outcome(text: &mut ArrayString<LINE>, outcome: &Result<Answer, Apart>)
     requires { array_string_len text.old ≡ 0 }
     ensures bytes { text.new.bytes ≡ text.old.bytes ++ answer_words outcome.now }
     ensures len { array_string_len text.new < LINE }
 {
     match outcome {
-        Ok(Answer::Done) => text.push_str("done"),
-        Ok(Answer::Closed) => text.push_str("closed"),
-        Ok(Answer::Opened { client }) => {
-            text.push_str("client ");
-            push_number(text, u64::from(*client));
-        }
-        Ok(
-            Answer::Version {
-                major,
-                minor,
-                patch,
-            },
-        ) => push_version(text, *major, *minor, *patch),
-        Ok(
-            Answer::Dumb {
-                handle,
-                pitch,
-                size,
-            },
-        ) => push_dumb(text, *handle, *pitch, *size),
-        Ok(Answer::Audit { page }) => push_page(text, page),
-        Ok(Answer::Denied(rule)) => push_denied(text, *rule),
+        Ok(answer) => push_answer(text, answer),
         Err(apart) => push_apart(text, *apart),
     }
 }
@@ -117,7 +146,7 @@ pub fn line_of(outcome: &Result<Answer, Apart>) -> LineText
     ensures fits { length result ≤ LINE }
 {
     let mut text = ArrayString::new();
-    push_answer(&mut text, outcome);
+    push_outcome(&mut text, outcome);
     text.push_str("\n");
     LineText::new(text)
 }

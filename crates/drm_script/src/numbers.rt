@@ -26,6 +26,16 @@ fn number(word: &[u8]) -> Option<u64>
     text.parse().ok()
 }
 
+/// The number of 64 bits that the first word spells, and what follows it.
+#[tactic(auto, unfolding(crate::specs::Fields::number_at))]
+pub(crate) fn u64_word(text: &[u8]) -> Option<(u64, &[u8])>
+    ensures { option_map (λ found. (found.0, words_of found.1.now)) result ≡ number_at 64 (words_of text.now) }
+{
+    let (word, rest) = next_word(text)?;
+    let value = number(word)?;
+    Some((value, rest))
+}
+
 /// The number of 32 bits that the first word spells, and what follows it.
 #[tactic(auto, unfolding(crate::specs::Fields::number_at))]
 pub(crate) fn u32_word(text: &[u8]) -> Option<(u32, &[u8])>

@@ -10,7 +10,7 @@ fn reads_as(rt: &impl Abort, line: &[u8], command: Command) {
     assert_eq!(rt; read_line(line), Reading::Says(command));
 }
 
-fn asks(rt: &impl Abort, line: &[u8], label: Label, call: Call) {
+pub(crate) fn asks(rt: &impl Abort, line: &[u8], label: Label, call: Call) {
     reads_as(rt, line, Command::Ask { label, call });
 }
 

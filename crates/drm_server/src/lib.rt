@@ -26,4 +26,6 @@ mod command_tests;
 #[cfg(test)]
 mod listing_tests;
 #[cfg(test)]
+mod row_tests;
+#[cfg(test)]
 mod tests;

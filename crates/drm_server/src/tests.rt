@@ -36,7 +36,13 @@ fn check_run(
 }
 
 /// Runs a script in one piece.
-fn check_script(rt: &impl Abort, alloc: Global, script: &[u8], end: ScriptEnd, written: &[u8]) {
+pub(crate) fn check_script(
+    rt: &impl Abort,
+    alloc: Global,
+    script: &[u8],
+    end: ScriptEnd,
+    written: &[u8],
+) {
     check_run(
         rt,
         alloc,

@@ -3,7 +3,7 @@ use Rattle.std.specs.Prelude.{ℕ, ◌==◌, Option, List, [], ◌∷◌, find, 
 use Rattle.std.specs.Option.{option_map_or}
 use Rattle.drm_table.specs.declared.flags.RowFlags.{RowFlags}
 use Rattle.drm_table.specs.declared.calls.Call.{Call}
-use Rattle.drm_table.specs.declared.calls.Call.TheVariants.{Unknown, BadLayout, Version, GemClose, Audit, CreateDumb}
+use Rattle.drm_table.specs.declared.calls.Call.TheVariants.{Unknown, BadLayout, Version, GemClose, GetCap, SetClientCap, BufCreate, StampWrite, StampRead, ListHandles, Audit, CreateDumb, DestroyDumb}
 
 -- the caller is root
 abbrev pub root_only : RowFlags
@@ -36,8 +36,15 @@ unfoldable pub call_table : List TableRow
 call_table =
     table_row 0 (codes "VERSION") render_allow
     ∷ table_row 9 (codes "GEM_CLOSE") render_allow
+    ∷ table_row 12 (codes "GET_CAP") render_allow
+    ∷ table_row 13 (codes "SET_CLIENT_CAP") no_flags
+    ∷ table_row 64 (codes "BUF_CREATE") render_allow
+    ∷ table_row 65 (codes "STAMP_WRITE") render_allow
+    ∷ table_row 66 (codes "STAMP_READ") render_allow
+    ∷ table_row 68 (codes "LIST_HANDLES") render_allow
     ∷ table_row 69 (codes "AUDIT") root_only
     ∷ table_row 178 (codes "MODE_CREATE_DUMB") no_flags
+    ∷ table_row 180 (codes "MODE_DESTROY_DUMB") no_flags
     ∷ []
 
 -- the row of a number, if it has one
@@ -50,8 +57,15 @@ call_number (Unknown number) = number
 call_number (BadLayout number) = number
 call_number Version = 0
 call_number (GemClose handle) = 9
+call_number (GetCap cap) = 12
+call_number (SetClientCap cap value) = 13
+call_number (BufCreate size) = 64
+call_number (StampWrite handle stamp) = 65
+call_number (StampRead handle) = 66
+call_number (ListHandles from) = 68
 call_number (Audit kind from) = 69
 call_number (CreateDumb width height bpp) = 178
+call_number (DestroyDumb handle) = 180
 
 -- the flags of a call's row, and none where it has no row
 unfoldable pub flags_of : Call → RowFlags

@@ -1,6 +1,7 @@
 //! What the device answers.
 
 use crate::audits::AuditPage;
+use crate::lists::ShownList;
 use crate::rules::Rule;
 
 /// The answer of a step that is noted in the journal.
@@ -12,8 +13,14 @@ pub enum Answer {
     Opened { client: u32 },
     /// The version of the interface (drm-uapi, `DRM_IOCTL_VERSION`).
     Version { major: u32, minor: u32, patch: u32 },
+    /// A number that was asked for or given.
+    Number { value: u64 },
     /// A dumb buffer: its handle, the bytes of a row and the bytes of the whole (drm-uapi, `DRM_IOCTL_MODE_CREATE_DUMB`).
     Dumb { handle: u32, pitch: u32, size: u64 },
+    /// A handle of a buffer, and the buffer's bytes (drm-gem(7)).
+    Buffer { handle: u32, size: u64 },
+    /// Ids or handles, rising.
+    List { list: ShownList },
     /// Rows of an audit, as they stood before the step (own).
     Audit { page: AuditPage },
     /// The client was closed.

@@ -19,10 +19,24 @@ pub enum Call {
     Version,
     /// Give a handle back (drm-gem(7)).
     GemClose { handle: u32 },
+    /// What a capability of the device is (drm-uapi, `DRM_IOCTL_GET_CAP`).
+    GetCap { cap: u64 },
+    /// Set a capability of the caller (drm-uapi, `DRM_IOCTL_SET_CLIENT_CAP`).
+    SetClientCap { cap: u64, value: u64 },
+    /// A buffer of so many bytes (own; a driver has such a call of its own, drm-mm).
+    BufCreate { size: u64 },
+    /// Set the stamp of an object, which stands for its contents (own).
+    StampWrite { handle: u32, stamp: u64 },
+    /// What the stamp of an object is (own).
+    StampRead { handle: u32 },
+    /// The caller's handles from a number on, 64 at most (own).
+    ListHandles { from: u32 },
     /// Up to 16 rows of a kind, after the first `from` (own).
     Audit { kind: AuditKind, from: u32 },
     /// A buffer for scan-out, of a width and height in pixels and of bits a pixel (drm-uapi, dumb buffers).
     CreateDumb { width: u32, height: u32, bpp: u32 },
+    /// Give the handle of a dumb buffer back, which any handle is (drm-uapi, dumb buffers).
+    DestroyDumb { handle: u32 },
 }
 
 /// The same call. It takes no memory and never fails.
@@ -39,6 +53,18 @@ impl Clone for Call {
             Call::BadLayout(number) => Call::BadLayout(*number),
             Call::Version => Call::Version,
             Call::GemClose { handle } => Call::GemClose { handle: *handle },
+            Call::GetCap { cap } => Call::GetCap { cap: *cap },
+            Call::SetClientCap { cap, value } => Call::SetClientCap {
+                cap: *cap,
+                value: *value,
+            },
+            Call::BufCreate { size } => Call::BufCreate { size: *size },
+            Call::StampWrite { handle, stamp } => Call::StampWrite {
+                handle: *handle,
+                stamp: *stamp,
+            },
+            Call::StampRead { handle } => Call::StampRead { handle: *handle },
+            Call::ListHandles { from } => Call::ListHandles { from: *from },
             Call::Audit { kind, from } => Call::Audit {
                 kind: *kind,
                 from: *from,
@@ -48,6 +74,7 @@ impl Clone for Call {
                 height: *height,
                 bpp: *bpp,
             },
+            Call::DestroyDumb { handle } => Call::DestroyDumb { handle: *handle },
         })
     }
 }
@@ -64,8 +91,15 @@ impl Call {
             Call::Unknown(number) | Call::BadLayout(number) => *number,
             Call::Version => 0x00,
             Call::GemClose { .. } => 0x09,
+            Call::GetCap { .. } => 0x0C,
+            Call::SetClientCap { .. } => 0x0D,
+            Call::BufCreate { .. } => 0x40,
+            Call::StampWrite { .. } => 0x41,
+            Call::StampRead { .. } => 0x42,
+            Call::ListHandles { .. } => 0x44,
             Call::Audit { .. } => 0x45,
             Call::CreateDumb { .. } => 0xB2,
+            Call::DestroyDumb { .. } => 0xB4,
         }
     }
 

@@ -23,12 +23,40 @@ pub fn row(number: u16) -> Option<Row>
             name: "GEM_CLOSE",
             flags: RowFlags::RENDER_ALLOW,
         }),
+        0x0C => Some(Row {
+            name: "GET_CAP",
+            flags: RowFlags::RENDER_ALLOW,
+        }),
+        0x0D => Some(Row {
+            name: "SET_CLIENT_CAP",
+            flags: RowFlags::empty(),
+        }),
+        0x40 => Some(Row {
+            name: "BUF_CREATE",
+            flags: RowFlags::RENDER_ALLOW,
+        }),
+        0x41 => Some(Row {
+            name: "STAMP_WRITE",
+            flags: RowFlags::RENDER_ALLOW,
+        }),
+        0x42 => Some(Row {
+            name: "STAMP_READ",
+            flags: RowFlags::RENDER_ALLOW,
+        }),
+        0x44 => Some(Row {
+            name: "LIST_HANDLES",
+            flags: RowFlags::RENDER_ALLOW,
+        }),
         0x45 => Some(Row {
             name: "AUDIT",
             flags: RowFlags::ROOT_ONLY,
         }),
         0xB2 => Some(Row {
             name: "MODE_CREATE_DUMB",
+            flags: RowFlags::empty(),
+        }),
+        0xB4 => Some(Row {
+            name: "MODE_DESTROY_DUMB",
             flags: RowFlags::empty(),
         }),
         _ => None,

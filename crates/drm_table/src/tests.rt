@@ -115,23 +115,62 @@ fn aparts_have_their_numbers_and_names(rt: HostRuntime) {
 
 #[test]
 fn rows_of_the_table(rt: HostRuntime) -> Result<(), Fail> {
-    let close = row(0x09).ok_or("GEM_CLOSE has no row")?;
-    assert_eq!(&rt; close.name, "GEM_CLOSE");
-    assert_eq!(&rt; close.flags, RowFlags::RENDER_ALLOW);
-    let dumb = row(0xB2).ok_or("MODE_CREATE_DUMB has no row")?;
-    assert_eq!(&rt; dumb.name, "MODE_CREATE_DUMB");
-    assert_eq!(&rt; dumb.flags, RowFlags::empty());
+    let rows = [
+        (0x00, "VERSION", RowFlags::RENDER_ALLOW),
+        (0x09, "GEM_CLOSE", RowFlags::RENDER_ALLOW),
+        (0x0C, "GET_CAP", RowFlags::RENDER_ALLOW),
+        (0x0D, "SET_CLIENT_CAP", RowFlags::empty()),
+        (0x40, "BUF_CREATE", RowFlags::RENDER_ALLOW),
+        (0x41, "STAMP_WRITE", RowFlags::RENDER_ALLOW),
+        (0x42, "STAMP_READ", RowFlags::RENDER_ALLOW),
+        (0x44, "LIST_HANDLES", RowFlags::RENDER_ALLOW),
+        (0x45, "AUDIT", RowFlags::ROOT_ONLY),
+        (0xB2, "MODE_CREATE_DUMB", RowFlags::empty()),
+        (0xB4, "MODE_DESTROY_DUMB", RowFlags::empty()),
+    ];
+    for (number, name, flags) in rows {
+        let row = row(number).ok_or("a number has no row")?;
+        assert_eq!(&rt; row.name, name);
+        assert_eq!(&rt; row.flags, flags);
+    }
     assert!(&rt; row(0x01).is_none());
-    let call = Call::CreateDumb {
+    assert!(&rt; row(0xFFFF).is_none());
+    Ok(())
+}
+
+#[test]
+fn numbers_and_flags_of_calls(rt: HostRuntime) {
+    let calls = [
+        (Call::Version, 0x00),
+        (Call::GemClose { handle: 1 }, 0x09),
+        (Call::GetCap { cap: 1 }, 0x0C),
+        (Call::SetClientCap { cap: 2, value: 1 }, 0x0D),
+        (Call::BufCreate { size: 1 }, 0x40),
+        (
+            Call::StampWrite {
+                handle: 1,
+                stamp: 77,
+            },
+            0x41,
+        ),
+        (Call::StampRead { handle: 1 }, 0x42),
+        (Call::ListHandles { from: 0 }, 0x44),
+        (Call::DestroyDumb { handle: 1 }, 0xB4),
+        (Call::Unknown(7), 7),
+        (Call::BadLayout(9), 9),
+    ];
+    for (call, number) in &calls {
+        assert_eq!(&rt; call.number(), *number);
+    }
+    let dumb = Call::CreateDumb {
         width: 1,
         height: 1,
         bpp: 32,
     };
-    assert_eq!(&rt; call.number(), 0xB2);
-    assert_eq!(&rt; call.flags(), RowFlags::empty());
+    assert_eq!(&rt; dumb.number(), 0xB2);
+    assert_eq!(&rt; dumb.flags(), RowFlags::empty());
     assert_eq!(&rt; Call::Version.flags(), RowFlags::RENDER_ALLOW);
-    assert_eq!(&rt; Call::Unknown(7).number(), 7);
-    Ok(())
+    assert_eq!(&rt; Call::Unknown(7).flags(), RowFlags::empty());
 }
 
 const KINDS: [(u32, &str); 10] = [
@@ -157,9 +196,6 @@ fn kinds_of_an_audit(rt: HostRuntime) -> Result<(), Fail> {
     }
     assert!(&rt; AuditKind::of_number(0).is_none());
     assert!(&rt; AuditKind::of_number(11).is_none());
-    let audit = row(0x45).ok_or("AUDIT has no row")?;
-    assert_eq!(&rt; audit.name, "AUDIT");
-    assert_eq!(&rt; audit.flags, RowFlags::ROOT_ONLY);
     Ok(())
 }
 
@@ -174,6 +210,10 @@ fn pages_and_copies(rt: HostRuntime) -> Result<(), Fail> {
     let mut page = AuditPage::new();
     page.push(row);
     assert_eq!(&rt; page.rows(), [row].as_slice());
+    let mut list = ShownList::new();
+    list.push(3);
+    list.push(9);
+    assert_eq!(&rt; list.ids(), [3, 9].as_slice());
     let call = Call::Audit {
         kind: AuditKind::Hold,
         from: 16,

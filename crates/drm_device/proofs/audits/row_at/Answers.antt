@@ -1,5 +1,6 @@
 use Rattle.std.proofs.Common.{◌≡◌, ℕ, [], ◌∷◌, None, Some, Option, List, refl, sym, ◌∙◌, ap, length, filter, ◌==◌, ◌⊎◌, inl, inr}
 use Rattle.std.specs.Prelude.{slice_get}
+use Rattle.drm_model.specs.Orders.{sorted_by}
 use Rattle.drm_model.specs.Audit.{client_audit, master_audit, object_audit, hold_audit, audit_row, audit_rows, rising_rows}
 use Rattle.drm_device.specs.declared.state.Client.{Client}
 use Rattle.drm_device.specs.declared.state.Hold.{Hold}
@@ -7,46 +8,46 @@ use Rattle.drm_device.specs.declared.state.Object.{Object}
 use Rattle.drm_table.specs.declared.audits.AuditKind.{AuditKind}
 use Rattle.drm_table.specs.declared.audits.AuditKind.TheVariants as kinds
 use Rattle.drm_model.specs.Rows.{Rows}
-use Rattle.drm_device.specs.Refinement.{NoneYet, client_row_of, master_row_of, object_row_of, hold_row_of}
+use Rattle.drm_device.specs.Refinement.{NoneYet, client_row_of, master_row_of, object_row_of, hold_row_of, lists_of}
 use Rattle.drm_device.specs.Audits.{IsRowAt}
-use Rattle.drm_device.proofs.AuditRows.{client_rows, master_rows, object_rows, object_is, hold_rows, device_rows, row_of_item}
+use Rattle.drm_device.proofs.AuditRows.{object_row_at, client_rows, master_rows, object_rows, hold_rows, device_rows, row_of_item}
 use Rattle.drm_device.proofs.audits.row_at.Goals as goal
 
 -- what the look-up found, of the list itself
 there : {X : Type 0} (found got : Option X) (items xs : List X) (place : ℕ) → found ≡ got → found ≡ slice_get xs place → xs ≡ items → got ≡ slice_get items place
 there found got items xs place e f g = sym e ∙ f ∙ ap (λ ys. slice_get ys place) g
 
-pub returns-in_err-item_at-in-Client : goal.returns-in_err-item_at-in-Client
+pub returns-in_err-client_at-in-Client : goal.returns-in_err-client_at-in-Client
 unfolding IsRowAt
-returns-in_err-item_at-in-Client c = rw c.in-Client.is (λ w h. c.from_residual.ensures ∙ row_of_item (λ (x : Client). client_audit w (client_row_of x)) c.args.state.now.clients.items _ c.args.place None (client_rows c.args.state.now c.args.steps w h) (there c.item_at.result None c.args.state.now.clients.items c.deref.result.now c.args.place c.in_err-item_at-in-Client.was c.item_at.ensures c.deref.ensures.value))
+returns-in_err-client_at-in-Client c = rw c.in-Client.is (λ w h. c.from_residual.ensures ∙ row_of_item (λ (x : Client). client_audit w (client_row_of x)) (lists_of c.args.state.now).clients _ c.args.place None (client_rows c.args.state.now c.args.steps w h) (sym c.in_err-client_at-in-Client.was ∙ c.client_at.ensures))
 
-pub returns-in_ok-item_at-in-Client : goal.returns-in_ok-item_at-in-Client
+pub returns-in_ok-client_at-in-Client : goal.returns-in_ok-client_at-in-Client
 unfolding IsRowAt
-returns-in_ok-item_at-in-Client c = rw c.in-Client.is (λ w h. ap Some (c.client_row.ensures w h.rows.none_yet.magics) ∙ row_of_item (λ (x : Client). client_audit w (client_row_of x)) c.args.state.now.clients.items _ c.args.place (Some c.in_ok-item_at-in-Client.field-0) (client_rows c.args.state.now c.args.steps w h) (there c.item_at.result (Some c.in_ok-item_at-in-Client.field-0) c.args.state.now.clients.items c.deref.result.now c.args.place c.in_ok-item_at-in-Client.was c.item_at.ensures c.deref.ensures.value))
+returns-in_ok-client_at-in-Client c = rw c.in-Client.is (λ w h. ap Some (c.client_row.ensures w h.rows.none_yet.magics) ∙ row_of_item (λ (x : Client). client_audit w (client_row_of x)) (lists_of c.args.state.now).clients _ c.args.place (Some c.in_ok-client_at-in-Client.field-0) (client_rows c.args.state.now c.args.steps w h) (sym c.in_ok-client_at-in-Client.was ∙ c.client_at.ensures))
 
 pub returns-in_err-item_at-in-Master : goal.returns-in_err-item_at-in-Master
 unfolding IsRowAt
-returns-in_err-item_at-in-Master c = rw c.in-Master.is (λ w h. c.from_residual-in_err-item_at-in-Master.ensures ∙ row_of_item (λ (m : ℕ). master_audit (master_row_of m)) c.args.state.now.masters.items _ c.args.place None (master_rows c.args.state.now c.args.steps w h) (there c.item_at-in-Master.result None c.args.state.now.masters.items c.deref-in-Master.result.now c.args.place c.in_err-item_at-in-Master.was c.item_at-in-Master.ensures c.deref-in-Master.ensures.value))
+returns-in_err-item_at-in-Master c = rw c.in-Master.is (λ w h. c.from_residual-in_err-item_at-in-Master.ensures ∙ row_of_item (λ (m : ℕ). master_audit (master_row_of m)) c.args.state.now.masters.items _ c.args.place None (master_rows c.args.state.now c.args.steps w h) (there c.item_at.result None c.args.state.now.masters.items c.deref.result.now c.args.place c.in_err-item_at-in-Master.was c.item_at.ensures c.deref.ensures.value))
 
 pub returns-in_ok-item_at-in-Master : goal.returns-in_ok-item_at-in-Master
 unfolding IsRowAt
-returns-in_ok-item_at-in-Master c = rw c.in-Master.is (λ w h. ap Some (c.master_row.ensures) ∙ row_of_item (λ (m : ℕ). master_audit (master_row_of m)) c.args.state.now.masters.items _ c.args.place (Some c.in_ok-item_at-in-Master.field-0) (master_rows c.args.state.now c.args.steps w h) (there c.item_at-in-Master.result (Some c.in_ok-item_at-in-Master.field-0) c.args.state.now.masters.items c.deref-in-Master.result.now c.args.place c.in_ok-item_at-in-Master.was c.item_at-in-Master.ensures c.deref-in-Master.ensures.value))
+returns-in_ok-item_at-in-Master c = rw c.in-Master.is (λ w h. ap Some (c.master_row.ensures) ∙ row_of_item (λ (m : ℕ). master_audit (master_row_of m)) c.args.state.now.masters.items _ c.args.place (Some c.in_ok-item_at-in-Master.field-0) (master_rows c.args.state.now c.args.steps w h) (there c.item_at.result (Some c.in_ok-item_at-in-Master.field-0) c.args.state.now.masters.items c.deref.result.now c.args.place c.in_ok-item_at-in-Master.was c.item_at.ensures c.deref.ensures.value))
 
-pub returns-in_err-item_at-in-Object : goal.returns-in_err-item_at-in-Object
+pub returns-in_err-nth-in-Object : goal.returns-in_err-nth-in-Object
 unfolding IsRowAt
-returns-in_err-item_at-in-Object c = rw c.in-Object.is (λ w h. c.from_residual-in_err-item_at-in-Object.ensures ∙ row_of_item (λ (x : Object). object_audit w (object_row_of x)) c.args.state.now.objects.items _ c.args.place None (object_rows c.args.state.now c.args.steps w h) (there c.item_at-in-Object.result None c.args.state.now.objects.items c.deref-in-Object.result.now c.args.place c.in_err-item_at-in-Object.was c.item_at-in-Object.ensures c.deref-in-Object.ensures.value))
+returns-in_err-nth-in-Object c = rw c.in-Object.is (λ w h. c.from_residual-in_err-nth-in-Object.ensures ∙ object_row_at c.args.state.now w c.args.place None c.args.steps c.requires h (sym c.in_err-nth-in-Object.was ∙ c.nth.ensures))
 
-pub returns-in_ok-item_at-in-Object : goal.returns-in_ok-item_at-in-Object
+pub returns-in_ok-nth-in-Object : goal.returns-in_ok-nth-in-Object
 unfolding IsRowAt
-returns-in_ok-item_at-in-Object c = rw c.in-Object.is (λ w h. ap Some (c.object_row.ensures ∙ ap (λ xs. audit_row c.in_ok-item_at-in-Object.field-0.number c.in_ok-item_at-in-Object.field-0.size (length (filter (λ (y : Hold). y.object == c.in_ok-item_at-in-Object.field-0.number) xs)) 0) c.deref-in-Object-2.ensures.value ∙ sym (object_is c.args.state.now w h.rows c.in_ok-item_at-in-Object.field-0)) ∙ row_of_item (λ (x : Object). object_audit w (object_row_of x)) c.args.state.now.objects.items _ c.args.place (Some c.in_ok-item_at-in-Object.field-0) (object_rows c.args.state.now c.args.steps w h) (there c.item_at-in-Object.result (Some c.in_ok-item_at-in-Object.field-0) c.args.state.now.objects.items c.deref-in-Object.result.now c.args.place c.in_ok-item_at-in-Object.was c.item_at-in-Object.ensures c.deref-in-Object.ensures.value))
+returns-in_ok-nth-in-Object c = rw c.in-Object.is (λ w h. ap Some c.object_row.ensures ∙ object_row_at c.args.state.now w c.args.place (Some c.in_ok-nth-in-Object.field-0) c.args.steps c.requires h (sym c.in_ok-nth-in-Object.was ∙ c.nth.ensures))
 
-pub returns-in_err-item_at-in-Hold : goal.returns-in_err-item_at-in-Hold
+pub returns-in_err-hold_at-in-Hold : goal.returns-in_err-hold_at-in-Hold
 unfolding IsRowAt
-returns-in_err-item_at-in-Hold c = rw c.in-Hold.is (λ w h. c.from_residual-in_err-item_at-in-Hold.ensures ∙ row_of_item (λ (x : Hold). hold_audit (hold_row_of x)) c.args.state.now.holds.items _ c.args.place None (hold_rows c.args.state.now c.args.steps w h) (there c.item_at-in-Hold.result None c.args.state.now.holds.items c.deref-in-Hold.result.now c.args.place c.in_err-item_at-in-Hold.was c.item_at-in-Hold.ensures c.deref-in-Hold.ensures.value))
+returns-in_err-hold_at-in-Hold c = rw c.in-Hold.is (λ w h. c.from_residual-in_err-hold_at-in-Hold.ensures ∙ row_of_item (λ (x : Hold). hold_audit (hold_row_of x)) (lists_of c.args.state.now).holds _ c.args.place None (hold_rows c.args.state.now c.args.steps w h) (sym c.in_err-hold_at-in-Hold.was ∙ c.hold_at.ensures))
 
-pub returns-in_ok-item_at-in-Hold : goal.returns-in_ok-item_at-in-Hold
+pub returns-in_ok-hold_at-in-Hold : goal.returns-in_ok-hold_at-in-Hold
 unfolding IsRowAt
-returns-in_ok-item_at-in-Hold c = rw c.in-Hold.is (λ w h. ap Some (c.hold_row.ensures) ∙ row_of_item (λ (x : Hold). hold_audit (hold_row_of x)) c.args.state.now.holds.items _ c.args.place (Some c.in_ok-item_at-in-Hold.field-0) (hold_rows c.args.state.now c.args.steps w h) (there c.item_at-in-Hold.result (Some c.in_ok-item_at-in-Hold.field-0) c.args.state.now.holds.items c.deref-in-Hold.result.now c.args.place c.in_ok-item_at-in-Hold.was c.item_at-in-Hold.ensures c.deref-in-Hold.ensures.value))
+returns-in_ok-hold_at-in-Hold c = rw c.in-Hold.is (λ w h. ap Some (c.hold_row.ensures) ∙ row_of_item (λ (x : Hold). hold_audit (hold_row_of x)) (lists_of c.args.state.now).holds _ c.args.place (Some c.in_ok-hold_at-in-Hold.field-0) (hold_rows c.args.state.now c.args.steps w h) (sym c.in_ok-hold_at-in-Hold.was ∙ c.hold_at.ensures))
 
 pub returns-in-Device : goal.returns-in-Device
 unfolding IsRowAt
@@ -54,7 +55,7 @@ returns-in-Device c = rw c.in-Device.is (λ w h. c.item_at-in-Device.ensures ∙
 
 -- the kinds whose rows no call makes yet
 without_rows : (w : Rows) → NoneYet w → (kind : AuditKind) → (kind ≡ kinds.Name) ⊎ (kind ≡ kinds.Token) ⊎ (kind ≡ kinds.Grant) ⊎ (kind ≡ kinds.Framebuffer) ⊎ (kind ≡ kinds.Shown) → rising_rows (audit_rows w kind) ≡ []
-unfolding audit_rows rising_rows
+unfolding audit_rows sorted_by
 without_rows w h kind (inl e) = rw (e, h.names) refl
 without_rows w h kind (inr (inl e)) = rw (e, h.tokens) refl
 without_rows w h kind (inr (inr (inl e))) = rw (e, h.grants) refl

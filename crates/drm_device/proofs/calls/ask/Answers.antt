@@ -4,12 +4,12 @@ use Rattle.drm_device.specs.Refinement.{Owes, OwesCall, IsAdmission}
 use Rattle.drm_device.proofs.Outcomes.{denied, unadmitted}
 use Rattle.drm_device.proofs.calls.ask.Goals as goal
 
-pub returns-in-Some : goal.returns-in-Some
+pub returns-in-Some-clause-owes : goal.returns-in-Some-clause-owes
 unfolding Owes IsAdmission
-returns-in-Some c = λ w s.
+returns-in-Some-clause-owes c = λ w s.
     denied c.args.state.now w (Ask c.args.client c.args.call.now) c.in-Some.rule
-    (unadmitted w c.args.client c.args.call.now c.in-Some.rule (sym (c.in-Some.ensures w s.rows s.well_formed))) s.rows
+    (unadmitted w c.args.client c.args.call.now c.in-Some.rule (sym (c.in-Some.ensures.first w s.rows s.well_formed))) s.rows
 
-pub returns : goal.returns
+pub returns-clause-owes : goal.returns-clause-owes
 unfolding Owes OwesCall IsAdmission
-returns c = λ w s. c.carry_out.ensures w s (sym (c.in_default.ensures w s.rows s.well_formed))
+returns-clause-owes c = λ w s. c.carry_out.ensures.owes w s (sym (c.in_default.ensures.first w s.rows s.well_formed))

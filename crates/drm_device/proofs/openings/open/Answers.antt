@@ -6,6 +6,7 @@ use Rattle.drm_model.specs.Rows.{MasterRow, is_option}
 use Rattle.drm_model.specs.Leases.{lease_master}
 use Rattle.drm_model.specs.Clients.{opening_checks}
 use Rattle.drm_device.specs.Refinement.{Owes, master_row_of}
+use Rattle.drm_device.proofs.Tied.{kept_same}
 use Rattle.drm_device.proofs.Outcomes.{denied, opening_verdict}
 use Rattle.drm_device.proofs.openings.open.Goals as goal
 
@@ -15,6 +16,9 @@ none_leased token (m ∷ ms) = none_leased token ms
 
 pub returns-in-Lease : goal.returns-in-Lease
 unfolding Owes opening_checks
-returns-in-Lease c = rw c.in-Lease.is (λ w s.
-    let none : lease_master w c.in-Lease.token ≡ None = rw s.rows.masters (none_leased c.in-Lease.token c.args.state.now.masters.items) in
-    denied c.args.state.now w (Open (Lease c.in-Lease.token c.in-Lease.root)) NoLeaseToken (opening_verdict w (Lease c.in-Lease.token c.in-Lease.root) ∙ rw none refl) s.rows)
+returns-in-Lease c = rw c.in-Lease.is (record {
+  owes = λ w s.
+      let none : lease_master w c.in-Lease.token ≡ None = rw s.rows.masters (none_leased c.in-Lease.token c.args.state.now.masters.items) in
+      denied c.args.state.now w (Open (Lease c.in-Lease.token c.in-Lease.root)) NoLeaseToken (opening_verdict w (Lease c.in-Lease.token c.in-Lease.root) ∙ rw none refl) s.rows;
+  kept = kept_same c.args.state.now c.requires.tied;
+})

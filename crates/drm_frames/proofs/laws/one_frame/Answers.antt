@@ -1,4 +1,5 @@
-use Rattle.drm_frames.proofs.CallLaws.{row-fits, one-frame}
+use Rattle.drm_frames.proofs.CallLaws.{one-frame}
+use Rattle.drm_frames.proofs.CallTexts.{row-fits}
 use Rattle.drm_frames.proofs.laws.one_frame.Goals as goal
 
 pub returns-clause-fits : goal.returns-clause-fits

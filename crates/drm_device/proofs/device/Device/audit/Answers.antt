@@ -1,9 +1,9 @@
 use Rattle.std.proofs.Common.{◌^◌, ◌<◌, length, sym, ◌∙◌, arith}
-use Rattle.drm_model.specs.Audit.{audit_rows, rising_rows}
+use Rattle.drm_model.specs.Audit.{audit_rows, is_before, rising_rows}
 use Rattle.drm_model.specs.Run.{rows_of}
 use Rattle.drm_model.proofs.Births.{births_rise}
 use Rattle.drm_model.proofs.Counts.{few_rows, few_audit_rows}
-use Rattle.drm_model.proofs.Orders.{length-rising}
+use Rattle.drm_model.proofs.Orders.{length-sorted}
 use Rattle.drm_model.proofs.Journals.{rows_of-steps}
 use Rattle.drm_device.specs.Device.{history_of}
 use Rattle.drm_device.specs.Audits.{IsPage}
@@ -24,6 +24,6 @@ returns-clause-few c =
     let d = c.self.inside in
     let few = few_audit_rows (rows_of (history_of d)) _ (few_rows (history_of d)) c.args.kind in
     let steps = rows_of-steps (history_of d) in
-    let same = length-rising (audit_rows (rows_of (history_of d)) c.args.kind) in
+    let same = length-sorted is_before (audit_rows (rows_of (history_of d)) c.args.kind) in
     let small : length (rising_rows (audit_rows (rows_of (history_of d)) c.args.kind)) < 2 ^ 31 = omega (arith, few, same, steps, d.journal.ok.0, c.self.invariant.places, c.self.invariant.journal_fits) in
     rw (← c.self.view_is) small

@@ -14,11 +14,10 @@ returns-in-Ask c =
 
 pub returns-then-is_some : goal.returns-then-is_some
 returns-then-is_some c =
-    let found = ap is_some (c.client_of.ensures) in
     rw (c.if-is_some.true, c.in-Close.is, ← ap rows_of c.self.view_is)
-    (room_to_close_open c.self.inside c.self.invariant c.in-Close.client (rw (← c.deref.ensures.value, ← c.client_of.ensures) (sym c.is_some.ensures ∙ c.if-is_some.true)))
+    (room_to_close_open c.self.inside c.self.invariant c.in-Close.client (rw (← c.client_of.ensures.client) (sym c.is_some.ensures ∙ c.if-is_some.true)))
 
 pub returns-else-is_some : goal.returns-else-is_some
 returns-else-is_some c =
     rw (c.in-Close.is, ← ap rows_of c.self.view_is, c.len.ensures, c.len-clients.ensures)
-    (room_to_close c.self.inside c.self.invariant c.in-Close.client (rw (← c.deref.ensures.value, ← c.client_of.ensures) (sym c.is_some.ensures ∙ c.if-is_some.false)))
+    (room_to_close c.self.inside c.self.invariant c.in-Close.client (rw (← c.client_of.ensures.client) (sym c.is_some.ensures ∙ c.if-is_some.false)))

@@ -1,0 +1,71 @@
+-- The lists after each call.
+use Rattle.std.proofs.Common.{◌≡◌, ℕ, suc, List, [], ◌∷◌, find, length, slice_get, Option, Some, None, option_map, option_and_then, refl, sym, ap, ◌∙◌, nat_cmp}
+use Rattle.std.specs.FinMap as fin
+use Rattle.drm_files.specs.declared.files.FileRecord.{FileRecord}
+use Rattle.drm_files.specs.declared.files.Held.{Held}
+use Rattle.drm_files.specs.declared.rows.FileClient.{FileClient}
+use Rattle.drm_files.specs.declared.rows.FileHold.{FileHold}
+use Rattle.drm_files.specs.Files.{FileLists, is_client, is_hold, client, hold, authenticated, with_client, without_client, with_hold, without_hold, with_authenticated}
+use Rattle.drm_files.specs.Records.{clients_in, holds_in, lists_of}
+use Rattle.std.specs.FinMap.Entries.{find as find_entry}
+use Rattle.drm_files.proofs.Flat.{held}
+use Rattle.drm_files.proofs.Walks.{nth_by_key}
+use Rattle.drm_files.proofs.Changes.{client_of, clients_opened, clients_closed, clients_kept, clients_authenticated, holds_kept, holds_added, holds_dropped, holds_closed, held_here, find_client, find_hold}
+
+module _ (limit last : ℕ) (m : fin.FinMap nat_cmp FileRecord) (c : ℕ) where
+  pub length_clients : length (clients_in (fin.entries m)) ≡ fin.len m
+  length_clients = length_of (fin.entries m) ∙ sym (fin.len-entries m)
+    where
+      length_of : (es : List (ℕ × FileRecord)) → length (clients_in es) ≡ length es
+      length_of [] = refl
+      length_of (e ∷ es) = ap (λ n. suc n) (length_of es)
+
+  by_rows : (k : fin.FinMap nat_cmp FileRecord) (v : FileLists) → clients_in (fin.entries k) ≡ v.clients → holds_in (fin.entries k) ≡ v.holds → lists_of limit last k ≡ record v { limit = limit; last_handle = last }
+  by_rows k v a b = λ i. record { limit = limit; last_handle = last; clients = a i; holds = b i }
+
+  pub opened : (r : FileRecord) → fin.get m c ≡ None → r.handles.slots ≡ fin.empty → lists_of limit last (fin.insert m c r) ≡ with_client (lists_of limit last m) c r.flags
+  opened r none slots =
+      by_rows (fin.insert m c r) (with_client (lists_of limit last m) c r.flags) (clients_opened m c r none)
+      (holds_kept m c r (λ b. ap (λ s. fin.get s b) slots ∙ fin.get-empty nat_cmp b ∙ ap (option_and_then (λ s. fin.get s.handles.slots b)) (sym none)))
+
+  pub closed : lists_of limit last (fin.remove m c) ≡ without_client (lists_of limit last m) c
+  closed = by_rows (fin.remove m c) (without_client (lists_of limit last m) c) (clients_closed m c) (holds_closed m c)
+
+  pub added : (r s : FileRecord) (h : ℕ) (x : Held) → fin.get m c ≡ Some r → fin.get r.handles.slots h ≡ None → s.flags ≡ r.flags → s.handles.slots ≡ fin.insert r.handles.slots h x →
+      lists_of limit last (fin.insert m c s) ≡ with_hold (lists_of limit last m) (hold c h x.object x.place)
+  added r s h x found new flags slots =
+      by_rows (fin.insert m c s) (with_hold (lists_of limit last m) (hold c h x.object x.place)) (clients_kept m c r s found flags) (holds_added m c r s h x found new slots)
+
+  pub dropped : (r s : FileRecord) (h : ℕ) → fin.get m c ≡ Some r → s.flags ≡ r.flags → s.handles.slots ≡ fin.remove r.handles.slots h → lists_of limit last (fin.insert m c s) ≡ without_hold (lists_of limit last m) c h
+  dropped r s h found flags slots = by_rows (fin.insert m c s) (without_hold (lists_of limit last m) c h) (clients_kept m c r s found flags) (holds_dropped m c r s h found slots)
+
+  pub let_in : (r s : FileRecord) → fin.get m c ≡ Some r → ((k : ℕ) → client k s.flags ≡ authenticated (client k r.flags)) → s.handles.slots ≡ r.handles.slots → lists_of limit last (fin.insert m c s) ≡ with_authenticated (lists_of limit last m) c
+  let_in r s found flags slots =
+      by_rows (fin.insert m c s) (with_authenticated (lists_of limit last m) c) (clients_authenticated m c r s found flags)
+      (holds_kept m c s (λ b. ap (λ t. fin.get t b) slots ∙ sym (held_here m c r found c b refl)))
+
+  composed : {X Y Z : Type 0} (f : Y → Z) (g : X → Y) (x : Option X) → option_map f (option_map g x) ≡ option_map (λ y. f (g y)) x
+  composed f g None = refl
+  composed f g (Some x) = refl
+
+  -- what look-ups in the lists give
+  pub flags_are : (l : FileLists) → lists_of limit last m ≡ l → option_map (λ (r : FileRecord). r.flags) (fin.get m c) ≡ option_map (λ row. row.flags) (find (is_client c) l.clients)
+  flags_are l is =
+      sym (ap (option_map (λ row. row.flags)) (find_client m c) ∙ composed (λ (row : FileClient). row.flags) (λ (r : FileRecord). client c r.flags) (fin.get m c))
+      ∙ ap (λ (k : FileLists). option_map (λ row. row.flags) (find (is_client c) k.clients)) is
+
+  pub object_is : (l : FileLists) → lists_of limit last m ≡ l → (h : ℕ) → option_map (λ (x : Held). x.object) (held m c h) ≡ option_map (λ row. row.object) (find (is_hold c h) l.holds)
+  object_is l is h =
+      sym (ap (option_map (λ row. row.object)) (find_hold m c h) ∙ composed (λ (row : FileHold). row.object) (λ (x : Held). hold c h x.object x.place) (held m c h))
+      ∙ ap (λ (k : FileLists). option_map (λ row. row.object) (find (is_hold c h) k.holds)) is
+
+-- the client at a place, by its number
+abbrev pub client_named : fin.FinMap nat_cmp FileRecord → Option ℕ → Option FileClient
+client_named m k = option_and_then (λ c. option_map (λ (r : FileRecord). client c r.flags) (fin.get m c)) k
+
+pub client_at : (m : fin.FinMap nat_cmp FileRecord) (i : ℕ) → client_named m (slice_get (fin.keys m) i) ≡ slice_get (clients_in (fin.entries m)) i
+client_at m i = same (slice_get (fin.keys m) i) ∙ nth_by_key client_of (fin.entries m) (fin.entries_sorted m) i
+  where
+    same : (k : Option ℕ) → client_named m k ≡ option_and_then (λ c. option_map (λ (r : FileRecord). client c r.flags) (find_entry nat_cmp c (fin.entries m))) k
+    same None = refl
+    same (Some c) = ap (option_map (λ (r : FileRecord). client c r.flags)) (fin.get-entries m c)

@@ -1,0 +1,198 @@
+-- What the lists are after each change of the records.
+use Rattle.std.proofs.Common.{◌≡◌, ℕ, Bool, true, false, not, ◌&&◌, ◌==◌, nat_lt, eqb, cond, if◌then◌else◌, T, map, filter, find as find_row, Option, Some, None, option_map, option_and_then, refl, sym, ap, subst, ◌∙◌, inl, inr, arith, map-id, nat_cmp, is_lt}
+use Rattle.std.specs.Ordering.{eq_by_cmp}
+use Rattle.std.specs.Cmp.{nat_cmp_total}
+use Rattle.std.specs.FinMap as fin
+use Rattle.std.specs.FinMap.{nat_cmp-IsAntisymmetric}
+use Rattle.std.specs.FinMap.Entries.{find, put, where_key, is_sorted-put, is_sorted-where_key, find-put, find-where_key, same_entries}
+use Rattle.std.proofs.lemmas.Bool.{cases_eq}
+use Rattle.std.proofs.lemmas.Bool.Decides.{nat_tests}
+use Rattle.drm_index_array.proofs.MarkedLemmas.{get-insert, get-remove}
+use Rattle.drm_files.specs.declared.files.FileRecord.{FileRecord}
+use Rattle.drm_files.specs.declared.files.Held.{Held}
+use Rattle.drm_files.specs.declared.rows.FileClient.{FileClient}
+use Rattle.drm_files.specs.Files.{client, hold, hold_before, client_before, is_client, is_hold, of_client, placed, authenticated}
+use Rattle.drm_files.specs.Records.{rows_in, holds_in, clients_in}
+use Rattle.drm_files.proofs.Keyed.{rows_where, find_rows, rows_put, rows_put_found}
+use Rattle.drm_files.proofs.Flat.{Place, place_cmp, place_total, place_exact, place_eq, place_lt, row_of, tagged, flat, rows_flat, rows_tagged, sorted_flat, sorted_tagged, held, find_held, find_tagged, flat_is, eqb_same, eqb_other}
+
+-- clients
+
+abbrev pub client_of : ℕ × FileRecord → FileClient
+client_of e = client e.0 e.1.flags
+
+same_test : (c k : ℕ) → (k == c) ≡ eq_by_cmp nat_cmp c k
+same_test c k = grind (arith, nat_tests)
+
+pub before_test : (a b : ℕ) → nat_lt a b ≡ is_lt (nat_cmp a b)
+before_test a b = grind (arith, nat_tests)
+
+module _ (m : fin.FinMap nat_cmp FileRecord) (c : ℕ) where
+  pub find_client : find_row (is_client c) (clients_in (fin.entries m)) ≡ option_map (λ r. client c r.flags) (fin.get m c)
+  find_client =
+      find_rows nat_cmp nat_cmp_total client_of nat_cmp-IsAntisymmetric c (is_client c) (λ e. same_test c e.0) (fin.entries m)
+      ∙ ap (option_map (λ r. client c r.flags)) (sym (fin.get-entries m c))
+
+  pub clients_opened : (r : FileRecord) → fin.get m c ≡ None → clients_in (fin.entries (fin.insert m c r)) ≡ placed client_before (client c r.flags) (clients_in (fin.entries m))
+  clients_opened r none =
+      ap clients_in (fin.entries-insert nat_cmp_total m c r)
+      ∙ rows_put nat_cmp nat_cmp_total client_of client_before (λ e f. before_test e.0 f.0) c r (fin.entries m) (fin.entries_sorted m) (sym (fin.get-entries m c) ∙ none)
+
+  entries_removed : fin.entries (fin.remove m c) ≡ where_key nat_cmp (λ k. not (eq_by_cmp nat_cmp c k)) (fin.entries m)
+  entries_removed =
+      same_entries nat_cmp nat_cmp_total nat_cmp-IsAntisymmetric _ _ (fin.entries_sorted (fin.remove m c)) (is_sorted-where_key nat_cmp _ (fin.entries m) (fin.entries_sorted m)) (λ q.
+      sym (fin.get-entries (fin.remove m c) q) ∙ get-remove m c q ∙ turn q
+      ∙ ap (λ x. cond (not (eq_by_cmp nat_cmp c q)) x None) (fin.get-entries m q)
+      ∙ sym (find-where_key nat_cmp (λ k. not (eq_by_cmp nat_cmp c k)) q (λ x t. ap (λ k. not (eq_by_cmp nat_cmp c k)) (sym (nat_cmp-IsAntisymmetric q x t))) (fin.entries m)))
+    where
+      swap : (b : Bool) (x : Option FileRecord) → cond b None x ≡ cond (not b) x None
+      swap true x = refl
+      swap false x = refl
+
+      test : (q : ℕ) → eqb q c ≡ eq_by_cmp nat_cmp c q
+      test q = grind (arith, nat_tests)
+
+      turn : (q : ℕ) → cond (eqb q c) None (fin.get m q) ≡ cond (not (eq_by_cmp nat_cmp c q)) (fin.get m q) None
+      turn q = swap (eqb q c) (fin.get m q) ∙ ap (λ b. cond (not b) (fin.get m q) None) (test q)
+
+  pub clients_closed : clients_in (fin.entries (fin.remove m c)) ≡ filter (λ row. not (is_client c row)) (clients_in (fin.entries m))
+  clients_closed =
+      ap clients_in entries_removed
+      ∙ rows_where nat_cmp nat_cmp_total client_of (λ k. not (eq_by_cmp nat_cmp c k)) (λ row. not (is_client c row)) (λ e. ap not (same_test c e.0)) (fin.entries m)
+
+  clients_put : (f : FileClient → FileClient) (r s : FileRecord) → fin.get m c ≡ Some r → ((k : ℕ) → eq_by_cmp nat_cmp c k ≡ true → client k s.flags ≡ f (client k r.flags)) → ((k : ℕ) (t : FileRecord) → eq_by_cmp nat_cmp c k ≡ false → f (client k t.flags) ≡ client k t.flags) →
+      clients_in (fin.entries (fin.insert m c s)) ≡ map f (clients_in (fin.entries m))
+  clients_put f r s found new kept =
+      ap clients_in (fin.entries-insert nat_cmp_total m c s)
+      ∙ rows_put_found nat_cmp nat_cmp_total client_of f c (λ e no. kept e.0 e.1 no) r s (λ e at value. new e.0 at ∙ ap (λ (t : FileRecord). f (client e.0 t.flags)) (sym value)) (fin.entries m) (fin.entries_sorted m) (sym (fin.get-entries m c) ∙ found)
+
+  -- the clients are the same where the flags are
+  pub clients_kept : (r s : FileRecord) → fin.get m c ≡ Some r → s.flags ≡ r.flags → clients_in (fin.entries (fin.insert m c s)) ≡ clients_in (fin.entries m)
+  clients_kept r s found same = clients_put (λ row. row) r s found (λ k at. ap (client k) same) (λ k t no. refl) ∙ map-id (clients_in (fin.entries m))
+
+  abbrev noted : FileClient → FileClient
+  noted row = if is_client c row then authenticated row else row
+
+  pub clients_authenticated : (r s : FileRecord) → fin.get m c ≡ Some r → ((k : ℕ) → client k s.flags ≡ authenticated (client k r.flags)) → clients_in (fin.entries (fin.insert m c s)) ≡ map noted (clients_in (fin.entries m))
+  clients_authenticated r s found same =
+      clients_put noted r s found
+      (λ k at. same k ∙ ap (λ b. cond b (authenticated (client k r.flags)) (client k r.flags)) (sym (same_test c k ∙ at)))
+      (λ k t no. ap (λ b. cond b (authenticated (client k t.flags)) (client k t.flags)) (same_test c k ∙ no))
+
+-- holds
+
+hold_test : (c h : ℕ) (e : Place × Held) → is_hold c h (row_of e) ≡ eq_by_cmp place_cmp (c, h) e.0
+hold_test c h e = turn e.0.0 e.0.1 ∙ sym (place_eq c h e.0.0 e.0.1)
+  where
+    turn : (a b : ℕ) → ((a == c) && (b == h)) ≡ (eqb c a && eqb h b)
+    turn a b = grind (arith, nat_tests)
+
+pub hold_order : (e f : Place × Held) → hold_before (row_of e) (row_of f) ≡ is_lt (place_cmp e.0 f.0)
+hold_order e f = sym (place_lt e.0.0 e.0.1 f.0.0 f.0.1)
+
+by_client : (a c : ℕ) (P : Bool → Type 0) → (a ≡ c → P true) → ((a ≡ c → ⊥) → P false) → P (eqb a c)
+by_client a c P same other = elim (cases_eq a c) [ inl is ↦ subst P (sym (eqb_same a c is)) (same is) | inr apart ↦ subst P (sym (eqb_other a c apart)) (other apart) ]
+
+module _ (m : fin.FinMap nat_cmp FileRecord) (c : ℕ) where
+  pub find_hold : (h : ℕ) → find_row (is_hold c h) (holds_in (fin.entries m)) ≡ option_map (λ x. hold c h x.object x.place) (held m c h)
+  find_hold h =
+      ap (find_row (is_hold c h)) (rows_flat (fin.entries m))
+      ∙ find_rows place_cmp place_total row_of place_exact (c, h) (is_hold c h) (hold_test c h) (flat (fin.entries m))
+      ∙ ap (option_map (λ x. hold c h x.object x.place)) (find_held m c h)
+
+  pub held_insert : (s : FileRecord) (a b : ℕ) → held (fin.insert m c s) a b ≡ cond (eqb a c) (fin.get s.handles.slots b) (held m a b)
+  held_insert s a b = ap (option_and_then (λ r. fin.get r.handles.slots b)) (get-insert m c s a) ∙ inside (eqb a c)
+    where
+      inside : (t : Bool) → option_and_then (λ r. fin.get r.handles.slots b) (cond t (Some s) (fin.get m a)) ≡ cond t (fin.get s.handles.slots b) (held m a b)
+      inside true = refl
+      inside false = refl
+
+  pub held_here : (r : FileRecord) → fin.get m c ≡ Some r → (a b : ℕ) → a ≡ c → held m a b ≡ fin.get r.handles.slots b
+  held_here r found a b same = ap (option_and_then (λ s. fin.get s.handles.slots b)) (ap (fin.get m) same ∙ found)
+
+  -- a client's table that has the same behind each handle
+  pub holds_kept : (s : FileRecord) → ((b : ℕ) → fin.get s.handles.slots b ≡ held m c b) → holds_in (fin.entries (fin.insert m c s)) ≡ holds_in (fin.entries m)
+  holds_kept s same =
+      rows_flat _
+      ∙ ap (map row_of) (flat_is (fin.insert m c s) (flat (fin.entries m)) (sorted_flat (fin.entries m) (fin.entries_sorted m)) (λ a b.
+      held_insert s a b
+      ∙ by_client a c (λ t. cond t (fin.get s.handles.slots b) (held m a b) ≡ held m a b) (λ is. same b ∙ ap (λ k. held m k b) (sym is)) (λ apart. refl)
+      ∙ sym (find_held m a b)))
+      ∙ sym (rows_flat (fin.entries m))
+
+  pub holds_added : (r s : FileRecord) (h : ℕ) (x : Held) → fin.get m c ≡ Some r → fin.get r.handles.slots h ≡ None → s.handles.slots ≡ fin.insert r.handles.slots h x →
+      holds_in (fin.entries (fin.insert m c s)) ≡ placed hold_before (hold c h x.object x.place) (holds_in (fin.entries m))
+  holds_added r s h x found new slots =
+      let es = flat (fin.entries m) in
+      let sorted = sorted_flat (fin.entries m) (fin.entries_sorted m) in
+      rows_flat _
+      ∙ ap (map row_of) (flat_is (fin.insert m c s) (put place_cmp (c, h) x es) (is_sorted-put place_cmp place_total (c, h) x es sorted) (λ a b.
+      held_insert s a b
+      ∙ by_client a c (λ t. cond t (fin.get s.handles.slots b) (held m a b) ≡ cond (t && eqb b h) (Some x) (held m a b))
+      (λ is. ap (λ t. fin.get t b) slots ∙ get-insert r.handles.slots h x b ∙ ap (cond (eqb b h) (Some x)) (sym (held_here r found a b is)))
+      (λ apart. refl)
+      ∙ (λ i. cond (sym (place_eq a b c h) i) (Some x) (sym (find_held m a b) i))
+      ∙ sym (find-put place_cmp place_total (a, b) (c, h) x es)))
+      ∙ rows_put place_cmp place_total row_of hold_before hold_order (c, h) x es sorted (find_held m c h ∙ held_here r found c h refl ∙ new)
+      ∙ ap (placed hold_before (hold c h x.object x.place)) (sym (rows_flat (fin.entries m)))
+
+  pub holds_dropped : (r s : FileRecord) (h : ℕ) → fin.get m c ≡ Some r → s.handles.slots ≡ fin.remove r.handles.slots h →
+      holds_in (fin.entries (fin.insert m c s)) ≡ filter (λ row. not (is_hold c h row)) (holds_in (fin.entries m))
+  holds_dropped r s h found slots =
+      let es = flat (fin.entries m) in
+      let sorted = sorted_flat (fin.entries m) (fin.entries_sorted m) in
+      let keep : Place → Bool = λ p. not (eq_by_cmp place_cmp (c, h) p) in
+      rows_flat _
+      ∙ ap (map row_of) (flat_is (fin.insert m c s) (where_key place_cmp keep es) (is_sorted-where_key place_cmp keep es sorted) (λ a b.
+      held_insert s a b
+      ∙ by_client a c (λ t. cond t (fin.get s.handles.slots b) (held m a b) ≡ cond (not (t && eqb b h)) (held m a b) None)
+      (λ is. ap (λ t. fin.get t b) slots ∙ get-remove r.handles.slots h b ∙ swap (eqb b h) _ ∙ ap (λ y. cond (not (eqb b h)) y None) (sym (held_here r found a b is)))
+      (λ apart. refl)
+      ∙ (λ i. cond (not (test a b i)) (sym (find_held m a b) i) None)
+      ∙ sym (find-where_key place_cmp keep (a, b) (λ p t. ap keep (sym (place_exact (a, b) p t))) es)))
+      ∙ rows_where place_cmp place_total row_of keep (λ row. not (is_hold c h row)) (λ e. ap not (hold_test c h e)) es
+      ∙ ap (filter (λ row. not (is_hold c h row))) (sym (rows_flat (fin.entries m)))
+    where
+      swap : (t : Bool) (y : Option Held) → cond t None y ≡ cond (not t) y None
+      swap true y = refl
+      swap false y = refl
+
+      turn : (a b : ℕ) → (eqb a c && eqb b h) ≡ (eqb c a && eqb h b)
+      turn a b = grind (arith, nat_tests)
+
+      test : (a b : ℕ) → (eqb a c && eqb b h) ≡ eq_by_cmp place_cmp (c, h) (a, b)
+      test a b = turn a b ∙ sym (place_eq c h a b)
+
+  pub holds_closed : holds_in (fin.entries (fin.remove m c)) ≡ filter (λ row. not (of_client c row)) (holds_in (fin.entries m))
+  holds_closed =
+      let es = flat (fin.entries m) in
+      let sorted = sorted_flat (fin.entries m) (fin.entries_sorted m) in
+      let keep : Place → Bool = λ p. not (p.0 == c) in
+      rows_flat _
+      ∙ ap (map row_of) (flat_is (fin.remove m c) (where_key place_cmp keep es) (is_sorted-where_key place_cmp keep es sorted) (λ a b.
+      ap (option_and_then (λ r. fin.get r.handles.slots b)) (get-remove m c a)
+      ∙ swap (eqb a c) (fin.get m a) b
+      ∙ ap (λ y. cond (not (eqb a c)) y None) (sym (find_held m a b))
+      ∙ sym (find-where_key place_cmp keep (a, b) (λ p t. ap keep (sym (place_exact (a, b) p t))) es)))
+      ∙ rows_where place_cmp place_total row_of keep (λ row. not (of_client c row)) (λ e. refl) es
+      ∙ ap (filter (λ row. not (of_client c row))) (sym (rows_flat (fin.entries m)))
+    where
+      swap : (t : Bool) (y : Option FileRecord) (b : ℕ) → option_and_then (λ r. fin.get r.handles.slots b) (cond t None y) ≡ cond (not t) (option_and_then (λ r. fin.get r.handles.slots b) y) None
+      swap true y b = refl
+      swap false y b = refl
+
+  -- the rows of one client are those of its table
+  pub rows_of_client : (r : FileRecord) → fin.get m c ≡ Some r → filter (of_client c) (holds_in (fin.entries m)) ≡ rows_in c (fin.entries r.handles.slots)
+  rows_of_client r found =
+      let es = flat (fin.entries m) in
+      let hs = fin.entries r.handles.slots in
+      let sorted = sorted_flat (fin.entries m) (fin.entries_sorted m) in
+      let keep : Place → Bool = λ p. p.0 == c in
+      ap (filter (of_client c)) (rows_flat (fin.entries m))
+      ∙ sym (rows_where place_cmp place_total row_of keep (of_client c) (λ e. refl) es)
+      ∙ ap (map row_of) (same_entries place_cmp place_total place_exact (where_key place_cmp keep es) (tagged c hs) (is_sorted-where_key place_cmp keep es sorted) (subst T (sym (sorted_tagged c hs)) (fin.entries_sorted r.handles.slots)) (λ q.
+      find-where_key place_cmp keep q (λ p t. ap keep (sym (place_exact q p t))) es
+      ∙ ap (λ y. cond (q.0 == c) y None) (find_held m q.0 q.1)
+      ∙ by_client q.0 c (λ t. cond t (held m q.0 q.1) None ≡ cond t (find nat_cmp q.1 hs) None) (λ is. held_here r found q.0 q.1 is ∙ fin.get-entries r.handles.slots q.1) (λ apart. refl)
+      ∙ sym (find_tagged q.0 q.1 c hs)))
+      ∙ rows_tagged c hs

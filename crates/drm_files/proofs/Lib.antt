@@ -1,0 +1,7 @@
+mod Keyed
+mod Flat
+mod Changes
+mod RecordFacts
+mod Calls
+mod Walks
+mod Rests

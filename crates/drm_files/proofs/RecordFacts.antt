@@ -1,0 +1,191 @@
+-- What is so of the lists, and how the records stay what they are.
+use Rattle.std.proofs.Common.{◌≡◌, ℕ, ◌≤◌, Bool, true, false, not, ◌||◌, ◌==◌, eqb, cond, T, List, [], ◌∷◌, map, length, is_some, IsTrue, Option, Some, None, option_map, option_and_then, unwrap_or, refl, sym, ap, subst, ◌∙◌, inl, inr, arith, nat_cmp}
+use Rattle.std.specs.List.{AllByRecursion, list_any}
+use Rattle.std.specs.Ordering.{eq_by_cmp}
+use Rattle.std.specs.Cmp.{nat_cmp_total}
+use Rattle.std.specs.FinMap as fin
+use Rattle.std.specs.FinMap.Entries.{is_sorted}
+use Rattle.std.proofs.lemmas.Bool.{cases_eq, false≢true}
+use Rattle.std.proofs.lemmas.Bool.Decides.{nat_tests}
+use Rattle.drm_index_array.specs.Least.{least}
+use Rattle.drm_index_array.proofs.Least.{least-same}
+use Rattle.drm_index_array.proofs.MarkedLemmas.{get-insert, get-remove, insert_same}
+use Rattle.drm_id_alloc.specs.Table.{Table, is_free, least_free, with_entry, without_entry}
+use Rattle.drm_files.specs.declared.files.FileRecord.{FileRecord}
+use Rattle.drm_files.specs.declared.files.Held.{Held}
+use Rattle.drm_files.specs.declared.rows.FileHold.{FileHold}
+use Rattle.drm_files.specs.Files.{client, hold, hold_before, client_before, is_present, is_among, handles_of, free_handle, left_by, empty_files, AreFiles, IsHoldOf, InOrder}
+use Rattle.drm_files.specs.Records.{rows_in, holds_in, clients_in, lists_of, pairs_of, IsTable, AreRecords}
+use Rattle.drm_files.proofs.Keyed.{all_rows, rows_in_order, none_some}
+use Rattle.drm_files.proofs.Flat.{place_cmp, place_total, row_of, flat, rows_flat, sorted_flat, held, find_held, eqb_other}
+use Rattle.drm_files.proofs.Changes.{client_of, before_test, hold_order, find_client, rows_of_client}
+
+some_of : {X Y : Type 0} (f : X → Y) (x : Option X) → is_some (option_map f x) ≡ is_some x
+some_of f None = refl
+some_of f (Some x) = refl
+
+module _ (limit last : ℕ) (m : fin.FinMap nat_cmp FileRecord) where
+  -- a client is present where it has a record
+  pub present_is : (c : ℕ) → is_present (lists_of limit last m) c ≡ is_some (fin.get m c)
+  present_is c = ap is_some (find_client m c) ∙ some_of (λ r. client c r.flags) (fin.get m c)
+
+  pub absent_none : (c : ℕ) → is_present (lists_of limit last m) c ≡ false → fin.get m c ≡ None
+  absent_none c absent = none_of (fin.get m c) (sym (present_is c) ∙ absent)
+    where
+      none_of : (x : Option FileRecord) → is_some x ≡ false → x ≡ None
+      none_of None h = refl
+      none_of (Some x) h = absurd (false≢true (sym h))
+
+  pub nobody : (c : ℕ) → is_present (lists_of limit last m) c ≡ true → None ≡ fin.get m c → ⊥
+  nobody c present none = false≢true (ap is_some none ∙ sym (present_is c) ∙ present)
+
+  -- the handles of a client are the keys of its table
+  pub handles_are : (c : ℕ) (r : FileRecord) → fin.get m c ≡ Some r → handles_of (lists_of limit last m) c ≡ fin.keys r.handles.slots
+  handles_are c r found = ap (map (λ row. row.handle)) (rows_of_client m c r found) ∙ keys_in (fin.entries r.handles.slots)
+    where
+      keys_in : (hs : List (ℕ × Held)) → map (λ (row : FileHold). row.handle) (rows_in c hs) ≡ map (λ e. e.0) hs
+      keys_in [] = refl
+      keys_in (e ∷ hs) = ap (λ l. e.0 ∷ l) (keys_in hs)
+
+  -- what a client leaves are the pairs of its table
+  pub left_is : (c : ℕ) (r : FileRecord) → fin.get m c ≡ Some r → left_by (lists_of limit last m) c ≡ pairs_of r.handles
+  left_is c r found = ap (map {B = ℕ × ℕ} (λ row. (row.handle, row.object))) (rows_of_client m c r found) ∙ pairs_in (fin.entries r.handles.slots)
+    where
+      pairs_in : (hs : List (ℕ × Held)) → map {B = ℕ × ℕ} (λ (row : FileHold). (row.handle, row.object)) (rows_in c hs) ≡ map {B = ℕ × ℕ} (λ e. (e.0, e.1.object)) hs
+      pairs_in [] = refl
+      pairs_in (e ∷ hs) = ap (λ l. (e.0, e.1.object) ∷ l) (pairs_in hs)
+
+  -- the least free handle of a client is that of its table
+  pub free_is : (c : ℕ) (r : FileRecord) → fin.get m c ≡ Some r → IsTable last r.handles → free_handle (lists_of limit last m) c ≡ least_free r.handles
+  free_is c r found table =
+      least-same _ (is_free r.handles) 1 last (λ k low high. ap not (ap (λ l. is_among l k) (handles_are c r found) ∙ any_of k (fin.keys r.handles.slots) ∙ sym (fin.contains_key-keys r.handles.slots k)))
+      ∙ (λ i. least (is_free r.handles) (sym table.first_is i) (sym table.last_is i))
+    where
+      same_test : (x k : ℕ) → (x == k) ≡ eq_by_cmp nat_cmp k x
+      same_test x k = grind (arith, nat_tests)
+
+      any_of : (k : ℕ) (xs : List ℕ) → list_any (λ x. x == k) xs ≡ list_any (eq_by_cmp nat_cmp k) xs
+      any_of k [] = refl
+      any_of k (x ∷ xs) =
+          ap (λ b. b || list_any (λ x. x == k) xs) (same_test x k) ∙ ap (λ b. eq_by_cmp nat_cmp k x || b) (any_of k xs)
+
+  -- what is so of the lists
+  pub files_are : AreRecords limit last m → ((c : ℕ) → IsTrue (fin.contains_key m c) → c ≤ 4294967295) → AreFiles (lists_of limit last m)
+  files_are are fit = record {
+    last_low = are.last_low;
+    last_high = are.last_high;
+    limit_high = are.limit_high;
+    clients_rise = rows_in_order nat_cmp nat_cmp_total client_of client_before (λ e f. before_test e.0 f.0) (fin.entries m) (fin.entries_sorted m);
+    clients_fit = all_rows nat_cmp nat_cmp_total client_of (λ row. row.client ≤ 4294967295) (fin.entries m) (fin.entries_sorted m) (λ k v found. fit k (ap is_some (fin.get-entries m k ∙ found)));
+    holds_rise = subst (λ l. InOrder hold_before l) (sym (rows_flat (fin.entries m))) (rows_in_order place_cmp place_total row_of hold_before hold_order (flat (fin.entries m)) sorted);
+    holds_are = subst (λ l. AllByRecursion (IsHoldOf (lists_of limit last m)) l) (sym (rows_flat (fin.entries m))) (all_rows place_cmp place_total row_of (IsHoldOf (lists_of limit last m)) (flat (fin.entries m)) sorted (λ p v found. each p.0 p.1 v (sym (find_held m p.0 p.1) ∙ found)));
+  }
+    where
+      sorted : T (is_sorted place_cmp (flat (fin.entries m)))
+      sorted = sorted_flat (fin.entries m) (fin.entries_sorted m)
+
+      in_table : (c h : ℕ) (v : Held) (x : Option FileRecord) → fin.get m c ≡ x → option_and_then (λ r. fin.get r.handles.slots h) x ≡ Some v → IsHoldOf (lists_of limit last m) (hold c h v.object v.place)
+      in_table c h v None is found = absurd (none_some v found)
+      in_table c h v (Some r) is found = record {
+        client_open = present_is c ∙ ap is_some is;
+        handle_low = (are.tables c r is).low h (ap is_some found);
+        handle_high = (are.tables c r is).high h (ap is_some found);
+      }
+
+      each : (c h : ℕ) (v : Held) → held m c h ≡ Some v → IsHoldOf (lists_of limit last m) (hold c h v.object v.place)
+      each c h v found = in_table c h v (fin.get m c) refl found
+
+-- how the records stay what they are
+
+pub IsTable-empty : (last : ℕ) (t : Table Held) → t.first ≡ 1 → t.last ≡ last → t.slots ≡ fin.empty → IsTable last t
+IsTable-empty last t f l none = record { first_is = f; last_is = l; low = λ h there. absurd (nothing h there); high = λ h there. absurd (nothing h there) }
+  where
+    nothing : (h : ℕ) → IsTrue (fin.contains_key t.slots h) → ⊥
+    nothing h there = false≢true (sym (ap (λ s. is_some (fin.get s h)) none ∙ ap is_some (fin.get-empty nat_cmp h)) ∙ there)
+
+-- a number that is there after an insertion is the new one, or was there
+there_before : (s : fin.FinMap nat_cmp Held) (k : ℕ) (v : Held) (h : ℕ) → (h ≡ k → ⊥) → IsTrue (fin.contains_key (fin.insert s k v) h) → IsTrue (fin.contains_key s h)
+there_before s k v h apart there = sym (ap is_some (get-insert s k v h ∙ ap (λ b. cond b (Some v) (fin.get s h)) (eqb_other h k apart))) ∙ there
+
+pub IsTable-add : (last : ℕ) (t s : Table Held) (k : ℕ) (v : Held) → IsTable last t → 1 ≤ k → k ≤ last → s.first ≡ t.first → s.last ≡ t.last → s.slots ≡ fin.insert t.slots k v → IsTable last s
+IsTable-add last t s k v is low high f l slots = record {
+  first_is = f ∙ is.first_is;
+  last_is = l ∙ is.last_is;
+  low = λ h there. elim (cases_eq h k) [ inl same ↦ omega (arith, same, low) | inr apart ↦ is.low h (there_before t.slots k v h apart (sym (ap (λ m. fin.contains_key m h) slots) ∙ there)) ];
+  high = λ h there. elim (cases_eq h k) [ inl same ↦ omega (arith, same, high) | inr apart ↦ is.high h (there_before t.slots k v h apart (sym (ap (λ m. fin.contains_key m h) slots) ∙ there)) ];
+}
+
+pub IsTable-drop : (last : ℕ) (t s : Table Held) (k : ℕ) → IsTable last t → s.first ≡ t.first → s.last ≡ t.last → s.slots ≡ fin.remove t.slots k → IsTable last s
+IsTable-drop last t s k is f l slots = record {
+  first_is = f ∙ is.first_is;
+  last_is = l ∙ is.last_is;
+  low = λ h there. is.low h (before h (sym (ap (λ m. fin.contains_key m h) slots) ∙ there));
+  high = λ h there. is.high h (before h (sym (ap (λ m. fin.contains_key m h) slots) ∙ there));
+}
+  where
+    inside : (b : Bool) (x : Option Held) → is_some (cond b None x) ≡ true → is_some x ≡ true
+    inside true x there = absurd (false≢true there)
+    inside false x there = there
+
+    before : (h : ℕ) → IsTrue (fin.contains_key (fin.remove t.slots k) h) → IsTrue (fin.contains_key t.slots h)
+    before h there = inside (eqb h k) (fin.get t.slots h) (sym (ap is_some (get-remove t.slots k h)) ∙ there)
+
+module _ (limit last : ℕ) (m : fin.FinMap nat_cmp FileRecord) (are : AreRecords limit last m) (c : ℕ) where
+  pub AreRecords-insert : (s : FileRecord) → IsTable last s.handles → AreRecords limit last (fin.insert m c s)
+  AreRecords-insert s is = record { limit_high = are.limit_high; last_low = are.last_low; last_high = are.last_high; tables = λ k r found. each k r (eqb k c) refl (sym (get-insert m c s k) ∙ found) }
+    where
+      each : (k : ℕ) (r : FileRecord) (b : Bool) → eqb k c ≡ b → cond b (Some s) (fin.get m k) ≡ Some r → IsTable last r.handles
+      each k r true is_c found = subst (λ (t : FileRecord). IsTable last t.handles) (ap (λ x. unwrap_or x s) found) is
+      each k r false other found = are.tables k r found
+
+  pub AreRecords-remove : AreRecords limit last (fin.remove m c)
+  AreRecords-remove = record { limit_high = are.limit_high; last_low = are.last_low; last_high = are.last_high; tables = λ k r found. each k r (eqb k c) (sym (get-remove m c k) ∙ found) }
+    where
+      each : (k : ℕ) (r : FileRecord) (b : Bool) → cond b None (fin.get m k) ≡ Some r → IsTable last r.handles
+      each k r true found = absurd (none_some r found)
+      each k r false found = are.tables k r found
+
+abbrev pub with_table : FileRecord → Table Held → FileRecord
+with_table r t = record { flags = r.flags; handles = t }
+
+module _ (limit last : ℕ) (m : fin.FinMap nat_cmp FileRecord) (c : ℕ) (r : FileRecord) (t : Table Held) (found : fin.get m c ≡ Some r) where
+  -- a table that is written back as it was
+  pub unchanged : t ≡ r.handles → fin.insert m c (with_table r t) ≡ m
+  unchanged same = ap (λ h. fin.insert m c (with_table r h)) same ∙ insert_same m c r found
+
+  pub are-unchanged : AreRecords limit last m → t ≡ r.handles → AreRecords limit last (fin.insert m c (with_table r t))
+  are-unchanged are same = subst (AreRecords limit last) (sym (unchanged same)) are
+
+  pub are-added : AreRecords limit last m → (h : ℕ) (x : Held) → r.handles.first ≤ h → h ≤ r.handles.last → t ≡ with_entry r.handles h x → AreRecords limit last (fin.insert m c (with_table r t))
+  are-added are h x low high new =
+      let table = are.tables c r found in
+      AreRecords-insert limit last m are c (with_table r t) (IsTable-add last r.handles t h x table (omega (arith, low, table.first_is)) (omega (arith, high, table.last_is)) (ap (λ u. u.first) new) (ap (λ u. u.last) new) (ap (λ u. u.slots) new))
+
+  pub are-dropped : AreRecords limit last m → (h : ℕ) → t ≡ without_entry r.handles h → AreRecords limit last (fin.insert m c (with_table r t))
+  are-dropped are h new =
+      AreRecords-insert limit last m are c (with_table r t) (IsTable-drop last r.handles t h (are.tables c r found) (ap (λ u. u.first) new) (ap (λ u. u.last) new) (ap (λ u. u.slots) new))
+
+pub AreRecords-empty : (limit last : ℕ) (m : fin.FinMap nat_cmp FileRecord) → m ≡ fin.empty → limit ≤ 4294967295 → 1 ≤ last → last ≤ 4294967295 → AreRecords limit last m
+AreRecords-empty limit last m none limit_high low high = record {
+  limit_high = limit_high;
+  last_low = low;
+  last_high = high;
+  tables = λ k r found. absurd (none_some r (sym (ap (λ n. fin.get n k) none ∙ fin.get-empty nat_cmp k) ∙ found));
+}
+
+no_entries : fin.entries (fin.empty {K = ℕ} {X = FileRecord} {R = nat_cmp}) ≡ []
+no_entries = none_of _ (sym (fin.len-entries fin.empty) ∙ fin.len-empty nat_cmp FileRecord)
+  where
+    none_of : (es : List (ℕ × FileRecord)) → length es ≡ 0 → es ≡ []
+    none_of [] e = refl
+    none_of (x ∷ es) e = absurd (omega (arith, e))
+
+pub lists-empty : (limit last : ℕ) → lists_of limit last fin.empty ≡ empty_files limit last
+lists-empty limit last = λ i. record { limit = limit; last_handle = last; clients = clients_in (no_entries i); holds = holds_in (no_entries i) }
+
+-- a test that says whether there is none
+pub room_is : (b : Bool) (x : Option ℕ) → (IsTrue b → x ≡ None) → (x ≡ None → IsTrue b) → not b ≡ is_some x
+room_is true None f g = refl
+room_is true (Some n) f g = absurd (none_some n (sym (f refl)))
+room_is false None f g = absurd (false≢true (g refl))
+room_is false (Some n) f g = refl

@@ -1,0 +1,182 @@
+-- How the entries of a map are met one after another.
+use Rattle.std.proofs.Common.{◌≡◌, ℕ, zero, suc, ◌+◌, ◌-◌, ◌<◌, ◌≤◌, Bool, true, false, cond, eqb, nat_le, T, List, [], ◌∷◌, map, slice_get, length, is_some, IsTrue, IfNone, Option, Some, None, option_map, option_and_then, unwrap_or, refl, sym, ap, ◌∙◌, inl, inr, arith, nat_cmp, is_lt}
+use Rattle.std.specs.Ordering.{eq_by_cmp}
+use Rattle.std.specs.Cmp.{nat_cmp_total}
+use Rattle.std.specs.FinMap as fin
+use Rattle.std.specs.FinMap.{nat_cmp-IsAntisymmetric}
+use Rattle.std.specs.FinMap.Entries.{find, where_key, is_sorted, below_all, is_sorted-where_key, find-where_key, same_entries}
+use Rattle.std.proofs.lemmas.Bool.{cases_lt, cases_eq, false≢true}
+use Rattle.std.proofs.lemmas.Bool.Decides.{nat_tests}
+use Rattle.drm_index_array.specs.Least.{least, IsLeast}
+use Rattle.drm_index_array.proofs.Least.{least_some}
+use Rattle.drm_index_array.proofs.MarkedLemmas.{get-remove, eq_by_cmp-nat_cmp}
+use Rattle.drm_files.proofs.Keyed.{both, none_some, skip_first, right}
+use Rattle.drm_files.proofs.Flat.{eqb_same, eqb_other}
+
+-- the entries from a number on
+abbrev pub entries_from : {X : Type 0} → fin.FinMap nat_cmp X → ℕ → List (ℕ × X)
+entries_from m from = where_key nat_cmp (λ k. nat_le from k) (fin.entries m)
+
+le_yes : (a b : ℕ) → a ≤ b → nat_le a b ≡ true
+le_yes a b le = grind (arith, nat_tests)
+
+le_no : (a b : ℕ) → b < a → nat_le a b ≡ false
+le_no a b lt = grind (arith, nat_tests)
+
+lt_test : (a b : ℕ) → nat_le (a + 1) b ≡ true → is_lt (nat_cmp a b) ≡ true
+lt_test a b le = grind (arith, nat_tests)
+
+true_T : (b : Bool) → b ≡ true → T b
+true_T true e = tt
+true_T false e = absurd (false≢true e)
+
+none_of : {X : Type 0} (x : Option X) → is_some x ≡ false → x ≡ None
+none_of None e = refl
+none_of (Some x) e = absurd (false≢true (sym e))
+
+some_there : {X : Type 0} (x : Option X) → is_some x ≡ true → None ≡ x → ⊥
+some_there x e none = false≢true (ap is_some none ∙ e)
+
+module _ {X : Type 0} where
+  above_from : (h : ℕ) (es : List (ℕ × X)) → T (below_all nat_cmp h (where_key nat_cmp (λ k. nat_le (h + 1) k) es))
+  above_from h [] = tt
+  above_from h (e ∷ es) =
+      let rest = where_key nat_cmp (λ k. nat_le (h + 1) k) es in
+      elim (nat_le (h + 1) e.0) as (λ b. nat_le (h + 1) e.0 ≡ b → T (below_all nat_cmp h (cond b (e ∷ rest) rest))) [
+        | true ↦ λ le. both _ _ (true_T _ (lt_test h e.0 le)) (above_from h es)
+        | false ↦ λ le. above_from h es
+      ] refl
+
+  module _ (m : fin.FinMap nat_cmp X) where
+    find_from : (from q : ℕ) → find nat_cmp q (entries_from m from) ≡ cond (nat_le from q) (fin.get m q) None
+    find_from from q =
+        find-where_key nat_cmp (λ k. nat_le from k) q (λ x t. ap (nat_le from) (sym (nat_cmp-IsAntisymmetric q x t))) (fin.entries m)
+        ∙ ap (λ y. cond (nat_le from q) y None) (sym (fin.get-entries m q))
+
+    sorted_from : (from : ℕ) → T (is_sorted nat_cmp (entries_from m from))
+    sorted_from from = is_sorted-where_key nat_cmp (λ k. nat_le from k) (fin.entries m) (fin.entries_sorted m)
+
+    -- the least key from a number on is the first, and the others come after it
+    pub from_least : (from to h : ℕ) (v : X) → IsLeast (fin.contains_key m) from to h → fin.get m h ≡ Some v → entries_from m from ≡ (h, v) ∷ entries_from m (h + 1)
+    from_least from to h v is found =
+        same_entries nat_cmp nat_cmp_total nat_cmp-IsAntisymmetric _ _ (sorted_from from) (both _ _ (above_from h (fin.entries m)) (sorted_from (h + 1))) (λ q.
+        find_from from q ∙ at q ∙ (λ i. cond (sym (eq_by_cmp-nat_cmp q h) i) (Some v) (sym (find_from (h + 1) q) i)))
+      where
+        below : (q : ℕ) → q < h → (b : Bool) → nat_le from q ≡ b → cond b (fin.get m q) None ≡ None
+        below q lt true le = none_of (fin.get m q) (is.none_below q (at_least le) lt)
+          where
+            at_least : nat_le from q ≡ true → from ≤ q
+            at_least le = grind (arith, nat_tests)
+        below q lt false le = refl
+
+        at : (q : ℕ) → cond (nat_le from q) (fin.get m q) None ≡ cond (eqb q h) (Some v) (cond (nat_le (h + 1) q) (fin.get m q) None)
+        at q =
+            elim (cases_lt q h) [
+              | inl lt ↦
+                  below q lt (nat_le from q) refl
+                  ∙ (λ i. cond (sym (eqb_other q h (λ same. omega (arith, lt, same))) i) (Some v) (cond (sym (le_no (h + 1) q (omega (arith, lt))) i) (fin.get m q) None))
+              | inr ge ↦ elim (cases_eq q h) [
+                | inl same ↦
+                    (λ i. cond (le_yes from q (omega (arith, is.at_least, same)) i) ((ap (fin.get m) same ∙ found) i) None)
+                    ∙ ap (λ b. cond b (Some v) (cond (nat_le (h + 1) q) (fin.get m q) None)) (sym (eqb_same q h same))
+                | inr apart ↦
+                    (λ i. cond (le_yes from q (omega (arith, is.at_least, ge)) i) (fin.get m q) None)
+                    ∙ (λ i. cond (sym (eqb_other q h apart) i) (Some v) (cond (sym (le_yes (h + 1) q (omega (arith, ge, apart))) i) (fin.get m q) None))
+              ]
+            ]
+
+    pub from_none : (from : ℕ) → ((k : ℕ) → from ≤ k → fin.contains_key m k ≡ false) → entries_from m from ≡ []
+    from_none from none =
+        same_entries nat_cmp nat_cmp_total nat_cmp-IsAntisymmetric _ [] (sorted_from from) tt (λ q. find_from from q ∙ at q (nat_le from q) refl)
+      where
+        at : (q : ℕ) (b : Bool) → nat_le from q ≡ b → cond b (fin.get m q) None ≡ None
+        at q true le = none_of (fin.get m q) (none q (at_least le))
+          where
+            at_least : nat_le from q ≡ true → from ≤ q
+            at_least le = grind (arith, nat_tests)
+        at q false le = refl
+
+    pub from_zero : entries_from m 0 ≡ fin.entries m
+    from_zero =
+        same_entries nat_cmp nat_cmp_total nat_cmp-IsAntisymmetric _ (fin.entries m) (sorted_from 0) (fin.entries_sorted m) (λ q.
+        find_from 0 q ∙ ap (λ b. cond b (fin.get m q) None) (le_yes 0 q (omega arith)) ∙ fin.get-entries m q)
+
+    -- nothing stands above the last number
+    pub from_past : (from : ℕ) → ((k : ℕ) → IsTrue (fin.contains_key m k) → k ≤ 4294967295) → 4294967295 < from → entries_from m from ≡ []
+    from_past from bound past = from_none from (λ k le. outside k le (fin.contains_key m k) refl)
+      where
+        outside : (k : ℕ) → from ≤ k → (b : Bool) → fin.contains_key m k ≡ b → b ≡ false
+        outside k le true there = absurd (omega (arith, bound k there, past, le))
+        outside k le false there = refl
+
+    -- without its least key a map has the entries above it
+    pub first_removed : (to h : ℕ) → IsLeast (fin.contains_key m) 0 to h → fin.entries (fin.remove m h) ≡ entries_from m (h + 1)
+    first_removed to h is =
+        same_entries nat_cmp nat_cmp_total nat_cmp-IsAntisymmetric _ _ (fin.entries_sorted (fin.remove m h)) (sorted_from (h + 1)) (λ q.
+        sym (fin.get-entries (fin.remove m h) q) ∙ get-remove m h q ∙ at q ∙ sym (find_from (h + 1) q))
+      where
+        at : (q : ℕ) → cond (eqb q h) None (fin.get m q) ≡ cond (nat_le (h + 1) q) (fin.get m q) None
+        at q =
+            elim (cases_lt h q) [
+              | inl above ↦
+                  (λ i. cond (eqb_other q h (λ same. omega (arith, above, same)) i) None (fin.get m q))
+                  ∙ (λ i. cond (sym (le_yes (h + 1) q (omega (arith, above))) i) (fin.get m q) None)
+              | inr le ↦ elim (cases_eq q h) [
+                | inl same ↦
+                    (λ i. cond (eqb_same q h same i) None (fin.get m q)) ∙ (λ i. cond (sym (le_no (h + 1) q (omega (arith, same))) i) (fin.get m q) None)
+                | inr apart ↦
+                    (λ i. cond (eqb_other q h apart i) None (fin.get m q)) ∙ none_of (fin.get m q) (is.none_below q (omega arith) (omega (arith, le, apart)))
+                    ∙ (λ i. cond (sym (le_no (h + 1) q (omega (arith, le, apart))) i) (fin.get m q) None)
+              ]
+            ]
+
+    -- the least key has a value
+    pub least_there : (from to h : ℕ) → IsLeast (fin.contains_key m) from to h → None ≡ fin.get m h → ⊥
+    least_there from to h is none = some_there (fin.get m h) is.passes none
+
+    -- a key that is the least has a value, and the rest of the walk comes after it
+    pub from_key : (from to h : ℕ) → IsLeast (fin.contains_key m) from to h → (v : X) × (entries_from m from ≡ (h, v) ∷ entries_from m (h + 1))
+    from_key from to h is = with_value (fin.get m h) refl
+      where
+        with_value : (x : Option X) → fin.get m h ≡ x → (v : X) × (entries_from m from ≡ (h, v) ∷ entries_from m (h + 1))
+        with_value None none = absurd (least_there from to h is (sym none))
+        with_value (Some v) found = (v, from_least from to h v is found)
+
+    -- the next key is the first of those that are left
+    pub next_is : (from : ℕ) (r : Option ℕ) → r ≡ least (fin.contains_key m) from 4294967295 → IfNone r ((k : ℕ) → from ≤ k → fin.contains_key m k ≡ false) → r ≡ slice_get (map (λ e. e.0) (entries_from m from)) 0
+    next_is from None is none = ap (λ es. slice_get (map (λ e. e.0) es) 0) (sym (from_none from none))
+    next_is from (Some h) is none = ap (λ es. slice_get (map (λ e. e.0) es) 0) (sym (from_key from 4294967295 h (least_some _ from 4294967295 h (sym is))).1)
+
+-- a place behind the first, counted in turns
+pub nth_next : {Y : Type 0} (y : Y) (ys : List Y) (place turn : ℕ) → turn < place → slice_get (y ∷ ys) (place - turn) ≡ slice_get ys (place - (turn + 1))
+nth_next y ys place turn lt = ap (slice_get (y ∷ ys)) (one_less place turn lt)
+  where
+    one_less : (a b : ℕ) → b < a → a - b ≡ suc (a - (b + 1))
+    one_less a b lt = omega (arith, lt)
+
+module _ {X Y : Type 0} where
+  -- the row at a place, by the key that stands there
+  pub nth_by_key : (row : ℕ × X → Y) (es : List (ℕ × X)) → T (is_sorted nat_cmp es) → (i : ℕ) → option_and_then (λ k. option_map (λ v. row (k, v)) (find nat_cmp k es)) (slice_get (map (λ e. e.0) es) i) ≡ slice_get (map row es) i
+  nth_by_key row [] h i = refl
+  nth_by_key row (e ∷ es) h zero = ap (λ b. option_map (λ v. row (e.0, v)) (cond b (Some e.1) (find nat_cmp e.0 es))) (eq_by_cmp-nat_cmp e.0 e.0 ∙ eqb_same e.0 e.0 refl)
+  nth_by_key row (e ∷ es) h (suc i) = later (slice_get (map (λ f. f.0) es) i) (λ k is. key_there es k i is) ∙ nth_by_key row es (right _ _ h) i
+    where
+      key_there : (fs : List (ℕ × X)) (k i : ℕ) → slice_get (map (λ f. f.0) fs) i ≡ Some k → is_some (find nat_cmp k fs) ≡ true
+      key_there [] k i is = absurd (none_some k is)
+      key_there (f ∷ fs) k zero is =
+          ap (λ b. is_some (cond b (Some f.1) (find nat_cmp k fs))) (eq_by_cmp-nat_cmp k f.0 ∙ eqb_same k f.0 (sym (ap (λ x. unwrap_or x 0) is)))
+      key_there (f ∷ fs) k (suc i) is =
+          elim (eq_by_cmp nat_cmp k f.0) as (λ b. is_some (cond b (Some f.1) (find nat_cmp k fs)) ≡ true) [ true ↦ refl | false ↦ key_there fs k i is ]
+
+      skipped : (k : ℕ) (x : Option X) → find nat_cmp k es ≡ x → is_some x ≡ true → find nat_cmp k (e ∷ es) ≡ find nat_cmp k es
+      skipped k None is there = absurd (false≢true there)
+      skipped k (Some v) is there = skip_first nat_cmp nat_cmp_total e es h k v is ∙ sym is
+
+      later : (x : Option ℕ) → ((k : ℕ) → x ≡ Some k → is_some (find nat_cmp k es) ≡ true) →
+          option_and_then (λ k. option_map (λ v. row (k, v)) (find nat_cmp k (e ∷ es))) x ≡ option_and_then (λ k. option_map (λ v. row (k, v)) (find nat_cmp k es)) x
+      later None there = refl
+      later (Some k) there = ap (option_map (λ v. row (k, v))) (skipped k (find nat_cmp k es) refl (there k refl))
+
+pub no_length : {Y : Type 0} (ys : List Y) → length ys ≡ 0 → ys ≡ []
+no_length [] e = refl
+no_length (y ∷ ys) e = absurd (omega (arith, e))

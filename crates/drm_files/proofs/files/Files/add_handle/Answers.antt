@@ -1,0 +1,71 @@
+use Rattle.std.proofs.Common.{refl, ap, sym, ◌∙◌}
+use Rattle.drm_files.specs.declared.files.Held.{Held}
+use Rattle.drm_files.specs.Files.{FileLists, hold, with_hold}
+use Rattle.drm_files.specs.Records.{lists_of}
+use Rattle.drm_files.proofs.Calls.{added}
+use Rattle.drm_files.proofs.RecordFacts.{nobody, free_is, unchanged, are-unchanged, are-added, with_table}
+use Rattle.drm_files.proofs.files.Files.add_handle.Goals as goal
+
+pub unreachable-requires : goal.unreachable-requires
+unreachable-requires c =
+    let inside = c.self.inside in
+    let present = rw (← c.self.view_is) at c.requires.present in
+    nobody inside.open_limit inside.last_handle inside.clients.items c.args.client present c.in_default.ensures.value
+
+pub invariant_of-self : goal.invariant_of-self
+invariant_of-self c =
+    let inside = c.self.inside in
+    are-unchanged inside.open_limit inside.last_handle inside.clients.items c.args.client c.in-Some.record.now c.add.new.self (sym c.in-Some.ensures.value) c.self.invariant c.in-Err-Full.ensures.err
+
+pub returns-in-Err-Full-clause-err : goal.returns-in-Err-Full-clause-err
+returns-in-Err-Full-clause-err c =
+    let inside = c.self.inside in
+    ap (lists_of inside.open_limit inside.last_handle) (unchanged inside.open_limit inside.last_handle inside.clients.items c.args.client c.in-Some.record.now c.add.new.self (sym c.in-Some.ensures.value) c.in-Err-Full.ensures.err)
+    ∙ c.self.view_is
+
+pub returns-in-Err-Full-clause-full : goal.returns-in-Err-Full-clause-full
+returns-in-Err-Full-clause-full c =
+    let inside = c.self.inside in
+    let found = sym c.in-Some.ensures.value in
+    let free = free_is inside.open_limit inside.last_handle inside.clients.items c.args.client c.in-Some.record.now found (c.self.invariant.tables c.args.client c.in-Some.record.now found) in
+    let full = rw c.in-Err-Full.field-0-is at c.in-Err-Full.ensures.full in
+    rw (← c.self.view_is) ((λ _. free ∙ full.0 tt), λ _. tt)
+
+pub invariant_of-self-in-Err-NoMemory : goal.invariant_of-self-in-Err-NoMemory
+invariant_of-self-in-Err-NoMemory c =
+    let inside = c.self.inside in
+    are-unchanged inside.open_limit inside.last_handle inside.clients.items c.args.client c.in-Some.record.now c.add.new.self (sym c.in-Some.ensures.value) c.self.invariant c.in-Err-NoMemory.ensures.err
+
+pub returns-in-Err-NoMemory-clause-err : goal.returns-in-Err-NoMemory-clause-err
+returns-in-Err-NoMemory-clause-err c =
+    let inside = c.self.inside in
+    ap (lists_of inside.open_limit inside.last_handle) (unchanged inside.open_limit inside.last_handle inside.clients.items c.args.client c.in-Some.record.now c.add.new.self (sym c.in-Some.ensures.value) c.in-Err-NoMemory.ensures.err)
+    ∙ c.self.view_is
+
+pub returns-in-Err-NoMemory-clause-full : goal.returns-in-Err-NoMemory-clause-full
+returns-in-Err-NoMemory-clause-full c =
+    let inside = c.self.inside in
+    let found = sym c.in-Some.ensures.value in
+    let free = free_is inside.open_limit inside.last_handle inside.clients.items c.args.client c.in-Some.record.now found (c.self.invariant.tables c.args.client c.in-Some.record.now found) in
+    let full = rw c.in-Err-NoMemory.field-0-is at c.in-Err-NoMemory.ensures.full in
+    rw (← c.self.view_is) ((λ none. absurd none), λ none. full.1 (sym free ∙ none))
+
+pub invariant_of-self-2 : goal.invariant_of-self-2
+invariant_of-self-2 c =
+    let inside = c.self.inside in
+    let made : Held = record { object = c.args.object; place = c.args.place } in
+    are-added inside.open_limit inside.last_handle inside.clients.items c.args.client c.in-Some.record.now c.add.new.self (sym c.in-Some.ensures.value) c.self.invariant c.in-Ok.handle made c.in-Ok.ensures.low c.in-Ok.ensures.high c.in-Ok.ensures.ok
+
+pub returns-clause-given : goal.returns-clause-given
+returns-clause-given c =
+    let inside = c.self.inside in
+    let found = sym c.in-Some.ensures.value in
+    let free = free_is inside.open_limit inside.last_handle inside.clients.items c.args.client c.in-Some.record.now found (c.self.invariant.tables c.args.client c.in-Some.record.now found) in
+    rw (← c.self.view_is) (free ∙ c.in-Ok.ensures.given)
+
+pub returns-clause-ok : goal.returns-clause-ok
+returns-clause-ok c =
+    let inside = c.self.inside in
+    let made : Held = record { object = c.args.object; place = c.args.place } in
+    added inside.open_limit inside.last_handle inside.clients.items c.args.client c.in-Some.record.now (with_table c.in-Some.record.now c.add.new.self) c.in-Ok.handle made (sym c.in-Some.ensures.value) c.in-Ok.ensures.fresh refl (ap (λ t. t.slots) c.in-Ok.ensures.ok)
+    ∙ ap (λ (l : FileLists). with_hold l (hold c.args.client c.in-Ok.handle c.args.object c.args.place)) c.self.view_is

@@ -1,0 +1,58 @@
+use Rattle.std.proofs.Common.{refl, ap, sym, ◌∙◌, option_map, option_and_then}
+use Rattle.std.specs.FinMap as fin
+use Rattle.drm_files.specs.Files.{FileLists, without_hold}
+use Rattle.drm_files.specs.Records.{lists_of}
+use Rattle.drm_files.proofs.Calls.{dropped, object_is}
+use Rattle.drm_files.proofs.RecordFacts.{nobody, unchanged, are-dropped, with_table}
+use Rattle.drm_files.proofs.files.Files.drop_handle.Goals as goal
+
+pub unreachable-requires : goal.unreachable-requires
+unreachable-requires c =
+    let inside = c.self.inside in
+    let present = rw (← c.self.view_is) at c.requires.present in
+    nobody inside.open_limit inside.last_handle inside.clients.items c.args.client present c.in_default.ensures.value
+
+pub invariant_of-self : goal.invariant_of-self
+invariant_of-self c =
+    let inside = c.self.inside in
+    are-dropped inside.open_limit inside.last_handle inside.clients.items c.args.client c.in-Some.record.now c.remove.new.self (sym c.in-Some.ensures.value) c.self.invariant c.args.handle c.in_err-held.ensures.after
+
+pub returns-in_err-held-clause-object : goal.returns-in_err-held-clause-object
+returns-in_err-held-clause-object c =
+    let inside = c.self.inside in
+    c.from_residual.ensures
+    ∙ ap (option_map (λ x. x.object)) c.in_err-held.ensures.value
+    ∙ ap (λ r. option_map (λ x. x.object) (option_and_then (λ s. fin.get s.handles.slots c.args.handle) r)) c.in-Some.ensures.value
+    ∙ object_is inside.open_limit inside.last_handle inside.clients.items c.args.client _ c.self.view_is c.args.handle
+
+pub returns-in_err-held-clause-dropped : goal.returns-in_err-held-clause-dropped
+returns-in_err-held-clause-dropped c =
+    let inside = c.self.inside in
+    dropped inside.open_limit inside.last_handle inside.clients.items c.args.client c.in-Some.record.now (with_table c.in-Some.record.now c.remove.new.self) c.args.handle (sym c.in-Some.ensures.value) refl (ap (λ t. t.slots) c.in_err-held.ensures.after)
+    ∙ ap (λ (l : FileLists). without_hold l c.args.client c.args.handle) c.self.view_is
+
+pub returns-in_err-held-clause-none : goal.returns-in_err-held-clause-none
+returns-in_err-held-clause-none c =
+    let inside = c.self.inside in
+    let same =
+    ap (lists_of inside.open_limit inside.last_handle) (unchanged inside.open_limit inside.last_handle inside.clients.items c.args.client c.in-Some.record.now c.remove.new.self (sym c.in-Some.ensures.value) c.in_err-held.ensures.absent)
+    ∙ c.self.view_is in
+    rw c.from_residual.ensures same
+
+pub invariant_of-self-2 : goal.invariant_of-self-2
+invariant_of-self-2 c =
+    let inside = c.self.inside in
+    are-dropped inside.open_limit inside.last_handle inside.clients.items c.args.client c.in-Some.record.now c.remove.new.self (sym c.in-Some.ensures.value) c.self.invariant c.args.handle c.in_ok-held.ensures.after
+
+pub returns-clause-object : goal.returns-clause-object
+returns-clause-object c =
+    let inside = c.self.inside in
+    ap (option_map (λ x. x.object)) c.in_ok-held.ensures.value
+    ∙ ap (λ r. option_map (λ x. x.object) (option_and_then (λ s. fin.get s.handles.slots c.args.handle) r)) c.in-Some.ensures.value
+    ∙ object_is inside.open_limit inside.last_handle inside.clients.items c.args.client _ c.self.view_is c.args.handle
+
+pub returns-clause-dropped : goal.returns-clause-dropped
+returns-clause-dropped c =
+    let inside = c.self.inside in
+    dropped inside.open_limit inside.last_handle inside.clients.items c.args.client c.in-Some.record.now (with_table c.in-Some.record.now c.remove.new.self) c.args.handle (sym c.in-Some.ensures.value) refl (ap (λ t. t.slots) c.in_ok-held.ensures.after)
+    ∙ ap (λ (l : FileLists). without_hold l c.args.client c.args.handle) c.self.view_is

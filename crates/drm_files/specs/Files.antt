@@ -1,0 +1,108 @@
+-- The open clients and the handles that they hold, as flat lists.
+use Rattle.std.specs.Prelude.{◌≡◌, ℕ, ◌==◌, ◌≤◌, ◌&&◌, ◌||◌, Bool, true, not, if◌then◌else◌, nat_lt, List, [], ◌∷◌, ◌++◌, map, filter, find, Option, is_some}
+use Rattle.std.specs.List.{list_any, AllByRecursion}
+use Rattle.drm_index_array.specs.Least.{least}
+use Rattle.drm_files.specs.declared.rows.FileFlags.{FileFlags}
+use Rattle.drm_files.specs.declared.rows.FileClient.{FileClient}
+use Rattle.drm_files.specs.declared.rows.FileHold.{FileHold}
+
+-- `limit` clients may be open, and each may hold the handles from 1 to `last_handle`. The clients rise, and the holds stand
+-- in the order of their clients, and then of their handles
+pub record FileLists : Type 0 where
+  pub limit : ℕ
+  pub last_handle : ℕ
+  pub clients : List FileClient
+  pub holds : List FileHold
+
+abbrev pub empty_files : ℕ → ℕ → FileLists
+empty_files limit last_handle = record { limit = limit; last_handle = last_handle; clients = []; holds = [] }
+
+abbrev pub is_client : ℕ → FileClient → Bool
+is_client c row = row.client == c
+
+abbrev pub of_client : ℕ → FileHold → Bool
+of_client c row = row.client == c
+
+abbrev pub is_hold : ℕ → ℕ → FileHold → Bool
+is_hold c h row = (row.client == c) && (row.handle == h)
+
+-- the client is open
+abbrev pub is_present : FileLists → ℕ → Bool
+is_present files c = is_some (find (is_client c) files.clients)
+
+abbrev pub client_before : FileClient → FileClient → Bool
+client_before x y = nat_lt x.client y.client
+
+abbrev pub hold_before : FileHold → FileHold → Bool
+hold_before x y = nat_lt x.client y.client || ((x.client == y.client) && nat_lt x.handle y.handle)
+
+-- the list with one more row, behind those that come before it
+abbrev pub placed : {X : Type 0} → (X → X → Bool) → X → List X → List X
+placed before x ys = filter (λ y. before y x) ys ++ x ∷ filter (λ y. not (before y x)) ys
+
+abbrev pub client : ℕ → FileFlags → FileClient
+client c flags = record { client = c; flags = flags }
+
+abbrev pub hold : ℕ → ℕ → ℕ → Option ℕ → FileHold
+hold c h object place = record { client = c; handle = h; object = object; place = place }
+
+-- a new client is authenticated where it is root
+abbrev pub new_flags : Bool → Bool → FileFlags
+new_flags render root = record { render = render; root = root; authenticated = root }
+
+abbrev pub authenticated : FileClient → FileClient
+authenticated row = record row { flags = record row.flags { authenticated = true } }
+
+-- the handles of a client, rising
+abbrev pub handles_of : FileLists → ℕ → List ℕ
+handles_of files c = map (λ row. row.handle) (filter (of_client c) files.holds)
+
+abbrev pub is_among : List ℕ → ℕ → Bool
+is_among numbers n = list_any (λ x. x == n) numbers
+
+-- the least handle that the client doesn't hold
+abbrev pub free_handle : FileLists → ℕ → Option ℕ
+free_handle files c = least (λ h. not (is_among (handles_of files c) h)) 1 files.last_handle
+
+-- the handles of a client with their objects
+abbrev pub left_by : FileLists → ℕ → List (ℕ × ℕ)
+left_by files c = map (λ row. (row.handle, row.object)) (filter (of_client c) files.holds)
+
+abbrev pub with_client : FileLists → ℕ → FileFlags → FileLists
+with_client files c flags = record files { clients = placed client_before (client c flags) files.clients }
+
+abbrev pub without_client : FileLists → ℕ → FileLists
+without_client files c = record files {
+  clients = filter (λ row. not (is_client c row)) files.clients;
+  holds = filter (λ row. not (of_client c row)) files.holds;
+}
+
+abbrev pub with_hold : FileLists → FileHold → FileLists
+with_hold files row = record files { holds = placed hold_before row files.holds }
+
+abbrev pub without_hold : FileLists → ℕ → ℕ → FileLists
+without_hold files c h = record files { holds = filter (λ row. not (is_hold c h row)) files.holds }
+
+abbrev pub with_authenticated : FileLists → ℕ → FileLists
+with_authenticated files c = record files { clients = map (λ row. if is_client c row then authenticated row else row) files.clients }
+
+-- each row stands before all that follow it
+abbrev pub InOrder : {X : Type 0} → (X → X → Bool) → List X → Type 0
+InOrder before [] = Unit {0}
+InOrder before (x ∷ xs) = AllByRecursion (λ y. before x y ≡ true) xs × InOrder before xs
+
+-- what is so of a hold: its client is open, and its numbers are in their ranges
+pub record IsHoldOf (files : FileLists) (row : FileHold) : Type 0 where
+  pub client_open : is_present files row.client ≡ true
+  pub handle_low : 1 ≤ row.handle
+  pub handle_high : row.handle ≤ files.last_handle
+
+-- what is so of the lists: no client and no handle of a client stands twice, since the rows are in order
+pub record AreFiles (files : FileLists) : Type 0 where
+  pub last_low : 1 ≤ files.last_handle
+  pub last_high : files.last_handle ≤ 4294967295
+  pub limit_high : files.limit ≤ 4294967295
+  pub clients_rise : InOrder client_before files.clients
+  pub clients_fit : AllByRecursion (λ row. row.client ≤ 4294967295) files.clients
+  pub holds_rise : InOrder hold_before files.holds
+  pub holds_are : AllByRecursion (IsHoldOf files) files.holds

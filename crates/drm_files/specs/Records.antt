@@ -1,0 +1,46 @@
+-- The flat lists that the clients' records stand for.
+use Rattle.std.specs.Prelude.{◌≡◌, ℕ, ◌≤◌, List, map as list_map, flat_map, Some, IsTrue}
+use Rattle.std.specs.Ordering.{nat_cmp}
+use Rattle.std.specs.FinMap as map
+use Rattle.drm_id_alloc.specs.Table.{Table}
+use Rattle.drm_files.specs.Files.{FileLists, client, hold}
+use Rattle.drm_files.specs.declared.rows.FileClient.{FileClient}
+use Rattle.drm_files.specs.declared.rows.FileHold.{FileHold}
+use Rattle.drm_files.specs.declared.files.FileRecord.{FileRecord}
+use Rattle.drm_files.specs.declared.files.Held.{Held}
+
+abbrev pub clients_in : List (ℕ × FileRecord) → List FileClient
+clients_in records = list_map (λ entry. client entry.0 entry.1.flags) records
+
+-- the rows of one client
+abbrev pub rows_in : ℕ → List (ℕ × Held) → List FileHold
+rows_in c entries = list_map (λ entry. hold c entry.0 entry.1.object entry.1.place) entries
+
+abbrev pub holds_in : List (ℕ × FileRecord) → List FileHold
+holds_in records = flat_map (λ entry. rows_in entry.0 (map.entries entry.1.handles.slots)) records
+
+abbrev pub lists_of : ℕ → ℕ → map.FinMap nat_cmp FileRecord → FileLists
+lists_of limit last_handle records = record {
+  limit = limit;
+  last_handle = last_handle;
+  clients = clients_in (map.entries records);
+  holds = holds_in (map.entries records);
+}
+
+-- the handles of a table with their objects
+abbrev pub pairs_of : Table Held → List (ℕ × ℕ)
+pairs_of table = list_map (λ entry. (entry.0, entry.1.object)) (map.entries table.slots)
+
+-- a table of the handles from 1 to the last
+pub record IsTable (last_handle : ℕ) (table : Table Held) : Type 0 where
+  pub first_is : table.first ≡ 1
+  pub last_is : table.last ≡ last_handle
+  pub low : (h : ℕ) → IsTrue (map.contains_key table.slots h) → 1 ≤ h
+  pub high : (h : ℕ) → IsTrue (map.contains_key table.slots h) → h ≤ last_handle
+
+-- each client's table is of that kind, and the limits are numbers of 32 bits
+pub record AreRecords (limit last_handle : ℕ) (records : map.FinMap nat_cmp FileRecord) : Type 0 where
+  pub limit_high : limit ≤ 4294967295
+  pub last_low : 1 ≤ last_handle
+  pub last_high : last_handle ≤ 4294967295
+  pub tables : (c : ℕ) (row : FileRecord) → map.get records c ≡ Some row → IsTable last_handle row.handles

@@ -1,0 +1,189 @@
+//! The open clients and their handles.
+
+ghost use Rattle.std.specs.Prelude.{◌≡◌, ◌≤◌, ◌<◌, ◌↔◌, true, false, length, find, is_some, OnOk, OnErr, IfOk, IfErr, IfNone, Some, None, option_map};
+ghost use Rattle.drm_files.specs.Files.{AreFiles, empty_files, is_client, is_hold, is_present, free_handle, with_client, without_client, left_by, with_hold, without_hold, with_authenticated, new_flags, hold};
+ghost use Rattle.drm_files.specs.FileFault.{IsFull};
+
+use crate::faults::FileFault;
+use crate::rest::FileRest;
+use crate::rows::FileFlags;
+use drm_gem::ObjectKey;
+use drm_id_alloc::{AddFault, IdTable};
+use drm_index_array::IndexArray;
+use std::alloc::Global;
+use std::marker::Model;
+
+// What stands behind a handle.
+#[derive(Clone, Copy)]
+pub(crate) struct Held {
+    pub(crate) object: ObjectKey,
+    pub(crate) place: Option<u32>,
+}
+
+// An open client.
+#[derive(Drop)]
+pub(crate) struct FileRecord {
+    pub(crate) flags: FileFlags,
+    pub(crate) handles: IdTable<Held>,
+}
+
+/// The open clients with their flags, and the handles of each. Contracts see flat lists: the
+/// clients, rising by their numbers, and the handles, in the order of clients and then handles.
+#[derive(Drop)]
+pub struct Files {
+    alloc: Global,
+    pub(crate) clients: IndexArray<FileRecord>,
+    open_limit: u32,
+    last_handle: u32,
+}
+
+impl Model for Files {
+    ghost use Rattle.drm_files.specs.Files.{FileLists};
+    ghost use Rattle.drm_files.specs.Records.{lists_of, AreRecords};
+
+    ghost Value = { FileLists };
+
+    ghost view = { λ files. lists_of files.open_limit files.last_handle files.clients.items };
+
+    ghost invariant = { λ files. AreRecords files.open_limit files.last_handle files.clients.items };
+}
+
+impl Files {
+    /// No open client. At most `clients` may be open at once, and each may hold the handles from 1
+    /// to `handles`. It takes no memory.
+    pub fn new(alloc: Global, clients: u32, handles: u32) -> Files
+        requires { 1 ≤ handles }
+        ensures { result ≡ empty_files clients handles }
+    {
+        Files {
+            alloc,
+            clients: IndexArray::new(alloc),
+            open_limit: clients,
+            last_handle: handles,
+        }
+    }
+
+    /// Opens a client that isn't open, without handles. It is authenticated exactly where it is
+    /// root. It is refused as full where as many clients are open as may be, and then, as without
+    /// memory, nothing changes.
+    pub fn open(&mut self, client: u32, render: bool, root: bool) -> Result<(), FileFault>
+        requires absent { is_present self.old client ≡ false }
+        ensures ok { OnOk result (self.new ≡ with_client self.old client (new_flags render root)) }
+        ensures err { OnErr result (self.new ≡ self.old) }
+        ensures room { OnOk result (length self.old.clients < self.old.limit) }
+        ensures full { IfErr result (λ fault. IsFull fault ↔ (self.old.limit ≤ length self.old.clients)) }
+    {
+        if self.clients.len() >= self.open_limit as usize {
+            return Err(FileFault::Full);
+        }
+        let record = FileRecord {
+            flags: FileFlags {
+                render,
+                root,
+                authenticated: root,
+            },
+            handles: IdTable::new(self.alloc, 1, self.last_handle),
+        };
+        if let Err(_fault) = self.clients.insert(client, record) {
+            return Err(FileFault::NoMemory);
+        }
+        Ok(())
+    }
+
+    /// Closes an open client, and gives its handles with their objects, to be released. It takes
+    /// no memory.
+    pub fn close(&mut self, client: u32) -> FileRest
+        requires present { is_present self.old client ≡ true }
+        ensures rest { result ≡ left_by self.old client }
+        ensures closed { self.new ≡ without_client self.old client }
+    {
+        let Some(record) = self.clients.remove(client) else {
+            unreachable!();
+        };
+        let FileRecord { handles, .. } = record;
+        FileRest::new(handles)
+    }
+
+    /// Whether an open client has a free handle.
+    pub fn has_room(&self, client: u32) -> bool
+        requires present { is_present self.now client ≡ true }
+        ensures { result ≡ is_some (free_handle self.now client) }
+    {
+        let Some(record) = self.clients.get(client) else {
+            unreachable!();
+        };
+        !record.handles.is_full()
+    }
+
+    /// Gives an open client its least free handle for an object (drm-gem(7): handles). It is
+    /// refused as full where the client has every handle, and then, as without memory, nothing
+    /// changes.
+    pub fn add_handle(
+        &mut self,
+        client: u32,
+        object: ObjectKey,
+        place: Option<u32>,
+    ) -> Result<u32, FileFault>
+        requires present { is_present self.old client ≡ true }
+        ensures given { IfOk result (λ handle. free_handle self.old client ≡ Some handle) }
+        ensures ok { IfOk result (λ handle. self.new ≡ with_hold self.old (hold client handle object place)) }
+        ensures err { OnErr result (self.new ≡ self.old) }
+        ensures full { IfErr result (λ fault. IsFull fault ↔ (free_handle self.old client ≡ None)) }
+    {
+        let Some(record) = self.clients.get_mut(client) else {
+            unreachable!();
+        };
+        let handle = match record.handles.add(Held { object, place }) {
+            Ok(handle) => handle,
+            Err(AddFault::Full(_)) => return Err(FileFault::Full),
+            Err(AddFault::NoMemory(_)) => return Err(FileFault::NoMemory),
+        };
+        Ok(handle)
+    }
+
+    /// The object behind a handle of an open client, if the client has that handle.
+    pub fn object_of(&self, client: u32, handle: u32) -> Option<ObjectKey>
+        requires present { is_present self.now client ≡ true }
+        ensures object { result ≡ option_map (λ row. row.object) (find (is_hold client handle) self.now.holds) }
+        ensures lists { AreFiles self.now }
+    {
+        let record = self.clients.get(client)?;
+        let held = record.handles.get(handle)?;
+        Some(held.object)
+    }
+
+    /// Takes a handle from an open client, if the client has it, and gives the object behind it.
+    /// It takes no memory.
+    pub fn drop_handle(&mut self, client: u32, handle: u32) -> Option<ObjectKey>
+        requires present { is_present self.old client ≡ true }
+        ensures object { result ≡ option_map (λ row. row.object) (find (is_hold client handle) self.old.holds) }
+        ensures dropped { self.new ≡ without_hold self.old client handle }
+        ensures none { IfNone result (self.new ≡ self.old) }
+    {
+        let Some(record) = self.clients.get_mut(client) else {
+            unreachable!();
+        };
+        let held = record.handles.remove(handle)?;
+        Some(held.object)
+    }
+
+    /// What a client may do, if it is open.
+    pub fn flags_of(&self, client: u32) -> Option<FileFlags>
+        ensures flags { result ≡ option_map (λ row. row.flags) (find (is_client client) self.now.clients) }
+        ensures lists { AreFiles self.now }
+    {
+        let record = self.clients.get(client)?;
+        Some(record.flags)
+    }
+
+    /// Notes that an open client is authenticated (drm-uapi). It takes no memory.
+    pub fn set_authenticated(&mut self, client: u32)
+        requires present { is_present self.old client ≡ true }
+        ensures { self.new ≡ with_authenticated self.old client }
+    {
+        let Some(record) = self.clients.get_mut(client) else {
+            unreachable!();
+        };
+        record.flags.authenticated = true;
+    }
+}

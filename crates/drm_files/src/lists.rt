@@ -1,0 +1,119 @@
+//! Lists of the clients and of their handles.
+
+ghost use Rattle.std.specs.Prelude.{◌≡◌, ◌++◌, List, true, filter, nat_le, take, slice_get, IfOk, IfErr, Some};
+ghost use Rattle.std.specs.FinMap as map;
+ghost use Rattle.drm_index_array.specs.Keys.{keys_from};
+ghost use Rattle.drm_files.specs.Files.{is_present, handles_of};
+ghost use Rattle.drm_files.specs.Records.{rows_in};
+ghost use Rattle.drm_files.specs.declared.rows.FileHold.{FileHold};
+
+use crate::files::{FileRecord, Files, Held};
+use crate::rows::{FileClient, FileHold};
+use drm_id_alloc::IdTable;
+use drm_index_array::IndexArray;
+use drm_table::ShownList;
+
+impl Files {
+    /// The handles of an open client from a number on, rising, 64 at most. It takes no memory.
+    pub fn handles_of(&self, client: u32, from: u32) -> ShownList
+        requires present { is_present self.now client ≡ true }
+        ensures { result ≡ take 64 (filter (λ h. nat_le from h) (handles_of self.now client)) }
+    {
+        let Some(record) = self.clients.get(client) else {
+            unreachable!();
+        };
+        shown_handles(&record.handles, from)
+    }
+
+    /// The client at a place of the list of clients, where 0 is the first. It takes no memory.
+    pub fn nth_client(&self, place: usize) -> Option<FileClient>
+        ensures { result ≡ slice_get self.now.clients place }
+    {
+        let client = nth_number(&self.clients, place)?;
+        let record = self.clients.get(client)?;
+        Some(FileClient {
+            client,
+            flags: record.flags,
+        })
+    }
+
+    /// The hold at a place of the list of holds, where 0 is the first. It takes no memory.
+    pub fn nth_hold(&self, place: usize) -> Option<FileHold>
+        ensures { result ≡ slice_get self.now.holds place }
+    {
+        let mut left = place;
+        let mut at = 0;
+        for _turn in 0..self.clients.len() {
+            let client = self.clients.next(at)?;
+            let Some(record) = self.clients.get(client) else {
+                unreachable!();
+            };
+            match nth_held(client, &record.handles, left) {
+                Ok(hold) => return Some(hold),
+                Err(behind) => left = behind,
+            }
+            at = client.checked_add(1)?;
+        }
+        None
+    }
+}
+
+// The handles of a table from a number on, rising, 64 at most.
+fn shown_handles(table: &IdTable<Held>, from: u32) -> ShownList
+    ensures { result ≡ take 64 (keys_from table.now.slots from) }
+{
+    let mut list = ShownList::new();
+    let mut at = from;
+    for _turn in 0..64u32 {
+        let Some(handle) = table.next(at) else {
+            return list;
+        };
+        list.push(handle);
+        let Some(above) = handle.checked_add(1) else {
+            return list;
+        };
+        at = above;
+    }
+    list
+}
+
+// The number of the client at a place.
+fn nth_number(clients: &IndexArray<FileRecord>, place: usize) -> Option<u32>
+    ensures { result ≡ slice_get (map.keys clients.now.items) place }
+{
+    let mut at = 0;
+    for _turn in 0..place {
+        let client = clients.next(at)?;
+        at = client.checked_add(1)?;
+    }
+    clients.next(at)
+}
+
+// The hold at a place of one client's, or how far behind the last of them the place is.
+fn nth_held(client: u32, table: &IdTable<Held>, place: usize) -> Result<FileHold, usize>
+    ensures ok { IfOk result (λ hold. (rest : List FileHold) → slice_get (rows_in client (map.entries table.now.slots) ++ rest) place ≡ Some hold) }
+    ensures err { IfErr result (λ behind. (rest : List FileHold) → slice_get (rows_in client (map.entries table.now.slots) ++ rest) place ≡ slice_get rest behind) }
+{
+    let mut at = 0;
+    for turn in 0..place {
+        let Some(handle) = table.next(at) else {
+            return Err(place - turn);
+        };
+        let Some(above) = handle.checked_add(1) else {
+            return Err(place - turn - 1);
+        };
+        at = above;
+    }
+    let Some(handle) = table.next(at) else {
+        return Err(0);
+    };
+    let Some(held) = table.get(handle) else {
+        unreachable!();
+    };
+    Ok(FileHold {
+        client,
+        handle,
+        object: held.object,
+        place: held.place,
+    })
+}

@@ -1,0 +1,46 @@
+//! What a closed client leaves to be released.
+
+ghost use Rattle.std.specs.Prelude.{◌≡◌, slice_get, drop};
+ghost use Rattle.drm_files.specs.Records.{pairs_of};
+
+use crate::files::Held;
+use drm_gem::ObjectKey;
+use drm_id_alloc::IdTable;
+use std::marker::Model;
+
+/// The handles that a closed client had, each with its object, to be taken one after another.
+/// Contracts see the list of these pairs, in the order of the handles.
+#[derive(Drop)]
+pub struct FileRest {
+    handles: IdTable<Held>,
+}
+
+impl Model for FileRest {
+    ghost use Rattle.std.specs.Prelude.{ℕ, List};
+    ghost use Rattle.drm_files.specs.Records.{pairs_of};
+
+    ghost Value = { List (ℕ × ℕ) };
+
+    ghost view = { λ rest. pairs_of rest.handles };
+}
+
+impl FileRest {
+    /// What is left of a client with these handles.
+    pub(crate) fn new(handles: IdTable<Held>) -> FileRest
+        ensures { result ≡ pairs_of handles }
+    {
+        FileRest { handles }
+    }
+
+    /// Takes the next handle with its object. There is none exactly where the list is empty.
+    pub fn take_next(&mut self) -> Option<(u32, ObjectKey)>
+        ensures first { result ≡ slice_get self.old 0 }
+        ensures rest { self.new ≡ drop 1 self.old }
+    {
+        let handle = self.handles.next(0)?;
+        let Some(held) = self.handles.remove(handle) else {
+            unreachable!();
+        };
+        Some((handle, held.object))
+    }
+}

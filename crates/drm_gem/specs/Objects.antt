@@ -1,0 +1,71 @@
+-- The objects that are there, in the order of their births (drm-mm, drm-gem(7); births and stamps are this project's own).
+use Rattle.std.specs.Prelude.{ℕ, ◌+◌, ◌-◌, ◌<◌, ◌==◌, Bool, false, not, ◌&&◌, List, [], ◌∷◌, ◌++◌, Option, find, map, filter, if◌then◌else◌}
+use Rattle.std.specs.List.{AllByRecursion}
+use Rattle.std.specs.Option.{option_map, option_map_or, is_some}
+use Rattle.drm_gem.specs.declared.object.Object.{Object}
+use Rattle.drm_gem.specs.declared.object.Dead.{Dead}
+
+-- the most objects that may be there, and those that are
+pub record ObjectSet : Type 0 where
+  pub limit : ℕ
+  pub objects : List Object
+
+abbrev pub is_key : ℕ → Object → Bool
+is_key key x = x.key == key
+
+-- the object of a key, if it is there
+abbrev pub object_at : ObjectSet → ℕ → Option Object
+object_at set key = find (is_key key) set.objects
+
+abbrev pub is_there : ObjectSet → ℕ → Bool
+is_there set key = is_some (object_at set key)
+
+-- whether the object of the key is there and passes the test
+abbrev pub passes : (Object → Bool) → ObjectSet → ℕ → Bool
+passes test set key = option_map_or test (object_at set key) false
+
+-- every object that is there is older
+abbrev pub IsNewBirth : ObjectSet → ℕ → Type 0
+IsNewBirth set birth = AllByRecursion (λ (x : Object). x.birth < birth) set.objects
+
+-- one more object, which a handle names
+abbrev pub with_object : ObjectSet → ℕ → ℕ → ℕ → ObjectSet
+with_object set key birth size = record set {
+  objects = set.objects ++ record { key = key; birth = birth; size = size; stamp = 0; holds = 1; refs = 0 } ∷ [];
+}
+
+-- the object of the key is changed
+abbrev pub changed_at : ℕ → (Object → Object) → ObjectSet → ObjectSet
+changed_at key f set = record set { objects = map (λ (x : Object). if x.key == key then f x else x) set.objects }
+
+-- the object of the key is gone
+abbrev pub without_key : ℕ → ObjectSet → ObjectSet
+without_key key set = record set { objects = filter (λ (x : Object). not (x.key == key)) set.objects }
+
+-- one handle, or one reference, more or fewer
+
+abbrev pub held : Object → Object
+held x = record x { holds = x.holds + 1 }
+
+abbrev pub unheld : Object → Object
+unheld x = record x { holds = x.holds - 1 }
+
+abbrev pub referred : Object → Object
+referred x = record x { refs = x.refs + 1 }
+
+abbrev pub unreferred : Object → Object
+unreferred x = record x { refs = x.refs - 1 }
+
+abbrev pub stamped : ℕ → Object → Object
+stamped stamp x = record x { stamp = stamp }
+
+abbrev pub dead_of : Object → Dead
+dead_of x = record { birth = x.birth; size = x.size }
+
+-- whether nothing refers to it
+abbrev pub is_unused : Object → Bool
+is_unused x = (x.holds == 0) && (x.refs == 0)
+
+-- what is left of an object where nothing refers to it after a change
+abbrev pub dead_after : (Object → Object) → ObjectSet → ℕ → Option Dead
+dead_after f set key = option_map dead_of (find (λ (x : Object). is_key key x && is_unused (f x)) set.objects)

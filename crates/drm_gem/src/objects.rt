@@ -1,0 +1,264 @@
+//! The objects that are there.
+
+ghost use Rattle.std.specs.Prelude.{◌≡◌, ◌<◌, ◌≤◌, ◌↔◌, true, None, Some, [], length, find, slice_get, nat_le, nat_lt, OnOk, OnErr, IfOk, IfErr, OnSome, IfSome, IfNone, if◌then◌else◌};
+ghost use Rattle.std.specs.Option.{option_map};
+ghost use Rattle.drm_gem.specs.declared.object.Object as gem;
+ghost use Rattle.drm_gem.specs.declared.objects.CreateFault.TheVariants as fault;
+ghost use Rattle.drm_gem.specs.Rising.{AreRising};
+ghost use Rattle.drm_gem.specs.Objects.{IsNewBirth, with_object, changed_at, without_key, object_at, is_there, is_key, passes, held, unheld, referred, unreferred, stamped, dead_of, dead_after, is_unused};
+
+use crate::keys::ObjectKey;
+use crate::object::{Dead, Object};
+use std::alloc::Global;
+use std::marker::Model;
+
+/// Why no object was made.
+#[derive(Clone, Copy, PartialEq, Eq, Debug)]
+pub enum CreateFault {
+    /// As many objects are there as may be.
+    Full,
+    /// Memory was refused.
+    NoMemory,
+}
+
+/// The objects that are there, in the order of the steps that made them.
+#[derive(Drop)]
+pub struct Objects {
+    objects: Vec<Object>,
+    limit: u32,
+}
+
+impl Model for Objects {
+    ghost use Rattle.drm_gem.specs.Objects.{ObjectSet};
+
+    ghost Value = { ObjectSet };
+
+    ghost use Rattle.drm_gem.specs.Fields.{objects_of};
+    ghost use Rattle.drm_gem.specs.Rising.{AreRising};
+
+    ghost view = { objects_of };
+
+    ghost invariant = { λ a. AreRising a.objects.items };
+}
+
+impl Objects {
+    /// No objects, of which so many may be there at once. It takes no memory.
+    pub fn new(alloc: Global, limit: u32) -> Objects
+        ensures { result ≡ record { limit = limit; objects = [] } }
+    {
+        Objects {
+            objects: Vec::new(alloc),
+            limit,
+        }
+    }
+
+    /// Makes an object of so many bytes, with stamp 0 and one handle that names it; the step of this number makes it,
+    /// and all that are there are older. A refusal leaves all as it was: `Full` exactly where the limit is reached
+    /// (own), `NoMemory` where memory was refused.
+    pub fn create(&mut self, birth: u32, size: u64) -> Result<ObjectKey, CreateFault>
+        requires newest { IsNewBirth self.old birth }
+        ensures room { OnOk result (length self.old.objects < self.old.limit) }
+        ensures full { IfErr result (λ why. (why ≡ fault.Full) ↔ (self.old.limit ≤ length self.old.objects)) }
+        ensures fresh { IfOk result (λ key. object_at self.old key ≡ None) }
+        ensures ok { IfOk result (λ key. self.new ≡ with_object self.old key birth size) }
+        ensures err { OnErr result (self.new ≡ self.old) }
+    {
+        if self.objects.len() >= self.limit as usize {
+            return Err(CreateFault::Full);
+        }
+        if let Err(_refused) = self.objects.reserve(1) {
+            return Err(CreateFault::NoMemory);
+        }
+        let key = ObjectKey::from_number(birth);
+        self.objects.push_reserved(Object {
+            key,
+            birth,
+            size,
+            stamp: 0,
+            holds: 1,
+            refs: 0,
+        });
+        Ok(key)
+    }
+
+    /// The object of a key, if it is there.
+    pub fn get(&self, key: ObjectKey) -> Option<Object>
+        ensures { result ≡ object_at self.now key }
+    {
+        Some(self.objects[place_of(&self.objects, key)?])
+    }
+
+    /// One handle more names the object.
+    pub fn hold(&mut self, key: ObjectKey)
+        requires { passes (λ x. nat_lt x.holds u32.MAX) self.old key ≡ true }
+        ensures { self.new ≡ changed_at key held self.old }
+    {
+        let object = self.there(key);
+        self.set(Object {
+            holds: object.holds + 1,
+            ..object
+        });
+    }
+
+    /// One handle fewer names the object. Where nothing refers to it any more it goes, and what it was is answered
+    /// (drm-gem(7): an object goes with its last reference).
+    pub fn unhold(&mut self, key: ObjectKey) -> Option<Dead>
+        requires { passes (λ x. nat_le 1 x.holds) self.old key ≡ true }
+        ensures dead { result ≡ dead_after unheld self.old key }
+        ensures gone { OnSome result (self.new ≡ without_key key self.old) }
+        ensures stays { IfNone result (self.new ≡ changed_at key unheld self.old) }
+    {
+        let object = self.there(key);
+        self.settle(Object {
+            holds: object.holds - 1,
+            ..object
+        })
+    }
+
+    /// One token or framebuffer more refers to the object.
+    pub fn refer(&mut self, key: ObjectKey)
+        requires { passes (λ x. nat_lt x.refs u32.MAX) self.old key ≡ true }
+        ensures { self.new ≡ changed_at key referred self.old }
+    {
+        let object = self.there(key);
+        self.set(Object {
+            refs: object.refs + 1,
+            ..object
+        });
+    }
+
+    /// One token or framebuffer fewer refers to the object. Where nothing refers to it any more it goes, and what it
+    /// was is answered.
+    pub fn unrefer(&mut self, key: ObjectKey) -> Option<Dead>
+        requires { passes (λ x. nat_le 1 x.refs) self.old key ≡ true }
+        ensures dead { result ≡ dead_after unreferred self.old key }
+        ensures gone { OnSome result (self.new ≡ without_key key self.old) }
+        ensures stays { IfNone result (self.new ≡ changed_at key unreferred self.old) }
+    {
+        let object = self.there(key);
+        self.settle(Object {
+            refs: object.refs - 1,
+            ..object
+        })
+    }
+
+    /// How many handles name the object.
+    pub fn holds(&self, key: ObjectKey) -> u32
+        requires { is_there self.now key ≡ true }
+        ensures { option_map (λ x. x.holds) (object_at self.now key) ≡ Some result }
+    {
+        self.there(key).holds
+    }
+
+    /// How many tokens and framebuffers refer to the object.
+    pub fn refs(&self, key: ObjectKey) -> u32
+        requires { is_there self.now key ≡ true }
+        ensures { option_map (λ x. x.refs) (object_at self.now key) ≡ Some result }
+    {
+        self.there(key).refs
+    }
+
+    /// The number of the step that made the object.
+    pub fn birth(&self, key: ObjectKey) -> u32
+        requires { is_there self.now key ≡ true }
+        ensures { option_map (λ x. x.birth) (object_at self.now key) ≡ Some result }
+    {
+        self.there(key).birth
+    }
+
+    /// The object's size in bytes.
+    pub fn size(&self, key: ObjectKey) -> u64
+        requires { is_there self.now key ≡ true }
+        ensures { option_map (λ x. x.size) (object_at self.now key) ≡ Some result }
+    {
+        self.there(key).size
+    }
+
+    /// The object's stamp, which stands for its contents (own).
+    pub fn stamp(&self, key: ObjectKey) -> u64
+        requires { is_there self.now key ≡ true }
+        ensures { option_map (λ x. x.stamp) (object_at self.now key) ≡ Some result }
+    {
+        self.there(key).stamp
+    }
+
+    /// Gives the object another stamp.
+    pub fn set_stamp(&mut self, key: ObjectKey, stamp: u64)
+        requires { is_there self.old key ≡ true }
+        ensures { self.new ≡ changed_at key (stamped stamp) self.old }
+    {
+        let object = self.there(key);
+        self.set(Object { stamp, ..object });
+    }
+
+    /// The object at a place, from 0, in the order of births; none past the last.
+    pub fn nth(&self, place: usize) -> Option<Object>
+        ensures { result ≡ slice_get self.now.objects place }
+    {
+        self.objects.get(place).copied()
+    }
+
+    // the object of a key that is there
+    fn there(&self, key: ObjectKey) -> Object
+        requires { is_there self.now key ≡ true }
+        ensures value { object_at self.now key ≡ Some result }
+        ensures rising { AreRising self.now.objects }
+    {
+        match place_of(&self.objects, key) {
+            Some(place) => self.objects[place],
+            None => unreachable!(),
+        }
+    }
+
+    // puts an object in place of that of its key, which has the same birth
+    fn set(&mut self, object: Object)
+        requires { option_map (λ x. x.birth) (object_at self.old object.key) ≡ Some object.birth }
+        ensures { self.new ≡ changed_at object.key (λ x. object) self.old }
+    {
+        let Some(place) = place_of(&self.objects, object.key) else {
+            unreachable!()
+        };
+        self.objects[place] = object;
+    }
+
+    // the same, or takes the object away where nothing refers to it any more
+    fn settle(&mut self, object: Object) -> Option<Dead>
+        requires { option_map (λ x. x.birth) (object_at self.old object.key) ≡ Some object.birth }
+        ensures dead { result ≡ if is_unused object then Some (dead_of object) else None }
+        ensures gone { OnSome result (self.new ≡ without_key object.key self.old) }
+        ensures stays { IfNone result (self.new ≡ changed_at object.key (λ x. object) self.old) }
+    {
+        if object.holds > 0 || object.refs > 0 {
+            self.set(object);
+            return None;
+        }
+        self.remove(object.key);
+        Some(Dead {
+            birth: object.birth,
+            size: object.size,
+        })
+    }
+
+    fn remove(&mut self, key: ObjectKey)
+        requires { is_there self.old key ≡ true }
+        ensures { self.new ≡ without_key key self.old }
+    {
+        let Some(place) = place_of(&self.objects, key) else {
+            unreachable!()
+        };
+        let _object = self.objects.remove(place);
+    }
+}
+
+/// Where the object of a key stands.
+fn place_of(objects: &[Object], key: ObjectKey) -> Option<usize>
+    requires { AreRising objects.now }
+    ensures within { IfSome result (λ place. place < length objects.now) }
+    ensures here { IfSome result (λ place. slice_get objects.now place ≡ find (is_key key) objects.now) }
+    ensures none { IfNone result (find (is_key key) objects.now ≡ None) }
+{
+    match objects.binary_search_by_key(&key.number(), |object| object.key.number()) {
+        Ok(place) => Some(place),
+        Err(_gap) => None,
+    }
+}

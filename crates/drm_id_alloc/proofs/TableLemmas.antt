@@ -1,0 +1,79 @@
+-- How the entries of a table stay within its range.
+use Rattle.std.proofs.Common.{◌≡◌, ℕ, ◌+◌, ◌≤◌, true, false, not, eqb, Option, Some, None, is_some, IsTrue, OnSome, option_map, refl, sym, ap, inl, inr, arith}
+use Rattle.std.specs.Ordering.{nat_cmp}
+use Rattle.std.specs.FinMap as map
+use Rattle.std.proofs.lemmas.Bool.{cases_eq, false≢true}
+use Rattle.std.proofs.lemmas.Bool.Decides.{nat_tests}
+use Rattle.drm_index_array.proofs.MarkedLemmas.{get-insert, get-remove}
+use Rattle.drm_index_array.proofs.Least.{least_is_none}
+use Rattle.drm_id_alloc.specs.Table.{Table, IsWithin, is_free, least_free, next_cyclic}
+
+-- a number that is there after an insertion is the new one, or was there
+contains-insert : {X : Type 0} (m : map.FinMap nat_cmp X) (k : ℕ) (v : X) (q : ℕ) → (q ≡ k → ⊥) → IsTrue (map.contains_key (map.insert m k v) q) → IsTrue (map.contains_key m q)
+contains-insert m k v q apart there =
+    let gets = get-insert m k v q in
+    let test : eqb q k ≡ false = grind (arith, nat_tests) in
+    rw (gets, test) at there
+
+contains-remove : {X : Type 0} (m : map.FinMap nat_cmp X) (k q : ℕ) → IsTrue (map.contains_key (map.remove m k) q) → IsTrue (map.contains_key m q)
+contains-remove m k q there =
+    elim (cases_eq q k) [
+      | inl same ↦ let gets = get-remove m k q in let test : eqb q k ≡ true = grind (arith, nat_tests) in absurd (false≢true (rw (gets, test) at there))
+      | inr apart ↦ let gets = get-remove m k q in let test : eqb q k ≡ false = grind (arith, nat_tests) in rw (gets, test) at there
+    ]
+
+module _ {X : Type 0} (m : map.FinMap nat_cmp X) (first last : ℕ) (given : Option ℕ) (within : IsWithin m first last given) where
+  -- a number that is found is in the range
+  pub low_of : (id : ℕ) {Y : Type 0} (r : Option Y) (f : Y → X) → option_map f r ≡ map.get m id → OnSome r (first ≤ id)
+  low_of id None f found = tt
+  low_of id (Some x) f found = within.low id (ap is_some (sym found))
+
+  pub high_of : (id : ℕ) {Y : Type 0} (r : Option Y) (f : Y → X) → option_map f r ≡ map.get m id → OnSome r (id ≤ last)
+  high_of id None f found = tt
+  high_of id (Some x) f found = within.high id (ap is_some (sym found))
+
+  pub IsWithin-insert : (k : ℕ) (v : X) → first ≤ k → k ≤ last → IsWithin (map.insert m k v) first last given
+  IsWithin-insert k v low high = record {
+    in_order = within.in_order;
+    fits = within.fits;
+    low = λ id there. elim (cases_eq id k) [ inl same ↦ omega arith | inr apart ↦ within.low id (contains-insert m k v id apart there) ];
+    high = λ id there. elim (cases_eq id k) [ inl same ↦ omega arith | inr apart ↦ within.high id (contains-insert m k v id apart there) ];
+    given_low = within.given_low;
+    given_high = within.given_high;
+  }
+
+  pub IsWithin-remove : (k : ℕ) → IsWithin (map.remove m k) first last given
+  IsWithin-remove k = record {
+    in_order = within.in_order;
+    fits = within.fits;
+    low = λ id there. within.low id (contains-remove m k id there);
+    high = λ id there. within.high id (contains-remove m k id there);
+    given_low = within.given_low;
+    given_high = within.given_high;
+  }
+
+pub IsWithin-empty : {X : Type 0} (first last : ℕ) → first ≤ last → last ≤ 4294967295 → IsWithin (map.empty {X = X}) first last None
+IsWithin-empty {X = X} first last le fits = record {
+  in_order = le;
+  fits = fits;
+  low = λ id there. absurd (none id there);
+  high = λ id there. absurd (none id there);
+  given_low = tt;
+  given_high = tt;
+}
+  where
+    none : (id : ℕ) → IsTrue (map.contains_key (map.empty {X = X} {R = nat_cmp}) id) → ⊥
+    none id there = false≢true (rw (map.get-empty nat_cmp id) at there)
+
+-- what a look-up says of a number
+pub vacant_of : {X Y : Type 0} (m : map.FinMap nat_cmp X) (id : ℕ) (r : Option Y) (f : Y → X) → option_map f r ≡ map.get m id → is_some r ≡ false → map.get m id ≡ None
+vacant_of m id None f found none = sym found
+vacant_of m id (Some x) f found none = absurd (false≢true (sym none))
+
+pub taken_of : {X Y : Type 0} (m : map.FinMap nat_cmp X) (id : ℕ) (r : Option Y) (f : Y → X) → option_map f r ≡ map.get m id → is_some r ≡ true → not (map.contains_key m id) ≡ false
+taken_of m id None f found some = absurd (false≢true some)
+taken_of m id (Some x) f found some = ap (λ o. not (is_some o)) (sym found)
+
+-- after the last number of the range the turn begins again
+pub next_cyclic_wraps : {X : Type 0} (t : Table X) (given : ℕ) → t.last_given ≡ Some given → t.last ≤ given → next_cyclic t ≡ least_free t
+next_cyclic_wraps t given is le = rw (is, least_is_none (is_free t) (given + 1) t.last (λ k low high. absurd (omega arith))) refl

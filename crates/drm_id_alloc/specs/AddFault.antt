@@ -1,0 +1,11 @@
+-- What an addition that is refused hands back.
+use Rattle.drm_id_alloc.specs.declared.faults.AddFault.{AddFault}
+use Rattle.drm_id_alloc.specs.declared.faults.AddFault.TheVariants.{Full, NoMemory}
+
+abbrev pub value_of : {T : Type 0} → AddFault T → T
+value_of (Full v) = v
+value_of (NoMemory v) = v
+
+abbrev pub IsFull : {T : Type 0} → AddFault T → Type 0
+IsFull (Full v) = Unit {0}
+IsFull (NoMemory v) = ⊥

@@ -1,0 +1,10 @@
+//! Why an addition is refused.
+
+/// Why nothing was added. Each hands the value back.
+#[derive(Debug, Drop, PartialEq, Eq)]
+pub enum AddFault<T> {
+    /// No number of the range is free.
+    Full(T),
+    /// Memory for the entry was refused.
+    NoMemory(T),
+}

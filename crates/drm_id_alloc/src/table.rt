@@ -1,0 +1,210 @@
+//! The table.
+
+ghost use Rattle.std.specs.Prelude.{◌≡◌, ◌≤◌, ◌↔◌, ℕ, IsTrue, OnOk, OnErr, OnSome, IfSome, IfNone, IfOk, IfErr, Some, None, option_copied, false};
+ghost use Rattle.std.specs.FinMap as map;
+ghost use Rattle.drm_index_array.specs.Least.{least};
+ghost use Rattle.drm_id_alloc.specs.AddFault.{value_of, IsFull};
+
+use crate::faults::AddFault;
+use drm_index_array::IndexArray;
+use std::alloc::Global;
+use std::marker::Model;
+
+/// A table whose numbers are given out from a range, with both its ends (as Linux's IDR). Contracts see the map from
+/// numbers to values, the range, and the number that `add_cyclic` gave last.
+#[derive(Drop)]
+pub struct IdTable<T> {
+    entries: IndexArray<T>,
+    first: u32,
+    last: u32,
+    last_given: Option<u32>,
+}
+
+impl<T> Model for IdTable<T> {
+    ghost use Rattle.drm_id_alloc.specs.Table.{Table, table_code, IsWithin};
+
+    ghost Value = { Table T };
+
+    ghost coded = { table_code T.code };
+
+    ghost view = { λ t. record {
+      slots = t.entries.items;
+      first = t.first;
+      last = t.last;
+      last_given = t.last_given;
+    } };
+
+    ghost invariant = { λ t. IsWithin (t.entries.items) t.first t.last t.last_given };
+}
+
+impl<T: Drop> IdTable<T> {
+    ghost use Rattle.drm_id_alloc.specs.Table.{empty_table, least_free, next_cyclic, is_free, with_entry, without_entry};
+
+    /// A table with nothing in it, which takes no memory. It keeps the allocator for the entries to come.
+    pub fn new(alloc: Global, first: u32, last: u32) -> Self
+        requires { first ≤ last }
+        ensures { result ≡ empty_table first last }
+    {
+        IdTable {
+            entries: IndexArray::new(alloc),
+            first,
+            last,
+            last_given: None,
+        }
+    }
+
+    /// Adds the value at the least free number. Where no number is free, or memory is refused, the table stays as it is
+    /// and the value comes back.
+    pub fn add(&mut self, value: T) -> Result<u32, AddFault<T>>
+        ensures given { IfOk result (λ id. least_free self.old ≡ Some id) }
+        ensures fresh { IfOk result (λ id. map.get self.old.slots id ≡ None) }
+        ensures low { IfOk result (λ id. self.old.first ≤ id) }
+        ensures high { IfOk result (λ id. id ≤ self.old.last) }
+        ensures ok { IfOk result (λ id. self.new ≡ with_entry self.old id value) }
+        ensures err { OnErr result (self.new ≡ self.old) }
+        ensures returned { IfErr result (λ fault. value_of fault ≡ value) }
+
+        // It is refused as full exactly where no number is free.
+        ensures full { IfErr result (λ fault. IsFull fault ↔ (least_free self.old ≡ None)) }
+    {
+        let Some(id) = self.free_from(self.first) else {
+            return Err(AddFault::Full(value));
+        };
+        self.put(id, value)?;
+        Ok(id)
+    }
+
+    /// Adds the value at the next number in turn: the least free one above the last one that this call gave or, where
+    /// there is none, the least free one. Where no number is free, or memory is refused, the table stays as it is and
+    /// the value comes back.
+    pub fn add_cyclic(&mut self, value: T) -> Result<u32, AddFault<T>>
+        ensures given { IfOk result (λ id. next_cyclic self.old ≡ Some id) }
+        ensures fresh { IfOk result (λ id. map.get self.old.slots id ≡ None) }
+        ensures low { IfOk result (λ id. self.old.first ≤ id) }
+        ensures high { IfOk result (λ id. id ≤ self.old.last) }
+        ensures ok { IfOk result (λ id. self.new ≡ record (with_entry self.old id value) { last_given = Some id }) }
+        ensures err { OnErr result (self.new ≡ self.old) }
+        ensures returned { IfErr result (λ fault. value_of fault ≡ value) }
+
+        // It is refused as full exactly where no number is free.
+        ensures full { IfErr result (λ fault. IsFull fault ↔ (next_cyclic self.old ≡ None)) }
+    {
+        let Some(id) = self.next_in_turn() else {
+            return Err(AddFault::Full(value));
+        };
+        self.put(id, value)?;
+        self.last_given = Some(id);
+        Ok(id)
+    }
+
+    /// The least free number not below `from`.
+    fn free_from(&self, from: u32) -> Option<u32>
+        ensures least { result ≡ least (is_free self.now) from self.now.last }
+        ensures fresh { IfSome result (λ id. map.get self.now.slots id ≡ None) }
+        ensures low { IfSome result (λ id. from ≤ id) }
+        ensures high { IfSome result (λ id. id ≤ self.now.last) }
+    {
+        for id in from..=self.last {
+            if self.entries.get(id).is_none() {
+                return Some(id);
+            }
+        }
+        None
+    }
+
+    /// The number that comes after the last one given.
+    fn next_in_turn(&self) -> Option<u32>
+        ensures next { result ≡ next_cyclic self.now }
+        ensures fresh { IfSome result (λ id. map.get self.now.slots id ≡ None) }
+        ensures low { IfSome result (λ id. self.now.first ≤ id) }
+        ensures high { IfSome result (λ id. id ≤ self.now.last) }
+    {
+        let Some(given) = self.last_given else {
+            return self.free_from(self.first);
+        };
+        if given >= self.last {
+            return self.free_from(self.first);
+        }
+        let above = self.free_from(given + 1);
+        if above.is_some() {
+            return above;
+        }
+        self.free_from(self.first)
+    }
+
+    fn put(&mut self, id: u32, value: T) -> Result<(), AddFault<T>>
+        requires fresh { map.get self.old.slots id ≡ None }
+        requires low { self.old.first ≤ id }
+        requires high { id ≤ self.old.last }
+        ensures ok { OnOk result (self.new ≡ with_entry self.old id value) }
+        ensures err { OnErr result (self.new ≡ self.old) }
+        ensures returned { IfErr result (λ fault. value_of fault ≡ value) }
+        ensures no_memory { IfErr result (λ fault. ¬ (IsFull fault)) }
+    {
+        if let Err(fault) = self.entries.insert(id, value) {
+            return Err(AddFault::NoMemory(fault.into_value()));
+        }
+        Ok(())
+    }
+
+    /// The value at the number, if there is one.
+    pub fn get(&self, id: u32) -> Option<&T>
+        ensures value { option_copied result ≡ map.get self.now.slots id }
+        ensures low { OnSome result (self.now.first ≤ id) }
+        ensures high { OnSome result (id ≤ self.now.last) }
+    {
+        self.entries.get(id)
+    }
+
+    /// Puts the value at a number that has one, and gives the old one. Where the number has none, the table stays as it
+    /// is and the new value comes back.
+    pub fn replace(&mut self, id: u32, value: T) -> Result<T, T>
+        ensures had { IfOk result (λ old. map.get self.old.slots id ≡ Some old) }
+        ensures ok { OnOk result (self.new ≡ with_entry self.old id value) }
+        ensures absent { OnErr result (map.get self.old.slots id ≡ None) }
+        ensures returned { IfErr result (λ v. v ≡ value) }
+        ensures err { OnErr result (self.new ≡ self.old) }
+    {
+        let Some(slot) = self.entries.get_mut(id) else {
+            return Err(value);
+        };
+        Ok(std::mem::replace(slot, value))
+    }
+
+    /// Takes the value out, and the number is free. The last number given stays. Where the number has no value, the
+    /// table stays as it is.
+    pub fn remove(&mut self, id: u32) -> Option<T>
+        ensures value { result ≡ map.get self.old.slots id }
+        ensures after { self.new ≡ without_entry self.old id }
+        ensures absent { IfNone result (self.new ≡ self.old) }
+    {
+        self.entries.remove(id)
+    }
+
+    /// The least number not below `from` that is in use.
+    pub fn next(&self, from: u32) -> Option<u32>
+        ensures least { result ≡ least (map.contains_key self.now.slots) from u32.MAX }
+        ensures none_above { IfNone result ((k : ℕ) → from ≤ k → map.contains_key self.now.slots k ≡ false) }
+        ensures bound { (k : ℕ) → IsTrue (map.contains_key self.now.slots k) → k ≤ u32.MAX }
+        ensures low { (k : ℕ) → IsTrue (map.contains_key self.now.slots k) → self.now.first ≤ k }
+        ensures high { (k : ℕ) → IsTrue (map.contains_key self.now.slots k) → k ≤ self.now.last }
+    {
+        self.entries.next(from)
+    }
+
+    /// Whether no number is free.
+    pub fn is_full(&self) -> bool
+        ensures { IsTrue result ↔ (least_free self.now ≡ None) }
+    {
+        self.free_from(self.first).is_none()
+    }
+
+    /// The last number that `add_cyclic` gave; none before the first.
+    pub fn last_given(&self) -> Option<u32>
+        ensures last_given { result ≡ self.now.last_given }
+        ensures low { IfSome result (λ id. self.now.first ≤ id) }
+        ensures high { IfSome result (λ id. id ≤ self.now.last) }
+    {
+        self.last_given
+    }
+}

@@ -1,0 +1,99 @@
+-- What `least` finds, and how to show what it finds.
+use Rattle.std.proofs.Common.{◌≡◌, ℕ, zero, suc, ◌+◌, ◌-◌, ◌<◌, ◌≤◌, Bool, true, false, Option, Some, None, MatchOption, refl, sym, ap, ◌∙◌, inl, inr, arith}
+use Rattle.std.proofs.lemmas.Bool.{cases_lt, false≢true}
+use Rattle.std.proofs.lemmas.Option.{MatchOption-at_some, MatchOption-at_none}
+use Rattle.drm_index_array.specs.Least.{first_passing, least, IsLeast, NonePasses}
+
+-- what the first of so many numbers from `from` on is
+record IsFirst (p : ℕ → Bool) (from count n : ℕ) : Type 0 where
+  at_least : from ≤ n
+  below : n < from + count
+  passes : p n ≡ true
+  none_below : (k : ℕ) → from ≤ k → k < n → p k ≡ false
+
+abbrev Found : (ℕ → Bool) → ℕ → ℕ → Option ℕ → Type 0
+Found p from count r = MatchOption r ((k : ℕ) → from ≤ k → k < from + count → p k ≡ false) (IsFirst p from count)
+
+-- a number is the first of a range, or after it
+first_or_after : (p : ℕ → Bool) (from : ℕ) → p from ≡ false → (q : ℕ → Type 0) → ((k : ℕ) → from + 1 ≤ k → q k → p k ≡ false) → (k : ℕ) → from ≤ k → q k → p k ≡ false
+first_or_after p from fails q after k le h =
+    elim (cases_lt from k) [
+      | inl above ↦ after k (omega arith) h
+      | inr here ↦ let same : k ≡ from = omega arith in rw same fails
+    ]
+
+found_later : (p : ℕ → Bool) (from count : ℕ) (r : Option ℕ) → p from ≡ false → Found p (from + 1) count r → Found p from (suc count) r
+found_later p from count None fails none = first_or_after p from fails (λ k. k < from + suc count) (λ k le lt. none k le (omega arith))
+found_later p from count (Some n) fails is = record {
+  at_least = omega (arith, is.at_least);
+  below = omega (arith, is.below);
+  passes = is.passes;
+  none_below = first_or_after p from fails (λ k. k < n) is.none_below;
+}
+
+first_passing_found : (p : ℕ → Bool) (from count : ℕ) → Found p from count (first_passing p from count)
+unfolding first_passing
+first_passing_found p from zero = λ k le lt. absurd (omega arith)
+first_passing_found p from (suc count) =
+    elim (p from) as (λ b. p from ≡ b → Found p from (suc count) (elim b [ true ↦ Some from | false ↦ first_passing p (from + 1) count ])) [
+      | true ↦ λ here. record { at_least = omega arith; below = omega arith; passes = here; none_below = λ k le lt. absurd (omega arith) }
+      | false ↦ λ here. found_later p from count _ here (first_passing_found p (from + 1) count)
+    ] refl
+
+-- by cases: none passes, or the number found is the least that does
+pub least_cases : (p : ℕ → Bool) (from to : ℕ) → MatchOption (least p from to) (NonePasses p from to) (IsLeast p from to)
+unfolding least
+least_cases p from to =
+    elim (first_passing p from (to + 1 - from)) as (λ r. Found p from (to + 1 - from) r → MatchOption r (NonePasses p from to) (IsLeast p from to)) [
+      | None ↦ λ none k ge le. none k ge (omega arith)
+      | Some n ↦ λ is. record { at_least = is.at_least; at_most = omega (arith, is.at_least, is.below); passes = is.passes; none_below = is.none_below }
+    ] (first_passing_found p from (to + 1 - from))
+
+pub least_some : (p : ℕ → Bool) (from to n : ℕ) → least p from to ≡ Some n → IsLeast p from to n
+least_some p from to n e = MatchOption-at_some _ (IsLeast p from to) n e (least_cases p from to)
+
+pub least_none : (p : ℕ → Bool) (from to : ℕ) → least p from to ≡ None → NonePasses p from to
+least_none p from to e = MatchOption-at_none (NonePasses p from to) (IsLeast p from to) e (least_cases p from to)
+
+-- two least numbers of a range are one
+pub IsLeast-unique : (p : ℕ → Bool) (from to m n : ℕ) → IsLeast p from to m → IsLeast p from to n → m ≡ n
+IsLeast-unique p from to m n a b =
+    elim (cases_lt m n) [
+      | inl below ↦ absurd (false≢true (sym (b.none_below m a.at_least below) ∙ a.passes))
+      | inr above ↦ elim (cases_lt n m) [
+        | inl below ↦ absurd (false≢true (sym (a.none_below n b.at_least below) ∙ b.passes))
+        | inr same ↦ omega arith
+      ]
+    ]
+
+-- to show what `least` is, show that it is the least, or that none passes
+pub least_is : (p : ℕ → Bool) (from to n : ℕ) → IsLeast p from to n → least p from to ≡ Some n
+least_is p from to n is =
+    elim (least p from to) as (λ r. MatchOption r (NonePasses p from to) (IsLeast p from to) → r ≡ Some n) [
+      | None ↦ λ none. absurd (false≢true (sym (none n is.at_least is.at_most) ∙ is.passes))
+      | Some m ↦ λ found. ap Some (IsLeast-unique p from to m n found is)
+    ] (least_cases p from to)
+
+pub least_is_none : (p : ℕ → Bool) (from to : ℕ) → NonePasses p from to → least p from to ≡ None
+least_is_none p from to none =
+    elim (least p from to) as (λ r. MatchOption r (NonePasses p from to) (IsLeast p from to) → r ≡ None) [
+      | None ↦ λ _. refl
+      | Some m ↦ λ found. absurd (false≢true (sym (none m found.at_least found.at_most) ∙ found.passes))
+    ] (least_cases p from to)
+
+-- the same from a result that is known by cases
+pub least_by_cases : (p : ℕ → Bool) (from to : ℕ) (r : Option ℕ) → MatchOption r (NonePasses p from to) (IsLeast p from to) → r ≡ least p from to
+least_by_cases p from to None none = sym (least_is_none p from to none)
+least_by_cases p from to (Some n) is = sym (least_is p from to n is)
+
+-- two tests that agree on the range find the same
+pub least-same : (p q : ℕ → Bool) (from to : ℕ) → ((k : ℕ) → from ≤ k → k ≤ to → p k ≡ q k) → least p from to ≡ least q from to
+least-same p q from to same = least_by_cases q from to _ (elim (least p from to) as (λ r. MatchOption r (NonePasses p from to) (IsLeast p from to) → MatchOption r (NonePasses q from to) (IsLeast q from to)) [
+  | None ↦ λ none k ge le. sym (same k ge le) ∙ none k ge le
+  | Some n ↦ λ is. record {
+    at_least = is.at_least;
+    at_most = is.at_most;
+    passes = sym (same n is.at_least is.at_most) ∙ is.passes;
+    none_below = λ k ge lt. sym (same k ge (omega (arith, is.at_most))) ∙ is.none_below k ge lt;
+  }
+] (least_cases p from to))

@@ -1,0 +1,11 @@
+-- What an insertion that is refused hands back.
+use Rattle.drm_index_array.specs.declared.faults.InsertFault.{InsertFault}
+use Rattle.drm_index_array.specs.declared.faults.InsertFault.TheVariants.{Taken, NoMemory}
+
+abbrev pub value_of : {T : Type 0} → InsertFault T → T
+value_of (Taken v) = v
+value_of (NoMemory v) = v
+
+abbrev pub IsTaken : {T : Type 0} → InsertFault T → Type 0
+IsTaken (Taken v) = Unit {0}
+IsTaken (NoMemory v) = ⊥

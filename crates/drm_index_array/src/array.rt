@@ -1,0 +1,210 @@
+//! The array.
+
+ghost use Rattle.std.specs.Prelude.{◌≡◌, ◌≤◌, ◌↔◌, ℕ, IsTrue, IsSome, OnOk, OnErr, IfOk, IfErr, IfNone, option_copied, not, false};
+ghost use Rattle.std.specs.Option.{option_copied_mut};
+ghost use Rattle.std.specs.Bool.{OnTrue, OnFalse};
+ghost use Rattle.std.specs.FinMap as map;
+ghost use Rattle.std.specs.FinSet as set;
+ghost use Rattle.drm_index_array.specs.Least.{least};
+ghost use Rattle.drm_index_array.specs.InsertFault.{value_of, IsTaken};
+
+use crate::entries::{Entry, place};
+use crate::faults::InsertFault;
+use crate::marks::Mark;
+use std::alloc::Global;
+use std::marker::Model;
+
+/// A finite map from `u32`, whose entries carry three marks each (as Linux's XArray). Contracts see the map and, for
+/// each mark, the set of the indices whose entry carries it.
+#[derive(Drop)]
+pub struct IndexArray<T> {
+    entries: Vec<Entry<T>>,
+}
+
+impl<T> Model for IndexArray<T> {
+    ghost use Rattle.drm_index_array.specs.Indexed.{Indexed, indexed_code};
+
+    ghost Value = { Indexed T };
+
+    ghost coded = { indexed_code T.code };
+
+    ghost use Rattle.drm_index_array.specs.Entries.{array, AreInOrder};
+
+    ghost view = { λ a. array a.entries.items };
+
+    ghost invariant = { λ a. AreInOrder a.entries.items };
+}
+
+impl<T: Drop> IndexArray<T> {
+    ghost use Rattle.std.specs.Borrow.{sem};
+    ghost use Rattle.drm_index_array.specs.Indexed.{empty_array, marked_with, with_item, without_item, with_mark, without_mark, written_mark};
+    ghost use Rattle.drm_index_array.specs.Lends.{lends_get};
+    ghost use Rattle.drm_index_array.specs.declared.marks.Mark.{Mark};
+
+    /// An array with no entry, which takes no memory. It keeps the allocator for the entries to come.
+    pub fn new(alloc: Global) -> Self
+        ensures { result ≡ empty_array }
+    {
+        IndexArray {
+            entries: Vec::new(alloc),
+        }
+    }
+
+    /// How many entries there are.
+    pub fn len(&self) -> usize
+        ensures len { result ≡ map.len self.now.items }
+        ensures bound { (k : ℕ) → IsTrue (map.contains_key self.now.items k) → k ≤ u32.MAX }
+    {
+        self.entries.len()
+    }
+
+    /// Adds an entry with no mark. Where the index has an entry, or memory is refused, the array stays as it is and the
+    /// value comes back.
+    pub fn insert(&mut self, index: u32, value: T) -> Result<(), InsertFault<T>>
+        ensures ok { OnOk result (self.new ≡ with_item self.old index value) }
+        ensures unmarked { OnOk result ((mark : Mark) → set.contains (marked_with self.new mark) index ≡ false) }
+        ensures err { OnErr result (self.new ≡ self.old) }
+        ensures returned { IfErr result (λ fault. value_of fault ≡ value) }
+
+        // It is refused as taken exactly where the index has an entry.
+        ensures absent { OnOk result (map.get self.old.items index ≡ None) }
+        ensures taken { IfErr result (λ fault. IsTaken fault ↔ IsSome (map.get self.old.items index)) }
+    {
+        let Err(at) = place(&self.entries, index) else {
+            return Err(InsertFault::Taken(value));
+        };
+        let entry = Entry {
+            index,
+            value,
+            m0: false,
+            m1: false,
+            m2: false,
+        };
+        if let Err(failed) = self.entries.insert(at, entry) {
+            let Entry { value, .. } = failed.value;
+            return Err(InsertFault::NoMemory(value));
+        }
+        Ok(())
+    }
+
+    /// The value at the index, if there is one.
+    pub fn get(&self, index: u32) -> Option<&T>
+        ensures value { option_copied result ≡ map.get self.now.items index }
+        ensures bound { (k : ℕ) → IsTrue (map.contains_key self.now.items k) → k ≤ u32.MAX }
+    {
+        match place(&self.entries, index) {
+            Ok(at) => Some(&self.entries[at].value),
+            Err(_) => None,
+        }
+    }
+
+    /// The value at the index for writing, if there is one. The entry keeps its marks.
+    pub fn get_mut(&mut self, index: u32) -> Option<&mut T>
+        ensures* writes_back { sem 𝓛 (lends_get T.row self.entry index result) }
+        ensures value { option_copied_mut result ≡ map.get self.old.items index }
+    {
+        match place(&self.entries, index) {
+            Ok(at) => Some(self.entries[at].value_mut()),
+            Err(_) => None,
+        }
+    }
+
+    /// Takes the entry out, with its marks. Where there is none, the array stays as it is.
+    pub fn remove(&mut self, index: u32) -> Option<T>
+        ensures value { result ≡ map.get self.old.items index }
+        ensures after { self.new ≡ without_item self.old index }
+        ensures absent { IfNone result (self.new ≡ self.old) }
+    {
+        match place(&self.entries, index) {
+            Ok(at) => {
+                let Entry { value, .. } = self.entries.remove(at);
+                Some(value)
+            }
+            Err(_) => None,
+        }
+    }
+
+    /// Sets the mark of the entry at the index, and says whether there is one.
+    pub fn set_mark(&mut self, index: u32, mark: Mark) -> bool
+        ensures result { IsTrue result ↔ IsSome (map.get self.old.items index) }
+        ensures present { OnTrue result (self.new ≡ with_mark self.old index mark) }
+        ensures absent { OnFalse result (self.new ≡ self.old) }
+    {
+        self.write_mark(index, mark, true)
+    }
+
+    /// Takes the mark from the entry at the index, and says whether there is one.
+    pub fn clear_mark(&mut self, index: u32, mark: Mark) -> bool
+        ensures result { IsTrue result ↔ IsSome (map.get self.old.items index) }
+        ensures present { OnTrue result (self.new ≡ without_mark self.old index mark) }
+        ensures absent { OnFalse result (self.new ≡ self.old) }
+    {
+        self.write_mark(index, mark, false)
+    }
+
+    fn write_mark(&mut self, index: u32, mark: Mark, on: bool) -> bool
+        ensures result { IsTrue result ↔ IsSome (map.get self.old.items index) }
+        ensures present { OnTrue result (self.new ≡ written_mark self.old index mark on) }
+        ensures absent { OnFalse result (self.new ≡ self.old) }
+    {
+        match place(&self.entries, index) {
+            Ok(at) => {
+                self.entries[at].write_mark(mark, on);
+                true
+            }
+            Err(_) => false,
+        }
+    }
+
+    /// Whether the index has an entry that carries the mark.
+    pub fn marked(&self, index: u32, mark: Mark) -> bool
+        ensures marked { result ≡ set.contains (marked_with self.now mark) index }
+        ensures present { (k : ℕ) → IsTrue (set.contains (marked_with self.now mark) k) → IsTrue (map.contains_key self.now.items k) }
+    {
+        match place(&self.entries, index) {
+            Ok(at) => self.entries[at].has(mark),
+            Err(_) => false,
+        }
+    }
+
+    /// The least index not below `from` that has an entry.
+    pub fn next(&self, from: u32) -> Option<u32>
+        ensures least { result ≡ least (map.contains_key self.now.items) from u32.MAX }
+        ensures none_above { IfNone result ((k : ℕ) → from ≤ k → map.contains_key self.now.items k ≡ false) }
+        ensures bound { (k : ℕ) → IsTrue (map.contains_key self.now.items k) → k ≤ u32.MAX }
+    {
+        for entry in &self.entries {
+            if entry.index >= from {
+                return Some(entry.index);
+            }
+        }
+        None
+    }
+
+    /// The least index not below `from` whose entry carries the mark.
+    pub fn next_marked(&self, from: u32, mark: Mark) -> Option<u32>
+        ensures least { result ≡ least (set.contains (marked_with self.now mark)) from u32.MAX }
+        ensures none_above { IfNone result ((k : ℕ) → from ≤ k → set.contains (marked_with self.now mark) k ≡ false) }
+        ensures present { (k : ℕ) → IsTrue (set.contains (marked_with self.now mark) k) → IsTrue (map.contains_key self.now.items k) }
+    {
+        for entry in &self.entries {
+            if entry.index >= from && entry.has(mark) {
+                return Some(entry.index);
+            }
+        }
+        None
+    }
+
+    /// The least index not below `from` that has no entry.
+    pub fn next_vacant(&self, from: u32) -> Option<u32>
+        ensures { result ≡ least (λ i. not (map.contains_key self.now.items i)) from u32.MAX }
+    {
+        let mut vacant = from;
+        for entry in &self.entries {
+            if entry.index == vacant {
+                vacant = vacant.checked_add(1)?;
+            }
+        }
+        Some(vacant)
+    }
+}

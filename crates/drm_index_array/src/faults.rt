@@ -1,0 +1,25 @@
+//! Why an insertion is refused.
+
+ghost use Rattle.std.specs.Prelude.{◌≡◌};
+
+/// Why an insertion left the array as it was. Each hands the value back.
+#[derive(Debug, Drop, PartialEq, Eq)]
+pub enum InsertFault<T> {
+    /// The index has an entry already.
+    Taken(T),
+    /// Memory for the entry was refused.
+    NoMemory(T),
+}
+
+impl<T> InsertFault<T> {
+    ghost use Rattle.drm_index_array.specs.InsertFault.{value_of};
+
+    /// The value that was not stored.
+    pub fn into_value(self) -> T
+        ensures { result ≡ value_of self }
+    {
+        match self {
+            InsertFault::Taken(value) | InsertFault::NoMemory(value) => value,
+        }
+    }
+}

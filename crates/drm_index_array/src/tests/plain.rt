@@ -1,0 +1,138 @@
+//! A plain map for random calls to be compared with: arrays of values and marks, and scans.
+
+ghost use Rattle.std.specs.Prelude.{◌<◌};
+
+use crate::{InsertFault, Mark};
+
+/// How many indices the plain map can have: 0 to 40, and the five greatest.
+pub const SLOTS: usize = 46;
+
+const LOW: usize = 41;
+
+pub const MARKS: [Mark; 3] = [Mark::M0, Mark::M1, Mark::M2];
+
+/// The index that a slot stands for.
+pub fn index_of(slot: usize) -> u32
+    requires { slot < SLOTS }
+{
+    if slot < LOW {
+        slot as u32
+    } else {
+        u32::MAX - (SLOTS - 1 - slot) as u32
+    }
+}
+
+/// A generator of numbers, the same ones at each run.
+#[derive(Drop)]
+pub struct Numbers {
+    state: u32,
+}
+
+impl Numbers {
+    pub fn new() -> Self {
+        Numbers {
+            state: 2_463_534_242,
+        }
+    }
+
+    /// A number below `limit`.
+    pub fn below(&mut self, limit: usize) -> usize
+        requires { 0 < limit }
+        ensures { result < limit }
+    {
+        self.state = self
+            .state
+            .wrapping_mul(1_664_525)
+            .wrapping_add(1_013_904_223);
+        (self.state >> 8) as usize % limit
+    }
+}
+
+#[derive(Drop)]
+pub struct Plain {
+    pub values: [Option<u32>; SLOTS],
+    pub marked: [[bool; SLOTS]; 3],
+}
+
+impl Plain {
+    pub fn new() -> Self {
+        Plain {
+            values: [None; SLOTS],
+            marked: [[false; SLOTS]; 3],
+        }
+    }
+
+    pub fn insert(&mut self, slot: usize, value: u32) -> Result<(), InsertFault<u32>>
+        requires { slot < SLOTS }
+    {
+        if self.values[slot].is_some() {
+            return Err(InsertFault::Taken(value));
+        }
+        self.values[slot] = Some(value);
+        Ok(())
+    }
+
+    pub fn remove(&mut self, slot: usize) -> Option<u32>
+        requires { slot < SLOTS }
+    {
+        for mark in 0..3usize {
+            self.marked[mark][slot] = false;
+        }
+        self.values[slot].take()
+    }
+
+    pub fn write_mark(&mut self, slot: usize, mark: usize, on: bool) -> bool
+        requires slot { slot < SLOTS }
+        requires mark { mark < 3 }
+    {
+        if self.values[slot].is_none() {
+            return false;
+        }
+        self.marked[mark][slot] = on;
+        true
+    }
+
+    pub fn len(&self) -> usize {
+        self.values.iter().filter(|value| value.is_some()).count()
+    }
+
+    pub fn next(&self, from: u32) -> Option<u32> {
+        for slot in 0..SLOTS {
+            if index_of(slot) >= from && self.values[slot].is_some() {
+                return Some(index_of(slot));
+            }
+        }
+        None
+    }
+
+    pub fn next_marked(&self, from: u32, mark: usize) -> Option<u32>
+        requires { mark < 3 }
+    {
+        for slot in 0..SLOTS {
+            if index_of(slot) >= from && self.marked[mark][slot] {
+                return Some(index_of(slot));
+            }
+        }
+        None
+    }
+
+    fn has(&self, index: u32) -> bool {
+        for slot in 0..SLOTS {
+            if index_of(slot) == index {
+                return self.values[slot].is_some();
+            }
+        }
+        false
+    }
+
+    pub fn next_vacant(&self, from: u32) -> Option<u32> {
+        let mut index = from;
+        for _turn in 0..SLOTS {
+            if !self.has(index) {
+                return Some(index);
+            }
+            index = index.checked_add(1)?;
+        }
+        Some(index)
+    }
+}

@@ -1,0 +1,65 @@
+-- Made by tools/worked_rows.py: the worked row buffers_and_their_handles, as the definitions compute it.
+use Rattle.std.proofs.Common.{◌≡◌, false, List, ◌∷◌, Result, Ok, refl, []}
+use Rattle.drm_table.specs.declared.answers.Answer.{Answer}
+use Rattle.drm_table.specs.declared.answers.Answer.TheVariants.{Done, Opened, Buffer, List as ListIs, Denied}
+use Rattle.drm_table.specs.declared.apart.Apart.{Apart}
+use Rattle.drm_table.specs.declared.rules.Rule.TheVariants.{NoHandleToClose as DeniedNoHandleToClose}
+use Rattle.drm_table.specs.declared.calls.Call.TheVariants.{GemClose, BufCreate, ListHandles}
+use Rattle.drm_table.specs.declared.events.Event.{Event}
+use Rattle.drm_table.specs.declared.events.Event.TheVariants.{Open, Ask}
+use Rattle.drm_table.specs.declared.events.Opening.TheVariants.{Primary}
+use Rattle.drm_table.specs.declared.limits.Limits.{Limits}
+use Rattle.drm_table.specs.Audits.{kind_number, kind_of, kind_name}
+use Rattle.drm_table.specs.Limits.{are_in_range}
+use Rattle.drm_table.specs.Table.{call_table, row_of, call_number, flags_of}
+use Rattle.drm_model.specs.Audit.{audit_rows, audit_page}
+use Rattle.drm_model.specs.Buffers.{dumb_pitch, dumb_size, buffer_size, with_object, with_stamp}
+use Rattle.drm_model.specs.Change.{asked, changed, swept, after}
+use Rattle.drm_model.specs.Clients.{opening_checks, opened, closed}
+use Rattle.drm_model.specs.Leases.{ended}
+use Rattle.drm_model.specs.Masters.{chain_within}
+use Rattle.drm_model.specs.Numbers.{numbers_from, least_within, least}
+use Rattle.drm_model.specs.Orders.{sorted_by}
+use Rattle.drm_model.specs.Reply.{answer_to, answer_of, reply}
+use Rattle.drm_model.specs.Results.{results}
+use Rattle.drm_model.specs.Run.{no_room, run, rows_of}
+use Rattle.drm_model.specs.Topology.{is_topology}
+use Rattle.drm_model.specs.Verdict.{own_checks, admission_checks, checks, verdict}
+use Rattle.drm_model.specs.Rows.{empty_rows}
+use Rattle.drm_model.specs.Topology.{Topology}
+
+abbrev test_topology : Topology
+test_topology = record { crtcs = 2; planes = 1 ∷ 2 ∷ []; encoders = 3 ∷ 2 ∷ []; connectors = 5 ∷ 6 ∷ [] }
+
+abbrev limits : Limits
+limits = record { clients = 64; handles = 65535; names = 65535; tokens = 65535; objects = 65535; framebuffers = 64; lessees = 64; journal = 100000 }
+
+abbrev events : List Event
+events =
+    Open (Primary false) ∷
+    Ask 1 (BufCreate 1) ∷
+    Ask 1 (BufCreate 1) ∷
+    Ask 1 (BufCreate 1) ∷
+    Ask 1 (GemClose 2) ∷
+    Ask 1 (BufCreate 4097) ∷
+    Ask 1 (GemClose 2) ∷
+    Ask 1 (GemClose 2) ∷
+    Ask 1 (ListHandles 0) ∷
+    []
+
+abbrev answers : List (Result Answer Apart)
+answers =
+    Ok (Opened 1) ∷
+    Ok (Buffer 1 4096) ∷
+    Ok (Buffer 2 4096) ∷
+    Ok (Buffer 3 4096) ∷
+    Ok Done ∷
+    Ok (Buffer 2 8192) ∷
+    Ok Done ∷
+    Ok (Denied DeniedNoHandleToClose) ∷
+    Ok (ListIs (1 ∷ 3 ∷ [])) ∷
+    []
+
+pub buffers_and_their_handles : results (empty_rows test_topology limits) events ≡ answers
+unfolding kind_number kind_of kind_name are_in_range call_table row_of call_number flags_of audit_rows audit_page dumb_pitch dumb_size buffer_size with_object with_stamp asked changed swept after opening_checks opened closed ended chain_within numbers_from least_within least sorted_by answer_to answer_of reply results no_room run rows_of is_topology own_checks admission_checks checks verdict
+buffers_and_their_handles = refl

@@ -1,0 +1,115 @@
+//! Lines of numbers and lists, with their readings.
+
+use crate::tests::asks;
+use crate::{Label, Reading, line_of, read_line};
+use drm_table::{Answer, Apart, Call, ShownList};
+use std::process::Abort;
+use std::test::Fail;
+
+#[test]
+fn calls_of_one_number_are_read(rt: HostRuntime) -> Result<(), Fail> {
+    let a = Label::from_letter(b'a').ok_or("a letter")?;
+    asks(&rt, b"a get_cap 1", a, Call::GetCap { cap: 1 });
+    asks(
+        &rt,
+        b"a buf_create 18446744073709551615",
+        a,
+        Call::BufCreate { size: u64::MAX },
+    );
+    asks(
+        &rt,
+        b"a stamp_read 4294967295",
+        a,
+        Call::StampRead { handle: u32::MAX },
+    );
+    asks(&rt, b"a list_handles 0", a, Call::ListHandles { from: 0 });
+    asks(&rt, b"a destroy_dumb 1", a, Call::DestroyDumb { handle: 1 });
+    asks(&rt, b"a raw 64", a, Call::BadLayout(64));
+    asks(&rt, b"a raw 2", a, Call::Unknown(2));
+    Ok(())
+}
+
+#[test]
+fn calls_of_two_numbers_are_read(rt: HostRuntime) -> Result<(), Fail> {
+    let a = Label::from_letter(b'a').ok_or("a letter")?;
+    asks(
+        &rt,
+        b"a set_client_cap 2 18446744073709551615",
+        a,
+        Call::SetClientCap {
+            cap: 2,
+            value: u64::MAX,
+        },
+    );
+    asks(
+        &rt,
+        b"a stamp_write 1 77",
+        a,
+        Call::StampWrite {
+            handle: 1,
+            stamp: 77,
+        },
+    );
+    Ok(())
+}
+
+#[test]
+fn other_fields_are_malformed(rt: HostRuntime) {
+    let lines: [&[u8]; 14] = [
+        b"a get_cap",
+        b"a get_cap 18446744073709551616",
+        b"a get_magic",
+        b"a set_client_cap 2",
+        b"a set_client_cap 2 1 0",
+        b"a buf_create -1",
+        b"a stamp_write 1",
+        b"a stamp_write 4294967296 0",
+        b"a stamp_write 1 18446744073709551616",
+        b"a stamp_read 4294967296",
+        b"a list_handles",
+        b"a list_handles 4294967296",
+        b"a destroy_dumb 1 1",
+        b"a destroy_dum 1",
+    ];
+    for line in lines {
+        assert_eq!(rt; read_line(line), Reading::Malformed);
+    }
+}
+
+/// The list of the first 64 of these ids.
+fn list_of(ids: &[u32]) -> Result<Answer, Apart> {
+    let mut list = ShownList::new();
+    for id in ids {
+        if list.ids().len() < 64 {
+            list.push(*id);
+        }
+    }
+    Ok(Answer::List { list })
+}
+
+fn writes(rt: &impl Abort, outcome: Result<Answer, Apart>, line: &[u8]) {
+    assert_eq!(rt; line_of(&outcome).as_bytes(), line);
+}
+
+#[test]
+fn numbers_buffers_and_lists_have_their_lines(rt: HostRuntime) {
+    writes(&rt, Ok(Answer::Number { value: 3 }), b"number 3\n");
+    writes(
+        &rt,
+        Ok(Answer::Number { value: u64::MAX }),
+        b"number 18446744073709551615\n",
+    );
+    writes(
+        &rt,
+        Ok(Answer::Buffer {
+            handle: 1,
+            size: 8192,
+        }),
+        b"buffer 1 8192\n",
+    );
+    writes(&rt, list_of(&[]), b"list -\n");
+    writes(&rt, list_of(&[7]), b"list 7\n");
+    writes(&rt, list_of(&[1, 3]), b"list 1,3\n");
+    let greatest = line_of(&list_of(&[u32::MAX; 64]));
+    assert_eq!(rt; greatest.as_bytes().len(), 709);
+}
