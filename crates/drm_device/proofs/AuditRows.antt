@@ -24,7 +24,7 @@ use Rattle.drm_device.specs.declared.state.State.{State}
 use Rattle.drm_device.specs.Parts.{IsTied, AreTied, birth_at, hold_of, object_of, keys_of}
 use Rattle.drm_device.proofs.Ties.{among-more}
 use Rattle.drm_device.proofs.Naming.{key_by_number}
-use Rattle.drm_device.specs.Refinement.{Lists, NoneYet, lists_of, Represents, comes_before, client_row_of, master_row_of, object_row_of, hold_row_of}
+use Rattle.drm_device.specs.Refinement.{NoneYet, lists_of, comes_before, client_row_of, master_row_of, object_row_of, hold_row_of}
 use Rattle.drm_device.specs.Audits.{StandsAfter}
 
 before-less : (x y : AuditRow) → x.a < y.a → is_before x y ≡ true

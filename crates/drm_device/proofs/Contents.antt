@@ -1,14 +1,12 @@
 -- What a client's handles name, their list, and stamps.
-use Rattle.std.proofs.Common.{◌≡◌, ℕ, ◌==◌, nat_le, Bool, true, false, not, cond, ◌&&◌, ◌||◌, List, [], ◌∷◌, map, filter, find, take, length, Option, Some, None, refl, sym, ap, ◌∙◌, subst, eq-eqb}
+use Rattle.std.proofs.Common.{◌≡◌, ℕ, ◌==◌, nat_le, Bool, true, false, not, cond, ◌&&◌, ◌||◌, List, [], ◌∷◌, map, filter, find, take, length, Option, Some, None, refl, sym, ap, ◌∙◌, eq-eqb}
 use Rattle.std.specs.Prelude.{unwrap_or, if◌then◌else◌}
-use Rattle.std.specs.Global.{Vec}
 use Rattle.std.specs.List.{list_any, AllByRecursion}
 use Rattle.std.specs.Option.{is_some, option_map}
 use Rattle.drm_model.specs.Rows.{Rows, HoldRow, ObjectRow, is_hold, hold_row, object_of, object_row, handles_of}
 use Rattle.drm_model.specs.Numbers.{rising, is_among}
 use Rattle.drm_model.specs.Buffers.{with_stamp}
 use Rattle.drm_model.specs.Change.{is_referred}
-use Rattle.drm_model.specs.Orders.{SameRows}
 use Rattle.drm_model.proofs.Lists.{find-map, filter-map, map-map, list_any-map, found-number}
 use Rattle.drm_model.proofs.Orders.{same-any, same-map, same-filter, sorted-same, order_of_numbers}
 use Rattle.drm_device.specs.declared.state.Hold.{Hold}
@@ -30,10 +28,6 @@ object_named s w h c n y e =
     let one : list_any test w.holds ≡ false = same-any test w.holds (map hold_row_of s.holds) h.holds ∙ list_any-map test hold_row_of s.holds ∙ one_object c n s.holds h.holds_in_order y e in
     let some : is_some (hold_row w c n) ≡ true = hold_row_is s w h c n ∙ ap is_some e in
     ap (λ o. unwrap_or o 0) (found-number (is_hold c n) (λ (row : HoldRow). row.object) y.object w.holds one some)
-
--- whether the client has the handle, by what a look-up found
-pub has_it : (s : Lists) (w : Rows) → Represents s w → (c n : ℕ) (holds : List Hold) (r : Option Hold) → holds ≡ s.holds → r ≡ find (λ (x : Hold). (x.client == c) && (x.handle == n)) holds → (o : Option Hold) → r ≡ o → is_some (hold_row w c n) ≡ is_some o
-has_it s w h c n holds r e f o g = hold_row_is s w h c n ∙ ap (λ l. is_some (find (λ (x : Hold). (x.client == c) && (x.handle == n)) l)) (sym e) ∙ ap is_some (sym f ∙ g)
 
 stamp_of_row : (r : Option Object) → unwrap_or (option_map (λ (row : ObjectRow). row.stamp) (option_map object_row_of r)) 0 ≡ unwrap_or (option_map (λ (x : Object). x.stamp) r) 0
 stamp_of_row None = refl
@@ -102,13 +96,6 @@ handles_rising s w h c =
     ap (map handle) (filter-map mine hold_row_of s.holds) ∙ map-map handle hold_row_of (filter (λ (x : Hold). x.client == c) s.holds) in
     sorted-same nat_le (λ x y. x == y) order_of_numbers (handles_of w c) (map (λ (x : Hold). x.handle) (filter (λ (x : Hold). x.client == c) s.holds)) (handles_rise c s.holds h.holds_in_order)
     (λ test. same-map handle (filter mine w.holds) (filter mine (map hold_row_of s.holds)) (same-filter mine w.holds (map hold_row_of s.holds) h.holds) test ∙ ap (λ l. length (filter test l)) theirs)
-
-pub handles_shown : (s : Lists) (w : Rows) → Represents s w → (c from : ℕ) →
-    take 64 (map (λ (x : Hold). x.handle) (filter (λ (x : Hold). (x.client == c) && nat_le from x.handle) s.holds)) ≡ take 64 (filter (λ handle. nat_le from handle) (rising (handles_of w c)))
-handles_shown s w h c from =
-    ap (take 64) (sym (ap (filter (λ handle. nat_le from handle)) (handles_rising s w h c)
-    ∙ filter-map (λ handle. nat_le from handle) (λ (x : Hold). x.handle) (filter (λ (x : Hold). x.client == c) s.holds)
-    ∙ ap (map (λ (x : Hold). x.handle)) (filter-both (λ (x : Hold). nat_le from x.handle) (λ (x : Hold). x.client == c) s.holds)))
 
 -- ---- by the parts
 

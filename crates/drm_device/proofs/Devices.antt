@@ -1,5 +1,5 @@
 -- What is true of a device's fields, and of the fields after a step.
-use Rattle.std.proofs.Common.{◌≡◌, ℕ, suc, ◌+◌, ◌<◌, ◌≤◌, Bool, List, true, false, refl, sym, ap, ◌∙◌, arith, subst, length, map, [], ◌∷◌, ◌++◌, ◌&&◌, nat_le, None}
+use Rattle.std.proofs.Common.{◌≡◌, ℕ, ◌+◌, ◌<◌, ◌≤◌, Bool, List, true, false, refl, sym, ap, ◌∙◌, arith, subst, length, map, [], ◌∷◌, ◌++◌, ◌&&◌, nat_le, None}
 use Rattle.std.specs.Vec.{vec_len, vec_capacity}
 use Rattle.std.specs.Global.{Vec}
 use Rattle.drm_table.specs.declared.events.Event.{Event}
@@ -7,9 +7,6 @@ use Rattle.drm_table.specs.declared.limits.Limits.{Limits}
 use Rattle.std.proofs.lemmas.Bool.{leb-true}
 use Rattle.drm_model.specs.Rows.{Rows, ClientRow, ObjectRow, empty_rows}
 use Rattle.drm_model.specs.Topology.{Topology}
-use Rattle.drm_device.specs.declared.state.Client.{Client}
-use Rattle.drm_device.specs.declared.state.Hold.{Hold}
-use Rattle.drm_device.specs.declared.state.Object.{Object}
 use Rattle.drm_model.specs.Run.{run, rows_of, no_room}
 use Rattle.drm_model.specs.Change.{after}
 use Rattle.drm_model.proofs.Lists.{length-map}
@@ -23,8 +20,7 @@ use Rattle.drm_device.specs.Parts.{IsTied, HaveLimits, IsLater, joined, object_o
 use Rattle.drm_files.specs.declared.rows.FileClient.{FileClient}
 use Rattle.drm_gem.specs.declared.object.Object.{Object as Kept}
 use Rattle.drm_device.proofs.Joined.{HaveSame, joined_length, none_same, first_same, rest_same}
-use Rattle.drm_device.specs.Refinement.{lists_of, Stands, Represents, client_row_of, master_row_of, hold_row_of, object_row_of, comes_before}
-use Rattle.drm_model.specs.Orders.{SameRows, InOrder}
+use Rattle.drm_device.specs.Refinement.{lists_of, Stands, Represents, client_row_of, master_row_of, object_row_of}
 use Rattle.drm_model.proofs.Births.{births_rise}
 use Rattle.drm_device.specs.declared.device.Device.TheInside.{Inside}
 use Rattle.drm_device.specs.declared.state.State.{State}

@@ -3,10 +3,11 @@ use Rattle.std.proofs.Common.{◌≡◌, ℕ, zero, suc, ◌==◌, nat_le, Bool,
 use Rattle.std.specs.List.{list_any, insert, AllByRecursion}
 use Rattle.std.proofs.lemmas.Bool.Decides.{nat_tests}
 use Rattle.drm_model.specs.Orders.{SameRows, InOrder}
-use Rattle.drm_model.specs.Numbers.{is_among, least}
+use Rattle.drm_index_array.specs.Least.{least}
+use Rattle.drm_index_array.proofs.Least.{least_some}
+use Rattle.drm_model.specs.Numbers.{is_among}
 use Rattle.drm_model.specs.Rows.{HoldRow}
 use Rattle.drm_model.proofs.Lists.{all_weaker, map-append, is_some-find, is_among-map_filter}
-use Rattle.drm_model.proofs.Numbers.{least-is_free}
 use Rattle.drm_model.proofs.Orders.{RisesTo, same-append, same-insert, same-map, same-refl, same-trans}
 use Rattle.drm_device.specs.declared.state.Hold.{Hold}
 use Rattle.drm_device.specs.Refinement.{comes_before, place_among, hold_row_of}
@@ -53,13 +54,17 @@ none_passes p (x ∷ xs) h =
     elim (p x) as (λ b. p x ≡ b → (b || list_any p xs) ≡ false → (p x ≡ false) × AllByRecursion (λ x. p x ≡ false) xs)
     [ true ↦ λ e k. absurd (let no : true ≡ false = k in cc) | false ↦ λ e k. (e, none_passes p xs k) ] refl h
 
+not_true : (b : Bool) → not b ≡ true → b ≡ false
+not_true true h = sym h
+not_true false h = refl
+
 -- no handle is the free one
-pub free_is_new : (hs : List Hold) (c n last : ℕ) → least (is_among (map (λ (x : Hold). x.handle) (filter (λ (x : Hold). x.client == c) hs))) 1 last ≡ Some n →
+pub free_is_new : (hs : List Hold) (c n last : ℕ) → least (λ h. not (is_among (map (λ (x : Hold). x.handle) (filter (λ (x : Hold). x.client == c) hs)) h)) 1 last ≡ Some n →
     AllByRecursion (λ (x : Hold). ((x.client == c) && (x.handle == n)) ≡ false) hs
 free_is_new hs c n last h =
     none_passes (λ (x : Hold). (x.client == c) && (x.handle == n)) hs
     (sym (is_some-find (λ (x : Hold). (x.client == c) && (x.handle == n)) hs) ∙ sym (is_among-map_filter (λ (x : Hold). x.client == c) (λ (x : Hold). x.handle) n hs)
-    ∙ least-is_free (is_among (map (λ (x : Hold). x.handle) (filter (λ (x : Hold). x.client == c) hs))) 1 last n h)
+    ∙ not_true (is_among (map (λ (x : Hold). x.handle) (filter (λ (x : Hold). x.client == c) hs)) n) (least_some (λ k. not (is_among (map (λ (x : Hold). x.handle) (filter (λ (x : Hold). x.client == c) hs)) k)) 1 last n h).passes)
 
 -- the rows with one more are the same
 pub more_rows : (rows : List HoldRow) (xs : List Hold) (i : ℕ) (y : Hold) → SameRows rows (map hold_row_of xs) → SameRows (rows ++ hold_row_of y ∷ []) (map hold_row_of (insert xs i y))

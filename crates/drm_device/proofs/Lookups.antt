@@ -1,5 +1,5 @@
 -- What look-ups find in the rows, by what they find in the lists.
-use Rattle.std.proofs.Common.{◌≡◌, ℕ, zero, suc, ◌+◌, ◌-◌, ◌==◌, nat_lt, Bool, true, false, not, ◌&&◌, map, find, filter, length, Option, None, Some, refl, sym, ◌∙◌, ap, arith}
+use Rattle.std.proofs.Common.{◌≡◌, ℕ, ◌+◌, ◌-◌, ◌==◌, nat_lt, true, false, not, ◌&&◌, map, find, filter, length, Option, None, Some, refl, sym, ◌∙◌, ap, arith}
 use Rattle.std.proofs.lemmas.Bool.Decides.{nat_tests}
 use Rattle.std.specs.Prelude.{nat_le}
 use Rattle.std.specs.Option.{option_map, is_some}
@@ -8,10 +8,9 @@ use Rattle.drm_table.specs.declared.events.Event.TheVariants.{Open, Ask, Close}
 use Rattle.drm_table.specs.declared.events.Opening.{Opening}
 use Rattle.drm_table.specs.declared.calls.Call.{Call}
 use Rattle.drm_table.specs.declared.limits.Limits.{Limits}
-use Rattle.drm_model.specs.Numbers.{is_among, least_within}
-use Rattle.drm_model.specs.Numbers as rows
-use Rattle.drm_index_array.specs.Least as arrays
-use Rattle.drm_index_array.specs.Least.{first_passing}
+use Rattle.drm_model.specs.Numbers.{is_among}
+use Rattle.drm_index_array.specs.Least.{least}
+use Rattle.drm_index_array.proofs.Least.{least-same}
 use Rattle.drm_files.specs.Files as files
 use Rattle.drm_model.specs.Rows.{Rows, HoldRow, client_row, is_client, hold_row, is_hold, handles_of, is_open, free_handle}
 use Rattle.drm_model.specs.Masters.{is_owner, last_of, standing_in}
@@ -24,8 +23,8 @@ use Rattle.drm_device.specs.declared.state.State.{State}
 use Rattle.drm_device.specs.declared.device.Device.TheInside.{Inside}
 use Rattle.drm_device.specs.Device.{history_of, IsDevice}
 use Rattle.drm_device.specs.Laws.{WellFormed}
-use Rattle.drm_device.specs.Parts.{hold_of, keys_of}
-use Rattle.drm_device.specs.Refinement.{Lists, lists_of, Represents, Stands, client_row_of, hold_row_of, is_same, standing_by}
+use Rattle.drm_device.specs.Parts.{hold_of}
+use Rattle.drm_device.specs.Refinement.{Lists, lists_of, Represents, client_row_of, hold_row_of, is_same, standing_by}
 use Rattle.drm_device.proofs.Laws.{chain_flat}
 use Rattle.drm_device.proofs.Devices.{represented_count}
 use Rattle.drm_model.proofs.Journals.{rows_of-limits, rows_of-steps}
@@ -46,22 +45,6 @@ handles_are s w h c n =
     ∙ hold_row_is s w h c n
     ∙ sym (is_among-map_filter (λ (x : Hold). x.client == c) (λ (x : Hold). x.handle) n s.holds)
 
-abbrev chosen : Option ℕ → Option ℕ → Bool → Option ℕ
-chosen here later b = elim b [ true ↦ here | false ↦ later ]
-
-free_alike : (taken free : ℕ → Bool) → ((n : ℕ) → free n ≡ not (taken n)) → (first count : ℕ) → least_within taken first count ≡ first_passing free first count
-unfolding least_within first_passing
-free_alike taken free h first zero = refl
-free_alike taken free h first (suc count) =
-    elim (taken first) as (λ b. taken first ≡ b → ◌≡◌ {A = Option ℕ} (elim b [ true ↦ least_within taken (first + 1) count | false ↦ Some first ]) (elim (free first) [ true ↦ Some first | false ↦ first_passing free (first + 1) count ])) [
-      | true ↦ λ e. free_alike taken free h (first + 1) count ∙ ap (chosen (Some first) (first_passing free (first + 1) count)) (sym (h first ∙ ap not e))
-      | false ↦ λ e. ap (chosen (Some first) (first_passing free (first + 1) count)) (sym (h first ∙ ap not e))
-    ] refl
-
-pub least_alike : (taken free : ℕ → Bool) → ((n : ℕ) → free n ≡ not (taken n)) → (first last : ℕ) → rows.least taken first last ≡ arrays.least free first last
-unfolding rows.least arrays.least
-least_alike taken free h first last = free_alike taken free h first (last + 1 - first)
-
 pub handles_alike : (s : State) (c : ℕ) → map (λ (x : Hold). x.handle) (filter (λ (x : Hold). x.client == c) (lists_of s).holds) ≡ files.handles_of s.files c
 handles_alike s c =
     ap (map (λ (x : Hold). x.handle)) (filter-map (λ (x : Hold). x.client == c) (hold_of s.objects.objects) s.files.holds)
@@ -70,8 +53,8 @@ handles_alike s c =
 -- which handle is free
 pub free_handle_is : (s : State) (w : Rows) → Represents (lists_of s) w → s.files.last_handle ≡ w.limits.handles → (c : ℕ) → free_handle w c ≡ files.free_handle s.files c
 free_handle_is s w h e c =
-    least_alike (is_among (handles_of w c)) (λ n. not (is_among (files.handles_of s.files c) n)) (λ n. ap not (sym (handles_are (lists_of s) w h c n ∙ ap (λ l. is_among l n) (handles_alike s c)))) 1 w.limits.handles
-    ∙ ap (arrays.least (λ n. not (is_among (files.handles_of s.files c) n)) 1) (sym e)
+    least-same (λ n. not (is_among (handles_of w c) n)) (λ n. not (is_among (files.handles_of s.files c) n)) 1 w.limits.handles (λ n _ _. ap not (handles_are (lists_of s) w h c n ∙ ap (λ l. is_among l n) (handles_alike s c)))
+    ∙ ap (least (λ n. not (is_among (files.handles_of s.files c) n)) 1) (sym e)
 
 -- without lessors a master owns itself
 owner_flat : (w : Rows) → WellFormed w → (device master : Option ℕ) → is_owner w.masters device master ≡ is_same device master

@@ -1,26 +1,25 @@
 -- What a new buffer leaves of the parts.
-use Rattle.std.proofs.Common.{◌≡◌, ℕ, zero, suc, ◌+◌, ◌≤◌, ◌<◌, ◌==◌, Bool, true, false, cond, not, ◌&&◌, ◌||◌, List, [], ◌∷◌, ◌++◌, map, filter, find, length, Option, Some, None, refl, sym, ap, ◌∙◌, subst, arith, eq-eqb}
+use Rattle.std.proofs.Common.{◌≡◌, ℕ, zero, suc, ◌==◌, Bool, true, false, cond, not, ◌&&◌, ◌||◌, List, [], ◌∷◌, ◌++◌, map, filter, find, length, Option, Some, None, refl, sym, ap, ◌∙◌, subst, arith, eq-eqb}
 use Rattle.std.specs.Prelude.{nat_le, ⊤}
 use Rattle.std.specs.List.{insert, AllByRecursion}
-use Rattle.std.specs.Option.{is_some, option_map, option_map_or, OnSome, IfNone}
+use Rattle.std.specs.Option.{is_some, option_map, option_map_or, OnSome}
 use Rattle.std.proofs.lemmas.Bool.Decides.{nat_tests}
 use Rattle.drm_gem.specs.declared.object.Object.{Object as Kept}
 use Rattle.drm_gem.specs.declared.object.Dead.{Dead}
-use Rattle.drm_gem.specs.Objects.{ObjectSet, IsNewBirth, is_key, object_at, passes, with_object, changed_at, without_key, unheld, is_unused, dead_of, dead_after}
+use Rattle.drm_gem.specs.Objects.{ObjectSet, IsNewBirth, is_key, object_at, passes, with_object, without_key, unheld, is_unused, dead_of, dead_after}
 use Rattle.drm_files.specs.declared.rows.FileHold.{FileHold}
 use Rattle.drm_files.specs.Files as files
 use Rattle.drm_files.specs.Files.{FileLists, hold_before, placed, with_hold, hold}
+use Rattle.drm_index_array.specs.Least.{least}
 use Rattle.drm_model.specs.Numbers.{is_among}
-use Rattle.drm_model.specs.Numbers as numbers
 use Rattle.drm_model.specs.Orders.{SameRows, InOrder}
 use Rattle.drm_model.proofs.Lists.{all_weaker, map-append}
 use Rattle.drm_model.proofs.Orders.{same-map, same-trans}
 use Rattle.drm_device.specs.declared.state.Hold.{Hold}
-use Rattle.drm_device.specs.declared.state.Object.{Object}
 use Rattle.drm_device.specs.declared.state.State.{State}
-use Rattle.drm_device.specs.Parts.{AreTied, IsTied, HaveLimits, IsKept, hold_of, object_of, keys_of, birth_at}
+use Rattle.drm_device.specs.Parts.{IsTied, IsKept, hold_of, object_of, keys_of, birth_at}
 use Rattle.drm_device.specs.Refinement.{lists_of, comes_before, place_among}
-use Rattle.drm_device.proofs.Lookups.{least_alike, handles_alike}
+use Rattle.drm_device.proofs.Lookups.{handles_alike}
 use Rattle.drm_device.proofs.Holds.{free_is_new}
 use Rattle.drm_device.proofs.Naming.{same_tied, same_parts, same-cons, moved_in, other_keys, created_tied}
 use Rattle.drm_device.proofs.Ties.{among-more, is_found}
@@ -179,4 +178,4 @@ made_kept s c handle key birth size new set t newest fresh e f =
 pub handle_is_new : (s : State) (c handle : ℕ) → files.free_handle s.files c ≡ Some handle → AllByRecursion (λ (z : Hold). ((z.client == c) && (z.handle == handle)) ≡ false) (lists_of s).holds
 handle_is_new s c handle e =
     free_is_new (lists_of s).holds c handle s.files.last_handle
-    (least_alike (is_among (map (λ (x : Hold). x.handle) (filter (λ (x : Hold). x.client == c) (lists_of s).holds))) (λ n. not (is_among (files.handles_of s.files c) n)) (λ n. ap (λ l. not (is_among l n)) (sym (handles_alike s c))) 1 s.files.last_handle ∙ e)
+    (ap (λ handles. least (λ n. not (is_among handles n)) 1 s.files.last_handle) (handles_alike s c) ∙ e)

@@ -1,7 +1,7 @@
 -- Which objects the handles name, by keys and by numbers.
-use Rattle.std.proofs.Common.{◌≡◌, ℕ, zero, suc, ◌+◌, ◌≤◌, ◌<◌, ◌==◌, Bool, true, false, cond, not, ◌&&◌, ◌||◌, List, [], ◌∷◌, ◌++◌, map, filter, find, length, Option, Some, None, refl, sym, ap, ◌∙◌, subst, arith, eq-eqb}
+use Rattle.std.proofs.Common.{◌≡◌, ℕ, zero, suc, ◌≤◌, ◌<◌, ◌==◌, Bool, true, false, cond, not, ◌||◌, List, [], ◌∷◌, ◌++◌, map, filter, find, length, Option, Some, None, refl, sym, ap, ◌∙◌, subst, arith, eq-eqb}
 use Rattle.std.specs.List.{list_any, AllByRecursion}
-use Rattle.std.specs.Prelude.{slice_get, nat_lt, ⊤}
+use Rattle.std.specs.Prelude.{slice_get, ⊤}
 use Rattle.std.specs.Option.{is_some, option_map, option_map_or}
 use Rattle.std.proofs.lemmas.Option.{slice_get-map}
 use Rattle.std.proofs.lemmas.Bool.{eqb-true}
@@ -9,11 +9,11 @@ use Rattle.std.proofs.lemmas.Bool.Decides.{nat_tests}
 use Rattle.drm_gem.specs.declared.object.Object.{Object as Kept}
 use Rattle.drm_gem.specs.Objects.{is_key}
 use Rattle.drm_files.specs.declared.rows.FileHold.{FileHold}
-use Rattle.drm_files.specs.Files.{is_hold, of_client, hold_before}
+use Rattle.drm_files.specs.Files.{is_hold, hold_before}
 use Rattle.drm_model.specs.Numbers.{is_among}
 use Rattle.drm_model.specs.Orders.{SameRows, InOrder}
 use Rattle.drm_model.proofs.Lists.{all_weaker, all_append, map-map, filter-map}
-use Rattle.drm_model.proofs.Orders.{same-any, same-map, same-sym, same-trans, same-refl, in_order_append}
+use Rattle.drm_model.proofs.Orders.{same-any, same-trans, same-refl, in_order_append}
 use Rattle.drm_device.specs.declared.state.Hold.{Hold}
 use Rattle.drm_device.specs.declared.state.Object.{Object}
 use Rattle.drm_device.specs.Parts.{birth_at, hold_of, object_of, keys_of, AreTied, AreThoseNamed, core}
@@ -149,9 +149,6 @@ pub hold_there : (objects : List Kept) (hs : List FileHold) (i : ℕ) (x : FileH
     Some (record { client = x.client; handle = x.handle; object = n }) ≡ slice_get (map (hold_of objects) hs) i
 hold_there objects hs i x n e k =
     ap (λ m. Some (record { client = x.client; handle = x.handle; object = m })) (sym (birth_of (find (is_key x.object) objects) n k)) ∙ sym (slice_get-map (hold_of objects) hs i ∙ ap (option_map (hold_of objects)) e)
-
-pub hold_past : (objects : List Kept) (hs : List FileHold) (i : ℕ) → slice_get hs i ≡ None → None ≡ slice_get (map (hold_of objects) hs) i
-hold_past objects hs i e = sym (slice_get-map (hold_of objects) hs i ∙ ap (option_map (hold_of objects)) e)
 
 -- ---- named by keys, and by numbers
 

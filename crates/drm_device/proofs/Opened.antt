@@ -1,25 +1,18 @@
 -- What an opening leaves of the parts.
-use Rattle.std.proofs.Common.{◌≡◌, ℕ, List, [], ◌∷◌, ◌++◌, map, Option, refl, sym, ap, ◌∙◌, subst}
+use Rattle.std.proofs.Common.{◌≡◌, ℕ, [], ◌∷◌, ◌++◌, Option, sym, ap, ◌∙◌, subst}
 use Rattle.std.specs.Global.{Vec}
 use Rattle.drm_files.specs.declared.rows.FileClient.{FileClient}
 use Rattle.drm_files.specs.Files.{FileLists}
 use Rattle.drm_model.specs.Rows.{Rows}
-use Rattle.drm_device.specs.declared.state.Client.{Client}
 use Rattle.drm_device.specs.declared.state.Member.{Member}
 use Rattle.drm_device.specs.declared.state.State.{State}
-use Rattle.drm_device.specs.Parts.{IsTied, HaveLimits, IsKept, join, joined}
+use Rattle.drm_device.specs.Parts.{IsTied, join, joined}
 use Rattle.drm_device.specs.Refinement.{Represents, lists_of}
-use Rattle.drm_device.proofs.Joined.{joined_push, same_push}
+use Rattle.drm_device.proofs.Joined.{joined_push}
 
 -- other storage for the same members, and the file as it was
 abbrev pub unopened : State → FileLists → Vec Member → Vec ℕ → State
 unopened s files members masters = record s { files = files; members = members; masters = masters }
-
-pub unopened_kept : (s : State) (files : FileLists) (members : Vec Member) (masters : Vec ℕ) → files ≡ s.files → members.items ≡ s.members.items → IsTied s → IsKept s (unopened s files members masters)
-unopened_kept s files members masters e f t = subst (λ fs. IsKept s (unopened s fs members masters)) (sym e) (record {
-  tied = record { members = t.members ∙ ap (map (λ (m : Member). m.client)) (sym f); objects = t.objects };
-  limits = λ l h. record { clients = h.clients; handles = h.handles; objects = h.objects };
-})
 
 pub unopened_represents : (s : State) (w : Rows) (files : FileLists) (members : Vec Member) (masters : Vec ℕ) → files ≡ s.files → members.items ≡ s.members.items → masters.items ≡ s.masters.items → Represents (lists_of s) w →
     Represents (lists_of (unopened s files members masters)) w
@@ -33,13 +26,6 @@ opened s files members masters device = record s { files = files; members = memb
 
 abbrev pub with_file : State → FileClient → FileLists
 with_file s f = record s.files { clients = s.files.clients ++ f ∷ [] }
-
-pub opened_kept : (s : State) (files : FileLists) (members : Vec Member) (masters : Vec ℕ) (device : Option ℕ) (f : FileClient) (m : Member) → f.client ≡ m.client → files ≡ with_file s f → members.items ≡ s.members.items ++ m ∷ [] → IsTied s →
-    IsKept s (opened s files members masters device)
-opened_kept s files members masters device f m same e k t = subst (λ fs. IsKept s (opened s fs members masters device)) (sym e) (record {
-  tied = record { members = same_push f m same s.files.clients s.members.items t.members ∙ ap (map (λ (m : Member). m.client)) (sym k); objects = t.objects };
-  limits = λ l h. record { clients = h.clients; handles = h.handles; objects = h.objects };
-})
 
 -- the lists behind an opening are those with one more client
 pub opened_represents : (s : State) (w : Rows) (files : FileLists) (members : Vec Member) (masters : Vec ℕ) (device : Option ℕ) (f : FileClient) (m : Member) → files ≡ with_file s f → members.items ≡ s.members.items ++ m ∷ [] → IsTied s →

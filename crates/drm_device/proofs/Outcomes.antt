@@ -1,5 +1,5 @@
 -- The cases of an outcome.
-use Rattle.std.proofs.Common.{◌≡◌, ℕ, List, [], ◌∷◌, ◌++◌, Option, None, Some, Ok, Err, refl, sym, ◌∙◌, ap, subst, cond, true, false, ◌<◌, ◌≤◌, ◌==◌, ◌&&◌, length, map, inl, inr, arith, length-append}
+use Rattle.std.proofs.Common.{◌≡◌, ℕ, List, [], ◌∷◌, ◌++◌, Option, None, Some, Ok, Err, refl, sym, ◌∙◌, ap, subst, cond, true, false, ◌<◌, ◌≤◌, ◌==◌, ◌&&◌, length, inl, inr, arith, length-append}
 use Rattle.std.specs.declared.alloc.AllocError.{AllocError}
 use Rattle.drm_table.specs.declared.answers.Answer.{Answer}
 use Rattle.drm_table.specs.declared.answers.Answer.TheVariants.{Denied}
@@ -18,7 +18,6 @@ use Rattle.drm_model.specs.Change.{after, after_verdict, changed, swept, noted}
 use Rattle.drm_model.specs.Reply.{reply, reply_by, answer_of}
 use Rattle.drm_model.specs.Run.{Growing, IsLonger}
 use Rattle.std.specs.Vec.{vec_len}
-use Rattle.std.specs.Global.{Vec}
 use Rattle.std.proofs.lemmas.Bool.{le-ltb, lt-ltb}
 use Rattle.drm_table.specs.declared.limits.Limits.{Limits}
 use Rattle.drm_model.specs.Masters.{standing_in}
@@ -31,8 +30,7 @@ use Rattle.drm_device.specs.declared.state.State.{State}
 use Rattle.drm_device.specs.Laws.{WellFormed}
 use Rattle.drm_device.specs.Parts.{IsTied, HaveLimits, object_of}
 use Rattle.drm_device.proofs.Devices.{represented_count}
-use Rattle.drm_device.specs.Refinement.{Lists, lists_of, Represents, Outcome, MadeBuffer, Stands, client_row_of, master_row_of, hold_row_of, object_row_of, comes_before, place_among}
-use Rattle.drm_model.specs.Orders.{SameRows, InOrder}
+use Rattle.drm_device.specs.Refinement.{Lists, lists_of, Represents, Outcome, MadeBuffer, Stands, client_row_of, hold_row_of, object_row_of, place_among}
 use Rattle.std.specs.List.{insert, AllByRecursion}
 use Rattle.drm_device.proofs.Holds.{more_rows, in_order_insert}
 
@@ -100,18 +98,6 @@ pub client_room : (s : State) (limits : Limits) (b : ℕ) (w : Rows) → IsTied 
 client_room s limits b w t h few =
     rw (represented_count s w t h.rows, ap (λ (l : Limits). l.clients) h.limits_are) (lt-ltb (vec_len s.members) limits.clients few)
 
--- other storage for the same items
-pub same_clients : (s : Lists) (w : Rows) (v : List Client) → v ≡ s.clients → Represents s w → Represents (record s { clients = v }) w
-same_clients s w v e h = record {
-  clients = h.clients ∙ ap (map client_row_of) (sym e);
-  masters = h.masters;
-  holds = h.holds;
-  holds_in_order = h.holds_in_order;
-  objects = h.objects;
-  device_master = h.device_master;
-  none_yet = h.none_yet;
-}
-
 -- one more client
 pub more_clients : (s : Lists) (w : Rows) (v : List Client) (x : Client) (row : ClientRow) → v ≡ s.clients ++ x ∷ [] → client_row_of x ≡ row → Represents s w → Represents (record s { clients = v }) (record w { clients = w.clients ++ row ∷ [] })
 more_clients s w v x row e r h = record {
@@ -139,40 +125,6 @@ pub admitted_by_permit : (w : Rows) (c : ℕ) (call : Call) (row : ClientRow) �
     first_failing (admission_checks w c call) ≡ first_failing (permit_checks (flags_of call) (standing_in w (Some row)))
 unfolding admission_checks
 admitted_by_permit w c call row k l o = rw (k, l, o) refl
-
--- the lists with other storage, and with one more row
-pub same_masters : (s : Lists) (w : Rows) (v : List ℕ) → v ≡ s.masters → Represents s w → Represents (record s { masters = v }) w
-same_masters s w v e h = record {
-  clients = h.clients;
-  masters = h.masters ∙ ap (map master_row_of) (sym e);
-  holds = h.holds;
-  holds_in_order = h.holds_in_order;
-  objects = h.objects;
-  device_master = h.device_master;
-  none_yet = h.none_yet;
-}
-
-pub same_objects : (s : Lists) (w : Rows) (v : List Object) → v ≡ s.objects → Represents s w → Represents (record s { objects = v }) w
-same_objects s w v e h = record {
-  clients = h.clients;
-  masters = h.masters;
-  holds = h.holds;
-  holds_in_order = h.holds_in_order;
-  objects = h.objects ∙ ap (map object_row_of) (sym e);
-  device_master = h.device_master;
-  none_yet = h.none_yet;
-}
-
-pub same_holds : (s : Lists) (w : Rows) (v : List Hold) → v ≡ s.holds → Represents s w → Represents (record s { holds = v }) w
-same_holds s w v e h = record {
-  clients = h.clients;
-  masters = h.masters;
-  holds = subst (λ rows. SameRows w.holds (map hold_row_of rows)) (sym e) h.holds;
-  holds_in_order = subst (InOrder (λ x y. comes_before x y ≡ true)) (sym e) h.holds_in_order;
-  objects = h.objects;
-  device_master = h.device_master;
-  none_yet = h.none_yet;
-}
 
 pub more_held : (s : Lists) (w : Rows) (os : List Object) (hs : List Hold) (x : Object) (y : Hold) (row : ObjectRow) (hold : HoldRow) →
     os ≡ s.objects ++ x ∷ [] → hs ≡ insert s.holds (place_among s.holds y) y → AllByRecursion (λ (z : Hold). ((z.client == y.client) && (z.handle == y.handle)) ≡ false) s.holds →

@@ -1,12 +1,12 @@
 -- What a handle that goes, a client that goes, and a new stamp leave of the parts.
-use Rattle.std.proofs.Common.{◌≡◌, ℕ, zero, suc, ◌+◌, ◌<◌, ◌≤◌, ◌==◌, Bool, true, false, cond, not, ◌&&◌, ◌||◌, List, [], ◌∷◌, ◌++◌, map, filter, find, length, Option, Some, None, refl, sym, ap, ◌∙◌, subst, arith, eq-eqb}
+use Rattle.std.proofs.Common.{◌≡◌, ℕ, ◌<◌, ◌≤◌, ◌==◌, Bool, true, false, cond, not, ◌&&◌, ◌||◌, List, [], ◌∷◌, ◌++◌, map, filter, find, length, Option, Some, None, refl, sym, ap, ◌∙◌, subst, arith, eq-eqb}
 use Rattle.std.specs.Prelude.{if◌then◌else◌, nat_le, unwrap_or, slice_get, drop}
 use Rattle.std.specs.List.{list_any, AllByRecursion}
 use Rattle.std.specs.Option.{is_some, option_map, option_map_or, OnSome, IfNone}
 use Rattle.std.proofs.lemmas.Bool.Decides.{nat_tests}
 use Rattle.drm_gem.specs.declared.object.Object.{Object as Kept}
 use Rattle.drm_gem.specs.declared.object.Dead.{Dead}
-use Rattle.drm_gem.specs.Objects.{ObjectSet, is_key, passes, changed_at, without_key, unheld, stamped, dead_after}
+use Rattle.drm_gem.specs.Objects.{ObjectSet, is_key, passes, changed_at, without_key, unheld, stamped}
 use Rattle.drm_files.specs.declared.rows.FileHold.{FileHold}
 use Rattle.drm_files.specs.Files as files
 use Rattle.drm_files.specs.Files.{FileLists, is_hold, of_client, hold_before, left_by, without_hold, without_client, AreFiles}
@@ -17,12 +17,12 @@ use Rattle.drm_model.specs.Rows.{Rows, ObjectRow, object_row, without}
 use Rattle.drm_model.specs.Buffers.{with_stamp}
 use Rattle.drm_model.specs.Change.{swept}
 use Rattle.drm_device.specs.Laws.{WellFormed}
-use Rattle.drm_model.proofs.Lists.{all_weaker, map-map, map-append, filter-map, filter_all, find-map}
-use Rattle.drm_model.proofs.Orders.{same-any, same-map, same-sym, same-trans}
+use Rattle.drm_model.proofs.Lists.{all_weaker, map-map, map-append, filter_all, find-map}
+use Rattle.drm_model.proofs.Orders.{same-any, same-map}
 use Rattle.drm_device.specs.declared.state.Hold.{Hold}
 use Rattle.drm_device.specs.declared.state.Object.{Object}
 use Rattle.drm_device.specs.declared.state.State.{State}
-use Rattle.drm_device.specs.Parts.{AreTied, AreThoseNamed, IsTied, HaveLimits, IsKept, core, hold_of, object_of, keys_of, birth_at}
+use Rattle.drm_device.specs.Parts.{AreTied, AreThoseNamed, IsTied, IsKept, core, hold_of, object_of, keys_of, birth_at}
 use Rattle.drm_device.specs.Refinement.{Represents, lists_of}
 use Rattle.drm_device.proofs.Ties.{IsStep, unheld_once, left_of, among-more, both_all, has_handle}
 use Rattle.drm_device.proofs.Naming.{same_tied, same_parts, one_goes, key_by_number, left_by_numbers, holds_as_before}

@@ -2,7 +2,6 @@
 use Rattle.std.proofs.Common.{◌≡◌, ℕ, ◌==◌, Bool, true, false, not, ◌&&◌, ◌||◌, List, [], ◌∷◌, map, filter, Option, None, Some, refl, sym, ◌∙◌, ap, cond, subst, eq-eqb}
 use Rattle.std.specs.Prelude.{if◌then◌else◌}
 use Rattle.std.specs.List.{list_any, AllByRecursion}
-use Rattle.std.specs.Global.{Vec}
 use Rattle.std.proofs.lemmas.List.Elements.{filter_agree}
 use Rattle.drm_model.specs.Numbers.{is_among}
 use Rattle.drm_model.specs.Rows.{Rows, ClientRow, MasterRow, HoldRow, ObjectRow, TokenRow, FramebufferRow, is_hold, client_row, without, is_option}
@@ -15,13 +14,12 @@ use Rattle.drm_model.proofs.Lists.{filter-map, filter_all, list_any-map, all_wea
 use Rattle.drm_device.specs.declared.state.Client.{Client}
 use Rattle.drm_device.specs.declared.state.Hold.{Hold}
 use Rattle.drm_device.specs.declared.state.Object.{Object}
-use Rattle.drm_device.specs.declared.state.State.{State}
 use Rattle.drm_device.specs.Laws.{WellFormed}
 use Rattle.drm_device.proofs.Laws.{IsFlat, holds_master, living_flat}
 use Rattle.drm_device.proofs.Booleans.{all_map, list_any_agree, or_right}
 use Rattle.drm_model.specs.Orders.{SameRows, InOrder}
 use Rattle.drm_model.proofs.Orders.{same-any, same-filter, in_order_filter}
-use Rattle.drm_device.specs.Refinement.{Lists, lists_of, Represents, comes_before, is_same, client_row_of, hold_row_of, object_row_of, master_row_of}
+use Rattle.drm_device.specs.Refinement.{Lists, Represents, comes_before, is_same, client_row_of, hold_row_of, object_row_of, master_row_of}
 
 and_none : (b : Bool) → (b && false) ≡ false
 and_none true = refl

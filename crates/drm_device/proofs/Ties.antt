@@ -1,20 +1,18 @@
 -- What a handle fewer leaves of the objects.
-use Rattle.std.proofs.Common.{◌≡◌, ℕ, zero, suc, ◌+◌, ◌-◌, ◌≤◌, ◌<◌, ◌==◌, nat_le, Bool, true, false, cond, not, ◌&&◌, ◌||◌, List, [], ◌∷◌, ◌++◌, map, filter, find, length, Option, Some, None, refl, sym, ap, ◌∙◌, subst, arith, eq-eqb}
+use Rattle.std.proofs.Common.{◌≡◌, ℕ, suc, ◌-◌, ◌≤◌, ◌==◌, nat_le, Bool, true, false, cond, not, ◌&&◌, ◌||◌, List, [], ◌∷◌, map, filter, find, length, Option, Some, None, refl, sym, ap, ◌∙◌, subst, arith, eq-eqb}
 use Rattle.std.specs.Prelude.{if◌then◌else◌}
-use Rattle.std.specs.List.{list_any, AllByRecursion}
+use Rattle.std.specs.List.{AllByRecursion}
 use Rattle.std.specs.Option.{is_some, option_map, option_map_or, OnSome, IfNone}
 use Rattle.std.proofs.lemmas.Bool.{eqb-true, le-leb}
 use Rattle.std.proofs.lemmas.Bool.Decides.{nat_tests}
 use Rattle.drm_gem.specs.declared.object.Object.{Object as Kept}
 use Rattle.drm_gem.specs.declared.object.Dead.{Dead}
 use Rattle.drm_gem.specs.Objects.{ObjectSet, is_key, passes, changed_at, without_key, unheld, is_unused, dead_of}
-use Rattle.drm_files.specs.declared.rows.FileHold.{FileHold}
 use Rattle.drm_model.specs.Numbers.{is_among}
 use Rattle.drm_model.specs.Orders.{InOrder}
 use Rattle.drm_model.proofs.Lists.{all_weaker}
 use Rattle.drm_model.proofs.Orders.{all_filter, in_order_filter}
-use Rattle.drm_device.specs.declared.state.Object.{Object}
-use Rattle.drm_device.specs.Parts.{birth_at, object_of, AreTied, AreThoseNamed, core}
+use Rattle.drm_device.specs.Parts.{AreTied, AreThoseNamed, core}
 
 -- with one handle fewer of a key
 abbrev pub fewer : ℕ → List Kept → List Kept

@@ -30,13 +30,11 @@ pub fn version() -> Answer
 pub fn get_cap(state: &State, client: u32, cap: u64) -> Answer
     ensures { (limits : table.Limits) (birth : ℕ) → OwesCall state.now limits birth client (GetCap cap) (Ok result) state.now }
 {
-    if cap == DUMB_BUFFER {
-        return Answer::Number { value: 1 };
+    match cap {
+        DUMB_BUFFER => Answer::Number { value: 1 },
+        PRIME => Answer::Number { value: 3 },
+        _ => Answer::Denied(Rule::BadCap),
     }
-    if cap == PRIME {
-        return Answer::Number { value: 3 };
-    }
-    Answer::Denied(Rule::BadCap)
 }
 
 /// SET_CLIENT_CAP: there is none that a client may set (own). It takes no memory and asks for no limit.

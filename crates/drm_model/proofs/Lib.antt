@@ -4,7 +4,6 @@ pub mod Lists
 pub mod Orders
 pub mod Births
 pub mod Counts
-pub mod Numbers
 pub mod Runs
 pub mod WorkedBufferIsMadeAndClosed
 pub mod WorkedDumbShapes

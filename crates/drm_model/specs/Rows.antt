@@ -3,7 +3,8 @@
 use Rattle.std.specs.Prelude.{ℕ, ◌+◌, ◌==◌, Bool, false, not, ◌&&◌, nat_lt, List, [], ◌∷◌, ◌++◌, length, Option, None, Some, unwrap_or, find, map, filter}
 use Rattle.std.specs.Option.{is_some, option_map, option_and_then}
 use Rattle.drm_table.specs.declared.limits.Limits.{Limits}
-use Rattle.drm_model.specs.Numbers.{is_among, least}
+use Rattle.drm_index_array.specs.Least.{least}
+use Rattle.drm_model.specs.Numbers.{is_among}
 use Rattle.drm_model.specs.Topology.{Topology}
 
 -- an open client; a render client's master is none (drm-uapi: primary and render nodes)
@@ -166,9 +167,9 @@ object_row w o = find (λ row. row.object == o) w.objects
 abbrev pub handles_of : Rows → ℕ → List ℕ
 handles_of w c = map (λ row. row.handle) (filter (λ row. row.client == c) w.holds)
 
--- handles are a client's own, the lowest free from 1 (drm-gem(7); the limit is own)
+-- handles are a client's own, the lowest free from 1 (drm-gem(7); the kernel's IDR gives the lowest; the limit is own)
 abbrev pub free_handle : Rows → ℕ → Option ℕ
-free_handle w c = least (is_among (handles_of w c)) 1 w.limits.handles
+free_handle w c = least (λ h. not (is_among (handles_of w c) h)) 1 w.limits.handles
 
 -- whether one more object may be there (the limit is own)
 abbrev pub has_object_room : Rows → Bool

@@ -1,4 +1,4 @@
-use Rattle.std.proofs.Common.{◌≡◌, ◌∙◌, sym, ap}
+use Rattle.std.proofs.Common.{◌∙◌, sym}
 use Rattle.drm_device.proofs.Naming.{among_at, hold_there}
 use Rattle.drm_device.proofs.audits.hold_at.Goals as goal
 

@@ -1,16 +1,15 @@
-use Rattle.std.proofs.Common.{◌≡◌, ℕ, [], ◌∷◌, None, Some, Option, List, refl, sym, ◌∙◌, ap, length, filter, ◌==◌, ◌⊎◌, inl, inr}
+use Rattle.std.proofs.Common.{◌≡◌, ℕ, [], ◌∷◌, None, Some, Option, List, refl, sym, ◌∙◌, ap, ◌⊎◌, inl, inr}
 use Rattle.std.specs.Prelude.{slice_get}
 use Rattle.drm_model.specs.Orders.{sorted_by}
-use Rattle.drm_model.specs.Audit.{client_audit, master_audit, object_audit, hold_audit, audit_row, audit_rows, rising_rows}
+use Rattle.drm_model.specs.Audit.{client_audit, master_audit, hold_audit, audit_rows, rising_rows}
 use Rattle.drm_device.specs.declared.state.Client.{Client}
 use Rattle.drm_device.specs.declared.state.Hold.{Hold}
-use Rattle.drm_device.specs.declared.state.Object.{Object}
 use Rattle.drm_table.specs.declared.audits.AuditKind.{AuditKind}
 use Rattle.drm_table.specs.declared.audits.AuditKind.TheVariants as kinds
 use Rattle.drm_model.specs.Rows.{Rows}
-use Rattle.drm_device.specs.Refinement.{NoneYet, client_row_of, master_row_of, object_row_of, hold_row_of, lists_of}
+use Rattle.drm_device.specs.Refinement.{NoneYet, client_row_of, master_row_of, hold_row_of, lists_of}
 use Rattle.drm_device.specs.Audits.{IsRowAt}
-use Rattle.drm_device.proofs.AuditRows.{object_row_at, client_rows, master_rows, object_rows, hold_rows, device_rows, row_of_item}
+use Rattle.drm_device.proofs.AuditRows.{object_row_at, client_rows, master_rows, hold_rows, device_rows, row_of_item}
 use Rattle.drm_device.proofs.audits.row_at.Goals as goal
 
 -- what the look-up found, of the list itself

@@ -1,14 +1,11 @@
-use Rattle.std.proofs.Common.{◌≡◌, ℕ, ◌*◌, ◌<◌, true, false, List, [], ◌∷◌, ◌==◌, Option, Some, None, refl, sym, ap, ◌∙◌, arith, inl, inr, length-append, ◌≤◌}
-use Rattle.std.specs.Option.{unwrap_or}
-use Rattle.std.specs.declared.alloc.AllocError.{AllocError}
+use Rattle.std.proofs.Common.{◌≡◌, ℕ, true, false, Some, None, refl, sym, ◌∙◌}
 use Rattle.std.proofs.lemmas.Result.{err_from_is_err_and}
-use Rattle.drm_table.specs.declared.answers.Answer.TheVariants.{Buffer}
 use Rattle.drm_table.specs.declared.calls.Call.TheVariants.{BufCreate}
 use Rattle.drm_table.specs.declared.events.Event.TheVariants.{Ask}
 use Rattle.drm_table.specs.declared.rules.Rule.TheVariants.{BadSize, Full}
 use Rattle.drm_table.specs.Permit.{first_failing}
-use Rattle.drm_model.specs.Rows.{Rows, HoldRow, birth, free_handle}
-use Rattle.drm_model.specs.Buffers.{is_buffer_size, has_buffer_room, with_object, buffer_size}
+use Rattle.drm_model.specs.Rows.{Rows}
+use Rattle.drm_model.specs.Buffers.{is_buffer_size, has_buffer_room, buffer_size}
 use Rattle.drm_model.specs.Verdict.{verdict, admission_checks, own_checks}
 use Rattle.drm_model.specs.Change.{changed, asked}
 use Rattle.drm_model.specs.Reply.{answer_of, answer_to}

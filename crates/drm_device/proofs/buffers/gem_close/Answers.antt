@@ -1,16 +1,14 @@
-use Rattle.std.proofs.Common.{◌≡◌, ◌==◌, ◌&&◌, ℕ, List, Option, Some, None, true, false, not, refl, sym, ap, ◌∙◌, subst}
-use Rattle.std.specs.Option.{is_some, option_map}
-use Rattle.drm_table.specs.declared.answers.Answer.TheVariants.{Done, Number}
+use Rattle.std.proofs.Common.{Some, None, refl, sym, ◌∙◌}
+use Rattle.drm_table.specs.declared.answers.Answer.TheVariants.{Done}
 use Rattle.drm_table.specs.declared.calls.Call.TheVariants.{GemClose, DestroyDumb}
 use Rattle.drm_table.specs.declared.events.Event.TheVariants.{Ask}
-use Rattle.drm_table.specs.declared.rules.Rule.TheVariants.{NoHandle, NoHandleToClose}
-use Rattle.drm_model.specs.Rows.{Rows, hold_row, object_of}
+use Rattle.drm_table.specs.declared.rules.Rule.TheVariants.{NoHandleToClose}
 use Rattle.drm_model.specs.Verdict.{own_checks}
 use Rattle.drm_model.specs.Change.{changed, asked}
 use Rattle.drm_model.specs.Reply.{answer_of, answer_to}
-use Rattle.drm_device.specs.Refinement.{OwesCall, lists_of}
-use Rattle.drm_device.proofs.Outcomes.{denied, carried, call_verdict, unswept}
-use Rattle.drm_device.proofs.Contents.{holds_it, object_found, key_found, stamp_named, stamp_well_formed, stamp_represents}
+use Rattle.drm_device.specs.Refinement.{OwesCall}
+use Rattle.drm_device.proofs.Outcomes.{denied, carried, call_verdict}
+use Rattle.drm_device.proofs.Contents.{holds_it}
 use Rattle.drm_files.specs.Files.{without_hold}
 use Rattle.drm_device.specs.Parts.{keys_of}
 use Rattle.drm_device.proofs.Ties.{IsStep}

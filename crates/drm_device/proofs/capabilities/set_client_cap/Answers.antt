@@ -1,17 +1,9 @@
-use Rattle.std.proofs.Common.{◌≡◌, ◌==◌, ◌||◌, ◌&&◌, ℕ, List, Option, Some, None, true, false, refl, sym, ap, ◌∙◌}
-use Rattle.std.specs.Option.{is_some, option_map}
-use Rattle.drm_table.specs.declared.answers.Answer.TheVariants.{Done, Number, List as ListIs}
 use Rattle.drm_table.specs.declared.calls.Call.TheVariants.{SetClientCap}
 use Rattle.drm_table.specs.declared.events.Event.TheVariants.{Ask}
-use Rattle.drm_table.specs.declared.rules.Rule.TheVariants.{NoHandle, BadCap}
-use Rattle.drm_table.specs.Permit.{first_failing}
-use Rattle.drm_model.specs.Rows.{Rows, hold_row, object_of}
-use Rattle.drm_model.specs.Verdict.{verdict, admission_checks, own_checks}
-use Rattle.drm_model.specs.Change.{changed, asked}
-use Rattle.drm_model.specs.Reply.{answer_of, answer_to}
+use Rattle.drm_table.specs.declared.rules.Rule.TheVariants.{BadCap}
+use Rattle.drm_model.specs.Verdict.{own_checks}
 use Rattle.drm_device.specs.Refinement.{OwesCall}
-use Rattle.drm_device.proofs.Outcomes.{denied, carried, call_verdict, unswept}
-use Rattle.drm_device.proofs.Contents.{object_named, has_it, stamp_named, stamp_well_formed, stamp_represents, handles_shown}
+use Rattle.drm_device.proofs.Outcomes.{denied, call_verdict}
 use Rattle.drm_device.proofs.capabilities.set_client_cap.Goals as goal
 
 pub returns : goal.returns

@@ -1,7 +1,4 @@
-use Rattle.std.proofs.Common.{◌≡◌, ◌∙◌, sym, ap, refl, None, Some}
-use Rattle.std.specs.Option.{option_map, option_and_then}
-use Rattle.drm_files.specs.declared.rows.FileClient.{FileClient}
-use Rattle.drm_device.specs.Parts.{join}
+use Rattle.std.proofs.Common.{◌∙◌, sym, ap, None, Some}
 use Rattle.drm_device.proofs.Joined.{looked_past, looked_up}
 use Rattle.drm_device.proofs.clients.client_at.Goals as goal
 

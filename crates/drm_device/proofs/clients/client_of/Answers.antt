@@ -1,4 +1,4 @@
-use Rattle.std.proofs.Common.{◌≡◌, ◌∙◌, sym, ap, refl, None, Some}
+use Rattle.std.proofs.Common.{◌∙◌, sym, ap, refl, None, Some}
 use Rattle.drm_device.proofs.Joined.{joined_find}
 use Rattle.drm_device.proofs.clients.client_of.Goals as goal
 

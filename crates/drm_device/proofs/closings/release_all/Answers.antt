@@ -1,6 +1,4 @@
-use Rattle.std.proofs.Common.{◌≡◌, ◌++◌, None, Some, refl, sym, ap, ◌∙◌, subst}
-use Rattle.drm_files.specs.Files.{left_by}
-use Rattle.drm_gem.specs.Objects.{ObjectSet}
+use Rattle.std.proofs.Common.{◌++◌, refl, sym, ◌∙◌, subst}
 use Rattle.drm_device.specs.Parts.{AreTied, AreThoseNamed, keys_of}
 use Rattle.drm_device.proofs.Ties.{IsStep, unheld_once, has_handle}
 use Rattle.drm_device.proofs.Released.{rest_keys, first_rest, shorter_rest, no_rest, start_tied, start_named, first_is_named, unhold_limit}

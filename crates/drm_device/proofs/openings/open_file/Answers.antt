@@ -1,4 +1,4 @@
-use Rattle.std.proofs.Common.{◌≡◌, true, ◌∷◌, ◌++◌, [], ◌∙◌, sym, ap}
+use Rattle.std.proofs.Common.{true, ◌∷◌, ◌++◌, [], ◌∙◌, sym, ap}
 use Rattle.std.specs.Prelude.{if◌then◌else◌}
 use Rattle.drm_files.specs.Files.{client}
 use Rattle.drm_device.proofs.Joined.{not_there, opened_file, opened_present, opened_authenticated}

@@ -1,6 +1,5 @@
 use Rattle.std.proofs.Common.{List, ◌≡◌, ℕ, Bool, ◌<◌, true, false, [], ◌∷◌, ◌++◌, None, Some, Option, refl, sym, ap, ◌∙◌, arith, inl, length, length-append, eq-eqb}
 use Rattle.std.proofs.lemmas.Result.{err_from_is_err_and}
-use Rattle.std.specs.Global.{Vec}
 use Rattle.drm_table.specs.declared.answers.Answer.TheVariants.{Opened}
 use Rattle.drm_table.specs.declared.events.Event.TheVariants.{Open}
 use Rattle.drm_table.specs.declared.events.Opening.TheVariants.{Primary}
@@ -12,7 +11,6 @@ use Rattle.drm_model.specs.Change.{changed}
 use Rattle.drm_model.specs.Reply.{answer_of}
 use Rattle.drm_model.proofs.Lists.{map-append}
 use Rattle.drm_device.specs.declared.state.Client.{Client}
-use Rattle.drm_device.specs.declared.state.State.{State}
 use Rattle.drm_device.specs.Refinement.{Lists, Owes, Represents, client_row_of, master_row_of, lists_of}
 use Rattle.drm_device.proofs.Booleans.{pushed}
 use Rattle.drm_device.proofs.Laws.{with_client, with_master}

@@ -9,7 +9,6 @@ use Rattle.drm_model.specs.Verdict.{verdict}
 use Rattle.drm_model.specs.Clients.{opening_checks, opened, opened_render}
 use Rattle.drm_model.specs.Change.{changed}
 use Rattle.drm_model.specs.Reply.{answer_of}
-use Rattle.drm_device.specs.declared.state.Client.{Client}
 use Rattle.drm_device.proofs.Booleans.{pushed}
 use Rattle.drm_device.specs.Refinement.{Owes, lists_of}
 use Rattle.drm_device.proofs.Laws.{with_client}

@@ -1,5 +1,4 @@
 use Rattle.std.proofs.Common.{sym, ◌∙◌, ap}
-use Rattle.std.specs.Option.{is_some}
 use Rattle.drm_model.specs.Run.{rows_of}
 use Rattle.drm_device.proofs.Lookups.{room_to_open, room_to_ask, room_to_close_open, room_to_close}
 use Rattle.drm_device.proofs.device.Device.has_room.Goals as goal
