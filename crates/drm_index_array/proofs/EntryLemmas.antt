@@ -290,7 +290,3 @@ remove_none m k none = map.same_map nat_cmp_total nat_cmp-IsAntisymmetric _ _ (�
           | inl same ↦ rw (same, same_test k, none) refl
           | inr apart ↦ rw (apart_test q k (λ e. apart (sym e))) refl
         ]
-
-pub rewrite_none : {X : Type 0} (m : MarkedMap X) (k : ℕ) (f : Marked X → Marked X) → map.get m k ≡ None → rewrite m k f ≡ m
-unfolding rewrite
-rewrite_none m k f none = ap (rewritten m k f) none

@@ -1,5 +1,5 @@
 -- What a map of marked values holds after each call, for the crates above.
-use Rattle.std.proofs.Common.{◌≡◌, ℕ, suc, length, Bool, true, false, not, eqb, cond, ◌&&◌, ◌||◌, T, List, [], ◌∷◌, map as list_map, Option, Some, None, Result, Ok, Err, OnErr, option_map, is_some, IsTrue, IsSome, refl, sym, ap, ◌∙◌, subst, inl, inr, arith}
+use Rattle.std.proofs.Common.{◌≡◌, ℕ, suc, length, Bool, true, false, not, eqb, cond, ◌&&◌, ◌||◌, T, List, [], ◌∷◌, map as list_map, Option, Some, None, option_map, is_some, IsTrue, IsSome, refl, sym, ap, ◌∙◌, subst, inl, inr, arith}
 use Rattle.std.specs.Option.{option_map_or}
 use Rattle.std.specs.Ordering.{nat_cmp, eq_by_cmp, is_lt}
 use Rattle.std.specs.Cmp.{nat_cmp_total}
@@ -45,19 +45,6 @@ insert_same m k v here =
           | inl same ↦ rw same (same_branch (eqb k k) (map.get m k))
           | inr apart ↦ grind (arith, nat_tests)
         ]
-
--- a value lent by `get_mut` that a refused call left as it was
-pub insert_back : {X T E : Type 0} (r : Result T E) (m : map.FinMap nat_cmp X) (k : ℕ) (old new : X) → OnErr r (new ≡ old) → map.get m k ≡ Some old → OnErr r (map.insert m k new ≡ m)
-insert_back (Ok x) m k old new same here = tt
-insert_back (Err e) m k old new same here = rw same (insert_same m k old here)
-
--- a removal where nothing is
-pub remove_absent : {X : Type 0} (m : map.FinMap nat_cmp X) (k : ℕ) → map.get m k ≡ None → map.remove m k ≡ m
-remove_absent m k none =
-    same_by_gets _ _ (λ q. get-remove m k q ∙ elim (cases_eq q k) as (λ _. cond (eqb q k) None (map.get m q) ≡ map.get m q) [
-      | inl same ↦ rw (same, none) (same_branch (eqb k k) None)
-      | inr apart ↦ grind (arith, nat_tests)
-    ])
 
 module _ {X Y : Type 0} (f : X → Y) where
   pairs_by : List (ℕ × X) → List (ℕ × Y)

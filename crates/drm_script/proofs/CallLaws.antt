@@ -1,13 +1,11 @@
 -- A call is read from just the words that spell it.
-use Rattle.std.proofs.Common.{◌≡◌, ℕ, ◌^◌, ◌≤◌, lit≤, List, [], ◌∷◌, refl, sym, ap, subst, ◌∙◌, Some, None, Option, codes, IsSome, is_some, cond, arith, Bool, true, false, eqb, ◌==◌}
-use Rattle.std.specs.List.{find}
-use Rattle.std.proofs.lemmas.Bool.Decides.{nat_tests}
+use Rattle.std.proofs.Common.{◌≡◌, ℕ, ◌^◌, ◌≤◌, lit≤, List, [], ◌∷◌, refl, sym, ap, subst, ◌∙◌, Some, None, Option, codes, IsSome, is_some, cond}
 use Rattle.drm_table.specs.declared.audits.AuditKind.{AuditKind}
-use Rattle.drm_table.specs.declared.audits.AuditKind.TheVariants as variants
 use Rattle.drm_table.specs.declared.calls.Call.{Call}
 use Rattle.drm_table.specs.declared.calls.Call.TheVariants as calls
-use Rattle.drm_table.specs.Audits.{kinds, kind_number, kind_of}
+use Rattle.drm_table.specs.Audits.{kind_number, kind_of}
 use Rattle.drm_table.specs.Table.{TableRow, row_of}
+use Rattle.drm_table.proofs.AuditKinds.{kind-found, kind-of-its-own}
 use Rattle.drm_script.specs.declared.calls.CallWord.{CallWord}
 use Rattle.drm_script.specs.declared.calls.CallWord.TheVariants as words
 use Rattle.drm_script.specs.declared.calls.TheConstants.{CALL_WORDS}
@@ -148,27 +146,6 @@ list_handles_read : (ws : Words) (from : ℕ) → SpellEach (number 32 from ∷ 
 unfolding list_handles_at
 list_handles_read = one_read 32 calls.ListHandles (lit≤ tt)
 
--- the kind that is found has the number
-found_kind_at : (n : ℕ) (kind : AuditKind) (k : AuditKind) (b : Bool) (other : Option AuditKind) → b ≡ eqb (kind_number k) n → (other ≡ Some kind → n ≡ kind_number kind)
-    → cond b (Some k) other ≡ Some kind → n ≡ kind_number kind
-found_kind_at n kind k true other t more e =
-    let same : kind_number k ≡ n = grind (arith, nat_tests) in
-    sym same ∙ ap kind_number (some_same _ _ e)
-found_kind_at n kind k false other t more e = more e
-
-found_kind : (n : ℕ) (kind : AuditKind) (all : List AuditKind) → find (λ k. kind_number k == n) all ≡ Some kind → n ≡ kind_number kind
-found_kind n kind [] e = absurd (cc)
-found_kind n kind (k ∷ all) e = found_kind_at n kind k (kind_number k == n) _ refl (found_kind n kind all) e
-
-kind_named : (n : ℕ) (kind : AuditKind) → kind_of n ≡ Some kind → n ≡ kind_number kind
-unfolding kind_of
-kind_named n kind e = found_kind n kind kinds e
-
-kind_found : (kind : AuditKind) → kind_of (kind_number kind) ≡ Some kind
-unfolding kind_of kind_number
-kind_found variants.Client = refl
-kind_found _ = refl
-
 audit_reads : (ws : Words) (call : Call) → audit_at ws ≡ Some call → SpellEach (call_parts call) (codes "audit" ∷ ws)
 unfolding audit_at
 audit_reads ws call e =
@@ -178,12 +155,12 @@ audit_reads ws call e =
     let z = end_bind b.rest _ call b.goes_on in
     let words : ws ≡ a.w ∷ b.w ∷ [] = words_behind a.words (words_behind b.words z.0) in
     let P : ℕ → Type 0 = λ n. SpellsNumber 32 n a.w in
-    let number : SpellsNumber 32 (kind_number k.step) a.w = subst P (kind_named a.n k.step k.made) a.spells in
+    let number : SpellsNumber 32 (kind_number k.step) a.w = subst P (sym (kind-of-its-own a.n k.step k.made)) a.spells in
     spelled call_parts (codes "audit") ws (a.w ∷ b.w ∷ []) call (calls.Audit k.step b.n) words (some_same _ _ z.1) (refl, (number, (b.spells, tt)))
 
 audit_read : (ws : Words) (kind : AuditKind) (from : ℕ) → SpellEach (number 32 (kind_number kind) ∷ number 32 from ∷ []) ws → audit_at ws ≡ Some (calls.Audit kind from)
 unfolding audit_at
-audit_read (v ∷ w ∷ []) kind from s = rw (number32_at_some v _ (kind_number kind) s.0) (rw (kind_found kind) (rw (number32_at_some w _ from s.1.0) refl))
+audit_read (v ∷ w ∷ []) kind from s = rw (number32_at_some v _ (kind_number kind) s.0) (rw (kind-found kind) (rw (number32_at_some w _ from s.1.0) refl))
 audit_read [] kind from s = absurd s
 audit_read (v ∷ []) kind from s = absurd s.1
 audit_read (v ∷ w ∷ x ∷ ws) kind from s = absurd s.1.1

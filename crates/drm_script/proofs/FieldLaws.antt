@@ -5,6 +5,7 @@ use Rattle.std.specs.Str.{bytes_eq}
 use Rattle.std.specs.Str.Parse.{digits_value}
 use Rattle.std.proofs.lemmas.Slice.Eq.{bytes_eq-Decides}
 use Rattle.std.proofs.lemmas.Bool.Decides.{nat_tests}
+use Rattle.drm_table.proofs.Found.{found-passes}
 use Rattle.drm_script.specs.Grammar.{Part, Spells, SpellsNumber, SpellEach}
 use Rattle.drm_script.specs.Grammar.Part.{label}
 use Rattle.drm_script.specs.Fields.{Words, ◌>>=◌, word_at, end_at, number_of, number_at, place_of, label_of}
@@ -123,11 +124,5 @@ label_read w place s = rw s.1 (letter_read (97 + place) place s.0 refl)
 
 -- ---- words that are looked up by their texts
 
-found_at : {W : Type 0} (text : W → List ℕ) (w : List ℕ) (v : W) (b : Bool) (other : Option W) (name : W) → b ≡ bytes_eq (text v) w → (other ≡ Some name → w ≡ text name)
-    → cond b (Some v) other ≡ Some name → w ≡ text name
-found_at text w v true other name t more e = sym ((bytes_eq-Decides (text v) w).0 (sym t)) ∙ ap text (some_same _ _ e)
-found_at text w v false other name t more e = more e
-
 pub found : {W : Type 0} (text : W → List ℕ) (w : List ℕ) (all : List W) (name : W) → find (λ v. bytes_eq (text v) w) all ≡ Some name → w ≡ text name
-found text w [] name e = absurd (cc)
-found text w (v ∷ vs) name e = found_at text w v (bytes_eq (text v) w) _ name refl (found text w vs name) e
+found text w all name e = sym ((bytes_eq-Decides (text name) w).0 (found-passes (λ v. bytes_eq (text v) w) all name e))

@@ -1,0 +1,17 @@
+-- Each kind of an audit is found by its number, and by no other.
+use Rattle.std.proofs.Common.{◌≡◌, ℕ, Some, refl}
+use Rattle.std.specs.Prelude.{◌==◌}
+use Rattle.std.proofs.lemmas.Bool.{eqb-true}
+use Rattle.drm_table.specs.declared.audits.AuditKind.{AuditKind}
+use Rattle.drm_table.specs.declared.audits.AuditKind.TheVariants.{Client}
+use Rattle.drm_table.specs.Audits.{kinds, kind_number, kind_of}
+use Rattle.drm_table.proofs.Found.{found-passes}
+
+pub kind-found : (kind : AuditKind) → kind_of (kind_number kind) ≡ Some kind
+unfolding kind_of kind_number
+kind-found Client = refl
+kind-found _ = refl
+
+pub kind-of-its-own : (number : ℕ) (kind : AuditKind) → kind_of number ≡ Some kind → kind_number kind ≡ number
+unfolding kind_of
+kind-of-its-own number kind e = eqb-true (kind_number kind) number (found-passes (λ (k : AuditKind). kind_number k == number) kinds kind e)
