@@ -19,7 +19,7 @@ use Rattle.drm_model.proofs.Lists.{map-map, filter-map, length-map}
 use Rattle.drm_model.proofs.Orders.{RisesTo, is_row, order_of_rows, sorted-as_is, sorted-same, same-map, in_order_map, in_order_weaker}
 use Rattle.drm_device.specs.declared.state.Client.{Client as AClient}
 use Rattle.drm_device.specs.declared.state.Hold.{Hold as AHold}
-use Rattle.drm_device.specs.declared.state.Object.{Object as AnObject}
+use Rattle.drm_device.specs.Parts.{Object as AnObject}
 use Rattle.drm_device.specs.declared.state.State.{State}
 use Rattle.drm_device.specs.Parts.{IsTied, AreTied, birth_at, hold_of, object_of, keys_of}
 use Rattle.drm_device.proofs.Ties.{among-more}

@@ -10,7 +10,7 @@ use Rattle.drm_model.specs.Change.{is_referred}
 use Rattle.drm_model.proofs.Lists.{find-map, filter-map, map-map, list_any-map, found-number}
 use Rattle.drm_model.proofs.Orders.{same-any, same-map, same-filter, sorted-same, order_of_numbers}
 use Rattle.drm_device.specs.declared.state.Hold.{Hold}
-use Rattle.drm_device.specs.declared.state.Object.{Object}
+use Rattle.drm_device.specs.Parts.{Object}
 use Rattle.drm_device.specs.declared.state.State.{State}
 use Rattle.drm_device.specs.Laws.{WellFormed}
 use Rattle.drm_device.specs.Refinement.{Lists, lists_of, Represents, hold_row_of, object_row_of}

@@ -15,7 +15,7 @@ use Rattle.drm_model.specs.Orders.{SameRows, InOrder}
 use Rattle.drm_model.proofs.Lists.{all_weaker, all_append, map-map, filter-map}
 use Rattle.drm_model.proofs.Orders.{same-any, same-trans, same-refl, in_order_append}
 use Rattle.drm_device.specs.declared.state.Hold.{Hold}
-use Rattle.drm_device.specs.declared.state.Object.{Object}
+use Rattle.drm_device.specs.Parts.{Object}
 use Rattle.drm_device.specs.Parts.{birth_at, hold_of, object_of, keys_of, AreTied, AreThoseNamed, core}
 use Rattle.drm_device.proofs.Ties.{is_found, both_all, flipped, among-more, count-other, count-it, no_count}
 

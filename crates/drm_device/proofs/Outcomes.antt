@@ -23,7 +23,7 @@ use Rattle.drm_table.specs.declared.limits.Limits.{Limits}
 use Rattle.drm_model.specs.Masters.{standing_in}
 use Rattle.drm_table.specs.Table.{flags_of}
 use Rattle.drm_device.specs.declared.state.Hold.{Hold}
-use Rattle.drm_device.specs.declared.state.Object.{Object}
+use Rattle.drm_device.specs.Parts.{Object}
 use Rattle.drm_model.proofs.Lists.{filter_all, length-map, map-append}
 use Rattle.drm_device.specs.declared.state.Client.{Client}
 use Rattle.drm_device.specs.declared.state.State.{State}

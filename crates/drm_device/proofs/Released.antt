@@ -20,7 +20,7 @@ use Rattle.drm_device.specs.Laws.{WellFormed}
 use Rattle.drm_model.proofs.Lists.{all_weaker, map-map, map-append, filter_all, find-map}
 use Rattle.drm_model.proofs.Orders.{same-any, same-map}
 use Rattle.drm_device.specs.declared.state.Hold.{Hold}
-use Rattle.drm_device.specs.declared.state.Object.{Object}
+use Rattle.drm_device.specs.Parts.{Object}
 use Rattle.drm_device.specs.declared.state.State.{State}
 use Rattle.drm_device.specs.Parts.{AreTied, AreThoseNamed, IsTied, IsKept, core, hold_of, object_of, keys_of, birth_at}
 use Rattle.drm_device.specs.Refinement.{Represents, lists_of}

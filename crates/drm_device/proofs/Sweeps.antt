@@ -13,7 +13,7 @@ use Rattle.drm_model.specs.Leases.{ended}
 use Rattle.drm_model.proofs.Lists.{filter-map, filter_all, list_any-map, all_weaker}
 use Rattle.drm_device.specs.declared.state.Client.{Client}
 use Rattle.drm_device.specs.declared.state.Hold.{Hold}
-use Rattle.drm_device.specs.declared.state.Object.{Object}
+use Rattle.drm_device.specs.Parts.{Object}
 use Rattle.drm_device.specs.Laws.{WellFormed}
 use Rattle.drm_device.proofs.Laws.{IsFlat, holds_master, living_flat}
 use Rattle.drm_device.proofs.Booleans.{all_map, list_any_agree, or_right}

@@ -14,7 +14,6 @@ use Rattle.drm_device.specs.declared.state.Client.{Client}
 use Rattle.drm_device.specs.declared.state.Member.{Member}
 use Rattle.drm_device.specs.declared.state.State.{State}
 use Rattle.drm_device.specs.declared.state.Hold.{Hold}
-use Rattle.drm_device.specs.declared.state.Object.{Object}
 
 -- what is kept of a client, in one
 abbrev pub join : FileFlags → Member → Client
@@ -40,6 +39,12 @@ birth_at objects key = option_map_or (λ (x : Kept). x.birth) (find (is_key key)
 -- a handle, by the number of its object
 abbrev pub hold_of : List Kept → FileHold → Hold
 hold_of objects x = record { client = x.client; handle = x.handle; object = birth_at objects x.object }
+
+-- an object without what refers to it, by the number of the step that made it
+pub record Object : Type 0 where
+  pub number : ℕ
+  pub size : ℕ
+  pub stamp : ℕ
 
 abbrev pub object_of : Kept → Object
 object_of x = record { number = x.birth; size = x.size; stamp = x.stamp }

@@ -19,7 +19,7 @@ use Rattle.drm_model.specs.Reply.{reply}
 use Rattle.drm_model.specs.Run.{Growing}
 use Rattle.drm_device.specs.declared.state.Client.{Client}
 use Rattle.drm_device.specs.declared.state.Hold.{Hold}
-use Rattle.drm_device.specs.declared.state.Object.{Object}
+use Rattle.drm_device.specs.Parts.{Object}
 use Rattle.drm_device.specs.declared.state.State.{State}
 use Rattle.drm_device.specs.Laws.{WellFormed}
 use Rattle.drm_device.specs.Parts.{joined, hold_of, object_of}

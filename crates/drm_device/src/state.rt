@@ -34,17 +34,6 @@ pub struct Hold {
     pub object: u32,
 }
 
-/// A buffer.
-#[derive(Clone, Copy)]
-pub struct Object {
-    /// The number of the step that made it.
-    pub number: u32,
-    /// Its size in bytes.
-    pub size: u64,
-    /// It stands for the contents.
-    pub stamp: u64,
-}
-
 /// The parts, and the lists that have no part yet. A master is the number of the step that made it.
 #[derive(Drop)]
 pub struct State {

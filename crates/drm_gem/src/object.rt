@@ -22,6 +22,8 @@ pub struct Object {
 /// An object that is gone, since nothing refers to it any more.
 #[derive(Clone, Copy, PartialEq, Eq, Debug)]
 pub struct Dead {
+    /// The number of the step that made it.
     pub birth: u32,
+    /// Its size in bytes.
     pub size: u64,
 }

@@ -7,7 +7,7 @@ use Rattle.drm_files.specs.Files as files
 use Rattle.drm_model.specs.Rows.{Rows, ObjectRow, HoldRow, free_handle, has_object_room, birth}
 use Rattle.drm_model.specs.Buffers.{has_buffer_room, with_object}
 use Rattle.drm_device.specs.declared.state.Hold.{Hold}
-use Rattle.drm_device.specs.declared.state.Object.{Object}
+use Rattle.drm_device.specs.Parts.{Object}
 use Rattle.drm_device.specs.declared.state.State.{State}
 use Rattle.drm_gem.specs.Objects as gem
 use Rattle.drm_gem.specs.Objects.{ObjectSet, object_at}
