@@ -1,6 +1,4 @@
-pub mod Accounts
 pub mod PageLaws
-pub mod PutSoFar
 pub mod KindLaws
 pub mod Numbers
 pub mod Sizes

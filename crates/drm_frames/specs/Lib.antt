@@ -1,5 +1,3 @@
-pub mod Streams
-pub mod Turns
 pub mod Number
 pub mod Grammar
 pub mod Decoding

@@ -1,5 +1,4 @@
-//! Frames: how requests, hellos and answers stand as bytes, and where the bytes of a session come
-//! from and go to, one call a turn.
+//! Frames: how requests, hellos and answers stand as bytes.
 #![tactic(auto)]
 
 mod answers;
@@ -14,10 +13,7 @@ mod pages;
 mod refusals;
 mod requests;
 mod results;
-mod sink;
-mod source;
 mod text;
-mod turns;
 
 pub use answers::encode_answer;
 pub use decoding::{Decoded, decode};
@@ -31,14 +27,9 @@ pub use laws::{
 };
 pub use requests::{call_of, encode_call};
 pub use results::answer_of;
-pub use sink::{Put, Sink, ToWrite};
-pub use source::{FromRead, Source, Taken};
 pub use text::FrameBytes;
-pub use turns::{Refill, Written, put_all, take_some};
 
 #[cfg(test)]
 mod frame_tests;
 #[cfg(test)]
 mod row_tests;
-#[cfg(test)]
-mod tests;

@@ -1,7 +1,7 @@
 -- The sessions of the connections that a listener accepted.
 use Rattle.std.specs.Prelude.{◌≡◌, ℕ, All, Result, Ok, Err, vec_len, ⊤}
 use Rattle.drm_turns.specs.Seats.{fresh}
-use Rattle.drm_frames.specs.Streams.{SourceAccount, SinkAccount, no_calls}
+use Rattle.drm_streams.specs.Streams.{SourceAccount, SinkAccount, no_calls}
 use Rattle.drm_sessions.specs.declared.class.Class.{Class}
 use Rattle.drm_sessions.specs.declared.end.Session.{Session}
 use Rattle.drm_sessions.specs.Serving.{Costs}

@@ -7,8 +7,8 @@ ghost use Rattle.drm_sessions.specs.Matched.{Matched};
 ghost use Rattle.drm_listeners.specs.Connections.{IsFaultOf, IsSessionOf, Serves};
 
 use crate::serve_faults::ServeFault;
-use drm_frames::{FromRead, ToWrite};
 use drm_sessions::{Class, NoGate, Served, Session, serve_through};
+use drm_streams::{FromRead, ToWrite};
 use drm_turns::{Seat, SharedDevice};
 use std::alloc::Global;
 use std::os::unix::net::{UnixListener, UnixStream};

@@ -1,11 +1,11 @@
 //! Two sessions at once, each of which waits for the other.
 
 ghost use Rattle.std.specs.Prelude.{◌≡◌};
-ghost use Rattle.drm_frames.specs.Streams.{no_calls};
+ghost use Rattle.drm_streams.specs.Streams.{no_calls};
 
 use drm_device::{Device, Topology};
-use drm_frames::{FromRead, ToWrite};
 use drm_sessions::{Class, Finished, Gate, Job, SessionEnd, serve_many};
+use drm_streams::{FromRead, ToWrite};
 use drm_table::{Event, Limits};
 use drm_turns::SharedDevice;
 use std::alloc::Global;

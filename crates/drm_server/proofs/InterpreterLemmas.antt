@@ -7,9 +7,9 @@ use Rattle.drm_table.specs.declared.events.Event.{Event}
 use Rattle.drm_table.specs.declared.limits.Limits.{Limits}
 use Rattle.drm_model.specs.Rows.{Rows}
 use Rattle.drm_model.specs.Run.{History, Step, rows_of, run}
-use Rattle.drm_frames.specs.Streams.{SinkAccount}
-use Rattle.drm_frames.specs.Turns.{Pays}
-use Rattle.drm_frames.proofs.Accounts.{Pays-none}
+use Rattle.drm_streams.specs.Streams.{SinkAccount}
+use Rattle.drm_streams.specs.Turns.{Pays}
+use Rattle.drm_streams.proofs.Accounts.{Pays-none}
 use Rattle.drm_script.specs.declared.commands.Command.{Command}
 use Rattle.drm_script.specs.declared.reading.Reading.TheVariants as readings
 use Rattle.drm_script.specs.Reading.{reading_of}

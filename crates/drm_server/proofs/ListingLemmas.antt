@@ -3,11 +3,11 @@ use Rattle.std.proofs.Common.{◌≡◌, ℕ, zero, suc, ◌+◌, ◌<◌, ◌�
 use Rattle.std.specs.List.{flat_map}
 use Rattle.std.proofs.lemmas.Grind.{flat_map-append}
 use Rattle.std.proofs.lemmas.List.{take-append-drop}
-use Rattle.drm_frames.specs.Streams.{SinkAccount}
-use Rattle.drm_frames.specs.Turns.{Pays, PaysPart, Writes}
-use Rattle.drm_frames.specs.declared.turns.Written.{Written}
-use Rattle.drm_frames.specs.declared.turns.Written.TheVariants as written
-use Rattle.drm_frames.proofs.Accounts.{Took-none, Took-then}
+use Rattle.drm_streams.specs.Streams.{SinkAccount}
+use Rattle.drm_streams.specs.Turns.{Pays, PaysPart, Writes}
+use Rattle.drm_streams.specs.declared.turns.Written.{Written}
+use Rattle.drm_streams.specs.declared.turns.Written.TheVariants as written
+use Rattle.drm_streams.proofs.Accounts.{Took-none, Took-then}
 use Rattle.drm_server.specs.declared.listing.ListEnd.TheVariants as ends
 use Rattle.drm_model.specs.Rows.{Rows}
 use Rattle.drm_server.specs.Listing.{Lists, WritesOut, audit_text}

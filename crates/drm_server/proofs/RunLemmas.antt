@@ -6,9 +6,9 @@ use Rattle.drm_table.specs.declared.apart.Apart.{Apart}
 use Rattle.drm_model.specs.Rows.{Rows}
 use Rattle.drm_script.specs.Lines.{answer_line}
 use Rattle.drm_script.proofs.ReadingLaws.{reading_of-long}
-use Rattle.drm_frames.specs.Streams.{SourceAccount, SinkAccount}
-use Rattle.drm_frames.specs.Turns.{Took, Spends, Pays, PaysPart}
-use Rattle.drm_frames.proofs.Accounts.{Gave-none, Gave-then, Took-none, Took-then}
+use Rattle.drm_streams.specs.Streams.{SourceAccount, SinkAccount}
+use Rattle.drm_streams.specs.Turns.{Took, Spends, Pays, PaysPart}
+use Rattle.drm_streams.proofs.Accounts.{Gave-none, Gave-then, Took-none, Took-then}
 use Rattle.drm_server.specs.Lines.{IsBare, joined}
 use Rattle.drm_server.specs.Reader.{IsTooLong}
 use Rattle.drm_server.specs.Script.{Script, Uses, IsMisplaced, WantsDevice, script_text, unbound}

@@ -7,8 +7,8 @@ use Rattle.drm_table.specs.declared.events.Event.{Event}
 use Rattle.drm_table.specs.declared.limits.Limits.{Limits}
 use Rattle.drm_model.specs.Rows.{Rows}
 use Rattle.drm_model.specs.Run.{Step, rows_of}
-use Rattle.drm_frames.specs.Streams.{SinkAccount}
-use Rattle.drm_frames.specs.Turns.{Pays, PaysPart}
+use Rattle.drm_streams.specs.Streams.{SinkAccount}
+use Rattle.drm_streams.specs.Turns.{Pays, PaysPart}
 use Rattle.drm_script.specs.Lines.{answer_line}
 use Rattle.drm_server.specs.Script.{Uses, IsMisplaced, WantsDevice, script_text, made, bound, empty_device}
 use Rattle.drm_server.specs.declared.interpreter.Interpreter.{Interpreter}

@@ -5,10 +5,10 @@ use Rattle.drm_table.specs.declared.audits.AuditKind.{AuditKind}
 use Rattle.drm_table.specs.Audits.{kinds}
 use Rattle.drm_model.specs.Rows.{Rows}
 use Rattle.drm_model.specs.Audit.{audit_rows, rising_rows}
-use Rattle.drm_frames.specs.Streams.{SinkAccount}
-use Rattle.drm_frames.specs.Turns.{Took, Pays, PaysPart}
-use Rattle.drm_frames.specs.declared.turns.Written.{Written}
-use Rattle.drm_frames.specs.declared.turns.Written.TheVariants as written
+use Rattle.drm_streams.specs.Streams.{SinkAccount}
+use Rattle.drm_streams.specs.Turns.{Took, Pays, PaysPart}
+use Rattle.drm_streams.specs.declared.turns.Written.{Written}
+use Rattle.drm_streams.specs.declared.turns.Written.TheVariants as written
 use Rattle.drm_script.specs.Lines.{audit_line}
 use Rattle.drm_server.specs.declared.listing.ListEnd.{ListEnd}
 use Rattle.drm_server.specs.declared.listing.ListEnd.TheVariants as ends

@@ -1,7 +1,7 @@
 -- What a reader of lines has read.
 use Rattle.std.specs.Prelude.{◌≡◌, ℕ, ◌+◌, ◌*◌, ◌<◌, List, [], ◌∷◌, ◌++◌, length, take, drop}
-use Rattle.drm_frames.specs.Streams.{SourceAccount}
-use Rattle.drm_frames.specs.Turns.{Spends}
+use Rattle.drm_streams.specs.Streams.{SourceAccount}
+use Rattle.drm_streams.specs.Turns.{Spends}
 use Rattle.drm_server.specs.Lines.{IsBare}
 use Rattle.drm_server.specs.declared.reader.LineReader.{LineReader}
 use Rattle.drm_server.specs.declared.reader.Scan.{Scan}

@@ -3,8 +3,8 @@ use Rattle.std.specs.Prelude.{◌≡◌, ℕ, ◌+◌, ◌<◌, ◌≤◌, List,
 use Rattle.drm_table.specs.declared.answers.Answer.{Answer}
 use Rattle.drm_table.specs.declared.apart.Apart.{Apart}
 use Rattle.drm_model.specs.Rows.{Rows}
-use Rattle.drm_frames.specs.Streams.{SourceAccount, SinkAccount}
-use Rattle.drm_frames.specs.Turns.{Gave, Took}
+use Rattle.drm_streams.specs.Streams.{SourceAccount, SinkAccount}
+use Rattle.drm_streams.specs.Turns.{Gave, Took}
 use Rattle.drm_script.specs.Lines.{answer_line}
 use Rattle.drm_server.specs.Lines.{IsBare, joined}
 use Rattle.drm_server.specs.Script.{Script, script_text, IsMisplaced, WantsDevice}

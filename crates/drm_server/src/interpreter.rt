@@ -2,8 +2,8 @@
 
 use crate::devices::make_device;
 use drm_device::{Device, Limits};
-use drm_frames::{Sink, Written, put_all};
 use drm_script::{Command, Label, Reading, line_of, read_line};
+use drm_streams::{Sink, Written, put_all};
 use drm_table::{Answer, Apart, Event};
 use std::alloc::Global;
 

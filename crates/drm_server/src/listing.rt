@@ -7,8 +7,8 @@ ghost use Rattle.drm_script.specs.Lines as lines;
 ghost use Rattle.drm_server.specs.Listing.{Lists, WritesOut, kind_text};
 
 use drm_device::Device;
-use drm_frames::{Sink, Written, put_all};
 use drm_script::audit_line;
+use drm_streams::{Sink, Written, put_all};
 use drm_table::{AuditKind, AuditRow};
 
 /// How many rows a page of an audit has at most.

@@ -4,7 +4,7 @@ ghost use Rattle.std.specs.Prelude.{◌≡◌, ◌≤◌, ◌<◌, ◌^◌, ◌+
 ghost use Rattle.drm_server.specs.Lines.{is_end};
 
 use arrayvec::ArrayVec;
-use drm_frames::{Refill, Source, take_some};
+use drm_streams::{Refill, Source, take_some};
 
 /// How many bytes one `take` may give.
 const CHUNK: usize = 256;

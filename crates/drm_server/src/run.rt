@@ -5,7 +5,7 @@ ghost use Rattle.drm_server.specs.Runs.{Runs, stop_of};
 
 use crate::interpreter::{Interpreter, LineEnd};
 use crate::reader::{LineReader, NextLine};
-use drm_frames::{Sink, Source};
+use drm_streams::{Sink, Source};
 use std::alloc::Global;
 
 /// How the run of a script ends (own).

@@ -3,9 +3,9 @@ use Rattle.std.proofs.Common.{◌≡◌, ℕ, List, [], ◌++◌, drop, sym, ap,
 use Rattle.std.proofs.lemmas.List.{append-nil, take-append-drop}
 use Rattle.drm_frames.specs.Grammar.{Packet, frame_text}
 use Rattle.drm_frames.specs.Decoding.{StandsAtFront}
-use Rattle.drm_frames.specs.Streams.{SourceAccount}
-use Rattle.drm_frames.specs.Turns.{Spends}
-use Rattle.drm_frames.proofs.Accounts.{Spends-none, Spends-then}
+use Rattle.drm_streams.specs.Streams.{SourceAccount}
+use Rattle.drm_streams.specs.Turns.{Spends}
+use Rattle.drm_streams.proofs.Accounts.{Spends-none, Spends-then}
 use Rattle.drm_sessions.specs.Reading.{Comes, Uses}
 
 pub Comes-none : (a : SourceAccount) (waits : List ℕ) (turns : ℕ) → Comes a a waits waits turns turns

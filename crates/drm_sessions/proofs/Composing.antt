@@ -6,7 +6,7 @@ use Rattle.std.proofs.KnownBytes.{Consumes-nil, Consumes-trans}
 use Rattle.drm_table.specs.declared.events.Event.{Event}
 use Rattle.drm_frames.specs.Grammar.{Packet, frame_text, IsPacket}
 use Rattle.drm_frames.specs.Answers.{Outcome, answer_text}
-use Rattle.drm_frames.specs.Streams.{SourceAccount}
+use Rattle.drm_streams.specs.Streams.{SourceAccount}
 use Rattle.drm_sessions.specs.Reading.{Comes, Uses}
 use Rattle.drm_sessions.specs.Runs.{Exchange, exchange, Runs, asked, outcomes, session_text, noted, one_if_noted, Requests}
 

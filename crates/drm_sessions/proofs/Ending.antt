@@ -6,8 +6,8 @@ use Rattle.std.proofs.KnownBytes.{Appends-nil, Appends-trans}
 use Rattle.drm_table.specs.declared.events.Event.{Event}
 use Rattle.drm_frames.specs.Grammar.{Packet}
 use Rattle.drm_frames.specs.Answers.{Outcome, answer_text}
-use Rattle.drm_frames.specs.Streams.{SourceAccount, SinkAccount}
-use Rattle.drm_frames.specs.Turns.{NeverFall, Spends, Pays, PaysPart}
+use Rattle.drm_streams.specs.Streams.{SourceAccount, SinkAccount}
+use Rattle.drm_streams.specs.Turns.{NeverFall, Spends, Pays, PaysPart}
 use Rattle.drm_sessions.specs.declared.end.SessionEnd.{SessionEnd}
 use Rattle.drm_sessions.specs.declared.end.SessionEnd.TheVariants as ends
 use Rattle.drm_sessions.specs.Reading.{Comes, Uses, StopsAt, ReadShows, WriteShows}

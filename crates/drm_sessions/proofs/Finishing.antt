@@ -12,8 +12,8 @@ use Rattle.drm_table.specs.declared.apart.Apart.{Apart}
 use Rattle.drm_table.specs.declared.apart.Apart.TheVariants as aparts
 use Rattle.drm_frames.specs.Grammar.{Packet, frame_text}
 use Rattle.drm_frames.specs.Answers.{Outcome, answer_text}
-use Rattle.drm_frames.specs.Streams.{SourceAccount, SinkAccount}
-use Rattle.drm_frames.specs.Turns.{Pays, PaysPart}
+use Rattle.drm_streams.specs.Streams.{SourceAccount, SinkAccount}
+use Rattle.drm_streams.specs.Turns.{Pays, PaysPart}
 use Rattle.drm_sessions.specs.declared.class.Class.{Class}
 use Rattle.drm_sessions.specs.declared.end.Session.{Session}
 use Rattle.drm_sessions.specs.declared.end.SessionEnd.{SessionEnd}

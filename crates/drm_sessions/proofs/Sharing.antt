@@ -3,7 +3,7 @@ use Rattle.std.proofs.Common.{◌≡◌, List, [], ◌∷◌, ◌++◌, ◌∙�
 use Rattle.std.specs.List.{AllByRecursion}
 use Rattle.drm_turns.specs.Seats.{Standing}
 use Rattle.drm_turns.specs.Turns.{Turn}
-use Rattle.drm_frames.specs.Streams.{SourceAccount, SinkAccount}
+use Rattle.drm_streams.specs.Streams.{SourceAccount, SinkAccount}
 use Rattle.drm_sessions.specs.declared.class.Class.{Class}
 use Rattle.drm_sessions.specs.declared.end.Session.{Session}
 use Rattle.drm_sessions.specs.Runs.{Exchange, Runs}

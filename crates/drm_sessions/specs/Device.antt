@@ -12,7 +12,7 @@ use Rattle.drm_model.specs.Results.{result_by, results}
 use Rattle.drm_turns.specs.Turns.{Steps}
 use Rattle.drm_frames.specs.Answers.{Outcome}
 use Rattle.drm_frames.specs.Grammar.{Packet}
-use Rattle.drm_frames.specs.Streams.{SourceAccount, SinkAccount}
+use Rattle.drm_streams.specs.Streams.{SourceAccount, SinkAccount}
 use Rattle.drm_sessions.specs.declared.class.Class.{Class}
 use Rattle.drm_sessions.specs.declared.end.Session.{Session}
 use Rattle.drm_sessions.specs.declared.end.SessionEnd.{SessionEnd}

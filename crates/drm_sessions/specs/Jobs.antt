@@ -1,7 +1,7 @@
 -- A job, and what came of it.
 use Rattle.std.specs.Prelude.{◌+◌, ◌^◌, ◌<◌}
 use Rattle.drm_turns.specs.Seats.{fresh}
-use Rattle.drm_frames.specs.Streams.{SourceAccount, SinkAccount}
+use Rattle.drm_streams.specs.Streams.{SourceAccount, SinkAccount}
 use Rattle.drm_sessions.specs.declared.jobs.Job.{Job}
 use Rattle.drm_sessions.specs.declared.jobs.Finished.{Finished}
 use Rattle.drm_sessions.specs.Serving.{Costs}

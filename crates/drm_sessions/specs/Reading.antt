@@ -2,10 +2,10 @@
 use Rattle.std.specs.Prelude.{◌≡◌, ◌≢◌, ℕ, ◌<◌, List, [], ◌++◌, length, Result, Ok, Err, ⊤}
 use Rattle.std.specs.Io.KnownBytes.{Appends, IsAtEnd}
 use Rattle.drm_frames.specs.Grammar.{Packet, frame_text, IsPacket, IsPart, IsTooLong}
-use Rattle.drm_frames.specs.Streams.{SourceAccount, SinkAccount}
-use Rattle.drm_frames.specs.Turns.{Spends, Pays, PaysPart}
-use Rattle.drm_frames.specs.declared.turns.Refill.{Refill}
-use Rattle.drm_frames.specs.declared.turns.Refill.TheVariants as refill
+use Rattle.drm_streams.specs.Streams.{SourceAccount, SinkAccount}
+use Rattle.drm_streams.specs.Turns.{Spends, Pays, PaysPart}
+use Rattle.drm_streams.specs.declared.turns.Refill.{Refill}
+use Rattle.drm_streams.specs.declared.turns.Refill.TheVariants as refill
 use Rattle.drm_sessions.specs.declared.end.SessionEnd.{SessionEnd}
 use Rattle.drm_sessions.specs.declared.end.SessionEnd.TheVariants as ends
 

@@ -7,7 +7,7 @@ use Rattle.drm_table.specs.declared.events.Event.TheVariants.{Ask}
 use Rattle.drm_frames.specs.Grammar.{Packet, frame_text, IsPacket}
 use Rattle.drm_frames.specs.Requests.{request_of}
 use Rattle.drm_frames.specs.Answers.{Outcome, answer_text}
-use Rattle.drm_frames.specs.Streams.{SourceAccount}
+use Rattle.drm_streams.specs.Streams.{SourceAccount}
 
 -- an event and what it was answered
 pub record Exchange : Type 0 where

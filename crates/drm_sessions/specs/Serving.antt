@@ -8,7 +8,7 @@ use Rattle.drm_table.specs.declared.events.Opening.{Opening}
 use Rattle.drm_table.specs.declared.answers.Answer.TheVariants.{Opened, Denied}
 use Rattle.drm_table.specs.declared.apart.Apart.TheVariants.{Worn}
 use Rattle.drm_frames.specs.Grammar.{Packet, frame_text, IsPacket}
-use Rattle.drm_frames.specs.Streams.{SourceAccount, SinkAccount}
+use Rattle.drm_streams.specs.Streams.{SourceAccount, SinkAccount}
 use Rattle.drm_frames.specs.Answers.{Outcome}
 use Rattle.drm_sessions.specs.declared.class.Class.{Class}
 use Rattle.drm_sessions.specs.declared.end.Session.{Session}

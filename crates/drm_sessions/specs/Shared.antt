@@ -5,7 +5,7 @@ use Rattle.drm_table.specs.declared.events.Event.{Event}
 use Rattle.drm_turns.specs.Seats.{Standing}
 use Rattle.drm_turns.specs.Turns.{Turn}
 use Rattle.drm_frames.specs.Answers.{Outcome}
-use Rattle.drm_frames.specs.Streams.{SourceAccount, SinkAccount}
+use Rattle.drm_streams.specs.Streams.{SourceAccount, SinkAccount}
 use Rattle.drm_sessions.specs.declared.class.Class.{Class}
 use Rattle.drm_sessions.specs.declared.end.Session.{Session}
 use Rattle.drm_sessions.specs.Serving.{Serves}

@@ -8,7 +8,7 @@ ghost use Rattle.drm_sessions.specs.Matched.{Matched};
 
 use crate::access::Gate;
 use crate::jobs::{Finished, Job, JobHandle, Returned, start_job};
-use drm_frames::{Sink, Source};
+use drm_streams::{Sink, Source};
 use drm_turns::{Seat, SharedDevice};
 use std::alloc::Global;
 use std::sync::Wait;

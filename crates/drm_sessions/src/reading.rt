@@ -5,7 +5,8 @@ ghost use Rattle.drm_sessions.specs.Reading.{Reads};
 
 use crate::end::SessionEnd;
 use crate::inbox::Inbox;
-use drm_frames::{Decoded, Frame, Refill, Source, decode};
+use drm_frames::{Decoded, Frame, decode};
+use drm_streams::{Refill, Source};
 
 /// The next frame, from the bytes that wait and the source. A byte is taken only where no whole
 /// frame waits.

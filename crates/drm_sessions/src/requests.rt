@@ -11,7 +11,8 @@ use crate::end::SessionEnd;
 use crate::inbox::Inbox;
 use crate::reading::next_frame;
 use crate::writing::write_answer;
-use drm_frames::{Frame, Sink, Source, call_of, encode_answer};
+use drm_frames::{Frame, call_of, encode_answer};
+use drm_streams::{Sink, Source};
 use drm_table::Event;
 
 /// How the requests ended, and how many were noted.

@@ -17,7 +17,8 @@ use crate::opening::opening_of;
 use crate::reading::next_frame;
 use crate::requests::{Stopped, answer_requests};
 use crate::writing::write_answer;
-use drm_frames::{Sink, Source, encode_answer};
+use drm_frames::encode_answer;
+use drm_streams::{Sink, Source};
 use drm_table::{Apart, Event, Opening};
 
 // Writes the answer to an opening that was accepted, and answers the client's requests.

@@ -1,11 +1,11 @@
 //! Whole sessions, byte for byte, over sources and sinks that end, fail and interrupt.
 
 ghost use Rattle.std.specs.Prelude.{◌≡◌, ◌<◌, ◌≤◌};
-ghost use Rattle.drm_frames.specs.Streams.{no_calls};
+ghost use Rattle.drm_streams.specs.Streams.{no_calls};
 
 use crate::{Class, Gate, NoGate, Session, SessionEnd, serve_alone};
 use drm_device::{Device, Topology};
-use drm_frames::{FromRead, ToWrite};
+use drm_streams::{FromRead, ToWrite};
 use drm_table::{Apart, Limits, Rule};
 use drm_test_streams::{CutSink, CutSource};
 use std::alloc::Global;

@@ -8,7 +8,7 @@ use crate::access::{Access, Gate};
 use crate::class::Class;
 use crate::end::Session;
 use crate::serving::serve;
-use drm_frames::{Sink, Source};
+use drm_streams::{Sink, Source};
 use drm_table::{Answer, Apart, Event};
 use drm_turns::{Seat, SharedDevice};
 use std::marker::Model;

@@ -1,10 +1,10 @@
 //! A sink for tests.
 ghost use Rattle.std.specs.Prelude.{◌≡◌, ◌<◌, [], Some};
-ghost use Rattle.drm_frames.specs.Streams.{no_calls};
+ghost use Rattle.drm_streams.specs.Streams.{no_calls};
 
 use crate::interruptions::Interruptions;
 use arrayvec::ArrayVec;
-use drm_frames::{Put, Sink};
+use drm_streams::{Put, Sink};
 use std::marker::Model;
 
 /// A sink that takes up to `N` bytes in pieces, and fails or is interrupted where a test wants it.
@@ -24,7 +24,7 @@ pub struct CutSink<const N: usize> {
 
 impl<const N: usize> Model for CutSink<N> {
     ghost use Rattle.std.specs.Prelude.{◌+◌, ◌≤◌, ◌<◌, Some, length};
-    ghost use Rattle.drm_frames.specs.Streams.{SinkAccount};
+    ghost use Rattle.drm_streams.specs.Streams.{SinkAccount};
 
     ghost Value = { SinkAccount };
 

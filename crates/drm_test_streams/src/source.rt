@@ -1,10 +1,10 @@
 //! A source for tests.
 ghost use Rattle.std.specs.Prelude.{◌≡◌, ◌<◌, Some, take};
 ghost use Rattle.std.specs.Option.{option_map};
-ghost use Rattle.drm_frames.specs.Streams.{no_calls};
+ghost use Rattle.drm_streams.specs.Streams.{no_calls};
 
 use crate::interruptions::Interruptions;
-use drm_frames::{Source, Taken};
+use drm_streams::{Source, Taken};
 use std::marker::Model;
 
 /// A source that gives its bytes in pieces, and fails, ends or is interrupted where a test wants it.
@@ -23,7 +23,7 @@ pub struct CutSource<'a> {
 
 impl<'a> Model for CutSource<'a> {
     ghost use Rattle.std.specs.Prelude.{◌+◌, ◌≤◌, ◌<◌, Some};
-    ghost use Rattle.drm_frames.specs.Streams.{SourceAccount};
+    ghost use Rattle.drm_streams.specs.Streams.{SourceAccount};
 
     ghost Value = { SourceAccount };
 

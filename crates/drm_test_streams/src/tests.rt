@@ -3,7 +3,7 @@ ghost use Rattle.std.specs.Prelude.{◌+◌, ◌<◌, ◌^◌};
 
 use crate::{CutSink, CutSource};
 use arrayvec::ArrayVec;
-use drm_frames::{Refill, Sink, Written, put_all, take_some};
+use drm_streams::{Refill, Sink, Written, put_all, take_some};
 use std::process::Abort;
 
 const TEXT: &[u8] = b"one frame and one more";

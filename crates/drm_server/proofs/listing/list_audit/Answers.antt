@@ -2,8 +2,8 @@ use Rattle.std.proofs.Common.{refl, subst, take, drop, suc, arith}
 use Rattle.std.specs.List.{flat_map}
 use Rattle.drm_table.specs.Audits.{kinds}
 use Rattle.drm_model.specs.Run.{rows_of}
-use Rattle.drm_frames.specs.Turns.{Pays}
-use Rattle.drm_frames.specs.declared.turns.Written.TheVariants as written
+use Rattle.drm_streams.specs.Turns.{Pays}
+use Rattle.drm_streams.specs.declared.turns.Written.TheVariants as written
 use Rattle.drm_server.specs.Listing.{kind_text, audit_text}
 use Rattle.drm_server.proofs.ListingLemmas.{pays-none, pays-then, stops, next-text, whole-text, all-taken, listed, listed-fault, listed-turns}
 use Rattle.drm_server.proofs.listing.list_audit.Goals as goal

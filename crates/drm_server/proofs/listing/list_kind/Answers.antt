@@ -4,7 +4,7 @@ use Rattle.std.proofs.lemmas.Bool.{eqb-true}
 use Rattle.drm_table.specs.declared.audits.AuditRow.{AuditRow}
 use Rattle.drm_model.specs.Audit.{audit_rows, rising_rows, audit_page}
 use Rattle.drm_model.specs.Run.{rows_of}
-use Rattle.drm_frames.specs.Turns.{Pays}
+use Rattle.drm_streams.specs.Turns.{Pays}
 use Rattle.drm_script.specs.Lines as lines
 use Rattle.drm_server.specs.Listing.{WritesOut}
 use Rattle.drm_server.proofs.ListingLemmas.{pays-none, pays-then, stops, next-page, whole-page, last-page, all-taken}

@@ -1,6 +1,6 @@
 use Rattle.std.proofs.Common.{◌∙◌, subst, take, drop, arith, suc}
 use Rattle.std.specs.List.{flat_map}
-use Rattle.drm_frames.specs.Turns.{Pays, Writes}
+use Rattle.drm_streams.specs.Turns.{Pays, Writes}
 use Rattle.drm_script.specs.Lines as lines
 use Rattle.drm_server.proofs.ListingLemmas.{pays-none, pays-then, stops, writes_out, next-text, whole-text, all-taken}
 use Rattle.drm_server.proofs.listing.list_rows.Goals as goal

@@ -1,5 +1,5 @@
 use Rattle.std.proofs.Common.{[], sym, ◌∙◌}
-use Rattle.drm_frames.proofs.Accounts.{Pays-none}
+use Rattle.drm_streams.proofs.Accounts.{Pays-none}
 use Rattle.drm_server.specs.Script.Uses.{skipped}
 use Rattle.drm_server.proofs.InterpreterLemmas.{sets_uses, asks_uses}
 use Rattle.drm_server.proofs.interpreter.Interpreter.use_line.Goals as goal

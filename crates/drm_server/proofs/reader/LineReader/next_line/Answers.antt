@@ -1,5 +1,5 @@
 use Rattle.std.proofs.Common.{◌++◌, take, arith, length-take}
-use Rattle.drm_frames.proofs.Accounts.{Spends-then}
+use Rattle.drm_streams.proofs.Accounts.{Spends-then}
 use Rattle.drm_server.specs.Reader.{pending, held}
 use Rattle.drm_server.proofs.LineLemmas.{more_given, more_fuel}
 use Rattle.drm_server.proofs.reader.LineReader.next_line.Goals as goal

@@ -1,5 +1,5 @@
 use Rattle.std.proofs.Common.{◌≡◌, ◌≤◌, ◌+◌, ◌*◌, ◌++◌, ℕ, List, length}
-use Rattle.drm_frames.specs.Turns.{Spends}
+use Rattle.drm_streams.specs.Turns.{Spends}
 use Rattle.drm_server.specs.Lines.{IsBare}
 use Rattle.drm_server.specs.Reader.{pending, held}
 use Rattle.drm_server.proofs.reader.LineReader.next_line.Given as goal

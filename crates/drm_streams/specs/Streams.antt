@@ -1,10 +1,10 @@
 -- What a source and a sink tell of their bytes and their calls, and what one call does to it.
 use Rattle.std.specs.Prelude.{ℕ, ◌+◌, ◌<◌, ◌≤◌, List, [], ◌∷◌, length, take, Option, zero, suc}
 use Rattle.std.specs.Io.KnownBytes.{Keeps, Appends, Consumes, IsAtEnd}
-use Rattle.drm_frames.specs.declared.source.Taken.{Taken}
-use Rattle.drm_frames.specs.declared.source.Taken.TheVariants as taken
-use Rattle.drm_frames.specs.declared.sink.Put.{Put}
-use Rattle.drm_frames.specs.declared.sink.Put.TheVariants as put
+use Rattle.drm_streams.specs.declared.source.Taken.{Taken}
+use Rattle.drm_streams.specs.declared.source.Taken.TheVariants as taken
+use Rattle.drm_streams.specs.declared.sink.Put.{Put}
+use Rattle.drm_streams.specs.declared.sink.Put.TheVariants as put
 
 -- how many calls were made, and how many of them answered an end or a fault
 pub record Counts : Type 0 where

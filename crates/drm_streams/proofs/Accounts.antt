@@ -2,12 +2,12 @@
 use Rattle.std.proofs.Common.{◌≡◌, ℕ, ◌+◌, ◌-◌, ◌<◌, zero, suc, List, [], ◌∷◌, ◌++◌, length, take, drop, Option, refl, sym, ap, subst, ◌∙◌, arith, append_assoc, length-append, length-drop, length-take-le, take-append-drop}
 use Rattle.std.specs.Io.KnownBytes.{Consumes, Appends}
 use Rattle.std.proofs.KnownBytes.{Consumes-nil, Consumes-trans, Consumes-kept, Appends-nil, Appends-trans, Appends-kept}
-use Rattle.drm_frames.specs.Streams.{Counts, one_call, one_end, one_fault, SourceAccount, SinkAccount, TakeGives, counts_taken, PutGives, counts_put}
-use Rattle.drm_frames.specs.Turns.{NeverFall, Gave, Took, Spends, Pays, PaysPart}
-use Rattle.drm_frames.specs.declared.source.Taken.{Taken}
-use Rattle.drm_frames.specs.declared.source.Taken.TheVariants as taken
-use Rattle.drm_frames.specs.declared.sink.Put.{Put}
-use Rattle.drm_frames.specs.declared.sink.Put.TheVariants as put
+use Rattle.drm_streams.specs.Streams.{Counts, one_call, one_end, one_fault, SourceAccount, SinkAccount, TakeGives, counts_taken, PutGives, counts_put}
+use Rattle.drm_streams.specs.Turns.{NeverFall, Gave, Took, Spends, Pays, PaysPart}
+use Rattle.drm_streams.specs.declared.source.Taken.{Taken}
+use Rattle.drm_streams.specs.declared.source.Taken.TheVariants as taken
+use Rattle.drm_streams.specs.declared.sink.Put.{Put}
+use Rattle.drm_streams.specs.declared.sink.Put.TheVariants as put
 
 -- ---- counts
 

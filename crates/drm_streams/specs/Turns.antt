@@ -1,11 +1,11 @@
 -- What a source gave and a sink took over several calls, and what that cost.
 use Rattle.std.specs.Prelude.{◌≡◌, ℕ, ◌+◌, ◌*◌, ◌<◌, ◌≤◌, List, [], ◌++◌, length, take}
 use Rattle.std.specs.Io.KnownBytes.{Appends, Consumes, IsAtEnd}
-use Rattle.drm_frames.specs.Streams.{Counts, SourceAccount, SinkAccount}
-use Rattle.drm_frames.specs.declared.turns.Refill.{Refill}
-use Rattle.drm_frames.specs.declared.turns.Refill.TheVariants as refill
-use Rattle.drm_frames.specs.declared.turns.Written.{Written}
-use Rattle.drm_frames.specs.declared.turns.Written.TheVariants as written
+use Rattle.drm_streams.specs.Streams.{Counts, SourceAccount, SinkAccount}
+use Rattle.drm_streams.specs.declared.turns.Refill.{Refill}
+use Rattle.drm_streams.specs.declared.turns.Refill.TheVariants as refill
+use Rattle.drm_streams.specs.declared.turns.Written.{Written}
+use Rattle.drm_streams.specs.declared.turns.Written.TheVariants as written
 
 -- No count fell.
 pub record NeverFall (old new : Counts) : Type 0 where

@@ -1,5 +1,5 @@
-use Rattle.drm_frames.proofs.PutSoFar.{PutSoFar}
-use Rattle.drm_frames.proofs.turns.put_all.Given as goal
+use Rattle.drm_streams.proofs.PutSoFar.{PutSoFar}
+use Rattle.drm_streams.proofs.turns.put_all.Given as goal
 
 abbrev pub invariant-pieces : goal.invariant-pieces
 invariant-pieces g l =

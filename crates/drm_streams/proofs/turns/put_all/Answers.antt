@@ -1,6 +1,6 @@
 use Rattle.std.proofs.Common.{arith}
-use Rattle.drm_frames.proofs.PutSoFar.{PutSoFar-took, PutSoFar-Tries}
-use Rattle.drm_frames.proofs.turns.put_all.Goals as goal
+use Rattle.drm_streams.proofs.PutSoFar.{PutSoFar-took, PutSoFar-Tries}
+use Rattle.drm_streams.proofs.turns.put_all.Goals as goal
 
 pub pieces-preserved-in-Took : goal.pieces-preserved-in-Took
 pieces-preserved-in-Took g c =

@@ -1,9 +1,9 @@
 -- How far putting a text has come.
 use Rattle.std.proofs.Common.{◌≡◌, ℕ, ◌+◌, ◌-◌, ◌*◌, ◌<◌, ◌≤◌, zero, suc, List, [], ◌∷◌, ◌++◌, length, take, drop, refl, sym, ap, ◌∙◌, arith, append_assoc, length-append, length-take-le, take-append-drop}
-use Rattle.drm_frames.specs.Streams.{Counts, SinkAccount, PutGives, counts_put}
-use Rattle.drm_frames.specs.Turns.{Pays, Tries}
-use Rattle.drm_frames.specs.declared.sink.Put.TheVariants as put
-use Rattle.drm_frames.proofs.Accounts.{Pays-one, Pays-then}
+use Rattle.drm_streams.specs.Streams.{Counts, SinkAccount, PutGives, counts_put}
+use Rattle.drm_streams.specs.Turns.{Pays, Tries}
+use Rattle.drm_streams.specs.declared.sink.Put.TheVariants as put
+use Rattle.drm_streams.proofs.Accounts.{Pays-one, Pays-then}
 
 -- The sink took the front of the text, and the rest is left; so many interruptions came since the last byte.
 pub record PutSoFar (old new : SinkAccount) (text rest : List ℕ) (had has interruptions : ℕ) : Type 0 where

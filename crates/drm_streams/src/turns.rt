@@ -1,6 +1,6 @@
 //! Taking and putting over interruptions, each call for one turn.
 ghost use Rattle.std.specs.Prelude.{◌+◌, ◌^◌, ◌<◌, length};
-ghost use Rattle.drm_frames.specs.Turns.{Refills, Tries, Writes};
+ghost use Rattle.drm_streams.specs.Turns.{Refills, Tries, Writes};
 
 use crate::sink::{Put, Sink};
 use crate::source::{Source, Taken};

@@ -1,6 +1,6 @@
 use Rattle.std.proofs.Common.{◌≡◌, [], ◌+◌}
-use Rattle.drm_frames.specs.Turns.{Spends}
-use Rattle.drm_frames.proofs.turns.take_some.Given as goal
+use Rattle.drm_streams.specs.Turns.{Spends}
+use Rattle.drm_streams.proofs.turns.take_some.Given as goal
 
 abbrev pub invariant-tries : goal.invariant-tries
 invariant-tries g l =

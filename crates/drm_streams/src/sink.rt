@@ -1,6 +1,6 @@
 //! Where bytes go to.
 ghost use Rattle.std.specs.Prelude.{◌≡◌, ◌-◌, ◌^◌, ◌<◌};
-ghost use Rattle.drm_frames.specs.Streams.{SinkAccount, PutGives, counts_put, no_calls};
+ghost use Rattle.drm_streams.specs.Streams.{SinkAccount, PutGives, counts_put, no_calls};
 
 use std::io::{ErrorKind, Write};
 use std::marker::Model;
@@ -47,7 +47,7 @@ pub struct ToWrite<W: Write> {
 
 impl<W: Write> Model for ToWrite<W> {
     ghost use Rattle.std.specs.Prelude.{◌≤◌};
-    ghost use Rattle.drm_frames.specs.Streams.{SinkAccount};
+    ghost use Rattle.drm_streams.specs.Streams.{SinkAccount};
 
     ghost Value = { SinkAccount };
 

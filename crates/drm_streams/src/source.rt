@@ -1,6 +1,6 @@
 //! Where bytes come from.
 ghost use Rattle.std.specs.Prelude.{◌≡◌, ◌-◌, ◌^◌, ◌<◌, length};
-ghost use Rattle.drm_frames.specs.Streams.{SourceAccount, TakeGives, counts_taken, no_calls};
+ghost use Rattle.drm_streams.specs.Streams.{SourceAccount, TakeGives, counts_taken, no_calls};
 
 use std::io::{ErrorKind, Read};
 use std::marker::Model;
@@ -50,7 +50,7 @@ pub struct FromRead<R: Read> {
 
 impl<R: Read> Model for FromRead<R> {
     ghost use Rattle.std.specs.Prelude.{◌+◌, ◌≤◌};
-    ghost use Rattle.drm_frames.specs.Streams.{SourceAccount};
+    ghost use Rattle.drm_streams.specs.Streams.{SourceAccount};
 
     ghost Value = { SourceAccount };
 
