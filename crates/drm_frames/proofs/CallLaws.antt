@@ -16,7 +16,7 @@ use Rattle.drm_frames.proofs.FieldLaws.{two-again, u32_in-below, three-again}
 use Rattle.drm_frames.proofs.Shapes.{u32-written, u64-written, wide-written, mixed-written}
 use Rattle.drm_frames.proofs.Sizes.{size-some, cond-some, some-is, packet-is}
 use Rattle.drm_frames.proofs.CallTexts.{row-found}
-use Rattle.drm_frames.proofs.KindLaws.{kind-of-its-own}
+use Rattle.drm_table.proofs.AuditKinds.{kind-of-its-own}
 
 -- ---- what is found is asked
 

@@ -12,7 +12,7 @@ use Rattle.drm_frames.proofs.Numbers.{u32_in-u32, length-u32, length-u64}
 use Rattle.drm_frames.proofs.FieldLaws.{AreBytes-nil, AreBytes-u32, AreBytes-u64, two-bytes, three-bytes, length-two, last-of-two, u32_in-alone, length-three, first-is, second-is, behind-is}
 use Rattle.drm_frames.proofs.Shapes.{length-wide, length-mixed, wide-bytes, mixed-bytes, u32-read, u64-read, wide-read, mixed-read}
 use Rattle.drm_frames.proofs.Sizes.{of_size}
-use Rattle.drm_frames.proofs.KindLaws.{kind-small, kind-found}
+use Rattle.drm_table.proofs.AuditKinds.{kind-small, kind-found}
 
 -- ---- a frame that asks a row's call is a frame
 

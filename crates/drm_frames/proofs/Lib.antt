@@ -1,5 +1,4 @@
 pub mod PageLaws
-pub mod KindLaws
 pub mod Numbers
 pub mod Sizes
 pub mod FieldLaws

@@ -8,7 +8,8 @@ use Rattle.drm_table.specs.declared.apart.Apart.{Apart}
 use Rattle.drm_table.specs.declared.apart.Apart.TheVariants.{JournalFull, NoMemory, Worn}
 use Rattle.drm_table.specs.Rules.{rule_number, rule_errno, apart_number, apart_errno}
 use Rattle.drm_frames.specs.Answers.{rules, rule_of, aparts, apart_of}
-use Rattle.drm_frames.proofs.Sizes.{both-true, found-passes}
+use Rattle.drm_table.proofs.Found.{found-passes}
+use Rattle.drm_frames.proofs.Sizes.{both-true}
 
 pub rule-found : (rule : Rule) → rule_of (rule_number rule) (rule_errno rule) ≡ Some rule
 unfolding rule_of

@@ -1,6 +1,6 @@
 -- Fields of one size, and options of a test.
-use Rattle.std.proofs.Common.{◌≡◌, ℕ, Bool, true, false, cond, List, [], ◌∷◌, length, Option, Some, None, refl, sym, ap, ◌∙◌}
-use Rattle.std.specs.Prelude.{◌&&◌, nat_eq, find}
+use Rattle.std.proofs.Common.{◌≡◌, ℕ, Bool, true, false, cond, List, length, Option, Some, None, refl, ap, ◌∙◌}
+use Rattle.std.specs.Prelude.{◌&&◌, nat_eq}
 use Rattle.std.proofs.lemmas.Bool.{eq-eqb, eqb-true}
 use Rattle.drm_frames.specs.Grammar.{Packet, packet, if_size}
 
@@ -22,15 +22,6 @@ size-some n fields said a e =
 pub both-true : (a b : Bool) → a && b ≡ true → (a ≡ true) × (b ≡ true)
 both-true true b e = (refl, e)
 both-true false b e = absurd cc
-
--- What is found passes the test.
-found-by : {A : Type 0} (test : A → Bool) (y x : A) (rest : Option A) (b : Bool) → test y ≡ b → (rest ≡ Some x → test x ≡ true) → cond b (Some y) rest ≡ Some x → test x ≡ true
-found-by test y x rest true t later e = ap test (some-is x y (sym e)) ∙ t
-found-by test y x rest false t later e = later e
-
-pub found-passes : {A : Type 0} (test : A → Bool) (xs : List A) (x : A) → find test xs ≡ Some x → test x ≡ true
-found-passes test [] x e = absurd cc
-found-passes test (y ∷ xs) x e = found-by test y x (find test xs) (test y) refl (found-passes test xs x) e
 
 pub packet-is : (f : Packet) (n : ℕ) (xs : List ℕ) → f.number ≡ n → f.fields ≡ xs → f ≡ packet n xs
 packet-is f n xs a b = ap (λ (k : ℕ). packet k f.fields) a ∙ ap (λ (y : List ℕ). packet n y) b

@@ -113,15 +113,6 @@ scan_long_rest h p room e r l bare =
 pub scan_line : (h p : List ℕ) (n : ℕ) → position is_end p ≡ Some n → h ++ p ≡ (h ++ take n p) ++ 10 ∷ drop (n + 1) p
 scan_line h p n e = ap (λ z. h ++ z) (line_end p n e) ∙ sym (append_assoc h (take n p) (10 ∷ drop (n + 1) p))
 
-pub none_pending : (n e : ℕ) (xs : List ℕ) → n ≡ 0 → e ≡ 0 → drop n (take e xs) ≡ []
-none_pending n e xs p q = rw p (rw q refl)
-
--- how long the parts of a line are
-pub split_length : (h p line rest : List ℕ) → h ++ p ≡ line ++ 10 ∷ rest → length rest + 1 ≤ length h + length p
-split_length h p line rest e =
-    let l : length h + length p ≡ length line + length (10 ∷ rest) = sym (length-append h p) ∙ ap length e ∙ length-append line (10 ∷ rest) in
-    omega arith
-
 pub more_given : (old given h p line x : List ℕ) → old ++ given ≡ h ++ p → h ++ p ≡ line → old ++ (given ++ x) ≡ line ++ x
 more_given old given h p line x e f = sym (append_assoc old given x) ∙ ap (λ z. z ++ x) (e ∙ f)
 

@@ -53,18 +53,6 @@ shows-read ends.BadHello waits in0 in1 in2 out0 out1 has h n r = tt
 shows-read (ends.OpenRefused rule) waits in0 in1 in2 out0 out1 has h n r = tt
 shows-read (ends.Apart apart) waits in0 in1 in2 out0 out1 has h n r = tt
 
-pub shows-write : (e : SessionEnd) (in0 in1 : SourceAccount) (out0 out1 out2 : SinkAccount) (has : ℕ) → NeverFall out0.counts out1.counts
-    → WriteShows e out1 out2 has → Shows e in0 in1 out0 out2 has
-shows-write ends.WriteFault in0 in1 out0 out1 out2 has n h = omega arith
-shows-write ends.TurnsUsed in0 in1 out0 out1 out2 has n h = h
-shows-write ends.Ended in0 in1 out0 out1 out2 has n h = absurd h
-shows-write ends.Truncated in0 in1 out0 out1 out2 has n h = absurd h
-shows-write ends.TooLong in0 in1 out0 out1 out2 has n h = absurd h
-shows-write ends.ReadFault in0 in1 out0 out1 out2 has n h = absurd h
-shows-write ends.BadHello in0 in1 out0 out1 out2 has n h = absurd h
-shows-write (ends.OpenRefused rule) in0 in1 out0 out1 out2 has n h = absurd h
-shows-write (ends.Apart apart) in0 in1 out0 out1 out2 has n h = absurd h
-
 -- ---- turns
 
 pub Moves-none : (source : SourceAccount) (sink : SinkAccount) (turns : ℕ) → Moves source source sink sink turns turns

@@ -1,5 +1,4 @@
 pub mod Parts
-pub mod Arriving
 pub mod Composing
 pub mod Ending
 pub mod Finishing

@@ -1,11 +1,24 @@
 -- Each kind of an audit is found by its number, and by no other.
-use Rattle.std.proofs.Common.{◌≡◌, ℕ, Some, refl}
+use Rattle.std.proofs.Common.{◌≡◌, ℕ, ◌^◌, ◌<◌, Some, refl, lit<}
 use Rattle.std.specs.Prelude.{◌==◌}
 use Rattle.std.proofs.lemmas.Bool.{eqb-true}
 use Rattle.drm_table.specs.declared.audits.AuditKind.{AuditKind}
-use Rattle.drm_table.specs.declared.audits.AuditKind.TheVariants.{Client}
+use Rattle.drm_table.specs.declared.audits.AuditKind.TheVariants.{Client, Master, Object, Name, Token, Hold, Grant, Framebuffer, Shown, Device}
 use Rattle.drm_table.specs.Audits.{kinds, kind_number, kind_of}
 use Rattle.drm_table.proofs.Found.{found-passes}
+
+pub kind-small : (kind : AuditKind) → kind_number kind < 2 ^ 32
+unfolding kind_number
+kind-small Client = lit< tt
+kind-small Master = lit< tt
+kind-small Object = lit< tt
+kind-small Name = lit< tt
+kind-small Token = lit< tt
+kind-small Hold = lit< tt
+kind-small Grant = lit< tt
+kind-small Framebuffer = lit< tt
+kind-small Shown = lit< tt
+kind-small Device = lit< tt
 
 pub kind-found : (kind : AuditKind) → kind_of (kind_number kind) ≡ Some kind
 unfolding kind_of kind_number
