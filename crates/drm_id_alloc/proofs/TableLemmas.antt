@@ -1,11 +1,12 @@
 -- How the entries of a table stay within its range.
-use Rattle.std.proofs.Common.{◌≡◌, ℕ, ◌+◌, ◌≤◌, true, false, not, eqb, Option, Some, None, is_some, IsTrue, OnSome, option_map, refl, sym, ap, inl, inr, arith}
+use Rattle.std.proofs.Common.{◌≡◌, ℕ, ◌+◌, ◌<◌, ◌≤◌, Bool, true, false, not, eqb, Option, Some, None, is_some, IsTrue, OnSome, option_map, refl, sym, ap, inl, inr, arith}
 use Rattle.std.specs.Ordering.{nat_cmp}
 use Rattle.std.specs.FinMap as map
 use Rattle.std.proofs.lemmas.Bool.{cases_eq, false≢true}
 use Rattle.std.proofs.lemmas.Bool.Decides.{nat_tests}
 use Rattle.drm_index_array.proofs.MarkedLemmas.{get-insert, get-remove}
-use Rattle.drm_index_array.proofs.Least.{least_is_none}
+use Rattle.drm_index_array.specs.Least.{least}
+use Rattle.drm_index_array.proofs.Least.{least_is, least_is_none, least_some, least_none}
 use Rattle.drm_id_alloc.specs.Table.{Table, IsWithin, is_free, least_free, next_cyclic}
 
 -- a number that is there after an insertion is the new one, or was there
@@ -65,14 +66,30 @@ IsWithin-empty {X = X} first last le fits = record {
     none : (id : ℕ) → IsTrue (map.contains_key (map.empty {X = X} {R = nat_cmp}) id) → ⊥
     none id there = false≢true (rw (map.get-empty nat_cmp id) at there)
 
--- what a look-up says of a number
-pub vacant_of : {X Y : Type 0} (m : map.FinMap nat_cmp X) (id : ℕ) (r : Option Y) (f : Y → X) → option_map f r ≡ map.get m id → is_some r ≡ false → map.get m id ≡ None
-vacant_of m id None f found none = sym found
-vacant_of m id (Some x) f found none = absurd (false≢true (sym none))
+-- what a search that goes past the range says of the range
+module _ (p : ℕ → Bool) (from last to : ℕ) (le : last ≤ to) where
+  pub none_within : None ≡ least p from to → None ≡ least p from last
+  none_within none = sym (least_is_none p from last (λ k low high. least_none p from to (sym none) k low (omega arith)))
 
-pub taken_of : {X Y : Type 0} (m : map.FinMap nat_cmp X) (id : ℕ) (r : Option Y) (f : Y → X) → option_map f r ≡ map.get m id → is_some r ≡ true → not (map.contains_key m id) ≡ false
-taken_of m id None f found some = absurd (false≢true some)
-taken_of m id (Some x) f found some = ap (λ o. not (is_some o)) (sym found)
+  module _ (id : ℕ) (found : Some id ≡ least p from to) where
+    pub past_within : last < id → None ≡ least p from last
+    past_within past = let is = least_some p from to id (sym found) in sym (least_is_none p from last (λ k low high. is.none_below k low (omega arith)))
+
+    pub some_within : id ≤ last → Some id ≡ least p from last
+    some_within high =
+        let is = least_some p from to id (sym found) in
+        sym (least_is p from last id (record { at_least = is.at_least; at_most = high; passes = is.passes; none_below = is.none_below }))
+
+    pub found_low : from ≤ id
+    found_low = (least_some p from to id (sym found)).at_least
+
+-- a number that is free has no value
+pub fresh_of : {X : Type 0} (m : map.FinMap nat_cmp X) (from to id : ℕ) → Some id ≡ least (λ k. not (map.contains_key m k)) from to → map.get m id ≡ None
+fresh_of m from to id found = is_none (map.get m id) (least_some _ from to id (sym found)).passes
+  where
+    is_none : {Y : Type 0} (o : Option Y) → not (is_some o) ≡ true → o ≡ None
+    is_none None e = refl
+    is_none (Some y) e = absurd (false≢true e)
 
 -- after the last number of the range the turn begins again
 pub next_cyclic_wraps : {X : Type 0} (t : Table X) (given : ℕ) → t.last_given ≡ Some given → t.last ≤ given → next_cyclic t ≡ least_free t

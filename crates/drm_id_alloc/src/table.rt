@@ -104,12 +104,13 @@ impl<T: Drop> IdTable<T> {
         ensures low { IfSome result (λ id. from ≤ id) }
         ensures high { IfSome result (λ id. id ≤ self.now.last) }
     {
-        for id in from..=self.last {
-            if self.entries.get(id).is_none() {
-                return Some(id);
-            }
+        let Some(id) = self.entries.next_vacant(from) else {
+            return None;
+        };
+        if id > self.last {
+            return None;
         }
-        None
+        Some(id)
     }
 
     /// The number that comes after the last one given.

@@ -1,96 +1,241 @@
--- What the entries in order say of the array that they stand for.
-use Rattle.std.proofs.Common.{◌≡◌, ℕ, Bool, true, false, not, List, length, get_or, set as list_set, Option, Some, None, IsTrue, IsSome, is_some, option_map, refl, sym, ap, ◌∙◌, ◌≤◌, inl, inr, arith}
-use Rattle.std.proofs.lemmas.Bool.{false≢true}
-use Rattle.std.proofs.lemmas.List.Elements.{All-get_or}
-use Rattle.std.specs.List.{insert, remove}
-use Rattle.std.specs.Option.{option_map_or}
+-- What a tree says of the array that it stands for.
+use Rattle.std.proofs.Common.{◌≡◌, ℕ, ◌-◌, ◌+◌, ◌<◌, ◌≤◌, Bool, true, false, not, cond, eqb, Option, Some, None, IsTrue, IsSome, is_some, option_map, option_copied, Bor, MutBor, refl, sym, ap, ◌∙◌, subst, inl, inr, arith}
+use borrow.Follows.Closed.{read_of}
+use Rattle.std.specs.Option.{option_map_or, option_copied_mut, ghost_name_of}
+use Rattle.std.specs.Ordering.{nat_cmp}
+use Rattle.std.specs.Cmp.{nat_cmp_total}
 use Rattle.std.specs.FinMap as map
 use Rattle.std.specs.FinSet as set
-use Rattle.drm_index_array.specs.Least.{least}
-use Rattle.drm_index_array.specs.Indexed.{marked_with, with_item, without_item, written_mark}
-use Rattle.drm_index_array.specs.Marked.{unmarked, mark_of, with_mark, array_of}
-use Rattle.drm_index_array.specs.Entries.{marked, mark_of_entry, entry_with_mark, indices, pairs, array, IsRising, Fits, AreInOrder, IsAt, IsGapFor}
-use Rattle.drm_index_array.specs.declared.entries.Entry.{Entry}
+use Rattle.std.proofs.lemmas.Bool.{cases_lt, cases_eq, eq-eqb, ne_eqb, false≢true}
+use Rattle.drm_index_array.specs.Least.{least, IsLeastFrom}
+use Rattle.drm_index_array.specs.Indexed.{Indexed, marked_with, with_item, without_item, written_mark}
+use Rattle.drm_index_array.specs.Marked.{Marked, MarkedMap, mark_of, with_mark, unmarked, get, write_mark, set_value, rewrite, rewritten, values, array_of}
+use Rattle.drm_index_array.specs.Root.{IsRooted}
+use Rattle.drm_index_array.specs.Slots.{option_marked}
+use Rattle.drm_index_array.specs.declared.tree.Entry.{Entry}
 use Rattle.drm_index_array.specs.declared.marks.Mark.{Mark}
 use Rattle.drm_index_array.specs.declared.marks.Mark.TheVariants.{M0, M1, M2}
-use Rattle.drm_index_array.proofs.Least.{least-same}
-use Rattle.drm_index_array.proofs.EntryLemmas.{entry_at, index_at, length_indices, get_here, get_in_gap, is_there, map_insert, map_remove, map_set, map_len, index-entry_with_mark, marked-entry_with_mark}
-use Rattle.drm_index_array.proofs.WalkLemmas.{passes, cases_has, at_none}
-use Rattle.drm_index_array.proofs.MarkedLemmas.{get-values, len-values, contains_key-values, marked_with-array_of, array_of-insert, array_of-remove, array_of-set_value, array_of-write_mark}
+use Rattle.drm_index_array.proofs.Least.{least_some, least_none, least_is, least_is_none}
+use Rattle.drm_index_array.proofs.MarkedLemmas.{get-insert, get-remove, get-rewrite, same_by_gets, get-values, len-values, values-write_mark, contains_key-values, marked_with-array_of, marked_is_key, array_of-insert, array_of-remove, array_of-set_value, array_of-write_mark}
+use Rattle.drm_index_array.proofs.NextLemmas.{is_some-option_map}
 
-module _ {X : Type 0} (es : List (Entry X)) (rising : IsRising es) where
-  pub array_len : length es ≡ map.len (array es).items
-  array_len = map_len es rising ∙ sym (len-values (map.from_sorted (pairs es)))
+module _ {T : Type 0} (items : MarkedMap T) (v : Indexed T) (view_is : array_of items ≡ v) where
+  pub item_at : (k : ℕ) → option_map (λ s. s.value) (map.get items k) ≡ map.get v.items k
+  item_at k = rw (← view_is) (sym (get-values items k))
 
-  pub item_here : (k i : ℕ) (d : Entry X) → IsAt (indices es) k i → map.get (array es).items k ≡ Some (get_or es i d).value
-  item_here k i d is_at = get-values _ k ∙ ap (option_map (λ s. s.value)) (get_here es rising k i d is_at)
+  pub key_at : (k : ℕ) → map.contains_key items k ≡ map.contains_key v.items k
+  key_at k = rw (← view_is) (sym (contains_key-values items k))
 
-  pub item_there : (k i : ℕ) → IsAt (indices es) k i → IsSome (map.get (array es).items k)
-  item_there k i is_at = ap is_some (get-values _ k) ∙ is_there es rising k i is_at
+  pub mark_at : (m : Mark) (k : ℕ) → option_map_or (λ s. mark_of s m) (map.get items k) false ≡ set.contains (marked_with v m) k
+  mark_at m k = rw (← view_is) (sym (marked_with-array_of items m k))
 
-  pub item_in_gap : (k i : ℕ) → IsGapFor (indices es) k i → map.get (array es).items k ≡ None
-  item_in_gap k i gap = get-values _ k ∙ ap (option_map (λ s. s.value)) (get_in_gap es rising k i gap)
+  pub mark_is_key : (m : Mark) (k : ℕ) → IsTrue (set.contains (marked_with v m) k) → IsTrue (map.contains_key v.items k)
+  mark_is_key m = rw (← view_is) (marked_is_key items m)
 
-  pub mark_here : (k i : ℕ) (d : Entry X) (m : Mark) → IsAt (indices es) k i → set.contains (marked_with (array es) m) k ≡ mark_of_entry (get_or es i d) m
-  mark_here k i d m is_at = marked_with-array_of _ m k ∙ ap (λ o. option_map_or (λ s. mark_of s m) o false) (get_here es rising k i d is_at)
+  -- what a look-up in the tree found
+  module _ (k : ℕ) (o : Option (Marked T)) (m : MarkedMap T) (found : o ≡ map.get m k) (same : m ≡ items) where
+    pub item_found : option_map (λ s. s.value) o ≡ map.get v.items k
+    item_found = ap (λ o. option_map (λ s. s.value) o) (found ∙ ap (λ m. map.get m k) same) ∙ item_at k
 
-  pub mark_in_gap : (k i : ℕ) (m : Mark) → IsGapFor (indices es) k i → set.contains (marked_with (array es) m) k ≡ false
-  mark_in_gap k i m gap = marked_with-array_of _ m k ∙ ap (λ o. option_map_or (λ s. mark_of s m) o false) (get_in_gap es rising k i gap)
+    pub mark_found : (mark : Mark) → option_map_or (λ s. mark_of s mark) o false ≡ set.contains (marked_with v mark) k
+    mark_found mark = ap (λ o. option_map_or (λ s. mark_of s mark) o false) (found ∙ ap (λ m. map.get m k) same) ∙ mark_at mark k
 
-  -- what is inserted carries no mark
-  pub mark_of_new : (k i : ℕ) (v : X) (m : Mark) → IsGapFor (indices es) k i → set.contains (marked_with (with_item (array es) k v) m) k ≡ false
-  mark_of_new k i v M0 gap = mark_in_gap k i M0 gap
-  mark_of_new k i v M1 gap = mark_in_gap k i M1 gap
-  mark_of_new k i v M2 gap = mark_in_gap k i M2 gap
+  pub key_found : (k : ℕ) (r : Option (Bor (Entry T))) (m : MarkedMap T) → option_marked (option_copied r) ≡ map.get m k → m ≡ items → is_some r ≡ map.contains_key v.items k
+  key_found k r m found same = sym (seen r) ∙ ap is_some found ∙ ap (λ m. map.contains_key m k) same ∙ key_at k
+    where
+      seen : (r : Option (Bor (Entry T))) → is_some (option_marked (option_copied r)) ≡ is_some r
+      seen None = refl
+      seen (Some e) = refl
 
-  pub array_insert : (e : Entry X) (i : ℕ) → IsGapFor (indices es) e.index i → marked e ≡ unmarked e.value → array (insert es i e) ≡ with_item (array es) e.index e.value
-  array_insert e i gap fresh =
-      ap array_of (map_insert es rising e i gap ∙ ap (map.insert (map.from_sorted (pairs es)) e.index) fresh)
-      ∙ array_of-insert _ e.index e.value (get_in_gap es rising e.index i gap)
+  module _ (count : ℕ) (rooted : IsRooted items count) where
+    pub item_bound : (k : ℕ) → IsTrue (map.contains_key v.items k) → k ≤ 4294967295
+    item_bound k there = rooted.fit k (key_at k ∙ there)
 
-  module _ (k i : ℕ) (is_at : IsAt (indices es) k i) where
-    pub array_remove : array (remove es i) ≡ without_item (array es) k
-    array_remove = ap array_of (map_remove es rising k i is_at) ∙ array_of-remove _ k
+    pub mark_bound : (m : Mark) (k : ℕ) → IsTrue (set.contains (marked_with v m) k) → k ≤ 4294967295
+    mark_bound m k there = item_bound k (mark_is_key m k there)
 
-    -- an entry written over the one that was read there
-    module _ (d : Entry X) (index : d.index ≡ k) (read : d ≡ get_or es i d) where
-      pub array_set_value : (w : X) → array (list_set es i (record d { value = w })) ≡ with_item (array es) k w
-      array_set_value w =
-          ap array_of (map_set es rising k i is_at (record d { value = w }) index d (λ s. record s { value = w }) (ap (λ (e : Entry X). record { value = w; m0 = e.m0; m1 = e.m1; m2 = e.m2 }) read))
-          ∙ array_of-set_value _ k w (is_there es rising k i is_at)
+    pub item_count : count ≡ map.len v.items
+    item_count = rooted.counted ∙ rw (← view_is) (sym (len-values items))
 
-      pub array_write_mark : (e : Entry X) (m : Mark) (b : Bool) → e ≡ entry_with_mark d m b → array (list_set es i e) ≡ written_mark (array es) k m b
-      array_write_mark e m b is =
-          ap array_of (map_set es rising k i is_at e (ap (λ (e : Entry X). e.index) is ∙ index-entry_with_mark d m b ∙ index) d (λ s. with_mark s m b)
-          (ap marked is ∙ marked-entry_with_mark d m b ∙ ap (λ e. with_mark (marked e) m b) read))
-          ∙ array_of-write_mark _ k m b (is_there es rising k i is_at)
+-- a search of a tree that covers n indices, told by a test of the array
+module _ (p q : ℕ → Bool) (same : (k : ℕ) → p k ≡ q k) (n from : ℕ) (past : (k : ℕ) → n ≤ k → p k ≡ false) where
+  pub search_none : None ≡ least p from (n - 1) → (k : ℕ) → from ≤ k → q k ≡ false
+  search_none none k ge =
+      sym (same k) ∙ elim (cases_lt k n) as (λ _. p k ≡ false) [
+        | inl lt ↦ least_none p from (n - 1) (sym none) k ge (omega arith)
+        | inr le ↦ past k le
+      ]
 
-there : {Y : Type 0} (o : Option Y) → option_map_or (λ s. true) o false ≡ is_some o
-there None = refl
-there (Some y) = refl
+  module _ (bound : (k : ℕ) → q k ≡ true → k ≤ 4294967295) (r : ℕ) (found : Some r ≡ least p from (n - 1)) where
+    pub search_low : r ≤ 4294967295
+    search_low = bound r (sym (same r) ∙ (least_some p from (n - 1) r (sym found)).passes)
 
-pub contains_item : {X : Type 0} (es : List (Entry X)) (k : ℕ) → passes es (λ s. true) k ≡ map.contains_key (array es).items k
-contains_item es k = there (map.get (map.from_sorted (pairs es)) k) ∙ sym (contains_key-values _ k)
+    pub search_some : Some r ≡ least q from 4294967295
+    search_some =
+        let is = least_some p from (n - 1) r (sym found) in
+        sym (least_is q from 4294967295 r (record { at_least = is.at_least; at_most = search_low; passes = sym (same r) ∙ is.passes; none_below = λ k ge lt. sym (same k) ∙ is.none_below k ge lt }))
 
-pub contains_mark : {X : Type 0} (es : List (Entry X)) (m : Mark) (k : ℕ) → set.contains (marked_with (array es) m) k ≡ passes es (λ s. mark_of s m) k
-contains_mark es m k = marked_with-array_of (map.from_sorted (pairs es)) m k
+pub nothing_least : (q : ℕ → Bool) (from to : ℕ) → ((k : ℕ) → from ≤ k → q k ≡ false) → None ≡ least q from to
+nothing_least q from to none = sym (least_is_none q from to (λ k ge le. none k ge))
 
--- each index is a `u32`
-pub item_bound : {X : Type 0} (es : List (Entry X)) → AreInOrder es → (k : ℕ) → IsTrue (map.contains_key (array es).items k) → k ≤ 4294967295
-item_bound es in_order k there =
-    elim (cases_has es k) [
-      | inl at ↦
-          let d = entry_at es at.0 (omega (arith, at.1, length_indices es)) in
-          omega (arith, at.2, index_at es at.0 d (omega (arith, at.1, length_indices es)), All-get_or Fits es at.0 d (omega (arith, at.1, length_indices es)) in_order.fit)
-      | inr none ↦ absurd (false≢true (sym (at_none es in_order.rising (λ s. true) false k none) ∙ contains_item es k ∙ there))
-    ]
+-- the least vacant index of all, told by a test of the array
+module _ (p q : ℕ → Bool) (same : (k : ℕ) → p k ≡ q k) (from n : ℕ) (is : IsLeastFrom p from n) where
+  pub vacant_here : n ≤ 4294967295 → Some n ≡ least q from 4294967295
+  vacant_here le = sym (least_is q from 4294967295 n (record { at_least = is.at_least; at_most = le; passes = sym (same n) ∙ is.passes; none_below = λ k ge lt. sym (same k) ∙ is.none_below k ge lt }))
 
-module _ {X : Type 0} (es : List (Entry X)) (from to : ℕ) where
-  pub least_item : least (passes es (λ s. true)) from to ≡ least (map.contains_key (array es).items) from to
-  least_item = least-same _ _ from to (λ k _ _. there (map.get (map.from_sorted (pairs es)) k) ∙ sym (contains_key-values _ k))
+  pub vacant_nowhere : 4294967295 < n → None ≡ least q from 4294967295
+  vacant_nowhere lt = sym (least_is_none q from 4294967295 (λ k ge le. sym (same k) ∙ is.none_below k ge (omega arith)))
 
-  pub least_vacant_item : least (λ k. not (passes es (λ s. true) k)) from to ≡ least (λ k. not (map.contains_key (array es).items k)) from to
-  least_vacant_item = least-same _ _ from to (λ k _ _. ap not (there (map.get (map.from_sorted (pairs es)) k) ∙ sym (contains_key-values _ k)))
+-- an array with no tree
+module _ {T : Type 0} (items : MarkedMap T) (v : Indexed T) (view_is : array_of items ≡ v) (empty : items ≡ map.empty) where
+  pub no_item : (k : ℕ) → map.get v.items k ≡ None
+  no_item k = sym (item_at items v view_is k) ∙ ap (λ m. option_map (λ s. s.value) (map.get m k)) empty ∙ ap (option_map (λ s. s.value)) (map.get-empty nat_cmp k)
 
-  pub least_marked : (m : Mark) → least (passes es (λ s. mark_of s m)) from to ≡ least (set.contains (marked_with (array es) m)) from to
-  least_marked m = least-same _ _ from to (λ k _ _. sym (marked_with-array_of _ m k))
+  pub no_key : (k : ℕ) → map.contains_key v.items k ≡ false
+  no_key k = ap is_some (no_item k)
+
+  pub no_mark : (m : Mark) (k : ℕ) → set.contains (marked_with v m) k ≡ false
+  no_mark m k = sym (mark_at items v view_is m k) ∙ ap (λ a. option_map_or (λ s. mark_of s m) (map.get a k) false) empty ∙ ap (λ o. option_map_or (λ s. mark_of s m) o false) (map.get-empty nat_cmp k)
+
+  pub all_vacant : (from : ℕ) → from ≤ 4294967295 → Some from ≡ least (λ k. not (map.contains_key v.items k)) from 4294967295
+  all_vacant from le = sym (least_is _ from 4294967295 from (record { at_least = omega arith; at_most = le; passes = ap not (no_key from); none_below = λ k ge lt. absurd (omega arith) }))
+
+pub rooted_none : (T : Type 0) → IsRooted (map.empty {X = Marked T} {R = nat_cmp}) 0
+rooted_none T = record { counted = sym (map.len-empty nat_cmp (Marked T)); fit = λ k there. absurd (false≢true (sym (ap is_some (map.get-empty nat_cmp k)) ∙ there)) }
+
+-- an entry more
+module _ {T : Type 0} (items : MarkedMap T) (v : Indexed T) (view_is : array_of items ≡ v) (i : ℕ) (value : T) (now : MarkedMap T) (is : now ≡ map.insert items i (unmarked value)) (absent : map.get items i ≡ None) where
+  pub rooted_more : (count : ℕ) → IsRooted items count → i ≤ 4294967295 → IsRooted now (count + 1)
+  rooted_more count rooted le = record {
+    counted = ap (λ n. n + 1) rooted.counted ∙ sym (ap map.len is ∙ map.len-insert nat_cmp_total items i (unmarked value) ∙ ap (λ o. cond (is_some o) (map.len items) (map.len items + 1)) absent);
+    fit = λ k there. elim (cases_eq k i) [
+      | inl same ↦ omega arith
+      | inr apart ↦ rooted.fit k (kept k apart (sym (ap (λ m. map.contains_key m k) is) ∙ there))
+    ];
+  }
+    where
+      kept : (k : ℕ) → (k ≡ i → ⊥) → IsTrue (map.contains_key (map.insert items i (unmarked value)) k) → IsTrue (map.contains_key items k)
+      kept k apart there = sym (ap is_some (get-insert items i (unmarked value) k ∙ ap (λ b. cond b (Some (unmarked value)) (map.get items k)) (ne_eqb k i apart))) ∙ there
+
+  pub array_more : array_of now ≡ with_item v i value
+  array_more = ap array_of is ∙ array_of-insert items i value absent ∙ ap (λ a. with_item a i value) view_is
+
+  pub mark_of_new : (m : Mark) → set.contains (marked_with (array_of now) m) i ≡ false
+  mark_of_new m =
+      ap (λ a. set.contains (marked_with (array_of a) m) i) is
+      ∙ sym (mark_at _ _ refl m i)
+      ∙ ap (λ o. option_map_or (λ s. mark_of s m) o false) (get-insert items i (unmarked value) i ∙ ap (λ b. cond b (Some (unmarked value)) (map.get items i)) (eq-eqb i i refl))
+      ∙ unmarked_by m
+    where
+      unmarked_by : (m : Mark) → mark_of (unmarked value) m ≡ false
+      unmarked_by M0 = refl
+      unmarked_by M1 = refl
+      unmarked_by M2 = refl
+
+  pub item_absent : map.get v.items i ≡ None
+  item_absent = sym (item_at items v view_is i) ∙ ap (λ o. option_map (λ s. s.value) o) absent
+
+-- an entry less
+module _ {T : Type 0} (items : MarkedMap T) (v : Indexed T) (view_is : array_of items ≡ v) (i : ℕ) (now : MarkedMap T) (is : now ≡ map.remove items i) where
+  pub array_less : array_of now ≡ without_item v i
+  array_less = ap array_of is ∙ array_of-remove items i ∙ ap (λ a. without_item a i) view_is
+
+  fit_less : (count : ℕ) → IsRooted items count → (k : ℕ) → IsTrue (map.contains_key now k) → k ≤ 4294967295
+  fit_less count rooted k there = rooted.fit k (was k (sym (ap (λ m. map.contains_key m k) is) ∙ there))
+    where
+      was : (k : ℕ) → IsTrue (map.contains_key (map.remove items i) k) → IsTrue (map.contains_key items k)
+      was k there =
+          elim (cases_eq k i) as (λ _. IsTrue (map.contains_key items k)) [
+            | inl same ↦ absurd (false≢true (sym (ap is_some (get-remove items i k ∙ ap (λ b. cond b None (map.get items k)) (eq-eqb k i same))) ∙ there))
+            | inr apart ↦ sym (ap is_some (get-remove items i k ∙ ap (λ b. cond b None (map.get items k)) (ne_eqb k i apart))) ∙ there
+          ]
+
+  -- the entry was there
+  module _ (x : T) (found : Some x ≡ get items i) (count : ℕ) (rooted : IsRooted items count) where
+    there : map.contains_key items i ≡ true
+    there = known (map.get items i) found
+      where
+        known : (o : Option (Marked T)) → Some x ≡ option_map (λ s. s.value) o → is_some o ≡ true
+        known None e = absurd (false≢true (ap is_some (sym e)))
+        known (Some s) e = refl
+
+    len_less : map.len now ≡ map.len items - 1
+    len_less = ap map.len is ∙ map.len-remove nat_cmp_total items i ∙ ap (λ b. cond b (map.len items - 1) (map.len items)) there
+
+    pub some_counted : 1 ≤ count
+    some_counted =
+        elim (cases_lt 0 count) [
+          | inl lt ↦ omega arith
+          | inr none ↦ absurd (false≢true (sym (ap is_some (ap (λ m. map.get m i) (map.empty_of_len items (sym rooted.counted ∙ zero_of count none)) ∙ map.get-empty nat_cmp i)) ∙ there))
+        ]
+      where
+        zero_of : (n : ℕ) → n ≤ 0 → n ≡ 0
+        zero_of n le = omega arith
+
+    pub rooted_less : IsRooted now (count - 1)
+    rooted_less = record { counted = ap (λ n. n - 1) rooted.counted ∙ sym len_less; fit = fit_less count rooted }
+
+  -- it was not
+  pub rooted_same : (count : ℕ) → IsRooted items count → map.remove items i ≡ items → IsRooted now count
+  rooted_same count rooted same = subst (λ m. IsRooted m count) (sym (is ∙ same)) rooted
+
+  pub array_same : map.remove items i ≡ items → array_of now ≡ v
+  array_same same = ap array_of (is ∙ same) ∙ view_is
+
+-- a mark written
+module _ {T : Type 0} (items : MarkedMap T) (v : Indexed T) (view_is : array_of items ≡ v) (i : ℕ) (m : Mark) (b : Bool) (now : MarkedMap T) (gets : (k : ℕ) → map.get now k ≡ cond (eqb k i) (option_map (λ s. with_mark s m b) (map.get items i)) (map.get items k)) where
+  is_written : now ≡ write_mark items i m b
+  is_written = same_by_gets now (write_mark items i m b) (λ k. gets k ∙ sym (get-rewrite items i (λ s. with_mark s m b) k ∙ at_index k))
+    where
+      at_index : (k : ℕ) → cond (eqb k i) (option_map (λ s. with_mark s m b) (map.get items k)) (map.get items k) ≡ cond (eqb k i) (option_map (λ s. with_mark s m b) (map.get items i)) (map.get items k)
+      at_index k =
+          elim (cases_eq k i) as (λ _. cond (eqb k i) (option_map (λ s. with_mark s m b) (map.get items k)) (map.get items k) ≡ cond (eqb k i) (option_map (λ s. with_mark s m b) (map.get items i)) (map.get items k)) [
+            | inl same ↦ ap (λ n. cond (eqb k i) (option_map (λ s. with_mark s m b) (map.get items n)) (map.get items k)) same
+            | inr apart ↦ rw (ne_eqb k i apart) refl
+          ]
+
+  pub array_written : IsSome (get items i) → array_of now ≡ written_mark v i m b
+  array_written there = ap array_of is_written ∙ array_of-write_mark items i m b there ∙ ap (λ a. written_mark a i m b) view_is
+
+  keys_kept : (k : ℕ) → map.contains_key now k ≡ map.contains_key items k
+  keys_kept k = ap is_some (gets k) ∙ elim (cases_eq k i) as (λ _. is_some (cond (eqb k i) (option_map (λ s. with_mark s m b) (map.get items i)) (map.get items k)) ≡ map.contains_key items k) [
+    | inl same ↦ rw (eq-eqb k i same) (is_some-option_map _ _ ∙ ap (map.contains_key items) (sym same))
+    | inr apart ↦ rw (ne_eqb k i apart) refl
+  ]
+
+  pub rooted_written : (count : ℕ) → IsRooted items count → IsRooted now count
+  rooted_written count rooted = record { counted = rooted.counted ∙ sym len_kept; fit = λ k there. rooted.fit k (sym (keys_kept k) ∙ there) }
+    where
+      values_kept : values now ≡ values items
+      values_kept = ap values is_written ∙ values-write_mark items i m b
+
+      len_kept : map.len now ≡ map.len items
+      len_kept = sym (len-values now) ∙ ap map.len values_kept ∙ len-values items
+
+-- a value lent
+module _ {T : Type 0} (items : MarkedMap T) (v : Indexed T) (view_is : array_of items ≡ v) (i : ℕ) where
+  pub array_lent : IsSome (get items i) → (w : T) → array_of (set_value items i w) ≡ with_item v i w
+  array_lent there w = array_of-set_value items i w there ∙ ap (λ a. with_item a i w) view_is
+
+  len-rewritten : (f : Marked T → Marked T) (o : Option (Marked T)) → map.get items i ≡ o → map.len (rewritten items i f o) ≡ map.len items
+  len-rewritten f None is = refl
+  len-rewritten f (Some s) is = map.len-insert nat_cmp_total items i (f s) ∙ ap (λ o. cond (is_some o) (map.len items) (map.len items + 1)) is
+
+  len-set_value : (w : T) → map.len (set_value items i w) ≡ map.len items
+  unfolding rewrite
+  len-set_value w = len-rewritten (λ s. record s { value = w }) (map.get items i) refl
+
+  keys-set_value : (w : T) (k : ℕ) → map.contains_key (set_value items i w) k ≡ map.contains_key items k
+  keys-set_value w k = ap is_some (get-rewrite items i (λ s. record s { value = w }) k) ∙ either (eqb k i) (map.get items k)
+    where
+      either : (b : Bool) (o : Option (Marked T)) → is_some (cond b (option_map {T = Marked T} {U = Marked T} (λ s. record s { value = w }) o) o) ≡ is_some o
+      either true o = is_some-option_map _ o
+      either false o = refl
+
+  pub rooted_lent : (count : ℕ) → IsRooted items count → (w : T) → IsRooted (set_value items i w) count
+  rooted_lent count rooted w = record { counted = rooted.counted ∙ sym (len-set_value w); fit = λ k there. rooted.fit k (sym (keys-set_value w k) ∙ there) }
+
+  -- the borrow of a value that is there
+  pub lent_there : {D : Type 0} (r : Option (MutBor T)) → option_copied_mut r ≡ get items i → (f h : T → D) (a b : D) → (IsSome (get items i) → (x : T) → f x ≡ h x) → a ≡ b → read_of (ghost_name_of r) f a ≡ read_of (ghost_name_of r) h b
+  lent_there None found f h a b fs same = ap inr same
+  lent_there (Some m) found f h a b fs same = λ j. inl (m.ghost_name, λ x. fs (ap is_some (sym found)) x j)

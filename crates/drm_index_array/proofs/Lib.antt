@@ -1,6 +1,13 @@
 pub mod Least
 pub mod MarkedLemmas
 pub mod KeysLemmas
-mod EntryLemmas
-mod WalkLemmas
+mod WordLemmas
+mod TableLemmas
+mod SlotLemmas
+mod NextLemmas
+mod NodeLemmas
+mod EditLemmas
+mod EmptyLemmas
+mod LendLemmas
+mod RootLemmas
 mod ArrayLemmas

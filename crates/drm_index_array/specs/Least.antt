@@ -20,3 +20,7 @@ pub record IsLeast (p : ℕ → Bool) (from to n : ℕ) : Type 0 where
 -- no number of the range passes
 abbrev pub NonePasses : (ℕ → Bool) → ℕ → ℕ → Type 0
 NonePasses p from to = (k : ℕ) → from ≤ k → k ≤ to → p k ≡ false
+
+-- n is the least number from `from` on that passes
+abbrev pub IsLeastFrom : (ℕ → Bool) → ℕ → ℕ → Type 0
+IsLeastFrom p from n = IsLeast p from n n

@@ -8,9 +8,11 @@ ghost use Rattle.std.specs.FinSet as set;
 ghost use Rattle.drm_index_array.specs.Least.{least};
 ghost use Rattle.drm_index_array.specs.InsertFault.{value_of, IsTaken};
 
-use crate::entries::{Entry, place};
 use crate::faults::InsertFault;
+use crate::growth::{inserted, removed};
 use crate::marks::Mark;
+use crate::tree::{Edit, Node};
+use crate::words::Sought;
 use std::alloc::Global;
 use std::marker::Model;
 
@@ -18,7 +20,10 @@ use std::marker::Model;
 /// each mark, the set of the indices whose entry carries it.
 #[derive(Drop)]
 pub struct IndexArray<T> {
-    entries: Vec<Entry<T>>,
+    alloc: Global,
+    // None where there is no entry.
+    root: Option<Box<Node<T>>>,
+    count: usize,
 }
 
 impl<T> Model for IndexArray<T> {
@@ -28,11 +33,12 @@ impl<T> Model for IndexArray<T> {
 
     ghost coded = { indexed_code T.code };
 
-    ghost use Rattle.drm_index_array.specs.Entries.{array, AreInOrder};
+    ghost use Rattle.drm_index_array.specs.Marked.{array_of};
+    ghost use Rattle.drm_index_array.specs.Root.{items_of, IsRooted};
 
-    ghost view = { λ a. array a.entries.items };
+    ghost view = { λ a. array_of (items_of a.root) };
 
-    ghost invariant = { λ a. AreInOrder a.entries.items };
+    ghost invariant = { λ a. IsRooted (items_of a.root) a.count };
 }
 
 impl<T: Drop> IndexArray<T> {
@@ -46,7 +52,9 @@ impl<T: Drop> IndexArray<T> {
         ensures { result ≡ empty_array }
     {
         IndexArray {
-            entries: Vec::new(alloc),
+            alloc,
+            root: None,
+            count: 0,
         }
     }
 
@@ -55,7 +63,7 @@ impl<T: Drop> IndexArray<T> {
         ensures len { result ≡ map.len self.now.items }
         ensures bound { (k : ℕ) → IsTrue (map.contains_key self.now.items k) → k ≤ u32.MAX }
     {
-        self.entries.len()
+        self.count
     }
 
     /// Adds an entry with no mark. Where the index has an entry, or memory is refused, the array stays as it is and the
@@ -70,20 +78,12 @@ impl<T: Drop> IndexArray<T> {
         ensures absent { OnOk result (map.get self.old.items index ≡ None) }
         ensures taken { IfErr result (λ fault. IsTaken fault ↔ IsSome (map.get self.old.items index)) }
     {
-        let Err(at) = place(&self.entries, index) else {
-            return Err(InsertFault::Taken(value));
-        };
-        let entry = Entry {
-            index,
-            value,
-            m0: false,
-            m1: false,
-            m2: false,
-        };
-        if let Err(failed) = self.entries.insert(at, entry) {
-            let Entry { value, .. } = failed.value;
-            return Err(InsertFault::NoMemory(value));
+        let (root, done) = inserted(self.alloc, self.root.take(), index as u64, value);
+        self.root = root;
+        if let Err(fault) = done {
+            return Err(fault);
         }
+        self.count += 1;
         Ok(())
     }
 
@@ -92,10 +92,13 @@ impl<T: Drop> IndexArray<T> {
         ensures value { option_copied result ≡ map.get self.now.items index }
         ensures bound { (k : ℕ) → IsTrue (map.contains_key self.now.items k) → k ≤ u32.MAX }
     {
-        match place(&self.entries, index) {
-            Ok(at) => Some(&self.entries[at].value),
-            Err(_) => None,
-        }
+        let Some(root) = &self.root else {
+            return None;
+        };
+        let Some(entry) = root.find(index as u64) else {
+            return None;
+        };
+        Some(&entry.value)
     }
 
     /// The value at the index for writing, if there is one. The entry keeps its marks.
@@ -103,9 +106,9 @@ impl<T: Drop> IndexArray<T> {
         ensures* writes_back { sem 𝓛 (lends_get T.row self.entry index result) }
         ensures value { option_copied_mut result ≡ map.get self.old.items index }
     {
-        match place(&self.entries, index) {
-            Ok(at) => Some(self.entries[at].value_mut()),
-            Err(_) => None,
+        match &mut self.root {
+            Some(root) => root.get_mut(index as u64),
+            None => None,
         }
     }
 
@@ -115,13 +118,13 @@ impl<T: Drop> IndexArray<T> {
         ensures after { self.new ≡ without_item self.old index }
         ensures absent { IfNone result (self.new ≡ self.old) }
     {
-        match place(&self.entries, index) {
-            Ok(at) => {
-                let Entry { value, .. } = self.entries.remove(at);
-                Some(value)
-            }
-            Err(_) => None,
-        }
+        let (root, value) = removed(self.root.take(), index as u64);
+        self.root = root;
+        let Some(value) = value else {
+            return None;
+        };
+        self.count -= 1;
+        Some(value)
     }
 
     /// Sets the mark of the entry at the index, and says whether there is one.
@@ -147,13 +150,14 @@ impl<T: Drop> IndexArray<T> {
         ensures present { OnTrue result (self.new ≡ written_mark self.old index mark on) }
         ensures absent { OnFalse result (self.new ≡ self.old) }
     {
-        match place(&self.entries, index) {
-            Ok(at) => {
-                self.entries[at].write_mark(mark, on);
-                true
-            }
-            Err(_) => false,
+        let Some(root) = &mut self.root else {
+            return false;
+        };
+        if root.find(index as u64).is_none() {
+            return false;
         }
+        root.edit(index as u64, Edit::Write(mark, on));
+        true
     }
 
     /// Whether the index has an entry that carries the mark.
@@ -161,10 +165,13 @@ impl<T: Drop> IndexArray<T> {
         ensures marked { result ≡ set.contains (marked_with self.now mark) index }
         ensures present { (k : ℕ) → IsTrue (set.contains (marked_with self.now mark) k) → IsTrue (map.contains_key self.now.items k) }
     {
-        match place(&self.entries, index) {
-            Ok(at) => self.entries[at].has(mark),
-            Err(_) => false,
-        }
+        let Some(root) = &self.root else {
+            return false;
+        };
+        let Some(entry) = root.find(index as u64) else {
+            return false;
+        };
+        entry.has(mark)
     }
 
     /// The least index not below `from` that has an entry.
@@ -173,12 +180,13 @@ impl<T: Drop> IndexArray<T> {
         ensures none_above { IfNone result ((k : ℕ) → from ≤ k → map.contains_key self.now.items k ≡ false) }
         ensures bound { (k : ℕ) → IsTrue (map.contains_key self.now.items k) → k ≤ u32.MAX }
     {
-        for entry in &self.entries {
-            if entry.index >= from {
-                return Some(entry.index);
-            }
-        }
-        None
+        let Some(root) = &self.root else {
+            return None;
+        };
+        let Some(found) = root.first(Sought::Taken, from as u64) else {
+            return None;
+        };
+        Some(found as u32)
     }
 
     /// The least index not below `from` whose entry carries the mark.
@@ -187,24 +195,26 @@ impl<T: Drop> IndexArray<T> {
         ensures none_above { IfNone result ((k : ℕ) → from ≤ k → set.contains (marked_with self.now mark) k ≡ false) }
         ensures present { (k : ℕ) → IsTrue (set.contains (marked_with self.now mark) k) → IsTrue (map.contains_key self.now.items k) }
     {
-        for entry in &self.entries {
-            if entry.index >= from && entry.has(mark) {
-                return Some(entry.index);
-            }
-        }
-        None
+        let Some(root) = &self.root else {
+            return None;
+        };
+        let Some(found) = root.first(Sought::Marked(mark), from as u64) else {
+            return None;
+        };
+        Some(found as u32)
     }
 
     /// The least index not below `from` that has no entry.
     pub fn next_vacant(&self, from: u32) -> Option<u32>
         ensures { result ≡ least (λ i. not (map.contains_key self.now.items i)) from u32.MAX }
     {
-        let mut vacant = from;
-        for entry in &self.entries {
-            if entry.index == vacant {
-                vacant = vacant.checked_add(1)?;
-            }
+        let Some(root) = &self.root else {
+            return Some(from);
+        };
+        let vacant = root.next_vacant(from as u64);
+        if vacant > u32::MAX as u64 {
+            return None;
         }
-        Some(vacant)
+        Some(vacant as u32)
     }
 }

@@ -2,9 +2,11 @@
 #![tactic(auto)]
 
 mod array;
-mod entries;
 mod faults;
+mod growth;
 mod marks;
+mod tree;
+mod words;
 
 pub use array::IndexArray;
 pub use faults::InsertFault;

@@ -41,6 +41,44 @@ fn other_calls(rt: HostRuntime) -> Result<(), Fail> {
     Ok(())
 }
 
+#[test]
+fn levels_grow_and_empty(rt: HostRuntime) -> Result<(), Fail> {
+    let mut array = IndexArray::new(rt.alloc());
+    for index in 0..64u32 {
+        assert_eq!(rt; array.insert(index, index), Ok(()));
+    }
+    assert_eq!(rt; array.next_vacant(0), Some(64));
+    assert_eq!(rt; array.insert(1_073_741_824, 0), Ok(()));
+    assert_eq!(rt; array.next(64), Some(1_073_741_824));
+    assert!(rt; array.set_mark(63, Mark::M2));
+    assert_eq!(rt; array.next_marked(1, Mark::M2), Some(63));
+    assert_eq!(rt; array.remove(63), Some(63));
+    assert_eq!(rt; array.next_marked(0, Mark::M2), None);
+    assert_eq!(rt; array.next_vacant(0), Some(63));
+    assert_eq!(rt; array.insert(4_294_967_295, 1), Ok(()));
+    assert_eq!(rt; array.next_vacant(4_294_967_295), None);
+    Ok(())
+}
+
+/// A refused insertion leaves what was there, and the same insertion is carried out once there is memory.
+#[test]
+fn refused_growth_changes_nothing(rt: HostRuntime) -> Result<(), Fail> {
+    let mut array = IndexArray::new(rt.alloc());
+    for index in [3, 100, 5_000, 4_000_000_000u32] {
+        if let Err(fault) = array.insert(index, index) {
+            assert_eq!(rt; fault, InsertFault::NoMemory(index));
+            assert_eq!(rt; array.get(index), None);
+            assert_eq!(rt; array.insert(index, index), Ok(()));
+        }
+        assert_eq!(rt; array.get(index), Some(&index));
+    }
+    assert_eq!(rt; array.next(0), Some(3));
+    assert_eq!(rt; array.next(4), Some(100));
+    assert_eq!(rt; array.next(101), Some(5_000));
+    assert_eq!(rt; array.next(5_001), Some(4_000_000_000));
+    Ok(())
+}
+
 /// Carries out a random edit on both, and compares what each answers.
 fn edit(
     rt: &impl Abort,

@@ -4,10 +4,25 @@ ghost use Rattle.std.specs.Prelude.{◌<◌};
 
 use crate::{InsertFault, Mark};
 
-/// How many indices the plain map can have: 0 to 40, and the five greatest.
-pub const SLOTS: usize = 46;
+/// How many indices the plain map can have: 0 to 40, those where a level of the tree begins or ends, and the five
+/// greatest.
+pub const SLOTS: usize = 57;
 
 const LOW: usize = 41;
+
+const MIDDLE: [u32; 11] = [
+    63,
+    64,
+    65,
+    4_095,
+    4_096,
+    262_143,
+    262_144,
+    16_777_215,
+    16_777_216,
+    1_073_741_823,
+    1_073_741_824,
+];
 
 pub const MARKS: [Mark; 3] = [Mark::M0, Mark::M1, Mark::M2];
 
@@ -16,10 +31,12 @@ pub fn index_of(slot: usize) -> u32
     requires { slot < SLOTS }
 {
     if slot < LOW {
-        slot as u32
-    } else {
-        u32::MAX - (SLOTS - 1 - slot) as u32
+        return slot as u32;
     }
+    if slot < LOW + 11 {
+        return MIDDLE[slot - LOW];
+    }
+    u32::MAX - (SLOTS - 1 - slot) as u32
 }
 
 /// A generator of numbers, the same ones at each run.

@@ -1,20 +1,26 @@
-use Rattle.std.proofs.Common.{sym, ap, ◌∙◌, Some}
-use Rattle.drm_index_array.specs.declared.entries.Entry.{Entry}
-use Rattle.drm_index_array.proofs.ArrayLemmas.{item_here, item_in_gap, item_bound}
+use Rattle.std.proofs.Common.{ap, sym, ◌∙◌}
+use Rattle.drm_index_array.specs.Root.{items_of}
+use Rattle.drm_index_array.proofs.ArrayLemmas.{item_bound, item_found, no_item}
 use Rattle.drm_index_array.proofs.array.IndexArray.get.Goals as goal
 
-pub returns-in-Ok-clause-value : goal.returns-in-Ok-clause-value
-returns-in-Ok-clause-value g c =
-    let found = rw c.deref.ensures.value at c.in-Ok.ensures.found in
-    rw (← c.self.view_is) (ap (λ (e : Entry g.row.T.Denot). Some e.value) c.index.ensures ∙ sym (item_here _ c.self.invariant.rising _ _ c.index.result.now found))
+pub returns-in_default-clause-value : goal.returns-in_default-clause-value
+returns-in_default-clause-value g c = sym (no_item _ _ c.self.view_is (ap items_of c.in_default.is) c.args.index)
 
-pub returns-in-Err-clause-value : goal.returns-in-Err-clause-value
-returns-in-Err-clause-value g c =
-    let absent = rw c.deref.ensures.value at c.in-Err.ensures.absent in
-    rw (← c.self.view_is) (sym (item_in_gap _ c.self.invariant.rising _ _ absent))
+pub returns-in_default-clause-bound : goal.returns-in_default-clause-bound
+returns-in_default-clause-bound g c = item_bound _ _ c.self.view_is _ c.self.invariant
 
-pub returns-in-Ok-clause-bound : goal.returns-in-Ok-clause-bound
-returns-in-Ok-clause-bound g c = rw (← c.self.view_is) (item_bound _ c.self.invariant)
+pub returns-in_default-find-clause-value : goal.returns-in_default-find-clause-value
+returns-in_default-find-clause-value g c =
+    let tree = ap (λ t. t.items) c.deref.ensures ∙ sym (ap items_of c.in-Some.is) in
+    item_found _ _ c.self.view_is c.args.index _ _ c.in_default-find.ensures.entry tree
 
-pub returns-in-Err-clause-bound : goal.returns-in-Err-clause-bound
-returns-in-Err-clause-bound g c = rw (← c.self.view_is) (item_bound _ c.self.invariant)
+pub returns-in_default-find-clause-bound : goal.returns-in_default-find-clause-bound
+returns-in_default-find-clause-bound g c = item_bound _ _ c.self.view_is _ c.self.invariant
+
+pub returns-clause-value : goal.returns-clause-value
+returns-clause-value g c =
+    let tree = ap (λ t. t.items) c.deref.ensures ∙ sym (ap items_of c.in-Some.is) in
+    item_found _ _ c.self.view_is c.args.index _ _ c.in-Some-find.ensures.entry tree
+
+pub returns-clause-bound : goal.returns-clause-bound
+returns-clause-bound g c = item_bound _ _ c.self.view_is _ c.self.invariant

@@ -1,27 +1,24 @@
-use Rattle.std.proofs.Common.{◌≡◌, sym, ap, ◌∙◌, Some, inl, inr, arith}
-use Rattle.std.specs.FinMap as map
-use Rattle.drm_index_array.specs.Indexed.{with_item}
-use Rattle.drm_index_array.specs.declared.entries.Entry.{Entry}
-use Rattle.drm_index_array.proofs.EntryLemmas.{read_index, in_order_set}
-use Rattle.drm_index_array.proofs.ArrayLemmas.{item_here, item_in_gap, array_set_value}
+use Rattle.std.proofs.Common.{◌≡◌, ap, sym, ◌∙◌, subst, inr}
+use Rattle.drm_index_array.specs.Marked.{array_of}
+use Rattle.drm_index_array.specs.Root.{items_of, IsRooted}
+use Rattle.drm_index_array.proofs.ArrayLemmas.{item_at, no_item, array_lent, rooted_lent, lent_there}
 use Rattle.drm_index_array.proofs.array.IndexArray.get_mut.Goals as goal
 
 pub invariant_of-self-lent : goal.invariant_of-self-lent
-invariant_of-self-lent g c w =
-    let found = rw c.deref.ensures.value at c.in-Ok.ensures.found in
-    in_order_set _ c.self.invariant _ _ (omega arith) found _ (read_index _ _ _ _ found c.index_mut.ensures.value)
+invariant_of-self-lent g c =
+    let old : c.deref_mut.result.now ≡ c.in-Some.root.value = rw c.in-Some.is at c.deref_mut.ensures.value in
+    let at = ap items_of c.in-Some.is in
+    let view = ap array_of (sym at) ∙ c.self.view_is in
+    let rooted = subst (λ m. IsRooted m c.self.inside.count) at c.self.invariant in
+    rw (c.in-Some.is, old) (λ _. (rooted_lent _ _ view c.args.index _ rooted, rooted))
 
-pub returns-in-Ok : goal.returns-in-Ok
-returns-in-Ok g c =
-    let found = rw c.deref.ensures.value at c.in-Ok.ensures.found in
-    let read = c.index_mut.ensures.value in
-    let value : Some c.value_mut.result.now ≡ map.get c.args.self.now.items c.args.index = rw (← c.self.view_is)
-    (ap Some (sym c.value_mut.ensures.value) ∙ ap (λ (e : Entry g.row.T.Denot). Some e.value) read ∙ sym (item_here _ c.self.invariant.rising _ _ c.index_mut.result.now found)) in (
-      λ i. inl (c.value_mut.result.ghost_name, λ w. (array_set_value _ c.self.invariant.rising _ _ found _ (read_index _ _ _ _ found read) read w ∙ ap (λ a. with_item a c.args.index w) c.self.view_is) i),
-      record { writes_back = tt; value = value },
-    )
+pub returns-in-Some : goal.returns-in-Some
+returns-in-Some g c =
+    let old : c.deref_mut.result.now ≡ c.in-Some.root.value = rw c.in-Some.is at c.deref_mut.ensures.value in
+    let at = ap items_of c.in-Some.is in
+    let view = ap array_of (sym at) ∙ c.self.view_is in
+    let value = rw old at c.get_mut.ensures.value in
+    (rw (c.in-Some.is, old) (lent_there _ _ view c.args.index c.get_mut.result value _ _ _ _ (array_lent _ _ view c.args.index) view), record { writes_back = tt; value = value ∙ item_at _ _ view c.args.index })
 
-pub returns-in-Err : goal.returns-in-Err
-returns-in-Err g c =
-    let absent = rw c.deref.ensures.value at c.in-Err.ensures.absent in
-    (ap inr c.self.view_is, record { writes_back = tt; value = rw (← c.self.view_is) (sym (item_in_gap _ c.self.invariant.rising _ _ absent)) })
+pub returns-in-None : goal.returns-in-None
+returns-in-None g c = (ap inr c.self.view_is, record { writes_back = tt; value = sym (no_item _ _ c.self.view_is (ap items_of c.in-None.is) c.args.index) })

@@ -1,44 +1,33 @@
-use Rattle.std.proofs.Common.{refl, ap, ◌∙◌, arith}
-use Rattle.std.specs.FinSet as set
-use Rattle.std.proofs.lemmas.Bool.{false≢true}
-use Rattle.drm_index_array.specs.Indexed.{marked_with}
-use Rattle.drm_index_array.proofs.EntryLemmas.{in_order_insert}
-use Rattle.drm_index_array.proofs.ArrayLemmas.{item_there, item_in_gap, array_insert, mark_of_new}
+use Rattle.std.proofs.Common.{sym, ◌∙◌, arith}
+use Rattle.drm_index_array.proofs.ArrayLemmas.{key_at, rooted_more, array_more, mark_of_new, item_absent}
 use Rattle.drm_index_array.proofs.array.IndexArray.insert.Goals as goal
 
--- the index was there
-pub returns-in_default-clause-taken : goal.returns-in_default-clause-taken
-returns-in_default-clause-taken g c =
-    let found = rw c.deref.ensures.value at c.in_default.ensures.found in
-    (λ _. rw (← c.self.view_is) (item_there _ c.self.invariant.rising _ _ found), λ _. tt)
+pub returns-in-Err-clause-taken : goal.returns-in-Err-clause-taken
+returns-in-Err-clause-taken g c =
+    let key = key_at _ _ c.self.view_is c.args.index in
+    let taken = rw (c.in-Err.is, c.take.ensures.value) at c.inserted-root.ensures.taken in
+    (λ is. sym key ∙ taken.0 is, λ there. taken.1 (key ∙ there))
 
--- there was no memory
-pub invariant_of-self : goal.invariant_of-self
-invariant_of-self g c = rw c.in-Err-insert.ensures.items c.self.invariant
-
-pub returns-in-Err-insert-clause-taken : goal.returns-in-Err-insert-clause-taken
-returns-in-Err-insert-clause-taken g c =
-    let absent = rw c.deref.ensures.value at c.in-Err.ensures.absent in
-    rw (← c.self.view_is, item_in_gap _ c.self.invariant.rising _ _ absent) (λ taken. absurd taken, λ there. false≢true there)
-
--- the entry is put in the gap
 pub invariant_of-self-2 : goal.invariant_of-self-2
 invariant_of-self-2 g c =
-    let absent = rw c.deref.ensures.value at c.in-Err.ensures.absent in
-    rw c.in_default-insert.ensures.items (in_order_insert _ c.self.invariant _ _ absent (omega arith))
+    let is = rw (c.in_default.is, c.take.ensures.value) at c.inserted-root.ensures.ok in
+    let absent = rw (c.in_default.is, c.take.ensures.value) at c.inserted-root.ensures.absent in
+    rooted_more _ _ c.self.view_is c.args.index c.args.value _ is absent _ c.self.invariant (omega arith)
 
 pub returns-clause-ok : goal.returns-clause-ok
 returns-clause-ok g c =
-    let absent = rw c.deref.ensures.value at c.in-Err.ensures.absent in
-    rw (c.in_default-insert.ensures.items, ← c.self.view_is) (array_insert _ c.self.invariant.rising _ _ absent refl)
-
-pub returns-clause-absent : goal.returns-clause-absent
-returns-clause-absent g c =
-    let absent = rw c.deref.ensures.value at c.in-Err.ensures.absent in
-    rw (← c.self.view_is) (item_in_gap _ c.self.invariant.rising _ _ absent)
+    let is = rw (c.in_default.is, c.take.ensures.value) at c.inserted-root.ensures.ok in
+    let absent = rw (c.in_default.is, c.take.ensures.value) at c.inserted-root.ensures.absent in
+    array_more _ _ c.self.view_is c.args.index c.args.value _ is absent
 
 pub returns-clause-unmarked : goal.returns-clause-unmarked
 returns-clause-unmarked g c =
-    let absent = rw c.deref.ensures.value at c.in-Err.ensures.absent in
-    rw c.in_default-insert.ensures.items
-    (λ mark. ap (λ a. set.contains (marked_with a mark) c.args.index) (array_insert _ c.self.invariant.rising _ _ absent refl) ∙ mark_of_new _ c.self.invariant.rising _ _ c.args.value mark absent)
+    let is = rw (c.in_default.is, c.take.ensures.value) at c.inserted-root.ensures.ok in
+    let absent = rw (c.in_default.is, c.take.ensures.value) at c.inserted-root.ensures.absent in
+    mark_of_new _ _ c.self.view_is c.args.index c.args.value _ is absent
+
+pub returns-clause-absent : goal.returns-clause-absent
+returns-clause-absent g c =
+    let is = rw (c.in_default.is, c.take.ensures.value) at c.inserted-root.ensures.ok in
+    let absent = rw (c.in_default.is, c.take.ensures.value) at c.inserted-root.ensures.absent in
+    item_absent _ _ c.self.view_is c.args.index c.args.value _ is absent

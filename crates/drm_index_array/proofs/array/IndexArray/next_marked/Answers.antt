@@ -1,40 +1,49 @@
-use Rattle.std.proofs.Common.{◌∙◌, sym, arith}
+use Rattle.std.proofs.Common.{ℕ, ap, sym, ◌∙◌, false, arith}
+use Rattle.std.specs.Option.{option_map_or}
+use Rattle.std.specs.FinMap as map
+use Rattle.std.specs.FinSet as set
+use Rattle.drm_index_array.specs.Indexed.{marked_with}
 use Rattle.drm_index_array.specs.Marked.{mark_of}
-use Rattle.drm_index_array.specs.Entries.{IsRising}
-use Rattle.drm_index_array.proofs.WalkLemmas.{fail_more, fails_all, least_here, least_nowhere}
-use Rattle.drm_index_array.proofs.ArrayLemmas.{least_marked, contains_mark}
-use Rattle.drm_index_array.proofs.MarkedLemmas.{marked_is_key}
+use Rattle.drm_index_array.specs.Tree.{span}
+use Rattle.drm_index_array.specs.Root.{items_of}
+use Rattle.drm_index_array.proofs.ArrayLemmas.{mark_bound, mark_is_key, mark_at, no_mark, search_none, search_low, search_some, nothing_least}
 use Rattle.drm_index_array.proofs.array.IndexArray.next_marked.Goals as goal
-use Rattle.drm_index_array.proofs.array.IndexArray.next_marked.Goals.{else-entry-from-via-then-entry-from+else-has, else-entry-from-via-else-entry-from}
 
-pub loop-entry-init : goal.loop-entry-init
-loop-entry-init g c = λ j lt ge. absurd (omega arith)
+pub returns-in_default-clause-least : goal.returns-in_default-clause-least
+returns-in_default-clause-least g c = nothing_least _ c.args.from 4294967295 (λ k ge. (no_mark _ _ c.self.view_is (ap items_of c.in_default.is) c.args.mark) k)
 
-pub returns-then-has-clause-least : goal.returns-then-has-clause-least
-returns-then-has-clause-least g c =
-    let rising : IsRising c.deref-entry-items.result.now = rw c.deref-entry-items.ensures.value c.self.invariant.rising in
-    rw (← c.self.view_is, ← c.deref-entry-items.ensures.value) (least_here _ rising (λ s. mark_of s c.args.mark) c.args.from _ c.loop-entry.invariant _ _ c.loop-entry-test.true c.entry-item.is c.if-entry-from.true (omega arith) (sym c.has.ensures ∙ c.if-has.true) ∙ least_marked _ _ _ c.args.mark)
+pub returns-in_default-clause-none_above : goal.returns-in_default-clause-none_above
+returns-in_default-clause-none_above g c = λ k ge. (no_mark _ _ c.self.view_is (ap items_of c.in_default.is) c.args.mark) k
 
-pub loop-entry-preserved : goal.loop-entry-preserved
-loop-entry-preserved g c =
-    let rising : IsRising c.deref-entry-items.result.now = rw c.deref-entry-items.ensures.value c.self.invariant.rising in
-    fail_more _ rising (λ s. mark_of s c.args.mark) c.args.from _ c.loop-entry.invariant _ c.loop-entry-test.true c.entry-item.is (λ ge. elim c.else-entry-from.branch [
-      | else-entry-from-via-then-entry-from+else-has w ↦ sym w.has.ensures ∙ w.if-has.false
-      | else-entry-from-via-else-entry-from w ↦ absurd (omega arith)
-    ])
+pub returns-in_default-clause-present : goal.returns-in_default-clause-present
+returns-in_default-clause-present g c = mark_is_key _ _ c.self.view_is c.args.mark
+
+pub returns-in_default-first-clause-least : goal.returns-in_default-first-clause-least
+returns-in_default-first-clause-least g c =
+    let tree = ap (λ t. t.items) c.deref.ensures ∙ sym (ap items_of c.in-Some.is) in
+    let same = λ (k : ℕ). ap (λ m. option_map_or (λ s. mark_of s c.args.mark) (map.get m k) false) tree ∙ mark_at _ _ c.self.view_is c.args.mark k in
+    nothing_least _ c.args.from 4294967295 (search_none _ (set.contains (marked_with c.args.self.now c.args.mark)) same (span c.deref.result.now.height) c.args.from (λ k le. ap (λ o. option_map_or (λ s. mark_of s c.args.mark) o false) (c.first.ensures.past k le)) c.in_default-first.ensures.first)
+
+pub returns-in_default-first-clause-none_above : goal.returns-in_default-first-clause-none_above
+returns-in_default-first-clause-none_above g c =
+    let tree = ap (λ t. t.items) c.deref.ensures ∙ sym (ap items_of c.in-Some.is) in
+    let same = λ (k : ℕ). ap (λ m. option_map_or (λ s. mark_of s c.args.mark) (map.get m k) false) tree ∙ mark_at _ _ c.self.view_is c.args.mark k in
+    search_none _ (set.contains (marked_with c.args.self.now c.args.mark)) same (span c.deref.result.now.height) c.args.from (λ k le. ap (λ o. option_map_or (λ s. mark_of s c.args.mark) o false) (c.first.ensures.past k le)) c.in_default-first.ensures.first
+
+pub returns-in_default-first-clause-present : goal.returns-in_default-first-clause-present
+returns-in_default-first-clause-present g c = mark_is_key _ _ c.self.view_is c.args.mark
+
+pub overflow_cast-result : goal.overflow_cast-result
+overflow_cast-result g c =
+    let tree = ap (λ t. t.items) c.deref.ensures ∙ sym (ap items_of c.in-Some.is) in
+    let same = λ (k : ℕ). ap (λ m. option_map_or (λ s. mark_of s c.args.mark) (map.get m k) false) tree ∙ mark_at _ _ c.self.view_is c.args.mark k in
+    omega (arith, search_low _ (set.contains (marked_with c.args.self.now c.args.mark)) same (span c.deref.result.now.height) c.args.from (λ k le. ap (λ o. option_map_or (λ s. mark_of s c.args.mark) o false) (c.first.ensures.past k le)) (mark_bound _ _ c.self.view_is _ c.self.invariant c.args.mark) c.in-Some-first.found c.in-Some-first.ensures.first)
 
 pub returns-clause-least : goal.returns-clause-least
 returns-clause-least g c =
-    let rising : IsRising c.deref-entry-items.result.now = rw c.deref-entry-items.ensures.value c.self.invariant.rising in
-    rw (← c.self.view_is, ← c.deref-entry-items.ensures.value) (least_nowhere _ rising (λ s. mark_of s c.args.mark) c.args.from _ c.loop-entry.invariant _ c.loop-entry-test.false ∙ least_marked _ _ _ c.args.mark)
-
-pub returns-clause-none_above : goal.returns-clause-none_above
-returns-clause-none_above g c =
-    let rising : IsRising c.deref-entry-items.result.now = rw c.deref-entry-items.ensures.value c.self.invariant.rising in
-    rw (← c.self.view_is, ← c.deref-entry-items.ensures.value) (λ k ge. contains_mark _ c.args.mark k ∙ fails_all _ rising (λ s. mark_of s c.args.mark) c.args.from _ c.loop-entry.invariant c.loop-entry-test.false k ge)
+    let tree = ap (λ t. t.items) c.deref.ensures ∙ sym (ap items_of c.in-Some.is) in
+    let same = λ (k : ℕ). ap (λ m. option_map_or (λ s. mark_of s c.args.mark) (map.get m k) false) tree ∙ mark_at _ _ c.self.view_is c.args.mark k in
+    search_some _ (set.contains (marked_with c.args.self.now c.args.mark)) same (span c.deref.result.now.height) c.args.from (λ k le. ap (λ o. option_map_or (λ s. mark_of s c.args.mark) o false) (c.first.ensures.past k le)) (mark_bound _ _ c.self.view_is _ c.self.invariant c.args.mark) c.in-Some-first.found c.in-Some-first.ensures.first
 
 pub returns-clause-present : goal.returns-clause-present
-returns-clause-present g c = rw (← c.self.view_is) (marked_is_key _ c.args.mark)
-
-pub returns-then-has-clause-present : goal.returns-then-has-clause-present
-returns-then-has-clause-present g c = rw (← c.self.view_is) (marked_is_key _ c.args.mark)
+returns-clause-present g c = mark_is_key _ _ c.self.view_is c.args.mark

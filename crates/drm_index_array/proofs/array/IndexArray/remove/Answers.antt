@@ -1,34 +1,43 @@
-use Rattle.std.proofs.Common.{ap, ◌∙◌, sym, Some}
-use Rattle.drm_index_array.specs.declared.entries.Entry.{Entry}
-use Rattle.drm_index_array.proofs.EntryLemmas.{in_order_remove, remove_none, get_in_gap}
-use Rattle.drm_index_array.specs.Marked.{array_of}
-use Rattle.drm_index_array.proofs.MarkedLemmas.{array_of-remove}
-use Rattle.drm_index_array.proofs.ArrayLemmas.{item_here, item_in_gap, array_remove}
+use Rattle.std.proofs.Common.{◌∙◌}
+use Rattle.drm_index_array.proofs.ArrayLemmas.{item_at, array_less, array_same, rooted_less, rooted_same, some_counted}
 use Rattle.drm_index_array.proofs.array.IndexArray.remove.Goals as goal
 
--- the index was there
+pub returns-in_default-clause-value : goal.returns-in_default-clause-value
+returns-in_default-clause-value g c = (rw (c.in_default.is, c.take.ensures.value) at c.removed-root.ensures.value) ∙ item_at _ _ c.self.view_is c.args.index
+
+pub returns-in_default-clause-after : goal.returns-in_default-clause-after
+returns-in_default-clause-after g c =
+    let items = rw c.take.ensures.value at c.removed-root.ensures.items in
+    array_less _ _ c.self.view_is c.args.index _ items
+
 pub invariant_of-self : goal.invariant_of-self
 invariant_of-self g c =
-    let found = rw c.deref.ensures.value at c.in-Ok.ensures.found in
-    rw c.remove-value.ensures.items (in_order_remove _ c.self.invariant _ _ found)
+    let items = rw c.take.ensures.value at c.removed-root.ensures.items in
+    let kept = rw (c.in_default.is, c.take.ensures.value) at c.removed-root.ensures.kept in
+    rooted_same _ _ c.self.view_is c.args.index _ items _ c.self.invariant kept
 
-pub returns-in-Ok-clause-value : goal.returns-in-Ok-clause-value
-returns-in-Ok-clause-value g c =
-    let found = rw c.deref.ensures.value at c.in-Ok.ensures.found in
-    rw (← c.self.view_is) (ap (λ (e : Entry g.row.T.Denot). Some e.value) c.remove-value.ensures.value ∙ sym (item_here _ c.self.invariant.rising _ _ c.remove-value.result found))
+pub returns-in_default-clause-absent : goal.returns-in_default-clause-absent
+returns-in_default-clause-absent g c =
+    let items = rw c.take.ensures.value at c.removed-root.ensures.items in
+    let kept = rw (c.in_default.is, c.take.ensures.value) at c.removed-root.ensures.kept in
+    array_same _ _ c.self.view_is c.args.index _ items kept
 
-pub returns-in-Ok-clause-after : goal.returns-in-Ok-clause-after
-returns-in-Ok-clause-after g c =
-    let found = rw c.deref.ensures.value at c.in-Ok.ensures.found in
-    rw (c.remove-value.ensures.items, ← c.self.view_is) (array_remove _ c.self.invariant.rising _ _ found)
+pub overflow_sub-self : goal.overflow_sub-self
+overflow_sub-self g c =
+    let items = rw c.take.ensures.value at c.removed-root.ensures.items in
+    let found = rw (c.in-Some.is, c.take.ensures.value) at c.removed-root.ensures.value in
+    some_counted _ _ c.self.view_is c.args.index _ items c.in-Some.value found _ c.self.invariant
 
--- it was not
-pub returns-in-Err-clause-value : goal.returns-in-Err-clause-value
-returns-in-Err-clause-value g c =
-    let absent = rw c.deref.ensures.value at c.in-Err.ensures.absent in
-    rw (← c.self.view_is) (sym (item_in_gap _ c.self.invariant.rising _ _ absent))
+pub invariant_of-self-2 : goal.invariant_of-self-2
+invariant_of-self-2 g c =
+    let items = rw c.take.ensures.value at c.removed-root.ensures.items in
+    let found = rw (c.in-Some.is, c.take.ensures.value) at c.removed-root.ensures.value in
+    rooted_less _ _ c.self.view_is c.args.index _ items c.in-Some.value found _ c.self.invariant
 
-pub returns-in-Err-clause-after : goal.returns-in-Err-clause-after
-returns-in-Err-clause-after g c =
-    let absent = rw c.deref.ensures.value at c.in-Err.ensures.absent in
-    rw (← c.self.view_is) (ap array_of (remove_none _ _ (get_in_gap _ c.self.invariant.rising _ _ absent)) ∙ array_of-remove _ _)
+pub returns-clause-value : goal.returns-clause-value
+returns-clause-value g c = (rw (c.in-Some.is, c.take.ensures.value) at c.removed-root.ensures.value) ∙ item_at _ _ c.self.view_is c.args.index
+
+pub returns-clause-after : goal.returns-clause-after
+returns-clause-after g c =
+    let items = rw c.take.ensures.value at c.removed-root.ensures.items in
+    array_less _ _ c.self.view_is c.args.index _ items

@@ -1,29 +1,38 @@
-use Rattle.std.proofs.Common.{refl, ap, ◌∙◌, arith}
+use Rattle.std.proofs.Common.{ap, sym, ◌∙◌, refl, subst, IsSome}
 use Rattle.std.proofs.lemmas.Bool.{false≢true}
-use Rattle.drm_index_array.specs.declared.entries.Entry.{Entry}
-use Rattle.drm_index_array.proofs.EntryLemmas.{read_index, in_order_set, index-entry_with_mark}
-use Rattle.drm_index_array.proofs.ArrayLemmas.{item_there, item_in_gap, array_write_mark}
+use Rattle.drm_index_array.specs.Marked.{array_of}
+use Rattle.drm_index_array.specs.Root.{items_of, IsRooted}
+use Rattle.drm_index_array.proofs.ArrayLemmas.{item_at, no_key, key_found, array_written, rooted_written}
 use Rattle.drm_index_array.proofs.array.IndexArray.write_mark.Goals as goal
 
--- the index was there
-pub invariant_of-self : goal.invariant_of-self
-invariant_of-self g c =
-    let found = rw c.deref.ensures.value at c.in-Ok.ensures.found in
-    in_order_set _ c.self.invariant _ _ (omega arith) found _ (ap (λ (e : Entry g.row.T.Denot). e.index) c.write_mark.ensures ∙ index-entry_with_mark _ _ _ ∙ read_index _ _ _ _ found c.index_mut.ensures.value)
+pub returns-in_default-clause-result : goal.returns-in_default-clause-result
+returns-in_default-clause-result g c = (λ no_one. absurd (false≢true no_one), λ there. sym (no_key _ _ c.self.view_is (ap items_of c.in_default.is) c.args.index) ∙ there)
 
-pub returns-in-Ok-clause-result : goal.returns-in-Ok-clause-result
-returns-in-Ok-clause-result g c =
-    let found = rw c.deref.ensures.value at c.in-Ok.ensures.found in
-    (λ _. rw (← c.self.view_is) (item_there _ c.self.invariant.rising _ _ found), λ _. refl)
+pub returns-then-is_none-clause-result : goal.returns-then-is_none-clause-result
+returns-then-is_none-clause-result g c =
+    let tree = ap (λ t. t.items) c.deref.ensures ∙ sym (ap items_of c.in-Some.is) in
+    let key = key_found _ _ c.self.view_is c.args.index c.find.result _ c.find.ensures.entry tree in
+    (λ no_one. absurd (false≢true no_one), λ there. sym c.if-is_none.ensures ∙ key ∙ there)
 
-pub returns-in-Ok-clause-present : goal.returns-in-Ok-clause-present
-returns-in-Ok-clause-present g c =
-    let found = rw c.deref.ensures.value at c.in-Ok.ensures.found in
-    let read = c.index_mut.ensures.value in
-    rw (← c.self.view_is) (array_write_mark _ c.self.invariant.rising _ _ found c.index_mut.result.now (read_index _ _ _ _ found read) read _ c.args.mark c.args.on c.write_mark.ensures)
+pub invariant_of-self-2 : goal.invariant_of-self-2
+invariant_of-self-2 g c =
+    let at = ap items_of c.in-Some.is in
+    let items = rw c.deref_mut.ensures.value at c.edit.ensures.items in
+    let view = ap array_of (sym at) ∙ c.self.view_is in
+    rooted_written _ _ view c.args.index c.args.mark c.args.on _ items _ (subst (λ m. IsRooted m c.self.inside.count) at c.self.invariant)
 
--- it was not
-pub returns-in-Err-clause-result : goal.returns-in-Err-clause-result
-returns-in-Err-clause-result g c =
-    let absent = rw c.deref.ensures.value at c.in-Err.ensures.absent in
-    rw (← c.self.view_is, item_in_gap _ c.self.invariant.rising _ _ absent) (λ there. absurd (false≢true there), λ there. there)
+pub returns-clause-result : goal.returns-clause-result
+returns-clause-result g c =
+    let tree = ap (λ t. t.items) c.deref.ensures ∙ sym (ap items_of c.in-Some.is) in
+    let key = key_found _ _ c.self.view_is c.args.index c.find.result _ c.find.ensures.entry tree in
+    (λ _. sym key ∙ c.if-is_none.ensures, λ _. refl)
+
+pub returns-clause-present : goal.returns-clause-present
+returns-clause-present g c =
+    let tree = ap (λ t. t.items) c.deref.ensures ∙ sym (ap items_of c.in-Some.is) in
+    let key = key_found _ _ c.self.view_is c.args.index c.find.result _ c.find.ensures.entry tree in
+    let at = ap items_of c.in-Some.is in
+    let items = rw c.deref_mut.ensures.value at c.edit.ensures.items in
+    let view = ap array_of (sym at) ∙ c.self.view_is in
+    let there = subst IsSome (sym (item_at _ _ view c.args.index)) (sym key ∙ c.if-is_none.ensures) in
+    array_written _ _ view c.args.index c.args.mark c.args.on _ items there

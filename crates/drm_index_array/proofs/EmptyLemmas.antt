@@ -1,0 +1,66 @@
+-- A node with no entry.
+use Rattle.std.proofs.Common.{◌≡◌, ℕ, zero, suc, ◌%◌, ◌/◌, ◌≤◌, Bool, true, false, cond, ltb, not, List, replicate, None, refl, sym, ap, ◌∙◌, arith}
+use Rattle.std.specs.FinMap as map
+use Rattle.std.specs.Ordering.{nat_cmp}
+use Rattle.std.proofs.lemmas.List.{length-replicate}
+use Rattle.std.proofs.lemmas.Nat.Bits.{bit_at-zero}
+use Rattle.drm_index_array.proofs.MarkedLemmas.{same_by_gets}
+use Rattle.drm_index_array.specs.declared.marks.Mark.TheVariants.{M0, M1, M2}
+use Rattle.drm_index_array.specs.Word.{has_bit, tells_of}
+use Rattle.drm_index_array.specs.Tree.{width, span}
+use Rattle.drm_index_array.specs.Slots.{AllFit, has_below, slot, look, below, view_of, IsSound}
+use Rattle.drm_index_array.specs.declared.words.Sought.{Sought}
+use Rattle.drm_index_array.specs.declared.words.Sought.TheVariants.{Taken, Vacant as Free, Marked as WithMark}
+use Rattle.drm_index_array.specs.declared.words.Words.{Words}
+use Rattle.drm_index_array.specs.declared.tree.Slot.{Slot}
+use Rattle.drm_index_array.specs.declared.tree.Slot.TheVariants.{Vacant}
+use Rattle.drm_index_array.proofs.NodeLemmas.{any_alike}
+use Rattle.drm_index_array.proofs.TableLemmas.{get-table}
+
+abbrev pub no_words : Words
+no_words = record { present = 0; full = 0; m0 = 0; m1 = 0; m2 = 0 }
+
+no_bit : (i : ℕ) → has_bit 0 i ≡ false
+no_bit i = rw (bit_at-zero i) refl
+
+same_either : {X : Type 0} (b : Bool) (x : X) → cond b x x ≡ x
+same_either true x = refl
+same_either false x = refl
+
+module _ (T : Type 0) where
+  abbrev pub vacants : ℕ → List (Slot T)
+  vacants n = replicate n Vacant
+
+  abbrev vacant : Slot T
+  vacant = Vacant
+
+  slot_vacant : (n i : ℕ) → slot (vacants n) i ≡ Vacant
+  slot_vacant zero i = refl
+  slot_vacant (suc n) zero = refl
+  slot_vacant (suc n) (suc i) = slot_vacant n i
+
+  vacant_fit : (height n : ℕ) → AllFit height (vacants n)
+  vacant_fit height zero = tt
+  vacant_fit height (suc n) = (tt, vacant_fit height n)
+
+  vacant_tells : (height : ℕ) (x : Sought) (i : ℕ) → tells_of no_words x i ≡ has_below height vacant x
+  vacant_tells height Taken i = no_bit i ∙ sym (any_alike height false)
+  vacant_tells height Free i = ap not (no_bit i) ∙ sym (any_alike height true)
+  vacant_tells height (WithMark M0) i = no_bit i ∙ sym (any_alike height false)
+  vacant_tells height (WithMark M1) i = no_bit i ∙ sym (any_alike height false)
+  vacant_tells height (WithMark M2) i = no_bit i ∙ sym (any_alike height false)
+
+  pub empty_sound : (height : ℕ) → height ≤ 5 → IsSound height (vacants 64) no_words
+  empty_sound height low = record {
+    wide = length-replicate 64 vacant;
+    low = low;
+    all_fit = vacant_fit height 64;
+    fit = record { present = omega arith; full = omega arith; m0 = omega arith; m1 = omega arith; m2 = omega arith };
+    tells = λ x i lt. vacant_tells height x i ∙ ap (λ s. has_below height s x) (sym (slot_vacant 64 i));
+  }
+
+  pub empty_view : (height : ℕ) → view_of height (vacants 64) ≡ record { height = height; items = map.empty }
+  empty_view height = ap (λ items. record { height = height; items = items }) (same_by_gets _ _ (λ k.
+      get-table (span height) (look height (vacants 64)) k
+      ∙ ap (λ s. cond (ltb k (span height)) (below s (k % width height)) None) (slot_vacant 64 (k / width height))
+      ∙ same_either _ None ∙ sym (map.get-empty nat_cmp k)))

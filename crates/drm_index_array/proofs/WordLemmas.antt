@@ -1,0 +1,78 @@
+-- What the machine's operations on a word do to the places that it tells.
+use Rattle.std.proofs.Common.{◌≡◌, ℕ, ◌-◌, ◌*◌, ◌%◌, ◌^◌, ◌<◌, ◌≤◌, true, false, eqb, ◌==◌, if◌then◌else◌, not, bit_and, w64, Some, None, refl, sym, ap, ◌∙◌, inl, inr, arith}
+use Rattle.std.specs.Int.{bit_at, trailing_zeros, bit_not}
+use Rattle.std.specs.Int.RustNames.{bit_or}
+use Rattle.std.proofs.lemmas.Bool.{cases_eq, cases_lt}
+use Rattle.std.proofs.lemmas.Bool.Decides.{nat_tests}
+use Rattle.std.proofs.lemmas.Nat.{and_le_l}
+use Rattle.std.proofs.lemmas.Nat.Bits.{bit_at_and, bit_at-zero, bit_at-lt, bit_at_not, bit_at-trailing_zeros, bit_at_mask_inside, bit_at_mask_below, bit_at_set_same, bit_at_set_other, bit_at_clear_same, bit_at_clear_other}
+use Rattle.drm_index_array.specs.Least.{least}
+use Rattle.drm_index_array.proofs.Least.{least_is, least_is_none}
+use Rattle.drm_index_array.specs.Word.{has_bit}
+
+-- the part of a word from a place on
+tail_of : (word from i : ℕ) → from ≤ i → i < 64 → bit_at (bit_and word (2 ^ 64 - 2 ^ from)) i ≡ bit_at word i
+tail_of word from i ge lt = bit_at_and word (2 ^ 64 - 2 ^ from) i ∙ omega (arith, bit_at_mask_inside from 64 i ge lt, bit_at-lt word i)
+
+tail_below : (word from i : ℕ) → i < from → bit_at (bit_and word (2 ^ 64 - 2 ^ from)) i ≡ 0
+tail_below word from i lt = bit_at_and word (2 ^ 64 - 2 ^ from) i ∙ omega (arith, bit_at_mask_below from 64 i lt)
+
+zero_test : (n : ℕ) → n ≡ 0 → eqb n 1 ≡ false
+zero_test n e = rw e refl
+
+one_test : (n : ℕ) → n ≡ 1 → eqb n 1 ≡ true
+one_test n e = rw e refl
+
+-- the tail is 0: no place from there on has a 1
+pub no_place : (word from : ℕ) → bit_and word (2 ^ 64 - 2 ^ from) ≡ 0 → None ≡ least (has_bit word) from 63
+no_place word from none =
+    sym (least_is_none (has_bit word) from 63 (λ k ge le. zero_test _ (sym (tail_of word from k ge (omega arith)) ∙ ap (λ n. bit_at n k) none ∙ bit_at-zero k)))
+
+-- else its lowest 1 is the least such place
+pub least_place : (word from : ℕ) → 0 < bit_and word (2 ^ 64 - 2 ^ from) → bit_and word (2 ^ 64 - 2 ^ from) < 2 ^ 64 → Some (trailing_zeros w64 (bit_and word (2 ^ 64 - 2 ^ from))) ≡ least (has_bit word) from 63
+least_place word from some fits =
+    let rest = bit_and word (2 ^ 64 - 2 ^ from) in
+    let lowest = bit_at-trailing_zeros w64 rest some fits in
+    let place = trailing_zeros w64 rest in
+    let ge : from ≤ place = least_ge word from place lowest.1 in
+    sym (least_is (has_bit word) from 63 place (record {
+      at_least = ge;
+      at_most = omega (arith, lowest.0);
+      passes = one_test _ (sym (tail_of word from place ge lowest.0) ∙ lowest.1);
+      none_below = λ k low lt. zero_test _ (sym (tail_of word from k low (omega (arith, lowest.0))) ∙ lowest.2 k lt);
+    }))
+  where
+    least_ge : (word from place : ℕ) → bit_at (bit_and word (2 ^ 64 - 2 ^ from)) place ≡ 1 → from ≤ place
+    least_ge word from place one =
+        elim (cases_lt place from) [
+          | inl below ↦ absurd (omega (arith, tail_below word from place below, one))
+          | inr ge ↦ ge
+        ]
+
+pub and_fits : (a b : ℕ) → a < 2 ^ 64 → bit_and a b < 2 ^ 64
+and_fits a b fits = omega (arith, and_le_l a b)
+
+-- a word with the bit of one place set, and with it cleared
+pub has_bit-set : (word k i : ℕ) → k < 64 → i < 64 → has_bit (bit_or word (1 * 2 ^ k % 2 ^ 64)) i ≡ (if i == k then true else has_bit word i)
+has_bit-set word k i within lt =
+    elim (cases_eq i k) [
+      | inl same ↦ let test : eqb i k ≡ true = grind (arith, nat_tests) in rw (test, same) (one_test _ (bit_at_set_same w64 word k within))
+      | inr apart ↦ let test : eqb i k ≡ false = grind (arith, nat_tests) in rw test (ap (λ n. eqb n 1) (bit_at_set_other w64 word k within i apart))
+    ]
+
+pub has_bit-clear : (word k i : ℕ) → k < 64 → i < 64 → has_bit (bit_and word (bit_not w64 (1 * 2 ^ k % 2 ^ 64))) i ≡ (if i == k then false else has_bit word i)
+has_bit-clear word k i within lt =
+    elim (cases_eq i k) [
+      | inl same ↦ let test : eqb i k ≡ true = grind (arith, nat_tests) in rw (test, same) (zero_test _ (bit_at_clear_same w64 word k within))
+      | inr apart ↦ let test : eqb i k ≡ false = grind (arith, nat_tests) in rw test (ap (λ n. eqb n 1) (bit_at_clear_other w64 word k within i lt apart))
+    ]
+
+-- the word of the other places
+pub has_bit-not : (word i : ℕ) → word < 2 ^ 64 → i < 64 → has_bit (bit_not w64 word) i ≡ not (has_bit word i)
+has_bit-not word i fits lt =
+    let flipped = bit_at_not w64 word i fits lt in
+    let small = bit_at-lt word i in
+    grind (arith, nat_tests)
+
+pub one_bit_fits : (k : ℕ) → 1 * 2 ^ k % 2 ^ 64 < 2 ^ 64
+one_bit_fits k = omega arith

@@ -1,0 +1,20 @@
+-- What an edit makes of the entry at its index.
+use Rattle.std.specs.Prelude.{Result, Ok, Err, Some, Option, None, option_map}
+use Rattle.drm_index_array.specs.Marked.{Marked, unmarked, with_mark}
+use Rattle.drm_index_array.specs.declared.tree.Edit.{Edit}
+use Rattle.drm_index_array.specs.declared.tree.Edit.TheVariants.{Remove, Write}
+
+module _ {T : Type 0} where
+  abbrev pub edited_by : Edit → Option (Marked T) → Option (Marked T)
+  edited_by Remove o = None
+  edited_by (Write m b) o = option_map (λ s. with_mark s m b) o
+
+  -- the value that is taken out
+  abbrev pub taken_by : Edit → Option (Marked T) → Option T
+  taken_by Remove o = option_map (λ s. s.value) o
+  taken_by (Write m b) o = None
+
+  -- the entry at the index of an insertion, as it went
+  abbrev pub filled_by : {E : Type 0} → Result (Unit {0}) E → T → Option (Marked T) → Option (Marked T)
+  filled_by (Ok _) v o = Some (unmarked v)
+  filled_by (Err _) v o = o

@@ -1,0 +1,169 @@
+//! How a tree grows.
+
+ghost use Rattle.std.specs.Prelude.{◌≡◌, ℕ, ◌+◌, ◌-◌, ◌*◌, ◌^◌, ◌<◌, ◌≤◌, ◌↔◌, IsSome, Option, Some, None, OnOk, OnErr, IfOk, IfErr, IfNone};
+ghost use Rattle.std.specs.FinMap as map;
+ghost use Rattle.drm_index_array.specs.Marked.{get, unmarked};
+ghost use Rattle.drm_index_array.specs.InsertFault.{value_of, IsTaken};
+ghost use Rattle.drm_index_array.specs.Tree.{width, span};
+ghost use Rattle.drm_index_array.specs.Root.{items_of, IsPast};
+
+use crate::faults::InsertFault;
+use crate::tree::{Edit, Node};
+use std::alloc::Global;
+
+/// The least height of a node that covers the index.
+fn height_for(index: u64) -> u32
+    requires { index < 2 ^ 36 }
+    ensures low { result ≤ 5 }
+    ensures within { index < span result }
+    ensures least { 0 < result → width result ≤ index }
+{
+    if index < 1 << 6 {
+        return 0;
+    }
+    if index < 1 << 12 {
+        return 1;
+    }
+    if index < 1 << 18 {
+        return 2;
+    }
+    if index < 1 << 24 {
+        return 3;
+    }
+    if index < 1 << 30 {
+        return 4;
+    }
+    5
+}
+
+/// The lowest tree with this one entry. Where memory is refused, the value comes back.
+fn sole<T: Drop>(alloc: Global, index: u64, value: T) -> Result<Box<Node<T>>, T>
+    requires { index < 2 ^ 36 }
+    ensures height { IfOk result (λ root. root.value.height ≤ 5) }
+    ensures within { IfOk result (λ root. index < span root.value.height) }
+    ensures least { IfOk result (λ root. 0 < root.value.height → width root.value.height ≤ index) }
+    ensures items { IfOk result (λ root. root.value.items ≡ map.insert map.empty index (unmarked value)) }
+    ensures returned { IfErr result (λ v. v ≡ value) }
+{
+    let Ok(root) = Node::new(alloc, height_for(index)) else {
+        return Err(value);
+    };
+    let Ok(mut root) = Box::new(alloc, root) else {
+        return Err(value);
+    };
+    if let Err(fault) = root.insert(alloc, index, value) {
+        return Err(fault.into_value());
+    }
+    Ok(root)
+}
+
+/// A tree of this height with the same entries. All its nodes are made before the first is linked. Where memory is
+/// refused, the tree comes back as it was.
+fn raised<T: Drop>(
+    alloc: Global,
+    root: Box<Node<T>>,
+    height: u32,
+) -> Result<Box<Node<T>>, Box<Node<T>>>
+    requires low { height ≤ 5 }
+    requires high { root.value.height ≤ height }
+    requires past { IsPast root.value (span root.value.height) }
+    ensures height { IfOk result (λ node. node.value.height ≡ height) }
+    ensures items { IfOk result (λ node. node.value.items ≡ root.value.items) }
+    ensures err { IfErr result (λ node. node ≡ root) }
+{
+    if root.height() == height {
+        return Ok(root);
+    }
+    let Ok(above) = Node::new(alloc, height) else {
+        return Err(root);
+    };
+    let Ok(mut above) = Box::new(alloc, above) else {
+        return Err(root);
+    };
+    let child = raised(alloc, root, height - 1)?;
+    above.hang(child);
+    Ok(above)
+}
+
+/// A tree with one more entry, at an index that the root does not cover. Where memory is refused, the tree comes back
+/// as it was, with the value.
+fn grown<T: Drop>(
+    alloc: Global,
+    root: Box<Node<T>>,
+    index: u64,
+    value: T,
+) -> Result<Box<Node<T>>, (Box<Node<T>>, T)>
+    requires index { index < 2 ^ 36 }
+    requires beyond { span root.value.height ≤ index }
+    requires past { IsPast root.value (span root.value.height) }
+    ensures items { IfOk result (λ node. node.value.items ≡ map.insert root.value.items index (unmarked value)) }
+    ensures kept { IfErr result (λ failed. failed.0 ≡ root) }
+    ensures returned { IfErr result (λ failed. failed.1 ≡ value) }
+{
+    let mut top = match sole(alloc, index, value) {
+        Ok(top) => top,
+        Err(value) => return Err((root, value)),
+    };
+    match raised(alloc, root, top.height() - 1) {
+        Ok(child) => {
+            top.hang(child);
+            Ok(top)
+        }
+        Err(root) => match top.edit(index, Edit::Remove) {
+            Some(value) => Err((root, value)),
+            None => unreachable!(),
+        },
+    }
+}
+
+/// The tree with one more entry, with no mark, and how that went. Where the index has an entry, or memory is refused,
+/// the tree stays as it is and the value comes back.
+pub fn inserted<T: Drop>(
+    alloc: Global,
+    root: Option<Box<Node<T>>>,
+    index: u64,
+    value: T,
+) -> (Option<Box<Node<T>>>, Result<(), InsertFault<T>>)
+    requires { index < 2 ^ 36 }
+    ensures ok { OnOk result.1 (items_of result.0 ≡ map.insert (items_of root) index (unmarked value)) }
+    ensures err { OnErr result.1 (items_of result.0 ≡ items_of root) }
+    ensures returned { IfErr result.1 (λ fault. value_of fault ≡ value) }
+    ensures absent { OnOk result.1 (map.get (items_of root) index ≡ None) }
+    ensures taken { IfErr result.1 (λ fault. IsTaken fault ↔ IsSome (map.get (items_of root) index)) }
+    ensures few { map.len (items_of root) ≤ 2 ^ 36 }
+{
+    let Some(mut root) = root else {
+        return match sole(alloc, index, value) {
+            Ok(root) => (Some(root), Ok(())),
+            Err(value) => (None, Err(InsertFault::NoMemory(value))),
+        };
+    };
+    if root.covers(index) {
+        let done = root.insert(alloc, index, value);
+        return (Some(root), done);
+    }
+    match grown(alloc, root, index, value) {
+        Ok(root) => (Some(root), Ok(())),
+        Err((root, value)) => (Some(root), Err(InsertFault::NoMemory(value))),
+    }
+}
+
+/// The tree with no entry at the index, and the value that was there. No memory is taken, and a tree that became empty
+/// is dropped.
+pub fn removed<T: Drop>(root: Option<Box<Node<T>>>, index: u64) -> (Option<Box<Node<T>>>, Option<T>)
+    ensures items { items_of result.0 ≡ map.remove (items_of root) index }
+    ensures value { result.1 ≡ get (items_of root) index }
+    ensures kept { IfNone result.1 (map.remove (items_of root) index ≡ items_of root) }
+{
+    let Some(mut root) = root else {
+        return (None, None);
+    };
+    if !root.covers(index) {
+        return (Some(root), None);
+    }
+    let value = root.edit(index, Edit::Remove);
+    if root.is_empty() {
+        return (None, value);
+    }
+    (Some(root), value)
+}

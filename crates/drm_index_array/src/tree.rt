@@ -1,0 +1,548 @@
+//! The tree of nodes.
+
+ghost use Rattle.std.specs.Prelude.{◌≡◌, ℕ, ◌+◌, ◌-◌, ◌*◌, ◌^◌, ◌<◌, ◌≤◌, ◌/◌, ◌%◌, ◌↔◌, ◌==◌, if◌then◌else◌, IsTrue, OnSome, IsSome, is_some, not, nat_lt, option_map, Some, None, option_copied, OnOk, OnErr, IfOk, IfErr};
+ghost use Rattle.std.specs.FinMap as map;
+ghost use Rattle.drm_index_array.specs.Least.{least, IsLeastFrom};
+ghost use Rattle.drm_index_array.specs.Word.{has_bit, tells_of, AreWords};
+ghost use Rattle.drm_index_array.specs.Marked.{mark_of, with_mark, unmarked};
+ghost use Rattle.drm_index_array.specs.InsertFault.{value_of, IsTaken};
+ghost use Rattle.drm_index_array.specs.Tree.{width, span, is_sought};
+ghost use Rattle.drm_index_array.specs.Slots.{marked, option_marked, Fits, InSlot, below, has_below};
+ghost use Rattle.drm_index_array.specs.Edit.{edited_by, filled_by, taken_by};
+ghost use Rattle.std.specs.Option.{option_copied_mut};
+
+use crate::faults::InsertFault;
+use crate::marks::Mark;
+use crate::words::{Sought, Words, first_one, with_bit};
+use std::alloc::{AllocError, Global};
+use std::marker::Model;
+use std::mem;
+
+#[derive(Drop)]
+pub struct Entry<T> {
+    pub value: T,
+    m0: bool,
+    m1: bool,
+    m2: bool,
+}
+
+#[derive(Drop)]
+#[cycle(tree)]
+enum Slot<T> {
+    Vacant,
+    Value(Entry<T>),
+    Child(Box<Node<T>>),
+}
+
+#[derive(Drop)]
+#[cycle(tree)]
+pub struct Node<T> {
+    // 0 for a node of values; a child's is one less.
+    height: u32,
+    slots: Vec<Slot<T>>,
+    words: Words,
+}
+
+/// What a walk does to the entry at an index, if there is one.
+#[derive(Clone, Copy, Debug)]
+pub enum Edit {
+    /// Takes it out.
+    Remove,
+    /// Sets the mark, or clears it.
+    Write(Mark, bool),
+}
+
+impl<T> Model for Node<T> {
+    ghost use Rattle.drm_index_array.specs.Tree.{Tree, tree_code};
+
+    ghost Value = { Tree T };
+
+    ghost coded = { tree_code T.code };
+
+    ghost use Rattle.drm_index_array.specs.Slots.{view_of, IsSound};
+
+    ghost view = { λ a. view_of a.height a.slots.items };
+
+    ghost invariant = { λ a. IsSound a.height a.slots.items a.words };
+
+    ghost size = { λ t. t.height };
+
+    ghost use Rattle.drm_index_array.specs.SlotsFall.{height_falls};
+
+    ghost size_decreases = { λ a h. height_falls a h };
+}
+
+impl<T> Entry<T> {
+    ghost use Rattle.std.specs.Borrow.{sem};
+    ghost use Rattle.drm_index_array.specs.Lends.{lends_entry};
+
+    pub fn has(&self, mark: Mark) -> bool
+        ensures { result ≡ mark_of (marked self.now) mark }
+    {
+        match mark {
+            Mark::M0 => self.m0,
+            Mark::M1 => self.m1,
+            Mark::M2 => self.m2,
+        }
+    }
+
+    fn is_sought(&self, sought: Sought) -> bool
+        ensures { result ≡ is_sought sought (Some (marked self.now)) }
+    {
+        match sought {
+            Sought::Taken => true,
+            Sought::Vacant => false,
+            Sought::Marked(mark) => self.has(mark),
+        }
+    }
+
+    /// Sets or clears the mark.
+    fn write_mark(&mut self, mark: Mark, on: bool)
+        ensures { marked self.new ≡ with_mark (marked self.old) mark on }
+    {
+        match mark {
+            Mark::M0 => self.m0 = on,
+            Mark::M1 => self.m1 = on,
+            Mark::M2 => self.m2 = on,
+        }
+    }
+
+    /// The value for writing.
+    fn value_mut(&mut self) -> &mut T
+        ensures* lends { sem 𝓛 (lends_entry T.row self.entry result) }
+        ensures value { self.old.value ≡ result.now }
+    {
+        &mut self.value
+    }
+}
+
+/// The slot of a node of this height where an index lies, and where it lies below that slot.
+fn parts(height: u32, index: u64) -> (usize, u64)
+    requires { height ≤ 5 }
+    ensures slot { result.0 ≡ index / width height }
+    ensures rest { result.1 ≡ index % width height }
+{
+    let shift = 6 * height;
+    ((index >> shift) as usize, index & ((1 << shift) - 1))
+}
+
+/// The first index past those that a node of this height covers.
+fn first_past(height: u32) -> u64
+    requires { height ≤ 5 }
+    ensures { result ≡ span height }
+{
+    1 << (6 * height + 6)
+}
+
+/// The first index of a slot of a node of this height.
+fn start(height: u32, at: usize) -> u64
+    requires low { height ≤ 5 }
+    requires slot { at < 64 }
+    ensures value { result ≡ at * width height }
+    ensures bound { result ≤ 63 * 2 ^ 30 }
+    ensures width { width height ≤ 2 ^ 30 }
+{
+    (at as u64) << (6 * height)
+}
+
+/// Whether some index below a slot is sought.
+fn any_below<T>(slot: &Slot<T>, height: u32, sought: Sought) -> bool
+    requires { Fits height slot.now }
+    ensures { result ≡ has_below height slot.now sought }
+{
+    match slot {
+        Slot::Vacant => matches!(sought, Sought::Vacant),
+        Slot::Value(entry) => entry.is_sought(sought),
+        Slot::Child(child) => child.any(sought),
+    }
+}
+
+/// The words of a node, once one slot was written.
+fn refreshed<T>(words: &Words, height: u32, slot: &Slot<T>, at: usize) -> Words
+    requires words { AreWords words.now }
+    requires slot { at < 64 }
+    requires fits { Fits height slot.now }
+    ensures words { AreWords result }
+    ensures tells { (x : Sought) (i : ℕ) → i < 64 → tells_of result x i ≡ (if i == at then has_below height slot.now x else tells_of words.now x i) }
+{
+    Words {
+        present: with_bit(words.present, at, any_below(slot, height, Sought::Taken)),
+        full: with_bit(words.full, at, !any_below(slot, height, Sought::Vacant)),
+        m0: with_bit(
+            words.m0,
+            at,
+            any_below(slot, height, Sought::Marked(Mark::M0)),
+        ),
+        m1: with_bit(
+            words.m1,
+            at,
+            any_below(slot, height, Sought::Marked(Mark::M1)),
+        ),
+        m2: with_bit(
+            words.m2,
+            at,
+            any_below(slot, height, Sought::Marked(Mark::M2)),
+        ),
+    }
+}
+
+impl<T> Node<T> {
+    pub fn height(&self) -> u32
+        ensures height { result ≡ self.now.height }
+        ensures low { result ≤ 5 }
+    {
+        self.height
+    }
+
+    /// Whether the index is low enough to lie below the node.
+    pub fn covers(&self, index: u64) -> bool
+        ensures covers { IsTrue result ↔ (index < span self.now.height) }
+        ensures past { (k : ℕ) → span self.now.height ≤ k → map.get self.now.items k ≡ None }
+        ensures few { map.len self.now.items ≤ 2 ^ 36 }
+    {
+        index < first_past(self.height)
+    }
+
+    /// Whether there is no entry.
+    pub fn is_empty(&self) -> bool
+        ensures { IsTrue result → self.now.items ≡ map.empty }
+    {
+        !self.any(Sought::Taken)
+    }
+
+    /// The entry at the index, if there is one.
+    pub fn find(&self, index: u64) -> Option<&Entry<T>>
+        ensures entry { option_marked (option_copied result) ≡ map.get self.now.items index }
+        ensures within { OnSome result (index < span self.now.height) }
+    {
+        if !self.covers(index) {
+            return None;
+        }
+        self.get(index)
+    }
+
+    /// The least index not below `from` that is sought, of those that lie below the node.
+    pub fn first(&self, sought: Sought, from: u64) -> Option<u64>
+        ensures first { result ≡ least (λ i. is_sought sought (map.get self.now.items i)) from (span self.now.height - 1) }
+        ensures past { (k : ℕ) → span self.now.height ≤ k → map.get self.now.items k ≡ None }
+    {
+        if !self.covers(from) {
+            return None;
+        }
+        self.next(sought, from)
+    }
+
+    /// The least index not below `from` that has no entry, of all.
+    pub fn next_vacant(&self, from: u64) -> u64
+        ensures { IsLeastFrom (λ i. not (map.contains_key self.now.items i)) from result }
+    {
+        if !self.covers(from) {
+            return from;
+        }
+        match self.next(Sought::Vacant, from) {
+            Some(found) => found,
+            None => first_past(self.height),
+        }
+    }
+
+    fn get(&self, index: u64) -> Option<&Entry<T>>
+        requires { index < span self.now.height }
+        ensures { option_marked (option_copied result) ≡ map.get self.now.items index }
+    {
+        let (at, rest) = parts(self.height, index);
+        match &self.slots[at] {
+            Slot::Vacant => None,
+            Slot::Value(entry) => Some(entry),
+            Slot::Child(child) => child.get(rest),
+        }
+    }
+
+    /// The least index not below `from` that is sought.
+    #[cycle(search)]
+    fn next(&self, sought: Sought, from: u64) -> Option<u64>
+        requires { from < span self.now.height }
+        ensures { result ≡ least (λ i. is_sought sought (map.get self.now.items i)) from (span self.now.height - 1) }
+    {
+        let (at, rest) = parts(self.height, from);
+        if let Some(found) = self.next_in(at, sought, rest) {
+            return Some(found);
+        }
+        if at == 63 {
+            return None;
+        }
+        let at = first_one(self.words.word(sought), at as u32 + 1)?;
+        self.next_in(at as usize, sought, 0)
+    }
+
+    /// The same in one slot.
+    #[cycle(search)]
+    fn next_in(&self, at: usize, sought: Sought, rest: u64) -> Option<u64>
+        requires slot { at < 64 }
+        requires rest { rest < width self.now.height }
+        ensures { result ≡ least (λ i. is_sought sought (map.get self.now.items i)) (at * width self.now.height + rest) (at * width self.now.height + (width self.now.height - 1)) }
+    {
+        if self.words.word(sought) >> at & 1 == 0 {
+            return None;
+        }
+        let base = start(self.height, at);
+        match &self.slots[at] {
+            Slot::Vacant => match sought {
+                Sought::Vacant => Some(base + rest),
+                _ => None,
+            },
+            Slot::Value(entry) => {
+                if entry.is_sought(sought) {
+                    Some(base + rest)
+                } else {
+                    None
+                }
+            }
+            Slot::Child(child) => match child.next(sought, rest) {
+                Some(found) => Some(base + found),
+                None => None,
+            },
+        }
+    }
+
+    /// Whether some index is sought.
+    fn any(&self, sought: Sought) -> bool
+        ensures any { result ≡ is_some (least (λ i. is_sought sought (map.get self.now.items i)) 0 (span self.now.height - 1)) }
+        ensures past { (k : ℕ) → span self.now.height ≤ k → map.get self.now.items k ≡ None }
+    {
+        first_one(self.words.word(sought), 0).is_some()
+    }
+}
+
+impl<T: Drop> Node<T> {
+    /// A node with no entry.
+    pub fn new(alloc: Global, height: u32) -> Result<Node<T>, AllocError>
+        requires { height ≤ 5 }
+        ensures { IfOk result (λ node. node ≡ record { height = height; items = map.empty }) }
+    {
+        let mut slots = Vec::with_capacity(alloc, 64)?;
+        for _turn in 0..64u32 {
+            slots.push(Slot::Vacant)?;
+        }
+        Ok(Node {
+            height,
+            slots,
+            words: Words::none(),
+        })
+    }
+
+    /// Adds an entry with no mark at an index that has none, or hands the value back.
+    #[cycle(fill)]
+    pub fn insert(&mut self, alloc: Global, index: u64, value: T) -> Result<(), InsertFault<T>>
+        requires { index < span self.old.height }
+        ensures height { self.new.height ≡ self.old.height }
+        ensures items { (k : ℕ) → map.get self.new.items k ≡ (if k == index then filled_by result value (map.get self.old.items index) else map.get self.old.items k) }
+        ensures ok { OnOk result (self.new.items ≡ map.insert self.old.items index (unmarked value)) }
+        ensures err { OnErr result (self.new ≡ self.old) }
+        ensures returned { IfErr result (λ fault. value_of fault ≡ value) }
+        ensures absent { OnOk result (map.get self.old.items index ≡ None) }
+        ensures taken { IfErr result (λ fault. IsTaken fault ↔ IsSome (map.get self.old.items index)) }
+    {
+        let (at, rest) = parts(self.height, index);
+        let slot = mem::replace(&mut self.slots[at], Slot::Vacant);
+        let (slot, done) = filled(alloc, slot, self.height, rest, value);
+        self.slots[at] = slot;
+        self.words = refreshed(&self.words, self.height, &self.slots[at], at);
+        done
+    }
+
+    /// Hangs a subtree into the first slot.
+    pub fn hang(&mut self, child: Box<Node<T>>)
+        requires { child.value.height + 1 ≡ self.old.height }
+        ensures height { self.new.height ≡ self.old.height }
+        ensures items { (k : ℕ) → map.get self.new.items k ≡ (if nat_lt k (width self.old.height) then map.get child.value.items k else map.get self.old.items k) }
+    {
+        self.slots[0] = Slot::Child(child);
+        self.words = refreshed(&self.words, self.height, &self.slots[0], 0);
+    }
+
+    /// Edits the entry at the index, if there is one. No memory is taken, and each node below that became empty is
+    /// dropped.
+    #[cycle(edit)]
+    pub fn edit(&mut self, index: u64, edit: Edit) -> Option<T>
+        requires { index < span self.old.height }
+        ensures height { self.new.height ≡ self.old.height }
+        ensures items { (k : ℕ) → map.get self.new.items k ≡ (if k == index then edited_by edit (map.get self.old.items index) else map.get self.old.items k) }
+        ensures taken { result ≡ taken_by edit (map.get self.old.items index) }
+    {
+        let (at, rest) = parts(self.height, index);
+        let slot = mem::replace(&mut self.slots[at], Slot::Vacant);
+        let (slot, taken) = edited(slot, self.height, rest, edit);
+        self.slots[at] = slot;
+        self.words = refreshed(&self.words, self.height, &self.slots[at], at);
+        taken
+    }
+}
+
+/// The slot, once an entry was added at an index below it, and how that went. All nodes that the entry needs are made
+/// before the first is linked.
+#[cycle(fill)]
+fn filled<T: Drop>(
+    alloc: Global,
+    slot: Slot<T>,
+    height: u32,
+    rest: u64,
+    value: T,
+) -> (Slot<T>, Result<(), InsertFault<T>>)
+    requires low { height ≤ 5 }
+    requires fits { Fits height slot }
+    requires rest { rest < width height }
+    ensures fits { Fits height result.0 }
+    ensures below { (r : ℕ) → r < width height → below result.0 r ≡ (if r == rest then filled_by result.1 value (below slot rest) else below slot r) }
+    ensures returned { IfErr result.1 (λ fault. value_of fault ≡ value) }
+    ensures absent { OnOk result.1 (below slot rest ≡ None) }
+    ensures taken { IfErr result.1 (λ fault. IsTaken fault ↔ IsSome (below slot rest)) }
+{
+    match slot {
+        Slot::Value(entry) => (Slot::Value(entry), Err(InsertFault::Taken(value))),
+        Slot::Child(mut child) => {
+            let done = child.insert(alloc, rest, value);
+            (Slot::Child(child), done)
+        }
+        Slot::Vacant => {
+            if height == 0 {
+                let entry = Entry {
+                    value,
+                    m0: false,
+                    m1: false,
+                    m2: false,
+                };
+                return (Slot::Value(entry), Ok(()));
+            }
+            let Ok(child) = Node::new(alloc, height - 1) else {
+                return (Slot::Vacant, Err(InsertFault::NoMemory(value)));
+            };
+            let Ok(mut child) = Box::new(alloc, child) else {
+                return (Slot::Vacant, Err(InsertFault::NoMemory(value)));
+            };
+            match child.insert(alloc, rest, value) {
+                Ok(()) => (Slot::Child(child), Ok(())),
+                Err(fault) => (Slot::Vacant, Err(fault)),
+            }
+        }
+    }
+}
+
+/// The slot, once the entry at an index below it was edited, and the value that was taken out.
+#[cycle(edit)]
+fn edited<T: Drop>(slot: Slot<T>, height: u32, rest: u64, edit: Edit) -> (Slot<T>, Option<T>)
+    requires fits { Fits height slot }
+    requires rest { rest < width height }
+    ensures fits { Fits height result.0 }
+    ensures below { (r : ℕ) → r < width height → below result.0 r ≡ (if r == rest then edited_by edit (below slot rest) else below slot r) }
+    ensures taken { result.1 ≡ taken_by edit (below slot rest) }
+{
+    match slot {
+        Slot::Vacant => (Slot::Vacant, None),
+        Slot::Value(mut entry) => {
+            let Edit::Write(mark, on) = edit else {
+                let Entry { value, .. } = entry;
+                return (Slot::Vacant, Some(value));
+            };
+            entry.write_mark(mark, on);
+            (Slot::Value(entry), None)
+        }
+        Slot::Child(mut child) => {
+            let taken = child.edit(rest, edit);
+            if child.any(Sought::Taken) {
+                return (Slot::Child(child), taken);
+            }
+            (Slot::Vacant, taken)
+        }
+    }
+}
+
+/// The height of the node that a slot is in, as a type. A function that calls itself cannot lend a `&mut` on, but a
+/// function of one level can lend it on to that of the level below.
+trait Level {
+    ghost use Rattle.std.specs.Prelude.{ℕ};
+    ghost use Rattle.std.specs.Borrow.{sem};
+    ghost use Rattle.drm_index_array.specs.Lends.{lends_slot};
+
+    ghost height: { ℕ };
+
+    /// The value at an index below the slot for writing, if there is one.
+    fn lend<T>(slot: &mut Slot<T>, rest: u64) -> Option<&mut T>
+        requires fits { Fits height slot.old }
+        requires rest { rest < width height }
+        ensures* writes_back { sem 𝓛 (lends_slot T.row slot.entry rest result) }
+        ensures value { option_copied_mut result ≡ option_map (λ s. s.value) (below slot.old rest) };
+}
+
+/// The slots of values.
+struct Lowest;
+
+/// The slots above nodes of this level.
+struct Above<L> {
+    below: L,
+}
+
+impl Level for Lowest {
+    ghost height = { 0 };
+
+    fn lend<T>(slot: &mut Slot<T>, _rest: u64) -> Option<&mut T> {
+        match slot {
+            Slot::Value(entry) => Some(entry.value_mut()),
+            _ => None,
+        }
+    }
+}
+
+impl<L: Level> Level for Above<L> {
+    ghost height = { L.height + 1 };
+
+    fn lend<T>(slot: &mut Slot<T>, rest: u64) -> Option<&mut T> {
+        match slot {
+            Slot::Child(child) => child.lend::<L>(rest),
+            _ => None,
+        }
+    }
+}
+
+impl<T> Node<T> {
+    ghost use Rattle.std.specs.Borrow.{sem};
+    ghost use Rattle.drm_index_array.specs.Lends.{lends_node};
+    ghost use Rattle.drm_index_array.specs.Marked.{get};
+
+    /// The value at the index for writing, if there is one, in a node of this level.
+    fn lend<L: Level>(&mut self, index: u64) -> Option<&mut T>
+        requires height { self.old.height ≡ L.height }
+        requires index { index < span self.old.height }
+        ensures* writes_back { sem 𝓛 (lends_node T.row self.entry index result) }
+        ensures value { option_copied_mut result ≡ get self.old.items index }
+    {
+        let (at, rest) = parts(self.height, index);
+        L::lend(&mut self.slots[at], rest)
+    }
+
+    /// The height of a node that covers the index; 6 for one that does not.
+    fn level_of(&self, index: u64) -> u32
+        ensures height { result ≤ 5 → (result ≡ self.now.height) × (index < span self.now.height) }
+        ensures none { 5 < result → map.get self.now.items index ≡ None }
+    {
+        if !self.covers(index) {
+            return 6;
+        }
+        self.height
+    }
+
+    /// The value at the index for writing, if there is one. The entry keeps its marks.
+    pub fn get_mut(&mut self, index: u64) -> Option<&mut T>
+        ensures* writes_back { sem 𝓛 (lends_node T.row self.entry index result) }
+        ensures value { option_copied_mut result ≡ get self.old.items index }
+    {
+        match self.level_of(index) {
+            0 => self.lend::<Lowest>(index),
+            1 => self.lend::<Above<Lowest>>(index),
+            2 => self.lend::<Above<Above<Lowest>>>(index),
+            3 => self.lend::<Above<Above<Above<Lowest>>>>(index),
+            4 => self.lend::<Above<Above<Above<Above<Lowest>>>>>(index),
+            5 => self.lend::<Above<Above<Above<Above<Above<Lowest>>>>>>(index),
+            _ => None,
+        }
+    }
+}

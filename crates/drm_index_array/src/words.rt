@@ -1,0 +1,87 @@
+//! Words of 64 bits, one for each slot of a node.
+
+ghost use Rattle.std.specs.Prelude.{◌≡◌, ℕ, ◌<◌, ◌==◌, if◌then◌else◌};
+ghost use Rattle.drm_index_array.specs.Least.{least};
+ghost use Rattle.drm_index_array.specs.Word.{has_bit, tells_of, AreWords};
+
+use crate::marks::Mark;
+
+/// What a search is for.
+#[derive(Clone, Copy, Debug)]
+pub enum Sought {
+    /// An index that has an entry.
+    Taken,
+    /// An index that has none.
+    Vacant,
+    /// An index whose entry carries the mark.
+    Marked(Mark),
+}
+
+/// What lies below each slot of a node: a bit for each slot.
+#[derive(Clone, Copy, Debug)]
+pub struct Words {
+    /// Some index below the slot has an entry.
+    pub present: u64,
+    /// No index below the slot is vacant.
+    pub full: u64,
+    /// Some index below the slot carries the first mark.
+    pub m0: u64,
+    /// The same of the second.
+    pub m1: u64,
+    /// The same of the third.
+    pub m2: u64,
+}
+
+/// Five facts of what lies below a slot.
+impl Words {
+    /// The words of a node with no entry.
+    pub fn none() -> Self
+        ensures { result ≡ record { present = 0; full = 0; m0 = 0; m1 = 0; m2 = 0 } }
+    {
+        Words {
+            present: 0,
+            full: 0,
+            m0: 0,
+            m1: 0,
+            m2: 0,
+        }
+    }
+
+    /// The word whose bits tell of what is sought.
+    pub fn word(&self, sought: Sought) -> u64
+        requires { AreWords self.now }
+        ensures { (i : ℕ) → i < 64 → has_bit result i ≡ tells_of self.now sought i }
+    {
+        match sought {
+            Sought::Taken => self.present,
+            Sought::Vacant => !self.full,
+            Sought::Marked(Mark::M0) => self.m0,
+            Sought::Marked(Mark::M1) => self.m1,
+            Sought::Marked(Mark::M2) => self.m2,
+        }
+    }
+}
+
+/// The place of the least 1 of a word, from a place on.
+pub fn first_one(word: u64, from: u32) -> Option<u32>
+    requires { from < 64 }
+    ensures { result ≡ least (has_bit word) from 63 }
+{
+    let rest = word & (u64::MAX << from);
+    if rest == 0 {
+        return None;
+    }
+    Some(rest.trailing_zeros())
+}
+
+/// The word with the bit of one place written.
+pub fn with_bit(word: u64, at: usize, on: bool) -> u64
+    requires { at < 64 }
+    ensures { (i : ℕ) → i < 64 → has_bit result i ≡ (if i == at then on else has_bit word i) }
+{
+    if on {
+        word | (1 << at)
+    } else {
+        word & !(1 << at)
+    }
+}
