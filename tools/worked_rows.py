@@ -11,20 +11,6 @@ import re
 MODEL = pathlib.Path("crates/drm_model")
 TABLE = pathlib.Path("crates/drm_table/specs")
 ARRAYS = pathlib.Path("crates/drm_index_array/specs")
-# the script's word of each call, and the variant that stands for it
-CALLS = {
-    "version": "Version",
-    "gem_close": "GemClose",
-    "get_cap": "GetCap",
-    "set_client_cap": "SetClientCap",
-    "buf_create": "BufCreate",
-    "stamp_write": "StampWrite",
-    "stamp_read": "StampRead",
-    "list_handles": "ListHandles",
-    "audit": "Audit",
-    "create_dumb": "CreateDumb",
-    "destroy_dumb": "DestroyDumb",
-}
 # the word of each answer that is told by numbers, and the variant that stands for it
 ANSWERS = {
     "done": "Done",
@@ -56,9 +42,11 @@ def rules():
     return {int(number): rule for rule, number in re.findall(r"rule_number (\w+) = (\d+)", text)}
 
 
-def rows_of_the_table():
+def calls():
+    """The variant and the number of each call, by its word in a script."""
     text = (TABLE / "Table.antt").read_text()
-    return {int(number) for number in re.findall(r"table_row (\d+) ", text)}
+    rows = re.findall(r'^kind_row kinds\.(\w+) = table_row (0x\w+) \(codes "\w+"\) \(codes "(\w+)"\)', text, re.M)
+    return {word: (kind, int(number, 16)) for kind, number, word in rows}
 
 
 def read(path):
@@ -97,14 +85,15 @@ def opening(words):
     return {"card": "(Primary false)", "root": "(Primary true)", "render": "Render"}[words[0]]
 
 
-def event(line, labels, numbers):
+def event(line, labels, rows):
     first, *rest = line.split()
     if first == "open":
         return term("Open", opening(rest[1:]))
     if first == "close":
         return term("Close", labels.get(rest[0], "0"))
     word, *fields = rest
-    name = CALLS.get(word) or ("BadLayout" if int(fields[0]) in numbers else "UnknownCall")
+    numbers = {number for _, number in rows.values()}
+    name = rows[word][0] if word in rows else ("BadLayout" if int(fields[0]) in numbers else "UnknownCall")
     if name == "Audit":
         fields = ["Of" + KINDS[int(fields[0]) - 1], fields[1]]
     return term("Ask", labels.get(first, "0"), term(name, *fields))
@@ -130,7 +119,7 @@ def lemma(name, lines):
     labels, events, answers = {}, [], []
     for line in lines:
         asked, _, got = line.partition(" -> ")
-        events.append(strip(event(asked, labels, rows_of_the_table())))
+        events.append(strip(event(asked, labels, calls())))
         answers.append(strip(answer(got, rules())))
         if asked.startswith("open ") and got.startswith("client "):
             labels[asked.split()[1]] = got.split()[1]
@@ -145,7 +134,7 @@ def lemma(name, lines):
         "use Rattle.drm_table.specs.declared.apart.Apart.{Apart}",
         "use Rattle.drm_table.specs.declared.apart.Apart.TheVariants.{JournalFull}",
         f"use Rattle.drm_table.specs.declared.rules.Rule.TheVariants.{{{denials}}}",
-        "use Rattle.drm_table.specs.declared.calls.Call.TheVariants.{Unknown as UnknownCall, BadLayout, " + ", ".join(CALLS.values()) + "}",
+        "use Rattle.drm_table.specs.declared.calls.Call.TheVariants.{Unknown as UnknownCall, BadLayout, " + ", ".join(kind for kind, _ in calls().values()) + "}",
         "use Rattle.drm_table.specs.declared.events.Event.{Event}",
         "use Rattle.drm_table.specs.declared.events.Event.TheVariants.{Open, Ask, Close}",
         "use Rattle.drm_table.specs.declared.events.Opening.TheVariants.{Primary, Render, Lease}",

@@ -1,70 +1,56 @@
 -- Which result a frame is, both ways.
-use Rattle.std.proofs.Common.{◌≡◌, ℕ, ◌+◌, ◌*◌, ◌≤◌, List, [], ◌++◌, length, drop, Bool, true, false, cond, Option, Some, None, Ok, Err, refl, sym, ap, ◌∙◌, subst, arith}
+use Rattle.std.proofs.Common.{◌≡◌, ℕ, ◌+◌, ◌*◌, ◌≤◌, List, ◌++◌, All, length, drop, Bool, true, false, cond, Option, Some, None, Ok, Err, refl, sym, ap, ◌∙◌, subst, arith}
 use Rattle.std.specs.Prelude.{◌&&◌, nat_eq, nat_le}
 use Rattle.std.proofs.lemmas.Bool.Decides.{nat_tests}
 use Rattle.std.proofs.lemmas.Bool.{eqb-true}
-use Rattle.std.proofs.lemmas.List.{nil_from_length}
+use Rattle.std.specs.List.{flat_map}
+use Rattle.std.specs.Option.{option_map, option_and_then}
+use Rattle.std.proofs.lemmas.List.{append-nil}
 use Rattle.std.proofs.lemmas.Option.{none-some}
 use Rattle.drm_table.specs.declared.answers.Answer.{Answer}
-use Rattle.drm_table.specs.declared.answers.Answer.TheVariants.{Done, Opened, Version, Number, Dumb, Buffer, List as Listed, Audit, Closed, Denied}
+use Rattle.drm_table.specs.declared.answers.Answer.TheVariants.{List as Listed, Audit, Denied}
+use Rattle.drm_table.specs.declared.answer_kinds.AnswerKind.{AnswerKind}
+use Rattle.drm_table.specs.declared.fields.Field.{Field}
+use Rattle.drm_table.specs.Answers.{Told, answer_number, answer_widths, answer_kind_of, answer_with, told, AreToldBy}
+use Rattle.drm_table.specs.Fields.{FitsField}
+use Rattle.drm_table.proofs.AnswerRows.{kind-of-its-own, told-by}
 use Rattle.drm_table.specs.declared.apart.Apart.{Apart}
 use Rattle.drm_table.specs.declared.rules.Rule.{Rule}
 use Rattle.drm_table.specs.Rules.{rule_number, rule_errno, apart_number, apart_errno}
-use Rattle.drm_frames.specs.Number.{u32, u32_in, u64_in, AreBytes}
-use Rattle.drm_frames.specs.Grammar.{Packet, packet, IsPacket, if_size}
-use Rattle.drm_frames.specs.Answers.{Outcome, answer_packet, FitsFields, IsAnswer, Tells, rule_of, apart_of, denied, refused, list_in, audit_in, denied_in, refused_in, answer_in}
+use Rattle.drm_frames.specs.Number.{u32, u32_in, AreBytes}
+use Rattle.drm_frames.specs.Grammar.{Packet, packet, IsPacket}
+use Rattle.drm_frames.specs.Fields.{field_text, numbers_in}
+use Rattle.drm_frames.specs.Answers.{Outcome, told_packet, FitsTold, IsAnswer, Tells, rule_of, apart_of, denied, refused, list_in, audit_in, denied_in, refused_in, result_in, answer_in}
 use Rattle.drm_frames.specs.Lists.{ids_in}
 use Rattle.drm_frames.specs.Pages.{rows_in}
 use Rattle.drm_frames.proofs.Numbers.{AreBytes-drop}
-use Rattle.drm_frames.proofs.FieldLaws.{u32_in-below, u64_in-below, two-again, three-again, dumb-again}
+use Rattle.drm_frames.proofs.FieldLaws.{two-again}
 use Rattle.drm_frames.proofs.RuleLaws.{rule-of-its-own, apart-of-its-own}
-use Rattle.drm_frames.proofs.Sizes.{size-some, cond-some, some-is, both-true, packet-is}
-use Rattle.drm_frames.proofs.Shapes.{u32-written, u64-written, mixed-written}
+use Rattle.drm_frames.proofs.Sizes.{cond-some, some-is, both-true, packet-is}
+use Rattle.drm_frames.proofs.FieldTexts.{numbers-were}
 use Rattle.drm_frames.proofs.ListLaws.{list-below, list-again}
 use Rattle.drm_frames.proofs.PageLaws.{page-below, page-again}
 use Rattle.drm_frames.proofs.AnswerTexts.{answer-found}
 
 -- ---- what is found is a result
 
-bare-tells : (f : Packet) (n : ℕ) (answer : Answer) (outcome : Outcome) → f.number ≡ n → answer_packet (Ok answer) ≡ packet n [] → FitsFields (Ok answer)
-    → if_size 0 f.fields (Ok answer) ≡ Some outcome → IsAnswer f outcome
-bare-tells f n answer outcome number text fits e =
-    let s = size-some 0 f.fields (Ok answer) outcome e in
-    subst (λ (o : Outcome). IsAnswer f o) s.1 (fits, packet-is f n [] number (nil_from_length f.fields s.0) ∙ sym text)
+-- the answer that is made of the fields
+made : (f : Packet) (kind : AnswerKind) (fs : List Field) (o : Option Answer) (outcome : Outcome) → AreToldBy kind fs o → option_map Ok o ≡ Some outcome → All FitsField fs
+    → f ≡ packet (answer_number kind) (flat_map field_text fs) → IsAnswer f outcome
+made f kind fs None outcome are e fits same = absurd (none-some outcome e)
+made f kind fs (Some answer) outcome are e fits same =
+    subst (λ (o : Outcome). IsAnswer f o) (some-is (Ok answer) outcome e) (subst (λ (t : Told). FitsTold t × (f ≡ told_packet t)) (sym are) (fits, same))
 
-opened-tells : (f : Packet) (outcome : Outcome) → AreBytes f.fields → f.number ≡ 0x1001 → if_size 4 f.fields (Ok (Opened (u32_in f.fields))) ≡ Some outcome → IsAnswer f outcome
-opened-tells f outcome b number e =
-    u32-written (λ (o : Outcome). IsAnswer f o) (λ (n : ℕ). Ok (Opened n)) f.fields outcome b e (λ n small same. (small, packet-is f 0x1001 _ number same))
-
-number-tells : (f : Packet) (outcome : Outcome) → AreBytes f.fields → f.number ≡ 0x1003 → if_size 8 f.fields (Ok (Number (u64_in f.fields))) ≡ Some outcome → IsAnswer f outcome
-number-tells f outcome b number e =
-    u64-written (λ (o : Outcome). IsAnswer f o) (λ (n : ℕ). Ok (Number n)) f.fields outcome b e (λ n small same. (small, packet-is f 0x1003 _ number same))
-
-buffer-tells : (f : Packet) (outcome : Outcome) → AreBytes f.fields → f.number ≡ 0x1005
-    → if_size 12 f.fields (Ok (Buffer (u32_in f.fields) (u64_in (drop 4 f.fields)))) ≡ Some outcome → IsAnswer f outcome
-buffer-tells f outcome b number e =
-    mixed-written (λ (o : Outcome). IsAnswer f o) (λ (n k : ℕ). Ok (Buffer n k)) f.fields outcome b e (λ n k handle size same. ((handle, size), packet-is f 0x1005 _ number same))
-
-version-tells : (f : Packet) (outcome : Outcome) → AreBytes f.fields → f.number ≡ 0x1002
-    → if_size 12 f.fields (Ok (Version (u32_in f.fields) (u32_in (drop 4 f.fields)) (u32_in (drop 8 f.fields)))) ≡ Some outcome → IsAnswer f outcome
-version-tells f outcome b number e =
-    let s = size-some 12 f.fields (Ok (Version (u32_in f.fields) (u32_in (drop 4 f.fields)) (u32_in (drop 8 f.fields)))) outcome e in
-    subst (λ (o : Outcome). IsAnswer f o) s.1 (
-      (u32_in-below f.fields b, u32_in-below (drop 4 f.fields) (AreBytes-drop 4 f.fields b), u32_in-below (drop 8 f.fields) (AreBytes-drop 8 f.fields b)),
-      packet-is f 0x1002 _ number (three-again f.fields s.0 b),
-    )
-
-dumb-tells : (f : Packet) (outcome : Outcome) → AreBytes f.fields → f.number ≡ 0x1004
-    → if_size 16 f.fields (Ok (Dumb (u32_in f.fields) (u32_in (drop 4 f.fields)) (u64_in (drop 8 f.fields)))) ≡ Some outcome → IsAnswer f outcome
-dumb-tells f outcome b number e =
-    let s = size-some 16 f.fields (Ok (Dumb (u32_in f.fields) (u32_in (drop 4 f.fields)) (u64_in (drop 8 f.fields)))) outcome e in
-    subst (λ (o : Outcome). IsAnswer f o) s.1 (
-      (u32_in-below f.fields b, u32_in-below (drop 4 f.fields) (AreBytes-drop 4 f.fields b), u64_in-below (drop 8 f.fields) (AreBytes-drop 8 f.fields b)),
-      packet-is f 0x1004 _ number (dumb-again f.fields s.0 b),
-    )
+by-fields : (f : Packet) (kind : AnswerKind) (o : Option (List Field)) (outcome : Outcome) → AreBytes f.fields → f.number ≡ answer_number kind → numbers_in (answer_widths kind) f.fields ≡ o
+    → option_map Ok (option_and_then (answer_with kind) o) ≡ Some outcome → IsAnswer f outcome
+by-fields f kind None outcome b number t e = absurd (none-some outcome e)
+by-fields f kind (Some fs) outcome b number t e =
+    let were = numbers-were (answer_widths kind) f.fields fs b t in
+    made f kind fs (answer_with kind fs) outcome (told-by kind fs) e were.fits (packet-is f (answer_number kind) _ number (were.text ∙ append-nil (flat_map field_text fs)))
 
 list-by : (f : Packet) (outcome : Outcome) → AreBytes f.fields → f.number ≡ 0x1007 → u32_in f.fields ≤ 64 → length f.fields ≡ 4 + 4 * u32_in f.fields
     → ◌≡◌ {A = Option Outcome} (Some (Ok (Listed (ids_in (u32_in f.fields) (drop 4 f.fields))))) (Some outcome) → IsAnswer f outcome
+unfolding told
 list-by f outcome b number few len e =
     subst (λ (o : Outcome). IsAnswer f o) (some-is (Ok (Listed (ids_in (u32_in f.fields) (drop 4 f.fields)))) outcome e) (
       list-below (u32_in f.fields) (drop 4 f.fields) few (AreBytes-drop 4 f.fields b),
@@ -81,6 +67,7 @@ list-tells f outcome b number e =
 
 audit-by : (f : Packet) (outcome : Outcome) → AreBytes f.fields → f.number ≡ 0x100B → u32_in f.fields ≤ 16 → length f.fields ≡ 4 + 32 * u32_in f.fields
     → ◌≡◌ {A = Option Outcome} (Some (Ok (Audit (rows_in (u32_in f.fields) (drop 4 f.fields))))) (Some outcome) → IsAnswer f outcome
+unfolding told
 audit-by f outcome b number few len e =
     subst (λ (o : Outcome). IsAnswer f o) (some-is (Ok (Audit (rows_in (u32_in f.fields) (drop 4 f.fields)))) outcome e) (
       page-below (u32_in f.fields) (drop 4 f.fields) few (AreBytes-drop 4 f.fields b),
@@ -101,6 +88,7 @@ two-are fields number errno len b n e =
 
 denied-by : (f : Packet) (outcome : Outcome) (found : Option Rule) → AreBytes f.fields → f.number ≡ 0x2000 → length f.fields ≡ 8
     → rule_of (u32_in f.fields) (u32_in (drop 4 f.fields)) ≡ found → denied found ≡ Some outcome → IsAnswer f outcome
+unfolding told
 denied-by f outcome None b number len is e = absurd (none-some outcome e)
 denied-by f outcome (Some rule) b number len is e =
     let own = rule-of-its-own (u32_in f.fields) (u32_in (drop 4 f.fields)) rule is in
@@ -129,20 +117,17 @@ by-number : (f : Packet) (n : ℕ) (outcome : Outcome) (this other : Option Outc
 by-number f n outcome this other true t here there e = here (eqb-true f.number n t) e
 by-number f n outcome this other false t here there e = there e
 
+by-kind : (f : Packet) (o : Option AnswerKind) (outcome : Outcome) → AreBytes f.fields → answer_kind_of f.number ≡ o → result_in o f ≡ Some outcome → IsAnswer f outcome
+by-kind f (Some kind) outcome bytes t e = by-fields f kind (numbers_in (answer_widths kind) f.fields) outcome bytes (sym (kind-of-its-own f.number kind t)) refl e
+by-kind f None outcome bytes t e =
+    by-number f 0x1007 outcome _ _ _ refl (list-tells f outcome bytes)
+    (by-number f 0x100B outcome _ _ _ refl (audit-tells f outcome bytes)
+    (by-number f 0x2000 outcome _ _ _ refl (denied-tells f outcome bytes)
+    (by-number f 0x2001 outcome _ _ _ refl (refused-tells f outcome bytes) (λ e. absurd (none-some outcome e))))) e
+
 found-tells : (f : Packet) (outcome : Outcome) → AreBytes f.fields → answer_in f ≡ Some outcome → IsAnswer f outcome
 unfolding answer_in
-found-tells f outcome bytes =
-    by-number f 0x1000 outcome _ _ _ refl (λ e. bare-tells f 0x1000 Done outcome e refl tt)
-    (by-number f 0x1001 outcome _ _ _ refl (opened-tells f outcome bytes)
-    (by-number f 0x1002 outcome _ _ _ refl (version-tells f outcome bytes)
-    (by-number f 0x1003 outcome _ _ _ refl (number-tells f outcome bytes)
-    (by-number f 0x1004 outcome _ _ _ refl (dumb-tells f outcome bytes)
-    (by-number f 0x1005 outcome _ _ _ refl (buffer-tells f outcome bytes)
-    (by-number f 0x1007 outcome _ _ _ refl (list-tells f outcome bytes)
-    (by-number f 0x100B outcome _ _ _ refl (audit-tells f outcome bytes)
-    (by-number f 0x100C outcome _ _ _ refl (λ e. bare-tells f 0x100C Closed outcome e refl tt)
-    (by-number f 0x2000 outcome _ _ _ refl (denied-tells f outcome bytes)
-    (by-number f 0x2001 outcome _ _ _ refl (refused-tells f outcome bytes) (λ e. absurd (none-some outcome e))))))))))))
+found-tells f outcome bytes e = by-kind f (answer_kind_of f.number) outcome bytes refl e
 
 tells-by : (f : Packet) (found : Option Outcome) → answer_in f ≡ found → ((outcome : Outcome) → found ≡ Some outcome → IsAnswer f outcome) → Tells f found
 tells-by f None e each = λ outcome h. none-some outcome (sym e ∙ answer-found f outcome h)

@@ -6,7 +6,7 @@ use Rattle.std.proofs.lemmas.Bool.{cases_lt}
 use Rattle.std.proofs.lemmas.List.{append_assoc, append-nil, length-append, drop_at, length-drop, drop-drop, get_or_append_left, get_or-append_right}
 use Rattle.byteorder.specs.Numbers.{little_from-lt}
 use Rattle.drm_frames.specs.Number.{u32, u64, u32_in, u64_in, AreBytes}
-use Rattle.drm_frames.proofs.Numbers.{AreBytes-drop, u32-again, u64-again, u32-front, length-u32, u32_in-u32, u64_in-u64}
+use Rattle.drm_frames.proofs.Numbers.{AreBytes-drop, u32-again, u32-front, length-u32, u32_in-u32}
 
 -- ---- what is written is bytes
 
@@ -47,9 +47,6 @@ three-bytes a b c = AreBytes-append (u32 a ++ u32 b) (u32 c) (two-bytes a b) (Ar
 
 pub u32_in-alone : (n : ℕ) → n < 2 ^ 32 → u32_in (u32 n) ≡ n
 u32_in-alone n h = ap u32_in (sym (append-nil (u32 n))) ∙ u32_in-u32 n [] h
-
-pub u64_in-alone : (n : ℕ) → n < 2 ^ 64 → u64_in (u64 n) ≡ n
-u64_in-alone n h = ap u64_in (sym (append-nil (u64 n))) ∙ u64_in-u64 n [] h
 
 pub u32_in-below : (bytes : List ℕ) → AreBytes bytes → u32_in bytes < 2 ^ 32
 unfolding u32_in
@@ -102,8 +99,3 @@ pub three-again : (fields : List ℕ) → length fields ≡ 12 → AreBytes fiel
 three-again fields len h =
     two-front fields (omega (arith, len)) h
     ∙ ap (λ (x : List ℕ). u32 (u32_in fields) ++ u32 (u32_in (drop 4 fields)) ++ x) (sym (u32-again (drop 8 fields) (omega (arith, length-drop 8 fields, len)) (AreBytes-drop 8 fields h)))
-
-pub dumb-again : (fields : List ℕ) → length fields ≡ 16 → AreBytes fields → fields ≡ u32 (u32_in fields) ++ u32 (u32_in (drop 4 fields)) ++ u64 (u64_in (drop 8 fields))
-dumb-again fields len h =
-    two-front fields (omega (arith, len)) h
-    ∙ ap (λ (x : List ℕ). u32 (u32_in fields) ++ u32 (u32_in (drop 4 fields)) ++ x) (sym (u64-again (drop 8 fields) (omega (arith, length-drop 8 fields, len)) (AreBytes-drop 8 fields h)))

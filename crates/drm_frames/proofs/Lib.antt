@@ -5,8 +5,8 @@ pub mod FieldLaws
 pub mod Frames
 pub mod FrameLaws
 pub mod DecodingLaws
-pub mod Shapes
 pub mod ListLaws
+pub mod FieldTexts
 pub mod CallTexts
 pub mod CallLaws
 pub mod RowLaws

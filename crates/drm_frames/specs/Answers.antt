@@ -1,14 +1,21 @@
 -- What a result is as a frame (own).
-use Rattle.std.specs.Prelude.{◌≡◌, ℕ, ◌^◌, ◌<◌, ◌+◌, ◌*◌, ◌&&◌, if◌then◌else◌, nat_eq, nat_le, List, [], ◌∷◌, ◌++◌, length, find, drop, Option, Some, None, Result, Ok, Err}
+use Rattle.std.specs.Prelude.{◌≡◌, ℕ, ◌+◌, ◌*◌, ◌&&◌, if◌then◌else◌, nat_eq, nat_le, List, [], ◌∷◌, ◌++◌, All, length, find, drop, Option, Some, None, Result, Ok, Err}
 use Rattle.drm_table.specs.declared.answers.Answer.{Answer}
-use Rattle.drm_table.specs.declared.answers.Answer.TheVariants.{Done, Opened, Version, Number, Dumb, Buffer, List as Listed, Audit, Closed, Denied}
+use Rattle.drm_table.specs.declared.answers.Answer.TheVariants.{List as Listed, Audit, Denied}
+use Rattle.drm_table.specs.declared.answer_kinds.AnswerKind.{AnswerKind}
 use Rattle.drm_table.specs.declared.apart.Apart.{Apart}
 use Rattle.drm_table.specs.declared.apart.Apart.TheVariants.{JournalFull, NoMemory, Worn}
 use Rattle.drm_table.specs.declared.rules.Rule.{Rule}
 use Rattle.drm_table.specs.declared.rules.Rule.TheVariants.{Unknown, Layout, NoClient, RootOnly, Auth, Master, RenderAllow, NoHandle, NoHandleToClose, NoName, NoToken, NoMagic, MasterPerm, MasterBusy, NotCurrent, IsLessee, NoModeObject, NotLeasable, Repeated, LeaseShape, LeasedOut, SubLease, NoLessee, NotYourLessee, NoFb, BadSize, BadRoute, BadCap, NoLeaseToken, Full}
+use Rattle.drm_table.specs.Answers.{Told, answer_number, answer_widths, answer_kind_of, answer_with, told}
+use Rattle.drm_table.specs.Answers.Told.{row, list, page, denial}
+use Rattle.drm_table.specs.Fields.{FitsField}
 use Rattle.drm_table.specs.Rules.{rule_number, rule_errno, apart_number, apart_errno}
-use Rattle.drm_frames.specs.Number.{u32, u64, u32_in, u64_in}
-use Rattle.drm_frames.specs.Grammar.{Packet, packet, frame_text, if_size}
+use Rattle.std.specs.List.{flat_map}
+use Rattle.std.specs.Option.{option_map, option_and_then}
+use Rattle.drm_frames.specs.Number.{u32, u32_in}
+use Rattle.drm_frames.specs.Grammar.{Packet, packet, frame_text}
+use Rattle.drm_frames.specs.Fields.{field_text, numbers_in}
 use Rattle.drm_frames.specs.Lists.{list_text, FitsList, ids_in}
 use Rattle.drm_frames.specs.Pages.{page_text, FitsPage, rows_in}
 
@@ -18,30 +25,29 @@ Outcome = Result Answer Apart
 
 -- ---- the grammar
 
+-- the fields of an answer one behind the other, a list, a page, or the rule's number and errno
+abbrev pub told_packet : Told → Packet
+told_packet (row kind fs) = packet (answer_number kind) (flat_map field_text fs)
+told_packet (list ids) = packet 0x1007 (list_text ids)
+told_packet (page rows) = packet 0x100B (page_text rows)
+told_packet (denial rule) = packet 0x2000 (u32 (rule_number rule) ++ u32 (rule_errno rule))
+
 -- the number of each result and its fields in order
 abbrev pub answer_packet : Outcome → Packet
-answer_packet (Ok Done) = packet 0x1000 []
-answer_packet (Ok (Opened client)) = packet 0x1001 (u32 client)
-answer_packet (Ok (Version major minor patch)) = packet 0x1002 (u32 major ++ u32 minor ++ u32 patch)
-answer_packet (Ok (Number value)) = packet 0x1003 (u64 value)
-answer_packet (Ok (Dumb handle pitch size)) = packet 0x1004 (u32 handle ++ u32 pitch ++ u64 size)
-answer_packet (Ok (Buffer handle size)) = packet 0x1005 (u32 handle ++ u64 size)
-answer_packet (Ok (Listed ids)) = packet 0x1007 (list_text ids)
-answer_packet (Ok (Audit page)) = packet 0x100B (page_text page)
-answer_packet (Ok Closed) = packet 0x100C []
-answer_packet (Ok (Denied rule)) = packet 0x2000 (u32 (rule_number rule) ++ u32 (rule_errno rule))
+answer_packet (Ok answer) = told_packet (told answer)
 answer_packet (Err apart) = packet 0x2001 (u32 (apart_number apart) ++ u32 (apart_errno apart))
+
+-- The numbers that are told fit their fields.
+abbrev pub FitsTold : Told → Type 0
+FitsTold (row kind fs) = All FitsField fs
+FitsTold (list ids) = FitsList ids
+FitsTold (page rows) = FitsPage rows
+FitsTold (denial rule) = Unit {0}
 
 -- The numbers of a result fit their fields.
 abbrev pub FitsFields : Outcome → Type 0
-FitsFields (Ok (Opened client)) = client < 2 ^ 32
-FitsFields (Ok (Version major minor patch)) = (major < 2 ^ 32) × (minor < 2 ^ 32) × (patch < 2 ^ 32)
-FitsFields (Ok (Number value)) = value < 2 ^ 64
-FitsFields (Ok (Dumb handle pitch size)) = (handle < 2 ^ 32) × (pitch < 2 ^ 32) × (size < 2 ^ 64)
-FitsFields (Ok (Buffer handle size)) = (handle < 2 ^ 32) × (size < 2 ^ 64)
-FitsFields (Ok (Listed ids)) = FitsList ids
-FitsFields (Ok (Audit page)) = FitsPage page
-FitsFields outcome = Unit {0}
+FitsFields (Ok answer) = FitsTold (told answer)
+FitsFields (Err apart) = Unit {0}
 
 -- The frame is this result.
 abbrev pub IsAnswer : Packet → Outcome → Type 0
@@ -103,18 +109,20 @@ denied_in fields = if nat_eq (length fields) 8 then denied (rule_of (u32_in fiel
 abbrev pub refused_in : List ℕ → Option Outcome
 refused_in fields = if nat_eq (length fields) 8 then refused (apart_of (u32_in fields) (u32_in (drop 4 fields))) else None
 
--- the result that the frame is
-unfoldable pub answer_in : Packet → Option Outcome
-answer_in f =
-    if nat_eq f.number 0x1000 then if_size 0 f.fields (Ok Done)
-    else if nat_eq f.number 0x1001 then if_size 4 f.fields (Ok (Opened (u32_in f.fields)))
-    else if nat_eq f.number 0x1002 then if_size 12 f.fields (Ok (Version (u32_in f.fields) (u32_in (drop 4 f.fields)) (u32_in (drop 8 f.fields))))
-    else if nat_eq f.number 0x1003 then if_size 8 f.fields (Ok (Number (u64_in f.fields)))
-    else if nat_eq f.number 0x1004 then if_size 16 f.fields (Ok (Dumb (u32_in f.fields) (u32_in (drop 4 f.fields)) (u64_in (drop 8 f.fields))))
-    else if nat_eq f.number 0x1005 then if_size 12 f.fields (Ok (Buffer (u32_in f.fields) (u64_in (drop 4 f.fields))))
-    else if nat_eq f.number 0x1007 then list_in f.fields
+-- what fields of fixed number say
+abbrev pub row_in : AnswerKind → List ℕ → Option Outcome
+row_in kind fields = option_map Ok (option_and_then (answer_with kind) (numbers_in (answer_widths kind) fields))
+
+-- the result that a frame of this kind's number is
+abbrev pub result_in : Option AnswerKind → Packet → Option Outcome
+result_in (Some kind) f = row_in kind f.fields
+result_in None f =
+    if nat_eq f.number 0x1007 then list_in f.fields
     else if nat_eq f.number 0x100B then audit_in f.fields
-    else if nat_eq f.number 0x100C then if_size 0 f.fields (Ok Closed)
     else if nat_eq f.number 0x2000 then denied_in f.fields
     else if nat_eq f.number 0x2001 then refused_in f.fields
     else None
+
+-- the result that the frame is
+unfoldable pub answer_in : Packet → Option Outcome
+answer_in f = result_in (answer_kind_of f.number) f

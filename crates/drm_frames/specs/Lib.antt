@@ -2,6 +2,7 @@ pub mod Number
 pub mod Grammar
 pub mod Decoding
 pub mod Pages
+pub mod Fields
 pub mod Lists
 pub mod Requests
 pub mod Hellos

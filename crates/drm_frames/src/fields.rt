@@ -1,79 +1,118 @@
-//! Fields of one or two numbers, as bytes and from bytes.
-ghost use Rattle.std.specs.Prelude.{◌≡◌, [], ◌++◌, drop, length};
-ghost use Rattle.drm_frames.specs.Grammar.{if_size};
-ghost use Rattle.drm_frames.specs.Number.{u32, u32_in as number32, u64, u64_in as number64};
+//! Fields as bytes, and bytes as fields.
+ghost use Rattle.std.specs.Prelude.{◌≡◌, ◌+◌, ◌*◌, ◌≤◌, [], ◌++◌, All, length};
+ghost use Rattle.std.specs.List.{flat_map};
+ghost use Rattle.std.specs.Option.{option_map};
+ghost use Rattle.drm_frames.specs.Fields.{field_in, field_text, fields_in, fields_text, numbers_in};
+ghost use Rattle.drm_table.specs.Fields.{FitsField, IsShort, layout_of};
+ghost use Rattle.drm_table.specs.Fields.Layout.{ids};
 
 use crate::number::{u32_in, u64_in};
 use crate::text::FrameBytes;
+use drm_table::{Field, Fields, Layout, Width};
 
-/// The number that the fields are, where they are 4 bytes.
-pub(crate) fn one_u32(fields: &[u8]) -> Option<u32>
-    ensures { result ≡ if_size 4 fields.now (number32 fields.now) }
+/// The field in the first bytes, and the bytes behind it.
+#[tactic(auto, unfolding(crate::specs::Fields::field_in))]
+fn field_in(width: Width, bytes: &[u8]) -> Option<(Field, &[u8])>
+    ensures { option_map (λ read. (read.0, read.1.now)) result ≡ field_in width bytes.now }
 {
-    if fields.len() != 4 {
+    match width {
+        Width::U32 => {
+            if bytes.len() < 4 {
+                return None;
+            }
+            let (_, behind) = bytes.split_at(4);
+            Some((Field::U32(u32_in(bytes)), behind))
+        }
+        Width::U64 => {
+            if bytes.len() < 8 {
+                return None;
+            }
+            let (_, behind) = bytes.split_at(8);
+            Some((Field::U64(u64_in(bytes)), behind))
+        }
+    }
+}
+
+/// The fields of these widths that the bytes are, and nothing behind them.
+#[tactic(auto, unfolding(crate::specs::Fields::numbers_in))]
+pub(crate) fn numbers_in(widths: &[Width], bytes: &[u8]) -> Option<Fields>
+    requires { length widths.now ≤ 32 }
+    ensures { result ≡ numbers_in widths.now bytes.now }
+{
+    let mut fields = Fields::new();
+    let mut rest = bytes;
+    for width in widths {
+        let (field, behind) = field_in(*width, rest)?;
+        fields.push(field);
+        rest = behind;
+    }
+    if rest.is_empty() { Some(fields) } else { None }
+}
+
+/// The ids that the bytes are: how many there are, and each of them.
+#[tactic(auto, unfolding(crate::specs::Fields::fields_in))]
+fn ids_in(bytes: &[u8]) -> Option<Fields>
+    ensures { result ≡ fields_in ids bytes.now }
+{
+    if bytes.len() < 4 {
         return None;
     }
-    Some(u32_in(fields))
-}
-
-/// The number that the fields are, where they are 8 bytes.
-pub(crate) fn one_u64(fields: &[u8]) -> Option<u64>
-    ensures { result ≡ if_size 8 fields.now (number64 fields.now) }
-{
-    if fields.len() != 8 {
+    let count = u32_in(bytes) as usize;
+    if count > Layout::MOST_IDS {
         return None;
     }
-    Some(u64_in(fields))
+    let (_, behind) = bytes.split_at(4);
+    numbers_in(Width::of_ids(count), behind)
 }
 
-/// The two numbers that the fields are, where they are 8 bytes and 8 bytes.
-pub(crate) fn two_u64(fields: &[u8]) -> Option<(u64, u64)>
-    ensures { result ≡ if_size 16 fields.now (number64 fields.now, number64 (drop 8 fields.now)) }
+/// The fields of a layout that the bytes are.
+#[tactic(auto, unfolding(crate::specs::Fields::fields_in))]
+pub(crate) fn fields_in(layout: Layout, bytes: &[u8]) -> Option<Fields>
+    requires { IsShort (layout_of layout) }
+    ensures { result ≡ fields_in (layout_of layout) bytes.now }
 {
-    if fields.len() != 16 {
-        return None;
+    match layout {
+        Layout::Numbers(widths) => numbers_in(widths, bytes),
+        Layout::Ids => ids_in(bytes),
     }
-    let (_, second) = fields.split_at(8);
-    Some((u64_in(fields), u64_in(second)))
 }
 
-/// The two numbers that the fields are, where they are 4 bytes and 8 bytes.
-pub(crate) fn u32_and_u64(fields: &[u8]) -> Option<(u32, u64)>
-    ensures { result ≡ if_size 12 fields.now (number32 fields.now, number64 (drop 4 fields.now)) }
+fn push_field(text: &mut FrameBytes, field: Field)
+    requires { length text.old + 8 ≤ 1028 }
+    ensures text { text.new ≡ text.old ++ field_text field }
+    ensures fits { FitsField field }
+    ensures length { length text.new ≤ length text.old + 8 }
 {
-    if fields.len() != 12 {
-        return None;
+    match field {
+        Field::U32(number) => text.push_u32(number),
+        Field::U64(number) => text.push_u64(number),
     }
-    let (_, second) = fields.split_at(4);
-    Some((u32_in(fields), u64_in(second)))
 }
 
-/// Writes two numbers of 8 bytes.
-pub(crate) fn push_two_u64(fields: &mut FrameBytes, first: u64, second: u64)
-    requires { fields.old ≡ [] }
-    ensures text { fields.new ≡ u64 first ++ u64 second }
-    ensures length { length fields.new ≡ 16 }
+/// Writes fields one behind the other.
+pub(crate) fn push_numbers(text: &mut FrameBytes, fields: &[Field])
+    requires { length text.old + 8 * length fields.now ≤ 1028 }
+    ensures text { text.new ≡ text.old ++ flat_map field_text fields.now }
+    ensures fits { All FitsField fields.now }
+    ensures length { length text.new ≤ length text.old + 8 * length fields.now }
 {
-    fields.push_u64(first);
-    fields.push_u64(second);
+    for field in fields {
+        push_field(text, *field);
+    }
 }
 
-/// Writes a number of 4 bytes and one of 8.
-pub(crate) fn push_u32_and_u64(fields: &mut FrameBytes, first: u32, second: u64)
-    requires { fields.old ≡ [] }
-    ensures text { fields.new ≡ u32 first ++ u64 second }
-    ensures length { length fields.new ≡ 12 }
+/// Writes the fields of a layout.
+#[tactic(auto, unfolding(crate::specs::Fields::fields_text))]
+pub(crate) fn push_fields(text: &mut FrameBytes, layout: Layout, fields: &[Field])
+    requires empty { text.old ≡ [] }
+    requires few { length fields.now ≤ 32 }
+    ensures text { text.new ≡ fields_text (layout_of layout) fields.now }
+    ensures fits { All FitsField fields.now }
+    ensures length { length text.new ≤ 1022 }
 {
-    fields.push_u32(first);
-    fields.push_u64(second);
-}
-
-/// Writes two numbers of 4 bytes.
-pub(crate) fn push_two_u32(fields: &mut FrameBytes, first: u32, second: u32)
-    requires { fields.old ≡ [] }
-    ensures text { fields.new ≡ u32 first ++ u32 second }
-    ensures length { length fields.new ≡ 8 }
-{
-    fields.push_u32(first);
-    fields.push_u32(second);
+    match layout {
+        Layout::Numbers(_) => {}
+        Layout::Ids => text.push_u32(fields.len() as u32),
+    }
+    push_numbers(text, fields);
 }

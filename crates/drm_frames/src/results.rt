@@ -1,17 +1,14 @@
 //! Which result a frame is.
-ghost use Rattle.std.specs.Prelude.{◌≡◌, Ok, drop};
-ghost use Rattle.drm_frames.specs.Answers.{answer_in, audit_in, denied_in, list_in, refused_in};
-ghost use Rattle.drm_frames.specs.Grammar.{if_size};
-ghost use Rattle.drm_frames.specs.Number.{u32_in as number32, u64_in as number64};
-ghost use Rattle.drm_table.specs.declared.answers.Answer.TheVariants as answers;
+ghost use Rattle.std.specs.Prelude.{◌≡◌};
+ghost use Rattle.drm_frames.specs.Answers.{answer_in, audit_in, denied_in, list_in, refused_in, row_in};
 
-use crate::fields::{one_u32, one_u64, u32_and_u64};
+use crate::fields::numbers_in;
 use crate::frame::Frame;
 use crate::lists::list_of;
-use crate::number::{u32_in, u64_in};
+use crate::number::u32_in;
 use crate::pages::page_of;
 use crate::refusals::{apart_of, rule_of};
-use drm_table::{Answer, Apart};
+use drm_table::{Answer, AnswerKind, Apart};
 
 /// How many rows of an audit a page has at most (own).
 const MOST_ROWS: usize = 16;
@@ -19,68 +16,13 @@ const MOST_ROWS: usize = 16;
 /// How many ids a list has at most (own).
 const MOST_IDS: usize = 64;
 
-fn bare(fields: &[u8], answer: Answer) -> Option<Result<Answer, Apart>>
-    ensures { result ≡ if_size 0 fields.now (Ok answer) }
+/// The answer of a kind, if the fields are one's.
+fn row(kind: AnswerKind, fields: &[u8]) -> Option<Result<Answer, Apart>>
+    ensures { result ≡ row_in kind fields.now }
 {
-    if fields.is_empty() {
-        Some(Ok(answer))
-    } else {
-        None
-    }
-}
-
-fn opened(fields: &[u8]) -> Option<Result<Answer, Apart>>
-    ensures { result ≡ if_size 4 fields.now (Ok (answers.Opened (number32 fields.now))) }
-{
-    let client = one_u32(fields)?;
-    Some(Ok(Answer::Opened { client }))
-}
-
-fn version(fields: &[u8]) -> Option<Result<Answer, Apart>>
-    ensures { result ≡ if_size 12 fields.now (Ok (answers.Version (number32 fields.now)
-        (number32 (drop 4 fields.now)) (number32 (drop 8 fields.now)))) }
-{
-    if fields.len() != 12 {
-        return None;
-    }
-    let (_, after_major) = fields.split_at(4);
-    let (_, after_minor) = fields.split_at(8);
-    Some(Ok(Answer::Version {
-        major: u32_in(fields),
-        minor: u32_in(after_major),
-        patch: u32_in(after_minor),
-    }))
-}
-
-fn number(fields: &[u8]) -> Option<Result<Answer, Apart>>
-    ensures { result ≡ if_size 8 fields.now (Ok (answers.Number (number64 fields.now))) }
-{
-    let value = one_u64(fields)?;
-    Some(Ok(Answer::Number { value }))
-}
-
-fn dumb(fields: &[u8]) -> Option<Result<Answer, Apart>>
-    ensures { result ≡ if_size 16 fields.now (Ok (answers.Dumb (number32 fields.now)
-        (number32 (drop 4 fields.now)) (number64 (drop 8 fields.now)))) }
-{
-    if fields.len() != 16 {
-        return None;
-    }
-    let (_, after_handle) = fields.split_at(4);
-    let (_, after_pitch) = fields.split_at(8);
-    Some(Ok(Answer::Dumb {
-        handle: u32_in(fields),
-        pitch: u32_in(after_handle),
-        size: u64_in(after_pitch),
-    }))
-}
-
-fn buffer(fields: &[u8]) -> Option<Result<Answer, Apart>>
-    ensures { result ≡ if_size 12 fields.now (Ok (answers.Buffer (number32 fields.now)
-        (number64 (drop 4 fields.now)))) }
-{
-    let (handle, size) = u32_and_u64(fields)?;
-    Some(Ok(Answer::Buffer { handle, size }))
+    let fields = numbers_in(kind.widths(), fields)?;
+    let answer = kind.answer(fields.as_slice())?;
+    Some(Ok(answer))
 }
 
 fn list(fields: &[u8]) -> Option<Result<Answer, Apart>>
@@ -149,16 +91,12 @@ pub fn answer_of(frame: &Frame) -> Option<Result<Answer, Apart>>
     ensures { result ≡ answer_in frame.now }
 {
     let fields = frame.fields();
+    if let Some(kind) = AnswerKind::of_number(frame.number()) {
+        return row(kind, fields);
+    }
     match frame.number() {
-        0x1000 => bare(fields, Answer::Done),
-        0x1001 => opened(fields),
-        0x1002 => version(fields),
-        0x1003 => number(fields),
-        0x1004 => dumb(fields),
-        0x1005 => buffer(fields),
         0x1007 => list(fields),
         0x100B => audit(fields),
-        0x100C => bare(fields, Answer::Closed),
         0x2000 => denied(fields),
         0x2001 => refused(fields),
         _ => None,

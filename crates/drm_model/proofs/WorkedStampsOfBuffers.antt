@@ -10,9 +10,10 @@ use Rattle.drm_table.specs.declared.events.Event.TheVariants.{Open, Ask}
 use Rattle.drm_table.specs.declared.events.Opening.TheVariants.{Primary, Render}
 use Rattle.drm_table.specs.declared.limits.Limits.{Limits}
 use Rattle.drm_index_array.specs.Least.{first_passing, least}
+use Rattle.drm_table.specs.Answers.{answer_kind_row, told, answer_with, answer_kind_of}
 use Rattle.drm_table.specs.Audits.{kind_number, kind_of, kind_name}
 use Rattle.drm_table.specs.Limits.{are_in_range}
-use Rattle.drm_table.specs.Table.{call_table, row_of, call_number, flags_of}
+use Rattle.drm_table.specs.Table.{kind_row, call_row, call_with, call_kind_of, call_kind_of_word, row_of, call_number, flags_of}
 use Rattle.drm_model.specs.Audit.{audit_rows, audit_page}
 use Rattle.drm_model.specs.Buffers.{dumb_pitch, dumb_size, buffer_size, with_object, with_stamp}
 use Rattle.drm_model.specs.Change.{asked, changed, swept, after}
@@ -68,5 +69,5 @@ answers =
     []
 
 pub stamps_of_buffers : results (empty_rows test_topology limits) events ≡ answers
-unfolding first_passing least kind_number kind_of kind_name are_in_range call_table row_of call_number flags_of audit_rows audit_page dumb_pitch dumb_size buffer_size with_object with_stamp asked changed swept after opening_checks opened closed ended chain_within numbers_from sorted_by answer_to answer_of reply results no_room run rows_of is_topology own_checks admission_checks checks verdict
+unfolding first_passing least answer_kind_row told answer_with answer_kind_of kind_number kind_of kind_name are_in_range kind_row call_row call_with call_kind_of call_kind_of_word row_of call_number flags_of audit_rows audit_page dumb_pitch dumb_size buffer_size with_object with_stamp asked changed swept after opening_checks opened closed ended chain_within numbers_from sorted_by answer_to answer_of reply results no_room run rows_of is_topology own_checks admission_checks checks verdict
 stamps_of_buffers = refl

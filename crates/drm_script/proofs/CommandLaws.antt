@@ -6,34 +6,34 @@ use Rattle.drm_script.specs.declared.commands.Command.{Command}
 use Rattle.drm_script.specs.declared.commands.Command.TheVariants as commands
 use Rattle.drm_script.specs.Commands.{open_at, close_at, ask_at}
 use Rattle.drm_script.specs.Fields.{Words, label_of}
-use Rattle.drm_script.specs.Grammar.{Spells, SpellEach, opening_parts, call_parts, command_parts}
+use Rattle.drm_script.specs.Grammar.{Spells, SpellEach, opening_parts, SpellsCall, SpellsCommand}
 use Rattle.drm_script.specs.Grammar.Part.{label}
 use Rattle.drm_script.specs.Openings.{opening_at}
 use Rattle.drm_script.specs.Calls.{call_at}
-use Rattle.drm_script.proofs.FieldLaws.{some_same, bind_some, word_bind, words_behind, spelled, end_bind, label_spells, label_read}
+use Rattle.drm_script.proofs.FieldLaws.{some_same, bind_some, word_bind, words_behind, same_said, end_bind, label_spells, label_read}
 use Rattle.drm_script.proofs.OpeningLaws.{opening_reads, opening_read}
 use Rattle.drm_script.proofs.CallLaws.{call_reads, call_read}
 
-pub open_reads : (ws : Words) (command : Command) → open_at ws ≡ Some command → SpellEach (command_parts command) (codes "open" ∷ ws)
+pub open_reads : (ws : Words) (command : Command) → open_at ws ≡ Some command → SpellsCommand command (codes "open" ∷ ws)
 unfolding open_at
 open_reads ws command e =
     let a = word_bind ws _ command e in
     let b = bind_some (label_of a.w) _ command a.goes_on in
     let d = bind_some (opening_at a.rest) _ command b.goes_on in
-    spelled command_parts (codes "open") ws (a.w ∷ a.rest) command (commands.Open b.step d.step) a.words (some_same _ _ d.goes_on) (refl, (label_spells a.w b.step b.made, opening_reads a.rest d.step d.made))
+    same_said SpellsCommand (codes "open") ws (a.w ∷ a.rest) command (commands.Open b.step d.step) a.words (some_same _ _ d.goes_on) (refl, (label_spells a.w b.step b.made, opening_reads a.rest d.step d.made))
 
 pub open_read : (ws : Words) (place : ℕ) (opening : Opening) → SpellEach (label place ∷ opening_parts opening) ws → open_at ws ≡ Some (commands.Open place opening)
 unfolding open_at
 open_read [] place opening s = absurd s
 open_read (w ∷ ws) place opening s = rw (label_read w place s.0) (rw (opening_read ws opening s.1) refl)
 
-pub close_reads : (ws : Words) (command : Command) → close_at ws ≡ Some command → SpellEach (command_parts command) (codes "close" ∷ ws)
+pub close_reads : (ws : Words) (command : Command) → close_at ws ≡ Some command → SpellsCommand command (codes "close" ∷ ws)
 unfolding close_at
 close_reads ws command e =
     let a = word_bind ws _ command e in
     let b = bind_some (label_of a.w) _ command a.goes_on in
     let z = end_bind a.rest _ command b.goes_on in
-    spelled command_parts (codes "close") ws (a.w ∷ []) command (commands.Close b.step) (words_behind a.words z.0) (some_same _ _ z.1) (refl, (label_spells a.w b.step b.made, tt))
+    same_said SpellsCommand (codes "close") ws (a.w ∷ []) command (commands.Close b.step) (words_behind a.words z.0) (some_same _ _ z.1) (refl, (label_spells a.w b.step b.made, tt))
 
 pub close_read : (ws : Words) (place : ℕ) → SpellEach (label place ∷ []) ws → close_at ws ≡ Some (commands.Close place)
 unfolding close_at
@@ -41,13 +41,13 @@ close_read [] place s = absurd s
 close_read (w ∷ []) place s = rw (label_read w place s.0) refl
 close_read (w ∷ v ∷ ws) place s = absurd s.1
 
-pub ask_reads : (w : List ℕ) (ws : Words) (command : Command) → ask_at w ws ≡ Some command → SpellEach (command_parts command) (w ∷ ws)
+pub ask_reads : (w : List ℕ) (ws : Words) (command : Command) → ask_at w ws ≡ Some command → SpellsCommand command (w ∷ ws)
 unfolding ask_at
 ask_reads w ws command e =
     let a = bind_some (label_of w) _ command e in
     let b = bind_some (call_at ws) _ command a.goes_on in
-    spelled command_parts w ws ws command (commands.Ask a.step b.step) refl (some_same _ _ b.goes_on) (label_spells w a.step a.made, call_reads ws b.step b.made)
+    same_said SpellsCommand w ws ws command (commands.Ask a.step b.step) refl (some_same _ _ b.goes_on) (label_spells w a.step a.made, call_reads ws b.step b.made)
 
-pub ask_read : (w : List ℕ) (ws : Words) (place : ℕ) (call : Call) → Spells (label place) w → SpellEach (call_parts call) ws → ask_at w ws ≡ Some (commands.Ask place call)
+pub ask_read : (w : List ℕ) (ws : Words) (place : ℕ) (call : Call) → Spells (label place) w → SpellsCall call ws → ask_at w ws ≡ Some (commands.Ask place call)
 unfolding ask_at
 ask_read w ws place call l s = rw (label_read w place l) (rw (call_read ws call s) refl)

@@ -46,6 +46,13 @@ spelled {A} parts name ws vs x this words same s =
     let Q : A → Type 0 = λ y. SpellEach (parts y) (name ∷ vs) in
     subst P (sym words) (subst Q same s)
 
+-- what the words say is said of what was made of them
+pub same_said : {A : Type 0} (Says : A → Words → Type 0) (name : List ℕ) (ws vs : Words) (x this : A) → ws ≡ vs → this ≡ x → Says this (name ∷ vs) → Says x (name ∷ ws)
+same_said {A} Says name ws vs x this words same s =
+    let P : Words → Type 0 = λ v. Says x (name ∷ v) in
+    let Q : A → Type 0 = λ y. Says y (name ∷ vs) in
+    subst P (sym words) (subst Q same s)
+
 -- nothing more was read
 pub end_bind : {B : Type 0} (ws : Words) (f : Unit {0} → Option B) (y : B) → (end_at ws >>= f) ≡ Some y → (ws ≡ []) × (f tt ≡ Some y)
 end_bind [] f y e = (refl, e)

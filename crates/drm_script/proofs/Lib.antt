@@ -1,3 +1,4 @@
+pub mod CallFieldLaws
 pub mod CallLaws
 pub mod CommandLaws
 pub mod FieldLaws

@@ -7,14 +7,19 @@ use Rattle.std.proofs.lemmas.Bool.Decides.{nat_tests}
 use Rattle.std.proofs.lemmas.List.Folds.{list_all-append}
 use Rattle.std.proofs.lemmas.List.Sums.{AllPass-from_list_all}
 use Rattle.drm_table.specs.declared.answers.Answer.{Answer}
-use Rattle.drm_table.specs.declared.answers.Answer.TheVariants as answers
+use Rattle.drm_table.specs.declared.answer_kinds.AnswerKind.{AnswerKind}
+use Rattle.drm_table.specs.declared.answer_kinds.AnswerKind.TheVariants as kinds
+use Rattle.drm_table.specs.declared.fields.Field.{Field}
+use Rattle.drm_table.specs.Answers.{answer_kind_row, Told, answer_word, told}
+use Rattle.drm_table.specs.Answers.Told.{row, list, page, denial}
+use Rattle.drm_table.specs.Fields.{number_in}
 use Rattle.drm_table.specs.declared.apart.Apart.{Apart}
 use Rattle.drm_table.specs.declared.apart.Apart.TheVariants as aparts
 use Rattle.drm_table.specs.declared.rules.Rule.{Rule}
 use Rattle.drm_table.specs.declared.rules.Rule.TheVariants as rules
 use Rattle.drm_table.specs.Rules.{rule_name, apart_name}
 use Rattle.drm_table.specs.declared.audits.AuditRow.{AuditRow}
-use Rattle.drm_script.specs.Lines.{row_behind, page_words, id_behind, list_words, answer_words}
+use Rattle.drm_script.specs.Lines.{number_behind, row_behind, page_words, id_behind, list_words, told_words, answer_words}
 
 -- no byte of the text is a line end
 abbrev is_bare : List ℕ → Bool
@@ -49,12 +54,12 @@ apart_name_bare aparts.JournalFull = refl
 apart_name_bare aparts.NoMemory = refl
 apart_name_bare aparts.Worn = refl
 
-row_bare : (row : AuditRow) → is_bare (row_behind row) ≡ true
-row_bare row = simp (list_all-append, decimal_bare)
+row_bare : (r : AuditRow) → is_bare (row_behind r) ≡ true
+row_bare r = simp (list_all-append, decimal_bare)
 
 rows_bare : (rows : List AuditRow) → is_bare (flat_map row_behind rows) ≡ true
 rows_bare [] = refl
-rows_bare (row ∷ rows) = list_all-append (λ b. not (eqb b 10)) (row_behind row) (flat_map row_behind rows) ∙ both_true (row_bare row) (rows_bare rows)
+rows_bare (r ∷ rows) = list_all-append (λ b. not (eqb b 10)) (row_behind r) (flat_map row_behind rows) ∙ both_true (row_bare r) (rows_bare rows)
 
 page_bare : (rows : List AuditRow) → is_bare (page_words rows) ≡ true
 page_bare rows = simp (list_all-append, decimal_bare, rows_bare)
@@ -67,17 +72,23 @@ list_bare : (ids : List ℕ) → is_bare (list_words ids) ≡ true
 list_bare [] = refl
 list_bare (id ∷ ids) = simp (list_all-append, decimal_bare, ids_bare)
 
+word_bare : (kind : AnswerKind) → is_bare (answer_word kind) ≡ true
+unfolding answer_kind_row
+word_bare kinds.Done = refl
+word_bare _ = refl
+
+fields_bare : (fs : List Field) → is_bare (flat_map number_behind fs) ≡ true
+fields_bare [] = refl
+fields_bare (f ∷ fs) = list_all-append (λ b. not (eqb b 10)) (number_behind f) (flat_map number_behind fs) ∙ both_true (decimal_bare (number_in f)) (fields_bare fs)
+
+told_bare : (t : Told) → is_bare (told_words t) ≡ true
+told_bare (row kind fs) = list_all-append (λ b. not (eqb b 10)) (answer_word kind) (flat_map number_behind fs) ∙ both_true (word_bare kind) (fields_bare fs)
+told_bare (list ids) = list_bare ids
+told_bare (page rows) = page_bare rows
+told_bare (denial rule) = simp (list_all-append, decimal_bare, rule_name_bare)
+
 outcome_bare : (outcome : Result Answer Apart) → is_bare (answer_words outcome) ≡ true
-outcome_bare (Ok answers.Done) = refl
-outcome_bare (Ok answers.Closed) = refl
-outcome_bare (Ok (answers.Opened client)) = simp decimal_bare
-outcome_bare (Ok (answers.Version major minor patch)) = simp (list_all-append, decimal_bare)
-outcome_bare (Ok (answers.Number value)) = simp decimal_bare
-outcome_bare (Ok (answers.Dumb handle pitch size)) = simp (list_all-append, decimal_bare)
-outcome_bare (Ok (answers.Buffer handle size)) = simp (list_all-append, decimal_bare)
-outcome_bare (Ok (answers.List ids)) = list_bare ids
-outcome_bare (Ok (answers.Audit page)) = page_bare page
-outcome_bare (Ok (answers.Denied rule)) = simp (list_all-append, decimal_bare, rule_name_bare)
+outcome_bare (Ok answer) = told_bare (told answer)
 outcome_bare (Err apart) = simp (list_all-append, decimal_bare, apart_name_bare)
 
 pub answer_bare : (outcome : Result Answer Apart) → All (λ b. b ≢ 10) (answer_words outcome)

@@ -17,7 +17,7 @@ use Rattle.drm_script.specs.declared.reading.LineWord.TheVariants as words
 use Rattle.drm_script.specs.declared.reading.TheConstants.{LINE_WORDS}
 use Rattle.drm_script.specs.Commands.{open_at, close_at, ask_at}
 use Rattle.drm_script.specs.Fields.{Words}
-use Rattle.drm_script.specs.Grammar.{SpellEach, command_parts, limits_parts, IsPlain, IsCommandLine, IsLimitsLine, IsComment, IsSkippedLine, IsOtherLine}
+use Rattle.drm_script.specs.Grammar.{SpellEach, SpellsCommand, limits_parts, IsPlain, IsCommandLine, IsLimitsLine, IsComment, IsSkippedLine, IsOtherLine}
 use Rattle.drm_script.specs.LimitsLine.{limits_at}
 use Rattle.drm_script.specs.Reading.{line_text, line_word_of, command_said, limits_said, said_behind, words_said, is_comment, reading_of}
 use Rattle.drm_script.specs.Words.{words_of, with_byte, begins_word}
@@ -77,17 +77,17 @@ named : (w : List ℕ) (name : LineWord) → line_word_of w ≡ Some name → w 
 unfolding line_word_of
 named w name e = found line_text w LINE_WORDS name e
 
-command_behind : (o : Option LineWord) (w : List ℕ) (ws : Words) (command : Command) → line_word_of w ≡ o → said_behind o w ws ≡ readings.Says command → SpellEach (command_parts command) (w ∷ ws)
+command_behind : (o : Option LineWord) (w : List ℕ) (ws : Words) (command : Command) → line_word_of w ≡ o → said_behind o w ws ≡ readings.Says command → SpellsCommand command (w ∷ ws)
 command_behind (Some words.Limits) w ws command t e = absurd (limits_no_command (limits_at ws) command e)
 command_behind (Some words.Open) w ws command t e =
-    let P : List ℕ → Type 0 = λ v. SpellEach (command_parts command) (v ∷ ws) in
+    let P : List ℕ → Type 0 = λ v. SpellsCommand command (v ∷ ws) in
     subst P (sym (named w words.Open t)) (open_reads ws command (command_said_some (open_at ws) command e))
 command_behind (Some words.Close) w ws command t e =
-    let P : List ℕ → Type 0 = λ v. SpellEach (command_parts command) (v ∷ ws) in
+    let P : List ℕ → Type 0 = λ v. SpellsCommand command (v ∷ ws) in
     subst P (sym (named w words.Close t)) (close_reads ws command (command_said_some (close_at ws) command e))
 command_behind None w ws command t e = ask_reads w ws command (command_said_some (ask_at w ws) command e)
 
-words_command : (ws : Words) (command : Command) → words_said ws ≡ readings.Says command → SpellEach (command_parts command) ws
+words_command : (ws : Words) (command : Command) → words_said ws ≡ readings.Says command → SpellsCommand command ws
 words_command [] command e = absurd (cc)
 words_command (w ∷ ws) command e = command_behind (line_word_of w) w ws command refl e
 
@@ -120,7 +120,7 @@ letter_no_word : (b : ℕ) → line_word_of (b ∷ []) ≡ None
 unfolding line_word_of
 letter_no_word b = rw (and-false (eqb 108 b)) (rw (and-false (eqb 111 b)) (rw (and-false (eqb 99 b)) refl))
 
-command_words : (w : List ℕ) (ws : Words) (command : Command) → SpellEach (command_parts command) (w ∷ ws) → said_behind (line_word_of w) w ws ≡ readings.Says command
+command_words : (w : List ℕ) (ws : Words) (command : Command) → SpellsCommand command (w ∷ ws) → said_behind (line_word_of w) w ws ≡ readings.Says command
 unfolding line_word_of
 command_words w ws (commands.Open place opening) s = rw s.0 (ap command_said (open_read ws place opening s.1))
 command_words w ws (commands.Close place) s = rw s.0 (ap command_said (close_read ws place s.1))
@@ -132,12 +132,12 @@ limits_words : (w : List ℕ) (ws : Words) (limits : Limits) → SpellEach (limi
 unfolding line_word_of
 limits_words w ws limits s r = rw s.0 (ap limits_said (limits_read w ws limits s r))
 
-no_command : (command : Command) → SpellEach (command_parts command) [] → ⊥
+no_command : (command : Command) → SpellsCommand command [] → ⊥
 no_command (commands.Open place opening) s = s
 no_command (commands.Close place) s = s
 no_command (commands.Ask place call) s = s
 
-command_words_said : (ws : Words) (command : Command) → SpellEach (command_parts command) ws → words_said ws ≡ readings.Says command
+command_words_said : (ws : Words) (command : Command) → SpellsCommand command ws → words_said ws ≡ readings.Says command
 command_words_said [] command s = absurd (no_command command s)
 command_words_said (w ∷ ws) command s = command_words w ws command s
 
@@ -161,14 +161,14 @@ hash_first false ws = record { w = []; rest = ws; words = refl }
 no_hash : (c : ℕ) (bs cs : List ℕ) → (35 ∷ bs) ≡ (c ∷ cs) → 35 < c → ⊥
 no_hash c bs cs e h = let same : 35 ≡ c = cc in omega arith
 
-no_command_word : (command : Command) (w : List ℕ) (rest : Words) → SpellEach (command_parts command) ((35 ∷ w) ∷ rest) → ⊥
+no_command_word : (command : Command) (w : List ℕ) (rest : Words) → SpellsCommand command ((35 ∷ w) ∷ rest) → ⊥
 no_command_word (commands.Open place opening) w rest s = no_hash 111 w _ s.0 (lit< tt)
 no_command_word (commands.Close place) w rest s = no_hash 99 w _ s.0 (lit< tt)
 no_command_word (commands.Ask place call) w rest s = no_hash (97 + place) w [] s.0.1 (omega arith)
 
-no_command_hash : (command : Command) (ws : Words) → BeginsWithHash ws → SpellEach (command_parts command) ws → ⊥
+no_command_hash : (command : Command) (ws : Words) → BeginsWithHash ws → SpellsCommand command ws → ⊥
 no_command_hash command ws h s =
-    let P : Words → Type 0 = λ v. SpellEach (command_parts command) v in
+    let P : Words → Type 0 = λ v. SpellsCommand command v in
     no_command_word command h.w h.rest (subst P h.words s)
 
 no_limits_hash : (limits : Limits) (ws : Words) → BeginsWithHash ws → SpellEach (limits_parts limits) ws → ⊥

@@ -1,5 +1,11 @@
 -- The fields of a line, read one after another from its words. Each reader has what it read, and the words that are left.
-use Rattle.std.specs.Prelude.{ℕ, ◌-◌, ◌^◌, List, [], ◌∷◌, ◌&&◌, nat_lt, nat_le, if◌then◌else◌, Option, Some, None, option_and_then, length}
+use Rattle.std.specs.Prelude.{ℕ, ◌-◌, ◌^◌, List, [], ◌∷◌, ◌&&◌, nat_lt, nat_le, if◌then◌else◌, Option, Some, None, option_and_then, length, replicate}
+use Rattle.drm_table.specs.declared.fields.Width.{Width}
+use Rattle.drm_table.specs.declared.fields.Width.TheVariants as widths
+use Rattle.drm_table.specs.declared.fields.Field.{Field}
+use Rattle.drm_table.specs.declared.fields.Field.TheVariants as fields
+use Rattle.drm_table.specs.Fields.{Layout, read_each}
+use Rattle.drm_table.specs.Fields.Layout.{numbers, ids}
 use Rattle.std.specs.Str.{all_ascii_digits}
 use Rattle.std.specs.Str.Parse.{digits_value}
 
@@ -36,6 +42,33 @@ number_at bits ws = do
   n ← number_of first.0
   fitting ← of_bits bits n
   Some (fitting, first.1)
+
+-- a field of its width
+unfoldable pub field_at : Width → Words → Option (Field × Words)
+field_at widths.U32 ws = do
+  n ← number_at 32 ws
+  Some (fields.U32 n.0, n.1)
+field_at widths.U64 ws = do
+  n ← number_at 64 ws
+  Some (fields.U64 n.0, n.1)
+
+-- fields of these widths, and no word behind them
+unfoldable pub numbers_at : List Width → Words → Option (List Field)
+numbers_at vs ws = do
+  read ← read_each field_at vs ws
+  end ← end_at read.1
+  Some read.0
+
+-- so many words, if there are 32 at most
+abbrev pub few_words : Words → Option ℕ
+few_words ws = if nat_le (length ws) 32 then Some (length ws) else None
+
+-- the fields of a layout, and no word behind them: ids stand without a count
+unfoldable pub fields_at : Layout → Words → Option (List Field)
+fields_at (numbers ws) words = numbers_at ws words
+fields_at ids words = do
+  count ← few_words words
+  numbers_at (replicate count widths.U32) words
 
 -- the place in the alphabet of a letter from a to z, from 0
 unfoldable pub place_of : ℕ → Option ℕ

@@ -1,5 +1,5 @@
 -- The lines of a script, from what they say to how they are spelled: a row for each (own).
-use Rattle.std.specs.Prelude.{◌≡◌, ℕ, ◌+◌, ◌^◌, ◌<◌, ◌≤◌, ◌⊎◌, List, [], ◌∷◌, true, false, None, IsSome, IsTrue, codes, length}
+use Rattle.std.specs.Prelude.{◌≡◌, ℕ, ◌+◌, ◌^◌, ◌<◌, ◌≤◌, ◌⊎◌, List, [], ◌∷◌, true, false, Option, Some, None, IsSome, IsTrue, codes, length, map}
 use Rattle.std.specs.Str.{IsAscii}
 use Rattle.std.specs.Str.Parse.{IsNumeral, digits_value}
 use Rattle.drm_table.specs.declared.calls.Call.{Call}
@@ -7,9 +7,12 @@ use Rattle.drm_table.specs.declared.calls.Call.TheVariants as calls
 use Rattle.drm_table.specs.declared.events.Opening.{Opening}
 use Rattle.drm_table.specs.declared.events.Opening.TheVariants as openings
 use Rattle.drm_table.specs.declared.limits.Limits.{Limits}
-use Rattle.drm_table.specs.Audits.{kind_number}
+use Rattle.drm_table.specs.declared.fields.Field.{Field}
+use Rattle.drm_table.specs.declared.fields.Field.TheVariants as fields
+use Rattle.drm_table.specs.declared.kinds.CallKind.{CallKind}
+use Rattle.drm_table.specs.Fields.{FitsLayout}
 use Rattle.drm_table.specs.Limits.{are_in_range}
-use Rattle.drm_table.specs.Table.{row_of}
+use Rattle.drm_table.specs.Table.{row_of, call_row, kind_layout, kind_word}
 use Rattle.drm_script.specs.declared.commands.Command.{Command}
 use Rattle.drm_script.specs.declared.commands.Command.TheVariants as commands
 use Rattle.drm_script.specs.Words.{words_of}
@@ -50,27 +53,38 @@ opening_parts openings.Render = word (codes "render") ∷ []
 opening_parts (openings.Lease token false) = word (codes "lease") ∷ number 32 token ∷ []
 opening_parts (openings.Lease token true) = word (codes "rootlease") ∷ number 32 token ∷ []
 
--- the calls; a bare number stands for a call with the wrong fields where it has a row, and for an unknown one otherwise
-abbrev pub call_parts : Call → List Part
-call_parts (calls.Unknown n) = word (codes "raw") ∷ rowless_number n ∷ []
-call_parts (calls.BadLayout n) = word (codes "raw") ∷ row_number n ∷ []
-call_parts calls.Version = word (codes "version") ∷ []
-call_parts (calls.GemClose handle) = word (codes "gem_close") ∷ number 32 handle ∷ []
-call_parts (calls.GetCap cap) = word (codes "get_cap") ∷ number 64 cap ∷ []
-call_parts (calls.SetClientCap cap value) = word (codes "set_client_cap") ∷ number 64 cap ∷ number 64 value ∷ []
-call_parts (calls.BufCreate size) = word (codes "buf_create") ∷ number 64 size ∷ []
-call_parts (calls.StampWrite handle stamp) = word (codes "stamp_write") ∷ number 32 handle ∷ number 64 stamp ∷ []
-call_parts (calls.StampRead handle) = word (codes "stamp_read") ∷ number 32 handle ∷ []
-call_parts (calls.ListHandles from) = word (codes "list_handles") ∷ number 32 from ∷ []
-call_parts (calls.Audit kind from) = word (codes "audit") ∷ number 32 (kind_number kind) ∷ number 32 from ∷ []
-call_parts (calls.CreateDumb width height bpp) = word (codes "create_dumb") ∷ number 32 width ∷ number 32 height ∷ number 32 bpp ∷ []
-call_parts (calls.DestroyDumb handle) = word (codes "destroy_dumb") ∷ number 32 handle ∷ []
+-- a field of a call
+abbrev pub field_part : Field → Part
+field_part (fields.U32 n) = number 32 n
+field_part (fields.U64 n) = number 64 n
 
--- the commands
-abbrev pub command_parts : Command → List Part
-command_parts (commands.Open place opening) = word (codes "open") ∷ label place ∷ opening_parts opening
-command_parts (commands.Close place) = word (codes "close") ∷ label place ∷ []
-command_parts (commands.Ask place call) = label place ∷ call_parts call
+-- The words are the row's word and these fields in order; ids stand without a count.
+pub record SpellsRow (kind : CallKind) (fs : List Field) (ws : List (List ℕ)) : Type 0 where
+  pub fits : FitsLayout (kind_layout kind) fs
+  pub words : SpellEach (word (kind_word kind) ∷ map field_part fs) ws
+
+-- The words spell a call by this row of the table.
+abbrev pub SpellsBy : Option (CallKind × List Field) → List (List ℕ) → Type 0
+SpellsBy None ws = ⊥
+SpellsBy (Some row) ws = SpellsRow row.0 row.1 ws
+
+-- The words spell the call: the word of its row and its fields. A bare number stands for a call with the wrong fields where
+-- it has a row, and for an unknown one otherwise.
+abbrev pub SpellsCall : Call → List (List ℕ) → Type 0
+SpellsCall (calls.Unknown n) ws = SpellEach (word (codes "raw") ∷ rowless_number n ∷ []) ws
+SpellsCall (calls.BadLayout n) ws = SpellEach (word (codes "raw") ∷ row_number n ∷ []) ws
+SpellsCall call ws = SpellsBy (call_row call) ws
+
+-- the first word is this part, and the others are so
+abbrev pub BeginsWith : Part → (List (List ℕ) → Type 0) → List (List ℕ) → Type 0
+BeginsWith part Others [] = ⊥
+BeginsWith part Others (w ∷ ws) = Spells part w × Others ws
+
+-- The words spell the command.
+abbrev pub SpellsCommand : Command → List (List ℕ) → Type 0
+SpellsCommand (commands.Open place opening) ws = SpellEach (word (codes "open") ∷ label place ∷ opening_parts opening) ws
+SpellsCommand (commands.Close place) ws = SpellEach (word (codes "close") ∷ label place ∷ []) ws
+SpellsCommand (commands.Ask place call) ws = BeginsWith (label place) (SpellsCall call) ws
 
 -- the limits, in their order
 abbrev pub limits_parts : Limits → List Part
@@ -94,7 +108,7 @@ pub record IsPlain (line : List ℕ) : Type 0 where
 -- the line says the command
 pub record IsCommandLine (line : List ℕ) (command : Command) : Type 0 where
   pub plain : IsPlain line
-  pub says : SpellEach (command_parts command) (words_of line)
+  pub says : SpellsCommand command (words_of line)
 
 -- the line says the limits, and each is in its range
 pub record IsLimitsLine (line : List ℕ) (limits : Limits) : Type 0 where

@@ -3,24 +3,19 @@ use Rattle.std.specs.Prelude.{ℕ, List, [], ◌∷◌, ◌++◌, codes, decimal
 use Rattle.std.specs.List.{flat_map}
 use Rattle.drm_table.specs.declared.rules.Rule.{Rule}
 use Rattle.drm_table.specs.declared.answers.Answer.{Answer}
-use Rattle.drm_table.specs.declared.answers.Answer.TheVariants as answers
+use Rattle.drm_table.specs.declared.fields.Field.{Field}
 use Rattle.drm_table.specs.declared.apart.Apart.{Apart}
 use Rattle.drm_table.specs.declared.audits.AuditKind.{AuditKind}
 use Rattle.drm_table.specs.declared.audits.AuditRow.{AuditRow}
+use Rattle.drm_table.specs.Answers.{Told, answer_word, told}
+use Rattle.drm_table.specs.Answers.Told.{row, list, page, denial}
 use Rattle.drm_table.specs.Audits.{kind_name}
+use Rattle.drm_table.specs.Fields.{number_in}
 use Rattle.drm_table.specs.Rules.{rule_number, rule_name, rule_errno, apart_number, apart_name, apart_errno}
 
--- the three numbers of the version
-abbrev pub version_words : ℕ → ℕ → ℕ → List ℕ
-version_words major minor patch = codes "version " ++ decimal major ++ codes " " ++ decimal minor ++ codes " " ++ decimal patch
-
--- the handle, the bytes of a row, and those of the whole
-abbrev pub dumb_words : ℕ → ℕ → ℕ → List ℕ
-dumb_words handle pitch size = codes "dumb " ++ decimal handle ++ codes " " ++ decimal pitch ++ codes " " ++ decimal size
-
--- the handle, and the bytes of the buffer
-abbrev pub buffer_words : ℕ → ℕ → List ℕ
-buffer_words handle size = codes "buffer " ++ decimal handle ++ codes " " ++ decimal size
+-- a number behind a word, or behind another number
+abbrev pub number_behind : Field → List ℕ
+number_behind field = codes " " ++ decimal (number_in field)
 
 -- an id behind another
 abbrev pub id_behind : ℕ → List ℕ
@@ -37,11 +32,11 @@ list_words ids = codes "list " ++ joined_ids ids
 
 -- the four numbers of a row of an audit
 abbrev pub row_numbers : AuditRow → List ℕ
-row_numbers row = decimal row.a ++ codes " " ++ decimal row.b ++ codes " " ++ decimal row.c ++ codes " " ++ decimal row.d
+row_numbers r = decimal r.a ++ codes " " ++ decimal r.b ++ codes " " ++ decimal r.c ++ codes " " ++ decimal r.d
 
 -- a row behind the number of rows, or behind another row
 abbrev pub row_behind : AuditRow → List ℕ
-row_behind row = codes " | " ++ row_numbers row
+row_behind r = codes " | " ++ row_numbers r
 
 -- the number of rows, and each of them
 abbrev pub page_words : List AuditRow → List ℕ
@@ -55,18 +50,16 @@ denied_words rule = codes "denied " ++ decimal (rule_number rule) ++ codes " " +
 abbrev pub apart_words : Apart → List ℕ
 apart_words apart = codes "apart " ++ decimal (apart_number apart) ++ codes " " ++ apart_name apart ++ codes " " ++ decimal (apart_errno apart)
 
+-- the word of an answer and its fields in order, a list, a page, or a denial
+abbrev pub told_words : Told → List ℕ
+told_words (row kind fs) = answer_word kind ++ flat_map number_behind fs
+told_words (list ids) = list_words ids
+told_words (page rows) = page_words rows
+told_words (denial rule) = denied_words rule
+
 -- the words of an answer, without the line end
 abbrev pub answer_words : Result Answer Apart → List ℕ
-answer_words (Ok answers.Done) = codes "done"
-answer_words (Ok answers.Closed) = codes "closed"
-answer_words (Ok (answers.Opened client)) = codes "client " ++ decimal client
-answer_words (Ok (answers.Version major minor patch)) = version_words major minor patch
-answer_words (Ok (answers.Number value)) = codes "number " ++ decimal value
-answer_words (Ok (answers.Dumb handle pitch size)) = dumb_words handle pitch size
-answer_words (Ok (answers.Buffer handle size)) = buffer_words handle size
-answer_words (Ok (answers.List ids)) = list_words ids
-answer_words (Ok (answers.Audit page)) = page_words page
-answer_words (Ok (answers.Denied rule)) = denied_words rule
+answer_words (Ok answer) = told_words (told answer)
 answer_words (Err apart) = apart_words apart
 
 -- the words, and the line end
@@ -75,4 +68,4 @@ answer_line outcome = answer_words outcome ++ 10 ∷ []
 
 -- the line of a row in a listing: the name of its kind, its numbers, and the line end
 abbrev pub audit_line : AuditKind → AuditRow → List ℕ
-audit_line kind row = kind_name kind ++ codes " " ++ row_numbers row ++ 10 ∷ []
+audit_line kind r = kind_name kind ++ codes " " ++ row_numbers r ++ 10 ∷ []

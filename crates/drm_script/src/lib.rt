@@ -4,6 +4,7 @@
 mod audits;
 mod calls;
 mod commands;
+mod fields;
 mod labels;
 mod laws;
 mod limits_line;

@@ -1,15 +1,17 @@
 //! The line that each answer writes.
 
-ghost use Rattle.std.specs.Prelude.{◌≡◌, ◌≤◌, ◌<◌, ◌++◌, Ok, decimal, length};
+ghost use Rattle.std.specs.Prelude.{◌≡◌, ◌+◌, ◌*◌, ◌≤◌, ◌<◌, ◌++◌, length};
+ghost use Rattle.std.specs.List.{flat_map};
 ghost use Rattle.arrayvec.specs.ArrayString.{array_string_len};
+ghost use Rattle.drm_table.specs.Answers.{told};
 ghost use Rattle.drm_table.specs.Rules.{rule_name, apart_name};
-ghost use Rattle.drm_script.specs.Lines.{answer_words, answer_line, version_words, dumb_words, buffer_words, denied_words, apart_words};
+ghost use Rattle.drm_script.specs.Lines.{answer_line, answer_words, apart_words, denied_words, number_behind, told_words};
 
 use crate::audits::push_page;
 use crate::lists::push_list;
 use crate::texts::{LINE, LineText, push_number};
 use arrayvec::ArrayString;
-use drm_table::{Answer, Apart, Rule};
+use drm_table::{Answer, Apart, Field, Rule, Told};
 
 /// The name of a rule, and that it is short.
 fn name_of(rule: Rule) -> &'static str
@@ -25,32 +27,6 @@ fn apart_name_of(apart: Apart) -> &'static str
     ensures short { length result.now ≤ 16 }
 {
     apart.name()
-}
-
-fn push_version(text: &mut ArrayString<LINE>, major: u32, minor: u32, patch: u32)
-    requires { array_string_len text.old ≡ 0 }
-    ensures bytes { text.new.bytes ≡ text.old.bytes ++ version_words major minor patch }
-    ensures len { array_string_len text.new < LINE }
-{
-    text.push_str("version ");
-    push_number(text, u64::from(major));
-    text.push_str(" ");
-    push_number(text, u64::from(minor));
-    text.push_str(" ");
-    push_number(text, u64::from(patch));
-}
-
-fn push_dumb(text: &mut ArrayString<LINE>, handle: u32, pitch: u32, size: u64)
-    requires { array_string_len text.old ≡ 0 }
-    ensures bytes { text.new.bytes ≡ text.old.bytes ++ dumb_words handle pitch size }
-    ensures len { array_string_len text.new < LINE }
-{
-    text.push_str("dumb ");
-    push_number(text, u64::from(handle));
-    text.push_str(" ");
-    push_number(text, u64::from(pitch));
-    text.push_str(" ");
-    push_number(text, size);
 }
 
 fn push_denied(text: &mut ArrayString<LINE>, rule: Rule)
@@ -79,52 +55,40 @@ fn push_apart(text: &mut ArrayString<LINE>, apart: Apart)
     push_number(text, u64::from(apart.errno()));
 }
 
-fn push_buffer(text: &mut ArrayString<LINE>, handle: u32, bytes: u64)
-    requires { array_string_len text.old ≡ 0 }
-    ensures bytes { text.new.bytes ≡ text.old.bytes ++ buffer_words handle bytes }
-    ensures len { array_string_len text.new < LINE }
+/// A number behind a word, or behind another number.
+fn push_field(text: &mut ArrayString<LINE>, field: Field)
+    requires { array_string_len text.old + 21 ≤ LINE }
+    ensures bytes { text.new.bytes ≡ text.old.bytes ++ number_behind field }
+    ensures len { array_string_len text.new ≤ array_string_len text.old + 21 }
 {
-    text.push_str("buffer ");
-    push_number(text, u64::from(handle));
     text.push_str(" ");
-    push_number(text, bytes);
+    push_number(text, field.number());
 }
 
-/// A word and a number.
-fn push_word(text: &mut ArrayString<LINE>, word: &str, number: u64)
-    requires empty { array_string_len text.old ≡ 0 }
-    requires short { length word.now ≤ 16 }
-    ensures bytes { text.new.bytes ≡ text.old.bytes ++ word.now ++ decimal number }
-    ensures len { array_string_len text.new < LINE }
+/// Each field, behind the one before.
+fn push_fields(text: &mut ArrayString<LINE>, fields: &[Field])
+    requires { array_string_len text.old + 21 * length fields.now ≤ LINE }
+    ensures bytes { text.new.bytes ≡ text.old.bytes ++ flat_map number_behind fields.now }
+    ensures len { array_string_len text.new ≤ array_string_len text.old + 21 * length fields.now }
 {
-    text.push_str(word);
-    push_number(text, number);
+    for field in fields {
+        push_field(text, *field);
+    }
 }
 
 fn push_answer(text: &mut ArrayString<LINE>, answer: &Answer)
     requires { array_string_len text.old ≡ 0 }
-    ensures bytes { text.new.bytes ≡ text.old.bytes ++ answer_words (Ok answer.now) }
+    ensures bytes { text.new.bytes ≡ text.old.bytes ++ told_words (told answer.now) }
     ensures len { array_string_len text.new < LINE }
 {
-    match answer {
-        Answer::Done => text.push_str("done"),
-        Answer::Closed => text.push_str("closed"),
-        Answer::Opened { client } => push_word(text, "client ", u64::from(*client)),
-        Answer::Version {
-            major,
-            minor,
-            patch,
-        } => push_version(text, *major, *minor, *patch),
-        Answer::Number { value } => push_word(text, "number ", *value),
-        Answer::Dumb {
-            handle,
-            pitch,
-            size,
-        } => push_dumb(text, *handle, *pitch, *size),
-        Answer::Buffer { handle, size } => push_buffer(text, *handle, *size),
-        Answer::List { list } => push_list(text, list),
-        Answer::Audit { page } => push_page(text, page),
-        Answer::Denied(rule) => push_denied(text, *rule),
+    match answer.told() {
+        Told::Fields(kind, fields) => {
+            text.push_str(kind.word());
+            push_fields(text, fields.as_slice());
+        }
+        Told::List(list) => push_list(text, list),
+        Told::Page(page) => push_page(text, page),
+        Told::Denial(rule) => push_denied(text, rule),
     }
 }
 

@@ -1,2 +1,5 @@
 pub mod Found
 pub mod AuditKinds
+pub mod TableRows
+pub mod Readers
+pub mod AnswerRows

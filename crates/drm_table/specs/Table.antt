@@ -1,9 +1,19 @@
--- The table of calls: the number of each, its name, and who may make it (drm-uapi; 0x40 to 0x45 are this project's own).
-use Rattle.std.specs.Prelude.{ℕ, ◌==◌, Option, List, [], ◌∷◌, find, codes}
-use Rattle.std.specs.Option.{option_map_or}
+-- The table of calls: the number of each, its name, its word in a script, who may make it, and its fields (drm-uapi; 0x40 to
+-- 0x45 are this project's own, as are the words).
+use Rattle.std.specs.Prelude.{◌≡◌, ℕ, ◌==◌, Option, Some, None, ◌↔◌, List, [], ◌∷◌, find, map, length, codes}
+use Rattle.std.specs.Option.{option_map, option_map_or}
+use Rattle.std.specs.Str.{bytes_eq}
+use Rattle.drm_table.specs.declared.fields.Width.TheVariants.{U32, U64}
+use Rattle.drm_table.specs.declared.fields.Field.{Field}
+use Rattle.drm_table.specs.declared.fields.Field.TheVariants as fields
 use Rattle.drm_table.specs.declared.flags.RowFlags.{RowFlags}
+use Rattle.drm_table.specs.declared.kinds.CallKind.{CallKind}
+use Rattle.drm_table.specs.declared.kinds.CallKind.TheVariants as kinds
 use Rattle.drm_table.specs.declared.calls.Call.{Call}
-use Rattle.drm_table.specs.declared.calls.Call.TheVariants.{Unknown, BadLayout, Version, GemClose, GetCap, SetClientCap, BufCreate, StampWrite, StampRead, ListHandles, Audit, CreateDumb, DestroyDumb}
+use Rattle.drm_table.specs.declared.calls.Call.TheVariants as calls
+use Rattle.drm_table.specs.Audits as audits
+use Rattle.drm_table.specs.Fields.{Layout, width_of, widths_in}
+use Rattle.drm_table.specs.Fields.Layout.{numbers}
 
 -- the caller is root
 abbrev pub root_only : RowFlags
@@ -27,46 +37,129 @@ no_flags = record { 0 = 0 }
 pub record TableRow : Type 0 where
   pub number : ℕ
   pub name : List ℕ
+  pub word : List ℕ
   pub flags : RowFlags
+  pub layout : Layout
 
-abbrev pub table_row : ℕ → List ℕ → RowFlags → TableRow
-table_row number name flags = record { number = number; name = name; flags = flags }
+abbrev pub table_row : ℕ → List ℕ → List ℕ → RowFlags → Layout → TableRow
+table_row number name word flags layout = record { number = number; name = name; word = word; flags = flags; layout = layout }
 
-unfoldable pub call_table : List TableRow
-call_table =
-    table_row 0 (codes "VERSION") render_allow
-    ∷ table_row 9 (codes "GEM_CLOSE") render_allow
-    ∷ table_row 12 (codes "GET_CAP") render_allow
-    ∷ table_row 13 (codes "SET_CLIENT_CAP") no_flags
-    ∷ table_row 64 (codes "BUF_CREATE") render_allow
-    ∷ table_row 65 (codes "STAMP_WRITE") render_allow
-    ∷ table_row 66 (codes "STAMP_READ") render_allow
-    ∷ table_row 68 (codes "LIST_HANDLES") render_allow
-    ∷ table_row 69 (codes "AUDIT") root_only
-    ∷ table_row 178 (codes "MODE_CREATE_DUMB") no_flags
-    ∷ table_row 180 (codes "MODE_DESTROY_DUMB") no_flags
+-- ---- the table: a line for each call
+
+unfoldable pub kind_row : CallKind → TableRow
+kind_row kinds.Version = table_row 0x00 (codes "VERSION") (codes "version") render_allow (numbers [])
+kind_row kinds.GemClose = table_row 0x09 (codes "GEM_CLOSE") (codes "gem_close") render_allow (numbers (U32 ∷ []))
+kind_row kinds.GetCap = table_row 0x0C (codes "GET_CAP") (codes "get_cap") render_allow (numbers (U64 ∷ []))
+kind_row kinds.SetClientCap = table_row 0x0D (codes "SET_CLIENT_CAP") (codes "set_client_cap") no_flags (numbers (U64 ∷ U64 ∷ []))
+kind_row kinds.BufCreate = table_row 0x40 (codes "BUF_CREATE") (codes "buf_create") render_allow (numbers (U64 ∷ []))
+kind_row kinds.StampWrite = table_row 0x41 (codes "STAMP_WRITE") (codes "stamp_write") render_allow (numbers (U32 ∷ U64 ∷ []))
+kind_row kinds.StampRead = table_row 0x42 (codes "STAMP_READ") (codes "stamp_read") render_allow (numbers (U32 ∷ []))
+kind_row kinds.ListHandles = table_row 0x44 (codes "LIST_HANDLES") (codes "list_handles") render_allow (numbers (U32 ∷ []))
+kind_row kinds.Audit = table_row 0x45 (codes "AUDIT") (codes "audit") root_only (numbers (U32 ∷ U32 ∷ []))
+kind_row kinds.CreateDumb = table_row 0xB2 (codes "MODE_CREATE_DUMB") (codes "create_dumb") no_flags (numbers (U32 ∷ U32 ∷ U32 ∷ []))
+kind_row kinds.DestroyDumb = table_row 0xB4 (codes "MODE_DESTROY_DUMB") (codes "destroy_dumb") no_flags (numbers (U32 ∷ []))
+
+-- all kinds, rising by number
+abbrev pub all_kinds : List CallKind
+all_kinds =
+    kinds.Version
+    ∷ kinds.GemClose
+    ∷ kinds.GetCap
+    ∷ kinds.SetClientCap
+    ∷ kinds.BufCreate
+    ∷ kinds.StampWrite
+    ∷ kinds.StampRead
+    ∷ kinds.ListHandles
+    ∷ kinds.Audit
+    ∷ kinds.CreateDumb
+    ∷ kinds.DestroyDumb
     ∷ []
+
+-- the row of each call and its fields in order, on the wire and in a script alike; none of a call without a row
+unfoldable pub call_row : Call → Option (CallKind × List Field)
+call_row (calls.Unknown number) = None
+call_row (calls.BadLayout number) = None
+call_row calls.Version = Some (kinds.Version, [])
+call_row (calls.GemClose handle) = Some (kinds.GemClose, fields.U32 handle ∷ [])
+call_row (calls.GetCap cap) = Some (kinds.GetCap, fields.U64 cap ∷ [])
+call_row (calls.SetClientCap cap value) = Some (kinds.SetClientCap, fields.U64 cap ∷ fields.U64 value ∷ [])
+call_row (calls.BufCreate size) = Some (kinds.BufCreate, fields.U64 size ∷ [])
+call_row (calls.StampWrite handle stamp) = Some (kinds.StampWrite, fields.U32 handle ∷ fields.U64 stamp ∷ [])
+call_row (calls.StampRead handle) = Some (kinds.StampRead, fields.U32 handle ∷ [])
+call_row (calls.ListHandles from) = Some (kinds.ListHandles, fields.U32 from ∷ [])
+call_row (calls.Audit kind from) = Some (kinds.Audit, fields.U32 (audits.kind_number kind) ∷ fields.U32 from ∷ [])
+call_row (calls.CreateDumb width height bpp) = Some (kinds.CreateDumb, fields.U32 width ∷ fields.U32 height ∷ fields.U32 bpp ∷ [])
+call_row (calls.DestroyDumb handle) = Some (kinds.DestroyDumb, fields.U32 handle ∷ [])
+
+-- the call of a row and these fields, if they are a call's
+unfoldable pub call_with : CallKind → List Field → Option Call
+call_with kinds.Version [] = Some calls.Version
+call_with kinds.GemClose (fields.U32 handle ∷ []) = Some (calls.GemClose handle)
+call_with kinds.GetCap (fields.U64 cap ∷ []) = Some (calls.GetCap cap)
+call_with kinds.SetClientCap (fields.U64 cap ∷ fields.U64 value ∷ []) = Some (calls.SetClientCap cap value)
+call_with kinds.BufCreate (fields.U64 size ∷ []) = Some (calls.BufCreate size)
+call_with kinds.StampWrite (fields.U32 handle ∷ fields.U64 stamp ∷ []) = Some (calls.StampWrite handle stamp)
+call_with kinds.StampRead (fields.U32 handle ∷ []) = Some (calls.StampRead handle)
+call_with kinds.ListHandles (fields.U32 from ∷ []) = Some (calls.ListHandles from)
+call_with kinds.Audit (fields.U32 number ∷ fields.U32 from ∷ []) = option_map (λ kind. calls.Audit kind from) (audits.kind_of number)
+call_with kinds.CreateDumb (fields.U32 width ∷ fields.U32 height ∷ fields.U32 bpp ∷ []) = Some (calls.CreateDumb width height bpp)
+call_with kinds.DestroyDumb (fields.U32 handle ∷ []) = Some (calls.DestroyDumb handle)
+call_with _ _ = None
+
+-- ---- what follows from it
+
+abbrev pub kind_number : CallKind → ℕ
+kind_number kind = (kind_row kind).number
+
+abbrev pub kind_word : CallKind → List ℕ
+kind_word kind = (kind_row kind).word
+
+abbrev pub kind_layout : CallKind → Layout
+kind_layout kind = (kind_row kind).layout
+
+-- the kind of a number, if it has a row
+unfoldable pub call_kind_of : ℕ → Option CallKind
+call_kind_of number = find (λ kind. kind_number kind == number) all_kinds
+
+-- the kind of a script's word, if it names a call
+unfoldable pub call_kind_of_word : List ℕ → Option CallKind
+call_kind_of_word word = find (λ kind. bytes_eq (kind_word kind) word) all_kinds
 
 -- the row of a number, if it has one
 unfoldable pub row_of : ℕ → Option TableRow
-row_of number = find (λ row. row.number == number) call_table
+row_of number = option_map kind_row (call_kind_of number)
+
+-- the number that a call without a row was asked by
+abbrev pub asked_number : Call → ℕ
+asked_number (calls.Unknown number) = number
+asked_number (calls.BadLayout number) = number
+asked_number _ = 0
 
 -- the number of a call's row; a call without a row keeps the number that was asked
 unfoldable pub call_number : Call → ℕ
-call_number (Unknown number) = number
-call_number (BadLayout number) = number
-call_number Version = 0
-call_number (GemClose handle) = 9
-call_number (GetCap cap) = 12
-call_number (SetClientCap cap value) = 13
-call_number (BufCreate size) = 64
-call_number (StampWrite handle stamp) = 65
-call_number (StampRead handle) = 66
-call_number (ListHandles from) = 68
-call_number (Audit kind from) = 69
-call_number (CreateDumb width height bpp) = 178
-call_number (DestroyDumb handle) = 180
+call_number call = option_map_or (λ (row : CallKind × List Field). kind_number row.0) (call_row call) (asked_number call)
 
 -- the flags of a call's row, and none where it has no row
 unfoldable pub flags_of : Call → RowFlags
 flags_of call = option_map_or (λ (row : TableRow). row.flags) (row_of (call_number call)) no_flags
+
+-- ---- laws
+
+-- Of a call's row and fields the call is made.
+abbrev pub IsReadBack : Call → Option (CallKind × List Field) → Type 0
+IsReadBack call None = Unit {0}
+IsReadBack call (Some row) = call_with row.0 row.1 ≡ Some call
+
+-- The call that is made of a row and fields has this row and these fields.
+abbrev pub AreFieldsOf : CallKind → List Field → Option Call → Type 0
+AreFieldsOf kind fs None = Unit {0}
+AreFieldsOf kind fs (Some call) = call_row call ≡ Some (kind, fs)
+
+-- The fields of a call are of the widths of its row.
+abbrev pub HasWidths : Option (CallKind × List Field) → Type 0
+HasWidths None = Unit {0}
+HasWidths (Some row) = map width_of row.1 ≡ widths_in (kind_layout row.0) (length row.1)
+
+-- The row and the word of a kind are found, and the kind of the number or word is no other's.
+abbrev pub IsFoundBy : {K : Type 0} → (K → Option CallKind) → (CallKind → K) → Type 0
+IsFoundBy {K} find column = (kind : CallKind) (key : K) → (find key ≡ Some kind) ↔ (column kind ≡ key)

@@ -3,7 +3,9 @@
 ghost use Rattle.std.specs.Prelude.{◌≡◌};
 
 use crate::audits::AuditKind;
+use crate::fields::{Field, Fields};
 use crate::flags::RowFlags;
+use crate::kinds::CallKind;
 use crate::lookup::row;
 use bitflags::Flags;
 use std::alloc::AllocError;
@@ -80,26 +82,55 @@ impl Clone for Call {
 }
 
 impl Call {
-    ghost use Rattle.drm_table.specs.Table.{call_number, flags_of};
+    ghost use Rattle.std.specs.Option.{option_map};
+    ghost use Rattle.drm_table.specs.Table.{call_number, call_row, flags_of};
+
+    /// The row of the call and its fields in order; none of a call without a row.
+    #[tactic(auto, unfolding(crate::specs::Table::call_row))]
+    pub fn row(&self) -> Option<(CallKind, Fields)>
+        ensures { result ≡ call_row self.now }
+    {
+        Some(match self {
+            Call::Unknown(_) | Call::BadLayout(_) => return None,
+            Call::Version => (CallKind::Version, Fields::of(&[])),
+            Call::GemClose { handle } => (CallKind::GemClose, Fields::of(&[Field::U32(*handle)])),
+            Call::GetCap { cap } => (CallKind::GetCap, Fields::of(&[Field::U64(*cap)])),
+            Call::SetClientCap { cap, value } => (
+                CallKind::SetClientCap,
+                Fields::of(&[Field::U64(*cap), Field::U64(*value)]),
+            ),
+            Call::BufCreate { size } => (CallKind::BufCreate, Fields::of(&[Field::U64(*size)])),
+            Call::StampWrite { handle, stamp } => (
+                CallKind::StampWrite,
+                Fields::of(&[Field::U32(*handle), Field::U64(*stamp)]),
+            ),
+            Call::StampRead { handle } => (CallKind::StampRead, Fields::of(&[Field::U32(*handle)])),
+            Call::ListHandles { from } => (CallKind::ListHandles, Fields::of(&[Field::U32(*from)])),
+            Call::Audit { kind, from } => (
+                CallKind::Audit,
+                Fields::of(&[Field::U32(kind.number()), Field::U32(*from)]),
+            ),
+            Call::CreateDumb { width, height, bpp } => (
+                CallKind::CreateDumb,
+                Fields::of(&[Field::U32(*width), Field::U32(*height), Field::U32(*bpp)]),
+            ),
+            Call::DestroyDumb { handle } => {
+                (CallKind::DestroyDumb, Fields::of(&[Field::U32(*handle)]))
+            }
+        })
+    }
 
     /// The number of the call's row; of a call without one, the number that was asked.
     #[tactic(auto, unfolding(crate::specs::Table::call_number))]
     pub fn number(&self) -> u16
         ensures { result ≡ call_number self.now }
     {
-        match self {
-            Call::Unknown(number) | Call::BadLayout(number) => *number,
-            Call::Version => 0x00,
-            Call::GemClose { .. } => 0x09,
-            Call::GetCap { .. } => 0x0C,
-            Call::SetClientCap { .. } => 0x0D,
-            Call::BufCreate { .. } => 0x40,
-            Call::StampWrite { .. } => 0x41,
-            Call::StampRead { .. } => 0x42,
-            Call::ListHandles { .. } => 0x44,
-            Call::Audit { .. } => 0x45,
-            Call::CreateDumb { .. } => 0xB2,
-            Call::DestroyDumb { .. } => 0xB4,
+        match self.row() {
+            Some((kind, _)) => kind.number(),
+            None => match self {
+                Call::Unknown(number) | Call::BadLayout(number) => *number,
+                _ => 0,
+            },
         }
     }
 

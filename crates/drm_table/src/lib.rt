@@ -1,12 +1,16 @@
 //! The calls, answers, rules and row flags of a display device's userspace interface.
 #![tactic(auto)]
 
+mod answer_kinds;
 mod answers;
 mod apart;
 mod audits;
 mod calls;
 mod events;
+mod fields;
 mod flags;
+mod kinds;
+mod laws;
 mod limits;
 mod lists;
 mod lookup;
@@ -14,12 +18,16 @@ mod permits;
 mod rows;
 mod rules;
 
+pub use answer_kinds::{AnswerKind, Told};
 pub use answers::Answer;
 pub use apart::Apart;
 pub use audits::{AuditKind, AuditPage, AuditRow};
 pub use calls::Call;
 pub use events::{Event, Opening};
+pub use fields::{Field, Fields, Layout, Width};
 pub use flags::RowFlags;
+pub use kinds::CallKind;
+pub use laws::{answers_by_their_fields, calls_by_their_fields, rows_by_their_numbers_and_words};
 pub use limits::{Limits, are_in_range};
 pub use lists::ShownList;
 pub use lookup::row;

@@ -1,0 +1,12 @@
+use Rattle.std.proofs.Common.{◌≡◌, length, drop}
+use Rattle.drm_table.specs.Fields.{read_each}
+use Rattle.drm_table.proofs.Readers.{ahead}
+use Rattle.drm_script.specs.Fields.{field_at}
+use Rattle.drm_script.specs.Words.{words_of}
+use Rattle.drm_script.proofs.fields.numbers_of.Given as goal
+
+abbrev pub invariant-loop-width : goal.invariant-loop-width
+invariant-loop-width l = record {
+  read : ahead l.fields (read_each field_at (drop l.width-index l.widths) (words_of l.rest)) ≡ read_each field_at l.widths (words_of l.text);
+  few : length l.fields ≡ l.width-index;
+}

@@ -1,0 +1,74 @@
+//! The fields of a call, as words of a line.
+
+ghost use Rattle.std.specs.Prelude.{◌≡◌, ◌≤◌, length};
+ghost use Rattle.std.specs.Option.{option_map};
+ghost use Rattle.drm_table.specs.Fields.{IsShort, layout_of};
+ghost use Rattle.drm_script.specs.Fields.{field_at, few_words, fields_at, numbers_at};
+ghost use Rattle.drm_script.specs.Words.{words_of};
+
+use crate::numbers::{u32_word, u64_word};
+use crate::words::{end_of, next_word};
+use drm_table::{Field, Fields, Layout, Width};
+
+/// The field that the first word spells, and what follows it.
+#[tactic(auto, unfolding(crate::specs::Fields::field_at))]
+fn field_of(width: Width, text: &[u8]) -> Option<(Field, &[u8])>
+    ensures { option_map (λ read. (read.0, words_of read.1.now)) result ≡ field_at width (words_of text.now) }
+{
+    match width {
+        Width::U32 => {
+            let (number, rest) = u32_word(text)?;
+            Some((Field::U32(number), rest))
+        }
+        Width::U64 => {
+            let (number, rest) = u64_word(text)?;
+            Some((Field::U64(number), rest))
+        }
+    }
+}
+
+/// The fields of these widths that the words spell, where no word is behind them.
+#[tactic(auto, unfolding(crate::specs::Fields::numbers_at))]
+fn numbers_of(widths: &[Width], text: &[u8]) -> Option<Fields>
+    requires { length widths.now ≤ 32 }
+    ensures { result ≡ numbers_at widths.now (words_of text.now) }
+{
+    let mut fields = Fields::new();
+    let mut rest = text;
+    for width in widths {
+        let (field, behind) = field_of(*width, rest)?;
+        fields.push(field);
+        rest = behind;
+    }
+    end_of(rest)?;
+    Some(fields)
+}
+
+/// How many words there are, if as many as a call has ids at most.
+fn few_words(text: &[u8]) -> Option<usize>
+    ensures { result ≡ few_words (words_of text.now) }
+{
+    let mut rest = text;
+    for count in 0..Layout::MOST_IDS + 1 {
+        let Some((_, behind)) = next_word(rest) else {
+            return Some(count);
+        };
+        rest = behind;
+    }
+    None
+}
+
+/// The fields of a layout that the words spell, where no word is behind them.
+#[tactic(auto, unfolding(crate::specs::Fields::fields_at))]
+pub(crate) fn fields_of(layout: Layout, text: &[u8]) -> Option<Fields>
+    requires { IsShort (layout_of layout) }
+    ensures { result ≡ fields_at (layout_of layout) (words_of text.now) }
+{
+    match layout {
+        Layout::Numbers(widths) => numbers_of(widths, text),
+        Layout::Ids => {
+            let count = few_words(text)?;
+            numbers_of(Width::of_ids(count), text)
+        }
+    }
+}

@@ -1,0 +1,69 @@
+-- A reader of fields reads one after another.
+use Rattle.std.proofs.Common.{◌≡◌, zero, suc, List, [], ◌∷◌, ◌++◌, Option, Some, None, refl, sym, ap, ◌∙◌, subst, arith, All}
+use Rattle.std.specs.Option.{option_map, option_and_then}
+use Rattle.std.proofs.lemmas.List.{append_assoc, append-nil}
+use Rattle.drm_table.specs.declared.fields.Width.{Width}
+use Rattle.drm_table.specs.declared.fields.Field.{Field}
+use Rattle.drm_table.specs.Fields.{FitsField, put_before, read_each}
+
+some-is : {A : Type 0} (x a : A) → Some x ≡ Some a → x ≡ a
+some-is x a e = cc
+
+-- fields that were read, in front of those that are read behind them
+abbrev pub ahead : {S : Type 0} → List Field → Option (List Field × S) → Option (List Field × S)
+ahead fs o = option_map (λ more. (fs ++ more.0, more.1)) o
+
+ahead-before : {S : Type 0} (fs : List Field) (field : Field) (o : Option (List Field × S)) → ahead (fs ++ field ∷ []) o ≡ ahead fs (option_map (put_before field) o)
+ahead-before fs field None = refl
+ahead-before fs field (Some more) = ap (λ xs. Some (xs, more.1)) (append_assoc fs (field ∷ []) more.0)
+
+-- one field more is read
+pub read-on : {S : Type 0} (read : Width → S → Option (Field × S)) (ws : List Width) (w : Width) (s s' : S) (fs fs' : List Field) (field : Field) (whole : Option (List Field × S))
+    → read w s ≡ Some (field, s') → fs' ≡ fs ++ field ∷ [] → ahead fs (read_each read (w ∷ ws) s) ≡ whole → ahead fs' (read_each read ws s') ≡ whole
+read-on read ws w s s' fs fs' field whole e pushed so_far =
+    rw pushed (ahead-before fs field (read_each read ws s') ∙ sym (ap (λ o. ahead fs (option_and_then (λ one. option_map (put_before one.0) (read_each read ws one.1)) o)) e) ∙ so_far)
+
+-- a field that is not read ends it
+pub read-ends : {S : Type 0} (read : Width → S → Option (Field × S)) (ws : List Width) (w : Width) (s : S) (fs : List Field) (whole : Option (List Field × S))
+    → read w s ≡ None → ahead fs (read_each read (w ∷ ws) s) ≡ whole → whole ≡ None
+read-ends read ws w s fs whole e so_far =
+    sym so_far ∙ ap (λ o. ahead fs (option_and_then (λ one. option_map (put_before one.0) (read_each read ws one.1)) o)) e
+
+-- no width is left
+pub read-whole : {S : Type 0} (fs : List Field) (s : S) (whole : Option (List Field × S)) → ahead fs (Some ([], s)) ≡ whole → whole ≡ Some (fs, s)
+read-whole fs s whole e = sym e ∙ ap (λ xs. Some (xs, s)) (append-nil fs)
+
+-- ---- what is told of one field after another is told of all that was read
+
+more-by : {S : Type 0} (P : List Width → S → List Field → S → Type 0) (w : Width) (ws : List Width) (s : S) (f : Field) (o : Option (List Field × S)) (read : List Field × S)
+    → ((more : List Field × S) → o ≡ Some more → P (w ∷ ws) s (f ∷ more.0) more.1) → option_map (put_before f) o ≡ Some read → P (w ∷ ws) s read.0 read.1
+more-by P w ws s f None read each e = absurd (cc)
+more-by P w ws s f (Some more) read each e = subst (λ p. P (w ∷ ws) s p.0 p.1) (some-is (f ∷ more.0, more.1) read e) (each more refl)
+
+first-by : {S : Type 0} (read_one : Width → S → Option (Field × S)) (P : List Width → S → List Field → S → Type 0) (w : Width) (ws : List Width) (s : S) (o : Option (Field × S)) (read : List Field × S)
+    → ((one : Field × S) (more : List Field × S) → o ≡ Some one → read_each read_one ws one.1 ≡ Some more → P (w ∷ ws) s (one.0 ∷ more.0) more.1)
+    → option_and_then (λ one. option_map (put_before one.0) (read_each read_one ws one.1)) o ≡ Some read → P (w ∷ ws) s read.0 read.1
+first-by read_one P w ws s None read each e = absurd (cc)
+first-by read_one P w ws s (Some one) read each e = more-by P w ws s one.0 (read_each read_one ws one.1) read (λ more. each one more refl) e
+
+pub each-by : {S : Type 0} (read_one : Width → S → Option (Field × S)) (P : List Width → S → List Field → S → Type 0) → ((s : S) → P [] s [] s)
+    → ((w : Width) (ws : List Width) (s : S) (one : Field × S) (more : List Field × S) → read_one w s ≡ Some one → P ws one.1 more.0 more.1 → P (w ∷ ws) s (one.0 ∷ more.0) more.1)
+    → (ws : List Width) (s : S) (read : List Field × S) → read_each read_one ws s ≡ Some read → P ws s read.0 read.1
+each-by read_one P none step [] s read e = subst (λ p. P [] s p.0 p.1) (some-is ([], s) read e) (none s)
+each-by read_one P none step (w ∷ ws) s read e =
+    first-by read_one P w ws s (read_one w s) read (λ one more t u. step w ws s one more t (each-by read_one P none step ws one.1 more u)) e
+
+-- ---- fields that fit, one by one
+
+pub first-fits : (f : Field) (fs : List Field) → All FitsField (f ∷ fs) → FitsField f
+first-fits f fs each = each 0 f (omega arith)
+
+pub others-fit : (f : Field) (fs : List Field) → All FitsField (f ∷ fs) → All FitsField fs
+others-fit f fs each = λ k d h. each (suc k) d (omega arith)
+
+pub none-fit : All FitsField []
+none-fit k d few = absurd (omega arith)
+
+pub all-fit : (f : Field) (fs : List Field) → FitsField f → All FitsField fs → All FitsField (f ∷ fs)
+all-fit f fs here there zero d h = here
+all-fit f fs here there (suc k) d h = there k d (omega arith)

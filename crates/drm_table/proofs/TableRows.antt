@@ -1,0 +1,92 @@
+-- The table of calls: its rows are found by number and word, and a call is that of its row with its fields.
+use Rattle.std.proofs.Common.{◌≡◌, ℕ, ◌^◌, ◌<◌, List, [], ◌∷◌, Option, Some, None, refl, sym, ap, subst, lit<, lit≤}
+use Rattle.std.specs.Prelude.{◌==◌}
+use Rattle.std.specs.Option.{option_map}
+use Rattle.std.specs.Str.{bytes_eq}
+use Rattle.std.proofs.lemmas.Bool.{eqb-true}
+use Rattle.std.proofs.lemmas.Slice.Eq.{bytes_eq-Decides}
+use Rattle.drm_table.specs.declared.audits.AuditKind.{AuditKind}
+use Rattle.drm_table.specs.declared.calls.Call.{Call}
+use Rattle.drm_table.specs.declared.calls.Call.TheVariants as calls
+use Rattle.drm_table.specs.declared.kinds.CallKind.{CallKind}
+use Rattle.drm_table.specs.declared.kinds.CallKind.TheVariants as kinds
+use Rattle.drm_table.specs.declared.fields.Field.{Field}
+use Rattle.drm_table.specs.declared.fields.Field.TheVariants.{U32, U64}
+use Rattle.drm_table.specs.Audits as audits
+use Rattle.drm_table.specs.Fields.{Layout, IsShort}
+use Rattle.drm_table.specs.Table.{kind_row, kind_number, kind_word, kind_layout, call_kind_of, call_kind_of_word, all_kinds, call_row, call_with, IsReadBack, AreFieldsOf, HasWidths}
+use Rattle.drm_table.proofs.AuditKinds as kinds_of_audits
+use Rattle.drm_table.proofs.Found.{found-passes}
+
+-- ---- a row by its number and by its word
+
+pub number-small : (kind : CallKind) → kind_number kind < 2 ^ 16
+unfolding kind_row
+number-small kinds.Version = lit< tt
+number-small _ = lit< tt
+
+pub kind-short : (kind : CallKind) → IsShort (kind_layout kind)
+unfolding kind_row
+kind-short kinds.Version = lit≤ tt
+kind-short _ = lit≤ tt
+
+-- the same of a layout that is the kind's
+pub short : (kind : CallKind) (layout : Layout) → layout ≡ kind_layout kind → IsShort layout
+short kind layout e = subst IsShort (sym e) (kind-short kind)
+
+pub kind-found : (kind : CallKind) → call_kind_of (kind_number kind) ≡ Some kind
+unfolding call_kind_of kind_row
+kind-found kinds.Version = refl
+kind-found _ = refl
+
+pub kind-of-its-own : (number : ℕ) (kind : CallKind) → call_kind_of number ≡ Some kind → kind_number kind ≡ number
+unfolding call_kind_of
+kind-of-its-own number kind e = eqb-true (kind_number kind) number (found-passes (λ (k : CallKind). kind_number k == number) all_kinds kind e)
+
+pub word-found : (kind : CallKind) → call_kind_of_word (kind_word kind) ≡ Some kind
+unfolding call_kind_of_word kind_row
+word-found kinds.Version = refl
+word-found _ = refl
+
+pub word-of-its-own : (word : List ℕ) (kind : CallKind) → call_kind_of_word word ≡ Some kind → kind_word kind ≡ word
+unfolding call_kind_of_word
+word-of-its-own word kind e = (bytes_eq-Decides (kind_word kind) word).0 (found-passes (λ (k : CallKind). bytes_eq (kind_word k) word) all_kinds kind e)
+
+-- ---- a call by its row and its fields
+
+audit-back : (kind : AuditKind) (from : ℕ) → call_with kinds.Audit (U32 (audits.kind_number kind) ∷ U32 from ∷ []) ≡ Some (calls.Audit kind from)
+unfolding call_with
+audit-back kind from = rw (kinds_of_audits.kind-found kind) refl
+
+pub read-back : (call : Call) → IsReadBack call (call_row call)
+unfolding call_row call_with
+read-back (calls.Unknown n) = tt
+read-back (calls.BadLayout n) = tt
+read-back (calls.Audit kind from) = audit-back kind from
+read-back _ = refl
+
+audit-by : (number from : ℕ) (found : Option AuditKind) → audits.kind_of number ≡ found → AreFieldsOf kinds.Audit (U32 number ∷ U32 from ∷ []) (option_map (λ kind. calls.Audit kind from) found)
+unfolding call_row
+audit-by number from None e = tt
+audit-by number from (Some kind) e = ap (λ (n : ℕ). Some (kinds.Audit, U32 n ∷ U32 from ∷ [])) (kinds_of_audits.kind-of-its-own number kind e)
+
+pub fields-of : (kind : CallKind) (fs : List Field) → AreFieldsOf kind fs (call_with kind fs)
+unfolding call_row call_with
+fields-of kinds.Version [] = refl
+fields-of kinds.GemClose (U32 handle ∷ []) = refl
+fields-of kinds.GetCap (U64 cap ∷ []) = refl
+fields-of kinds.SetClientCap (U64 cap ∷ U64 value ∷ []) = refl
+fields-of kinds.BufCreate (U64 size ∷ []) = refl
+fields-of kinds.StampWrite (U32 handle ∷ U64 stamp ∷ []) = refl
+fields-of kinds.StampRead (U32 handle ∷ []) = refl
+fields-of kinds.ListHandles (U32 from ∷ []) = refl
+fields-of kinds.Audit (U32 number ∷ U32 from ∷ []) = audit-by number from (audits.kind_of number) refl
+fields-of kinds.CreateDumb (U32 width ∷ U32 height ∷ U32 bpp ∷ []) = refl
+fields-of kinds.DestroyDumb (U32 handle ∷ []) = refl
+fields-of _ _ = tt
+
+pub has-widths : (call : Call) → HasWidths (call_row call)
+unfolding call_row kind_row
+has-widths (calls.Unknown n) = tt
+has-widths (calls.BadLayout n) = tt
+has-widths _ = refl

@@ -1,0 +1,110 @@
+-- The answers: the number of each, its word in the lines of a script, and its fields (own).
+use Rattle.std.specs.Prelude.{◌≡◌, ℕ, ◌==◌, Option, Some, None, List, [], ◌∷◌, find, map, codes}
+use Rattle.drm_table.specs.declared.answer_kinds.AnswerKind.{AnswerKind}
+use Rattle.drm_table.specs.declared.answer_kinds.AnswerKind.TheVariants as kinds
+use Rattle.drm_table.specs.declared.answer_kinds.Told.{Told as ToldValue}
+use Rattle.drm_table.specs.declared.answer_kinds.Told.TheVariants as values
+use Rattle.drm_table.specs.declared.answers.Answer.{Answer}
+use Rattle.drm_table.specs.declared.answers.Answer.TheVariants as answers
+use Rattle.drm_table.specs.declared.audits.AuditRow.{AuditRow}
+use Rattle.drm_table.specs.declared.fields.Width.{Width}
+use Rattle.drm_table.specs.declared.fields.Width.TheVariants.{U32, U64}
+use Rattle.drm_table.specs.declared.fields.Field.{Field}
+use Rattle.drm_table.specs.declared.fields.Field.TheVariants as fields
+use Rattle.drm_table.specs.declared.rules.Rule.{Rule}
+use Rattle.drm_table.specs.Fields.{width_of}
+
+pub record AnswerRow : Type 0 where
+  pub number : ℕ
+  pub word : List ℕ
+  pub widths : List Width
+
+abbrev pub answer_row : ℕ → List ℕ → List Width → AnswerRow
+answer_row number word widths = record { number = number; word = word; widths = widths }
+
+-- ---- the table of the answers with fields of fixed number: a line for each
+
+unfoldable pub answer_kind_row : AnswerKind → AnswerRow
+answer_kind_row kinds.Done = answer_row 0x1000 (codes "done") []
+answer_kind_row kinds.Opened = answer_row 0x1001 (codes "client") (U32 ∷ [])
+answer_kind_row kinds.Version = answer_row 0x1002 (codes "version") (U32 ∷ U32 ∷ U32 ∷ [])
+answer_kind_row kinds.Number = answer_row 0x1003 (codes "number") (U64 ∷ [])
+answer_kind_row kinds.Dumb = answer_row 0x1004 (codes "dumb") (U32 ∷ U32 ∷ U64 ∷ [])
+answer_kind_row kinds.Buffer = answer_row 0x1005 (codes "buffer") (U32 ∷ U64 ∷ [])
+answer_kind_row kinds.Closed = answer_row 0x100C (codes "closed") []
+
+-- all kinds, rising by number
+abbrev pub all_kinds : List AnswerKind
+all_kinds = kinds.Done ∷ kinds.Opened ∷ kinds.Version ∷ kinds.Number ∷ kinds.Dumb ∷ kinds.Buffer ∷ kinds.Closed ∷ []
+
+-- what an answer tells: fields of fixed number, a list of ids, rows of an audit, or a denial
+pub data Told : Type 0 where
+  row : AnswerKind → List Field → Told
+  list : List ℕ → Told
+  page : List AuditRow → Told
+  denial : Rule → Told
+
+-- what each answer tells, its fields in order
+unfoldable pub told : Answer → Told
+told answers.Done = row kinds.Done []
+told (answers.Opened client) = row kinds.Opened (fields.U32 client ∷ [])
+told (answers.Version major minor patch) = row kinds.Version (fields.U32 major ∷ fields.U32 minor ∷ fields.U32 patch ∷ [])
+told (answers.Number value) = row kinds.Number (fields.U64 value ∷ [])
+told (answers.Dumb handle pitch size) = row kinds.Dumb (fields.U32 handle ∷ fields.U32 pitch ∷ fields.U64 size ∷ [])
+told (answers.Buffer handle size) = row kinds.Buffer (fields.U32 handle ∷ fields.U64 size ∷ [])
+told (answers.List ids) = list ids
+told (answers.Audit rows) = page rows
+told answers.Closed = row kinds.Closed []
+told (answers.Denied rule) = denial rule
+
+-- the answer of a kind and these fields, if they are an answer's
+unfoldable pub answer_with : AnswerKind → List Field → Option Answer
+answer_with kinds.Done [] = Some answers.Done
+answer_with kinds.Opened (fields.U32 client ∷ []) = Some (answers.Opened client)
+answer_with kinds.Version (fields.U32 major ∷ fields.U32 minor ∷ fields.U32 patch ∷ []) = Some (answers.Version major minor patch)
+answer_with kinds.Number (fields.U64 value ∷ []) = Some (answers.Number value)
+answer_with kinds.Dumb (fields.U32 handle ∷ fields.U32 pitch ∷ fields.U64 size ∷ []) = Some (answers.Dumb handle pitch size)
+answer_with kinds.Buffer (fields.U32 handle ∷ fields.U64 size ∷ []) = Some (answers.Buffer handle size)
+answer_with kinds.Closed [] = Some answers.Closed
+answer_with _ _ = None
+
+-- ---- what follows from it
+
+abbrev pub answer_number : AnswerKind → ℕ
+answer_number kind = (answer_kind_row kind).number
+
+abbrev pub answer_word : AnswerKind → List ℕ
+answer_word kind = (answer_kind_row kind).word
+
+abbrev pub answer_widths : AnswerKind → List Width
+answer_widths kind = (answer_kind_row kind).widths
+
+-- the kind of a number, if it has a row
+unfoldable pub answer_kind_of : ℕ → Option AnswerKind
+answer_kind_of number = find (λ kind. answer_number kind == number) all_kinds
+
+-- what the parts of an answer tell
+abbrev pub told_of : ToldValue → Told
+told_of (values.Fields kind fs) = row kind fs
+told_of (values.List ids) = list ids.now
+told_of (values.Page rows) = page rows.now
+told_of (values.Denial rule) = denial rule
+
+-- ---- laws
+
+-- Of what an answer tells the answer is made.
+abbrev pub TellsBack : Answer → Told → Type 0
+TellsBack answer (row kind fs) = answer_with kind fs ≡ Some answer
+TellsBack answer (list ids) = answer ≡ answers.List ids
+TellsBack answer (page rows) = answer ≡ answers.Audit rows
+TellsBack answer (denial rule) = answer ≡ answers.Denied rule
+
+-- The answer that is made of a kind and fields tells these.
+abbrev pub AreToldBy : AnswerKind → List Field → Option Answer → Type 0
+AreToldBy kind fs None = Unit {0}
+AreToldBy kind fs (Some answer) = told answer ≡ row kind fs
+
+-- The fields that are told are of the widths of their kind.
+abbrev pub HasToldWidths : Told → Type 0
+HasToldWidths (row kind fs) = map width_of fs ≡ answer_widths kind
+HasToldWidths _ = Unit {0}

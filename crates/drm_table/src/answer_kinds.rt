@@ -1,0 +1,216 @@
+//! The table of answers.
+
+ghost use Rattle.std.specs.Prelude.{◌≡◌, ◌≤◌, length};
+ghost use Rattle.drm_table.specs.Answers.{answer_kind_of, answer_number, answer_widths, answer_with, answer_word, answer_kind_row, told, told_of};
+
+use crate::answers::Answer;
+use crate::audits::AuditPage;
+use crate::fields::{Field, Fields, Width};
+use crate::lists::ShownList;
+use crate::rules::Rule;
+
+/// An answer with fields of fixed number: a row of the table of answers.
+#[derive(Clone, Copy, PartialEq, Eq, Debug)]
+pub enum AnswerKind {
+    Done,
+    Opened,
+    Version,
+    Number,
+    Dumb,
+    Buffer,
+    Closed,
+}
+
+/// What an answer tells.
+#[derive(Drop)]
+pub enum Told<'a> {
+    /// Fields of fixed number.
+    Fields(AnswerKind, Fields),
+    /// Ids or handles.
+    List(&'a ShownList),
+    /// Rows of an audit.
+    Page(&'a AuditPage),
+    /// The rule that fails.
+    Denial(Rule),
+}
+
+/// By what number and what word an answer is told, and how wide its fields are.
+#[derive(Clone, Copy)]
+struct AnswerRow {
+    number: u16,
+    word: &'static str,
+    widths: &'static [Width],
+}
+
+fn row(number: u16, word: &'static str, widths: &'static [Width]) -> AnswerRow
+    ensures number { result.number ≡ number }
+    ensures word { result.word.now ≡ word.now }
+    ensures widths { result.widths.now ≡ widths.now }
+{
+    AnswerRow {
+        number,
+        word,
+        widths,
+    }
+}
+
+impl AnswerKind {
+    /// All kinds, rising by number.
+    pub const ALL: [AnswerKind; 7] = [
+        AnswerKind::Done,
+        AnswerKind::Opened,
+        AnswerKind::Version,
+        AnswerKind::Number,
+        AnswerKind::Dumb,
+        AnswerKind::Buffer,
+        AnswerKind::Closed,
+    ];
+
+    // The row: a line for each answer (own).
+    #[tactic(auto, unfolding(crate::specs::Answers::answer_kind_row))]
+    fn row(self) -> AnswerRow
+        ensures number { result.number ≡ (answer_kind_row self).number }
+        ensures word { result.word.now ≡ (answer_kind_row self).word }
+        ensures short { length result.word.now ≤ 16 }
+        ensures widths { result.widths.now ≡ (answer_kind_row self).widths }
+        ensures few { length result.widths.now ≤ 5 }
+    {
+        match self {
+            AnswerKind::Done => row(0x1000, "done", &[]),
+            AnswerKind::Opened => row(0x1001, "client", &[Width::U32]),
+            AnswerKind::Version => row(0x1002, "version", &[Width::U32, Width::U32, Width::U32]),
+            AnswerKind::Number => row(0x1003, "number", &[Width::U64]),
+            AnswerKind::Dumb => row(0x1004, "dumb", &[Width::U32, Width::U32, Width::U64]),
+            AnswerKind::Buffer => row(0x1005, "buffer", &[Width::U32, Width::U64]),
+            AnswerKind::Closed => row(0x100C, "closed", &[]),
+        }
+    }
+
+    /// The number of the answer's frame (own).
+    pub fn number(self) -> u16
+        ensures { result ≡ answer_number self }
+    {
+        self.row().number
+    }
+
+    /// The first word of the answer's line (own).
+    pub fn word(self) -> &'static str
+        ensures word { result.now ≡ answer_word self }
+        ensures short { length result.now ≤ 16 }
+    {
+        self.row().word
+    }
+
+    /// How wide the fields are.
+    pub fn widths(self) -> &'static [Width]
+        ensures widths { result.now ≡ answer_widths self }
+        ensures few { length result.now ≤ 5 }
+    {
+        self.row().widths
+    }
+
+    /// The kind of a number, if it has a row.
+    #[tactic(auto, unfolding(crate::specs::Answers::answer_kind_of))]
+    pub fn of_number(number: u16) -> Option<AnswerKind>
+        ensures { result ≡ answer_kind_of number }
+    {
+        AnswerKind::ALL
+            .iter()
+            .copied()
+            .find(|kind| kind.number() == number)
+    }
+
+    /// The answer of the kind and these fields; none where they are not an answer's.
+    #[tactic(auto, unfolding(crate::specs::Answers::answer_with))]
+    pub fn answer(self, fields: &[Field]) -> Option<Answer>
+        ensures { result ≡ answer_with self fields.now }
+    {
+        match self {
+            AnswerKind::Done => match fields {
+                [] => Some(Answer::Done),
+                _ => None,
+            },
+            AnswerKind::Opened => match fields {
+                [Field::U32(client)] => Some(Answer::Opened { client: *client }),
+                _ => None,
+            },
+            AnswerKind::Version => match fields {
+                [Field::U32(major), Field::U32(minor), Field::U32(patch)] => {
+                    Some(Answer::Version {
+                        major: *major,
+                        minor: *minor,
+                        patch: *patch,
+                    })
+                }
+                _ => None,
+            },
+            AnswerKind::Number => match fields {
+                [Field::U64(value)] => Some(Answer::Number { value: *value }),
+                _ => None,
+            },
+            AnswerKind::Dumb => match fields {
+                [Field::U32(handle), Field::U32(pitch), Field::U64(size)] => {
+                    Some(Answer::Dumb {
+                        handle: *handle,
+                        pitch: *pitch,
+                        size: *size,
+                    })
+                }
+                _ => None,
+            },
+            AnswerKind::Buffer => match fields {
+                [Field::U32(handle), Field::U64(size)] => Some(Answer::Buffer {
+                    handle: *handle,
+                    size: *size,
+                }),
+                _ => None,
+            },
+            AnswerKind::Closed => match fields {
+                [] => Some(Answer::Closed),
+                _ => None,
+            },
+        }
+    }
+}
+
+impl Answer {
+    /// What the answer tells, its fields in order.
+    #[tactic(auto, unfolding(crate::specs::Answers::told))]
+    pub fn told(&self) -> Told<'_>
+        ensures { told_of result ≡ told self.now }
+    {
+        match self {
+            Answer::Done => Told::Fields(AnswerKind::Done, Fields::of(&[])),
+            Answer::Opened { client } => {
+                Told::Fields(AnswerKind::Opened, Fields::of(&[Field::U32(*client)]))
+            }
+            Answer::Version {
+                major,
+                minor,
+                patch,
+            } => Told::Fields(
+                AnswerKind::Version,
+                Fields::of(&[Field::U32(*major), Field::U32(*minor), Field::U32(*patch)]),
+            ),
+            Answer::Number { value } => {
+                Told::Fields(AnswerKind::Number, Fields::of(&[Field::U64(*value)]))
+            }
+            Answer::Dumb {
+                handle,
+                pitch,
+                size,
+            } => Told::Fields(
+                AnswerKind::Dumb,
+                Fields::of(&[Field::U32(*handle), Field::U32(*pitch), Field::U64(*size)]),
+            ),
+            Answer::Buffer { handle, size } => Told::Fields(
+                AnswerKind::Buffer,
+                Fields::of(&[Field::U32(*handle), Field::U64(*size)]),
+            ),
+            Answer::List { list } => Told::List(list),
+            Answer::Audit { page } => Told::Page(page),
+            Answer::Closed => Told::Fields(AnswerKind::Closed, Fields::of(&[])),
+            Answer::Denied(rule) => Told::Denial(*rule),
+        }
+    }
+}
