@@ -1,43 +1,47 @@
 -- What is true of a device's fields, and of the fields after a step.
-use Rattle.std.proofs.Common.{◌≡◌, ℕ, ◌+◌, ◌<◌, ◌≤◌, Bool, List, true, false, refl, sym, ap, ◌∙◌, arith, subst, length, map, [], ◌∷◌, ◌++◌, ◌&&◌, nat_le, None}
+use Rattle.std.proofs.Common.{◌≡◌, ℕ, ◌+◌, ◌-◌, ◌<◌, ◌≤◌, ◌==◌, Bool, true, false, not, refl, sym, ap, ◌∙◌, arith, subst, length, map, [], ◌∷◌, ◌++◌, ◌&&◌, nat_le, nat_lt, None, filter}
+use Rattle.std.specs.List.{list_any, AllByRecursion}
 use Rattle.std.specs.Vec.{vec_len, vec_capacity}
 use Rattle.std.specs.Global.{Vec}
-use Rattle.drm_table.specs.declared.events.Event.{Event}
-use Rattle.drm_table.specs.declared.limits.Limits.{Limits}
 use Rattle.std.proofs.lemmas.Bool.{leb-true}
-use Rattle.drm_model.specs.Rows.{Rows, ClientRow, ObjectRow, empty_rows}
-use Rattle.drm_model.specs.Topology.{Topology}
-use Rattle.drm_model.specs.Run.{run, rows_of, no_room}
-use Rattle.drm_model.specs.Change.{after}
-use Rattle.drm_model.proofs.Lists.{length-map}
-use Rattle.drm_device.specs.Device.{history_of, IsDevice}
-use Rattle.drm_table.specs.Limits.{are_in_range, is_between}
+use Rattle.std.proofs.lemmas.Bool.Decides.{nat_tests}
+use Rattle.drm_gem.specs.declared.object.Object.{Object}
 use Rattle.drm_gem.specs.Objects.{ObjectSet}
-use Rattle.std.specs.List.{AllByRecursion}
-use Rattle.drm_files.specs.Files.{FileLists, empty_files}
-use Rattle.drm_device.specs.declared.state.Member.{Member}
-use Rattle.drm_device.specs.Parts.{IsTied, HaveLimits, IsLater, joined, object_of}
+use Rattle.drm_files.specs.declared.rows.FileHold.{FileHold}
 use Rattle.drm_files.specs.declared.rows.FileClient.{FileClient}
-use Rattle.drm_gem.specs.declared.object.Object.{Object as Kept}
-use Rattle.drm_device.proofs.Joined.{HaveSame, joined_length, none_same, first_same, rest_same}
-use Rattle.drm_device.specs.Refinement.{lists_of, Stands, Represents, client_row_of, master_row_of, object_row_of}
+use Rattle.drm_files.specs.Files.{FileLists, empty_files, is_present, hold_before}
+use Rattle.drm_table.specs.declared.calls.Call.{Call}
+use Rattle.drm_table.specs.declared.events.Event.{Event}
+use Rattle.drm_table.specs.declared.events.Event.TheVariants.{Open, Ask, Close}
+use Rattle.drm_table.specs.declared.events.Opening.{Opening}
+use Rattle.drm_table.specs.declared.limits.Limits.{Limits}
+use Rattle.drm_table.specs.Limits.{are_in_range, is_between}
+use Rattle.drm_model.specs.Rows.{ClientRow, ObjectRow, empty_rows, is_option}
+use Rattle.drm_model.specs.Orders.{InOrder}
+use Rattle.drm_model.proofs.Lists.{all_weaker}
+use Rattle.drm_model.specs.Topology.{Topology}
+use Rattle.drm_model.specs.Change.{after}
+use Rattle.drm_model.specs.Run.{FoundRoom, places_left, run, rows_of, no_room, start_of}
 use Rattle.drm_model.proofs.Births.{births_rise}
-use Rattle.drm_device.specs.declared.device.Device.TheInside.{Inside}
-use Rattle.drm_device.specs.declared.state.State.{State}
-use Rattle.drm_model.specs.Run.{FoundRoom, start_of}
 use Rattle.drm_model.proofs.Journals.{found_room_push, rows_noted, after-steps, rows_of-limits, rows_of-steps, room_after}
-use Rattle.drm_device.proofs.Runs.{well_formed}
+use Rattle.drm_device.specs.declared.device.Device.TheInside.{Inside}
+use Rattle.drm_state.specs.declared.state.Member.{Member}
+use Rattle.drm_state.specs.declared.state.State.{State}
+use Rattle.drm_device.specs.Device.{history_of, IsDevice}
+use Rattle.drm_state.specs.Parts.{client_row_of, master_row_of, object_row_of, hold_row_of, keys_of, referring_keys}
+use Rattle.drm_state.specs.Ties.{Tie, MembersOpen, MembersDiffer, MastersNamed, HoldsRise, ObjectsCounted, is_tied, IsTied, IsLater, IsReady, AreTied}
+use Rattle.drm_model.specs.Parts.{Part, Bounds, Masters, Holds, Clients, Objects, DeviceMaster}
+use Rattle.drm_state.specs.Refinement.{stands_for, Represents, Stands}
+use Rattle.drm_state.proofs.Booleans.{all_of_map}
+use Rattle.drm_state.proofs.Represented.{clients_are, objects_are}
+use Rattle.drm_state.proofs.Outcomes.{represented_count}
+use Rattle.drm_state.proofs.Lookups.{is_open_is}
 
-pub represented_count : (s : State) (w : Rows) → IsTied s → Represents (lists_of s) w → length w.clients ≡ vec_len s.members
-represented_count s w t h = ap length h.clients ∙ length-map client_row_of (lists_of s).clients ∙ joined_length s.files.clients s.members.items t.members ∙ sym s.members.ok.0
-
--- the lists of a device stand for its rows
-pub stands : (d : Inside) (n : ℕ) → IsDevice d → n ≡ vec_len d.journal → Stands d.state d.limits (n + 1) (rows_of (history_of d))
+-- the state of a device stands for its rows
+pub stands : (d : Inside) (n : ℕ) → IsDevice d → n ≡ vec_len d.journal → Stands d.state (n + 1) (rows_of (history_of d))
 stands d n h e = record {
   rows = h.rows;
-  well_formed = well_formed (history_of d);
   births = births_rise (history_of d);
-  limits_are = rows_of-limits (history_of d);
   birth_is = ap (λ n. n + 1) (rows_of-steps (history_of d) ∙ sym d.journal.ok.0 ∙ sym e);
 }
 
@@ -45,7 +49,7 @@ stands d n h e = record {
 pub fits : (d : Inside) → IsDevice d → (rows_of (history_of d)).steps + length (rows_of (history_of d)).clients ≤ (rows_of (history_of d)).limits.journal
 fits d h =
     let steps = rows_of-steps (history_of d) in
-    let count = represented_count d.state (rows_of (history_of d)) h.tied h.rows in
+    let count = represented_count d.state (rows_of (history_of d)) h.rows in
     let limit : (rows_of (history_of d)).limits.journal ≡ d.limits.journal = ap (λ (l : Limits). l.journal) (rows_of-limits (history_of d)) in
     omega (arith, h.places, d.journal.ok.0)
 
@@ -78,26 +82,25 @@ next_room d event h room = found_room_push (start_of (history_of d)) d.journal.i
 
 pub next_device : (d : Inside) (event : Event) (journal : Vec Event) (s : State) → IsDevice d → no_room (rows_of (history_of d)) event ≡ false →
     journal.items ≡ d.journal.items ++ event ∷ [] → vec_len journal ≡ vec_len d.journal + 1 → vec_capacity journal ≡ vec_capacity d.journal →
-    IsTied s → HaveLimits s d.limits → Represents (lists_of s) (after (rows_of (history_of d)) event) → IsDevice (record { topology = d.topology; limits = d.limits; journal = journal; state = s })
-next_device d event journal s h room items len capacity t fit r =
-    let count = represented_count s (after (rows_of (history_of d)) event) t r in
+    IsTied s → Represents s (after (rows_of (history_of d)) event) → IsDevice (record { topology = d.topology; limits = d.limits; journal = journal; state = s })
+next_device d event journal s h room items len capacity t r =
+    let count = represented_count s (after (rows_of (history_of d)) event) r in
     let enough = fits_after d event h room in
     record {
-      rows = subst (Represents (lists_of s)) (sym (next_rows d event journal s items)) r;
+      rows = subst (Represents s) (sym (next_rows d event journal s items)) r;
+      tied = t;
       found_room = subst (FoundRoom (start_of (history_of d))) (sym items) (next_room d event h room);
       places = omega arith;
       reserved = omega (arith, h.reserved);
       journal_fits = h.journal_fits;
-      tied = t;
-      limits = fit;
     }
 
 -- the fields after an event for which memory was short
-pub same_device : (d : Inside) (s : State) → IsDevice d → IsTied s → HaveLimits s d.limits → Represents (lists_of s) (rows_of (history_of d)) → IsDevice (record { topology = d.topology; limits = d.limits; journal = d.journal; state = s })
-same_device d s h t fit r =
-    let now = represented_count s (rows_of (history_of d)) t r in
-    let before = represented_count d.state (rows_of (history_of d)) h.tied h.rows in
-    record { rows = r; found_room = h.found_room; places = omega (arith, h.places); reserved = h.reserved; journal_fits = h.journal_fits; tied = t; limits = fit }
+pub same_device : (d : Inside) (s : State) → IsDevice d → IsTied s → Represents s (rows_of (history_of d)) → IsDevice (record { topology = d.topology; limits = d.limits; journal = d.journal; state = s })
+same_device d s h t r =
+    let now = represented_count s (rows_of (history_of d)) r in
+    let before = represented_count d.state (rows_of (history_of d)) h.rows in
+    record { rows = r; tied = t; found_room = h.found_room; places = omega (arith, h.places); reserved = h.reserved; journal_fits = h.journal_fits }
 
 and_left : (a b : Bool) → (a && b) ≡ true → a ≡ true
 and_left true b h = refl
@@ -125,60 +128,96 @@ some_handles limits h =
     at_least 1 65535 limits.handles (and_right _ (is_between 1 65535 limits.handles)
     (and_left _ _ (and_left _ _ (and_left _ _ (and_left _ _ (and_left _ _ (and_left _ _ h)))))))
 
--- a device without rows
-abbrev start_state : Limits → Vec Member → Vec ℕ → FileLists → ObjectSet → State
-start_state limits members ms files objects = record { files = files; members = members; masters = ms; objects = objects; device_master = None }
+-- ---- a device without rows
 
-first_device : (t : Topology) (limits : Limits) (j : Vec Event) (members : Vec Member) (ms : Vec ℕ) → are_in_range limits ≡ true → j.items ≡ [] → limits.journal ≤ vec_capacity j → members.items ≡ [] → ms.items ≡ [] →
-    IsDevice (record { topology = t; limits = limits; journal = j; state = start_state limits members ms (empty_files limits.clients limits.handles) (record { limit = limits.objects; objects = [] }) })
+-- its parts are empty
+pub record IsStart (s : State) (limits : Limits) : Type 0 where
+  pub files : s.files ≡ empty_files limits.clients limits.handles
+  pub members : s.members.items ≡ []
+  pub masters : s.masters.items ≡ []
+  pub objects : s.objects ≡ record { limit = limits.objects; objects = [] }
+  pub device_master : s.device_master ≡ None
+
+start_represents : (t : Topology) (limits : Limits) (s : State) → IsStart s limits → (part : Part) → stands_for part s (empty_rows t limits)
+unfolding stands_for
+start_represents t limits s is Bounds = (ap (λ (f : FileLists). f.limit) is.files, ap (λ (f : FileLists). f.last_handle) is.files, ap (λ (o : ObjectSet). o.limit) is.objects)
+start_represents t limits s is Clients = sym (ap (λ (f : FileLists). map (client_row_of s.members.items) f.clients) is.files)
+start_represents t limits s is Masters = sym (ap (map master_row_of) is.masters)
+start_represents t limits s is Holds = λ test. sym (ap (λ (f : FileLists). length (filter test (map (hold_row_of s.objects.objects) f.holds))) is.files)
+start_represents t limits s is Objects = sym (ap (λ (o : ObjectSet). map object_row_of o.objects) is.objects)
+start_represents t limits s is DeviceMaster = sym is.device_master
+start_represents t limits s is part = refl
+
+start_tied : (limits : Limits) (s : State) → IsStart s limits → (tie : Tie) → is_tied tie s
+unfolding is_tied
+start_tied limits s is MembersOpen = subst (AllByRecursion (λ (x : Member). is_present s.files x.client ≡ true)) (sym is.members) tt
+start_tied limits s is MembersDiffer = subst (InOrder (λ (x y : Member). (x.client == y.client) ≡ false)) (sym is.members) tt
+start_tied limits s is MastersNamed = subst (AllByRecursion (λ n. list_any (λ (x : Member). is_option n x.master) s.members.items ≡ true)) (sym is.masters) tt
+start_tied limits s is HoldsRise = subst (λ (f : FileLists). InOrder (λ (x y : FileHold). hold_before x y ≡ true) f.holds) (sym is.files) tt
+start_tied limits s is ObjectsCounted =
+    subst (λ (f : FileLists). AreTied (keys_of f.holds) (referring_keys s) s.objects.objects) (sym is.files)
+    (subst (λ (o : ObjectSet). AreTied [] (referring_keys s) o.objects) (sym is.objects) (record { there = λ n h. absurd (let k : false ≡ true = h in cc); counted = tt; used = tt; keys_differ = tt; births_differ = tt }))
+
+pub new_device : (d : Inside) → are_in_range d.limits ≡ true → d.journal.items ≡ [] → d.limits.journal ≤ vec_capacity d.journal → IsStart d.state d.limits → IsDevice d
 unfolding rows_of run FoundRoom
-first_device t limits j members ms good e room c m =
-    let start : rows_of (record { topology = t; limits = limits; journal = j.items }) ≡ empty_rows t limits = ap (run (empty_rows t limits)) e in
-    let journal : vec_len j ≡ 0 = j.ok.0 ∙ ap length e in
-    let clients : vec_len members ≡ 0 = members.ok.0 ∙ ap length c in
+new_device d good e room is =
+    let start : rows_of (history_of d) ≡ empty_rows d.topology d.limits = ap (run (empty_rows d.topology d.limits)) e in
+    let journal : vec_len d.journal ≡ 0 = d.journal.ok.0 ∙ ap length e in
+    let clients : length d.state.files.clients ≡ 0 = ap (λ (f : FileLists). length f.clients) is.files in
     record {
-      rows = subst (Represents (lists_of (start_state limits members ms (empty_files limits.clients limits.handles) (record { limit = limits.objects; objects = [] })))) (sym start) (record {
-        clients = refl;
-        masters = ap (map master_row_of) (sym m);
-        holds = λ test. refl;
-        holds_in_order = tt;
-        objects = refl;
-        device_master = refl;
-        none_yet = record { magics = refl; names = refl; tokens = refl; grants = refl; framebuffers = refl; shown = refl; last_token = refl; last_lease_token = refl };
-      });
-      found_room = subst (FoundRoom (empty_rows t limits)) (sym e) tt;
+      rows = subst (Represents d.state) (sym start) (start_represents d.topology d.limits d.state is);
+      tied = start_tied d.limits d.state is;
+      found_room = subst (FoundRoom (empty_rows d.topology d.limits)) (sym e) tt;
       places = omega arith;
       reserved = room;
-      journal_fits = journal_fits limits good;
-      tied = record {
-        members = ap (map (λ (x : Member). x.client)) (sym c);
-        objects = record { named = λ n h. absurd (let k : false ≡ true = h in cc); counted = tt; used = tt; unreferred = tt; keys_differ = tt; births_differ = tt };
-      };
-      limits = record { clients = refl; handles = refl; objects = refl };
+      journal_fits = journal_fits d.limits good;
     }
 
-pub new_device : (t : Topology) (limits : Limits) (j : Vec Event) (files : FileLists) (members : Vec Member) (ms : Vec ℕ) (objects : ObjectSet) →
-    are_in_range limits ≡ true → j.items ≡ [] → limits.journal ≤ vec_capacity j → files ≡ empty_files limits.clients limits.handles → members.items ≡ [] → ms.items ≡ [] → objects ≡ record { limit = limits.objects; objects = [] } →
-    IsDevice (record { topology = t; limits = limits; journal = j; state = start_state limits members ms files objects })
-new_device t limits j files members ms objects good e room f c m o =
-    subst (λ fs. IsDevice (record { topology = t; limits = limits; journal = j; state = start_state limits members ms fs objects })) (sym f)
-    (subst (λ os. IsDevice (record { topology = t; limits = limits; journal = j; state = start_state limits members ms (empty_files limits.clients limits.handles) os })) (sym o) (first_device t limits j members ms good e room c m))
+-- ---- the next step
 
-older_clients : (last : ℕ) → (fs : List FileClient) (ms : List Member) → HaveSame fs ms → AllByRecursion (λ (row : ClientRow). row.client ≤ last) (map client_row_of (joined fs ms)) → AllByRecursion (λ (f : FileClient). f.client < last + 1) fs
-older_clients last [] ms h k = tt
-older_clients last (f ∷ fs) [] h k = absurd (none_same f fs h)
-older_clients last (f ∷ fs) (m ∷ ms) h k = (omega (arith, first_same f m fs ms h, k.0), older_clients last fs ms (rest_same f m fs ms h) k.1)
+not_later : (n last : ℕ) → n ≤ last → n < last + 1
+not_later n last h = omega (arith, h)
 
-older_objects : (last : ℕ) → (xs : List Kept) → AllByRecursion (λ (row : ObjectRow). row.object ≤ last) (map object_row_of (map object_of xs)) → AllByRecursion (λ (x : Kept). x.birth < last + 1) xs
-older_objects last [] k = tt
-older_objects last (x ∷ xs) k = (omega (arith, k.0), older_objects last xs k.1)
-
--- the next step is later than all that is there
-pub later_than_all : (d : Inside) (n : ℕ) → IsDevice d → n ≡ vec_len d.journal → IsLater d.state (n + 1)
-later_than_all d n h e =
-    let steps : (rows_of (history_of d)).steps ≡ n = rows_of-steps (history_of d) ∙ sym d.journal.ok.0 ∙ sym e in
+-- it is later than all that is there
+pub ready : (d : Inside) (n : ℕ) → IsDevice d → n ≡ vec_len d.journal → IsReady d.state (n + 1)
+ready d n h e =
+    let w = rows_of (history_of d) in
+    let steps : w.steps ≡ n = rows_of-steps (history_of d) ∙ sym d.journal.ok.0 ∙ sym e in
     let births = births_rise (history_of d) in
-    subst (λ last. IsLater d.state (last + 1)) steps (record {
-      clients = older_clients (rows_of (history_of d)).steps d.state.files.clients d.state.members.items h.tied.members (subst (AllByRecursion (λ (row : ClientRow). row.client ≤ (rows_of (history_of d)).steps)) h.rows.clients births.clients.1);
-      objects = older_objects (rows_of (history_of d)).steps d.state.objects.objects (subst (AllByRecursion (λ (row : ObjectRow). row.object ≤ (rows_of (history_of d)).steps)) h.rows.objects births.objects.1);
-    })
+    let later : IsLater d.state (w.steps + 1) = record {
+      clients = all_weaker (λ (f : FileClient). f.client ≤ w.steps) (λ (f : FileClient). f.client < w.steps + 1) (λ f k. not_later f.client w.steps k) d.state.files.clients (all_of_map (λ (row : ClientRow). row.client ≤ w.steps) (client_row_of d.state.members.items) d.state.files.clients (subst (AllByRecursion (λ (row : ClientRow). row.client ≤ w.steps)) (clients_are d.state w h.rows) births.0.1));
+      objects = all_weaker (λ (x : Object). x.birth ≤ w.steps) (λ (x : Object). x.birth < w.steps + 1) (λ x k. not_later x.birth w.steps k) d.state.objects.objects (all_of_map (λ (row : ObjectRow). row.object ≤ w.steps) object_row_of d.state.objects.objects (subst (AllByRecursion (λ (row : ObjectRow). row.object ≤ w.steps)) (objects_are d.state w h.rows) births.2.1));
+    } in
+    record { tied = h.tied; later = subst (λ last. IsLater d.state (last + 1)) steps later; first = omega arith }
+
+-- ---- room in the journal
+
+not_less : (a b : ℕ) → nat_le b a ≡ not (nat_lt a b)
+not_less a b = grind (arith, nat_tests)
+
+places_are : (d : Inside) → places_left (rows_of (history_of d)) ≡ d.limits.journal - vec_len d.journal
+places_are d = ap (λ (l : Limits). l.journal - (rows_of (history_of d)).steps) (rows_of-limits (history_of d)) ∙ ap (λ n. d.limits.journal - n) (rows_of-steps (history_of d) ∙ sym d.journal.ok.0)
+
+pub room_to_open : (d : Inside) → IsDevice d → (opening : Opening) → nat_le (length d.state.files.clients + 2) (d.limits.journal - vec_len d.journal) ≡ not (no_room (rows_of (history_of d)) (Open opening))
+unfolding no_room
+room_to_open d h opening = rw (places_are d, represented_count d.state (rows_of (history_of d)) h.rows) (not_less (d.limits.journal - vec_len d.journal) (length d.state.files.clients + 2))
+
+pub room_to_ask : (d : Inside) → IsDevice d → (c : ℕ) (call : Call) → nat_le (length d.state.files.clients + 1) (d.limits.journal - vec_len d.journal) ≡ not (no_room (rows_of (history_of d)) (Ask c call))
+unfolding no_room
+room_to_ask d h c call = rw (places_are d, represented_count d.state (rows_of (history_of d)) h.rows) (not_less (d.limits.journal - vec_len d.journal) (length d.state.files.clients + 1))
+
+pub room_to_close_open : (d : Inside) → IsDevice d → (c : ℕ) → is_present d.state.files c ≡ true → true ≡ not (no_room (rows_of (history_of d)) (Close c))
+unfolding no_room
+room_to_close_open d h c e = rw (is_open_is d.state (rows_of (history_of d)) h.rows c, e) refl
+
+pub room_to_close : (d : Inside) → IsDevice d → (c : ℕ) → is_present d.state.files c ≡ false →
+    nat_le (length d.state.files.clients + 1) (d.limits.journal - vec_len d.journal) ≡ not (no_room (rows_of (history_of d)) (Close c))
+unfolding no_room
+room_to_close d h c e =
+    rw (is_open_is d.state (rows_of (history_of d)) h.rows c, e, places_are d, represented_count d.state (rows_of (history_of d)) h.rows) (not_less (d.limits.journal - vec_len d.journal) (length d.state.files.clients + 1))
+
+-- what is left beside the places of the closings
+pub journal_left_is : (d : Inside) → IsDevice d →
+    d.limits.journal - vec_len d.journal - length d.state.files.clients + length d.journal.items + length (rows_of (history_of d)).clients ≡ d.limits.journal
+journal_left_is d h =
+    let count = represented_count d.state (rows_of (history_of d)) h.rows in omega (arith, h.places, d.journal.ok.0)

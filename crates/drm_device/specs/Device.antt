@@ -1,21 +1,20 @@
 -- What contracts see of a device, and what is true of its fields.
-use Rattle.std.specs.Prelude.{◌+◌, ◌≤◌}
+use Rattle.std.specs.Prelude.{◌+◌, ◌≤◌, length}
 use Rattle.std.specs.Vec.{vec_len, vec_capacity}
 use Rattle.drm_model.specs.Run.{History, FoundRoom, rows_of, start_of}
 use Rattle.drm_device.specs.declared.device.Device.TheInside.{Inside}
-use Rattle.drm_device.specs.Parts.{IsTied, HaveLimits}
-use Rattle.drm_device.specs.Refinement.{Represents, lists_of}
+use Rattle.drm_state.specs.Ties.{IsTied}
+use Rattle.drm_state.specs.Refinement.{Represents}
 
 abbrev pub history_of : Inside → History
 history_of d = record { topology = d.topology; limits = d.limits; journal = d.journal.items }
 
--- the lists stand for the rows of the journal; each of its events found room, and it has places for the closings of the
+-- the state stands for the rows of the journal; each of its events found room, and it has places for the closings of the
 -- open clients; its storage is there, and the limits are small enough to count with
 pub record IsDevice (d : Inside) : Type 0 where
-  pub rows : Represents (lists_of d.state) (rows_of (history_of d))
+  pub rows : Represents d.state (rows_of (history_of d))
+  pub tied : IsTied d.state
   pub found_room : FoundRoom (start_of (history_of d)) d.journal.items
-  pub places : vec_len d.journal + vec_len d.state.members ≤ d.limits.journal
+  pub places : vec_len d.journal + length d.state.files.clients ≤ d.limits.journal
   pub reserved : d.limits.journal ≤ vec_capacity d.journal
   pub journal_fits : d.limits.journal ≤ 100000
-  pub tied : IsTied d.state
-  pub limits : HaveLimits d.state d.limits

@@ -1,18 +1,18 @@
 //! AUDIT: the rows of a kind, in pages.
 
-ghost use Rattle.std.specs.Prelude.{◌≡◌, ◌≤◌, ℕ, Ok, [], slice_get, if◌then◌else◌};
+ghost use Rattle.std.specs.Prelude.{◌≡◌, ◌≤◌, ℕ, Ok, [], map, slice_get, if◌then◌else◌};
 ghost use Rattle.drm_table.specs.declared.calls.Call.TheVariants.{Audit};
-ghost use Rattle.drm_table.specs.declared.limits.Limits as table;
 ghost use Rattle.drm_model.specs.Rows.{Rows};
 ghost use Rattle.drm_model.specs.Audit as model;
 ghost use Rattle.drm_model.specs.Audit.{audit_row, client_audit, hold_audit, master_audit};
-ghost use Rattle.drm_device.specs.Refinement.{OwesCall, lists_of, client_row_of, hold_row_of, master_row_of};
-ghost use Rattle.drm_device.specs.Parts.{IsTied};
+ghost use Rattle.drm_state.specs.Parts.{client_row_by, master_row_of, holds_of};
+ghost use Rattle.drm_state.specs.Ties.{IsTied};
+ghost use Rattle.drm_state.specs.Refinement.{OwesCall};
 ghost use Rattle.drm_device.specs.Audits.{IsPage, IsRowAt};
 
-use crate::clients::client_at;
-use crate::state::{Client, Hold, State};
-use drm_gem::Object as Kept;
+use drm_files::FileClient;
+use drm_gem::Object;
+use drm_state::{Member, State, member_of};
 use drm_table::{Answer, AuditKind, AuditPage, AuditRow};
 
 /// How many rows a page has at most.
@@ -22,7 +22,7 @@ const PAGE: usize = 16;
 pub fn audit(state: &State, birth: u32, kind: AuditKind, from: u32) -> Answer
     requires birth { 1 ≤ birth }
     requires tied { IsTied state.now }
-    ensures { (limits : table.Limits) (client : ℕ) → OwesCall state.now limits birth client (Audit kind from) (Ok result) state.now }
+    ensures { (client : ℕ) → OwesCall state.now birth client (Audit kind from) (Ok result) state.now }
 {
     Answer::Audit {
         page: page_of(state, birth - 1, kind, from),
@@ -50,10 +50,13 @@ fn row_at(state: &State, steps: u32, kind: AuditKind, place: usize) -> Option<Au
     ensures { IsRowAt state.now steps kind place result }
 {
     match kind {
-        AuditKind::Client => Some(client_row(client_at(state, place)?)),
+        AuditKind::Client => {
+            let file = state.files.nth_client(place)?;
+            Some(client_row(file, member_of(&state.members, file.client)))
+        }
         AuditKind::Master => Some(master_row(item_at(&state.masters, place)?)),
         AuditKind::Object => Some(object_row(state.objects.nth(place)?)),
-        AuditKind::Hold => Some(hold_row(hold_at(state, place)?)),
+        AuditKind::Hold => hold_at(state, place),
         AuditKind::Device => item_at(&[device_row(state.device_master, steps)], place),
         // no call makes these yet
         AuditKind::Name
@@ -72,17 +75,17 @@ pub fn item_at<T: Copy>(items: &[T], place: usize) -> Option<T>
 }
 
 /// What is told of a client: nobody has a magic yet.
-fn client_row(client: Client) -> AuditRow
-    ensures { (w : Rows) → w.magics ≡ [] → result ≡ client_audit w (client_row_of client) }
+fn client_row(file: FileClient, member: Member) -> AuditRow
+    ensures { (w : Rows) → w.magics ≡ [] → result ≡ client_audit w (client_row_by file member) }
 {
     AuditRow {
-        a: client.number as u64,
-        b: flag(client.render, 1)
-            + flag(client.root, 2)
-            + flag(client.authenticated, 4)
-            + flag(client.once_master, 8)
-            + flag(client.is_master, 16),
-        c: or_zero(client.master),
+        a: file.client as u64,
+        b: flag(file.flags.render, 1)
+            + flag(file.flags.root, 2)
+            + flag(file.flags.authenticated, 4)
+            + flag(member.once_master, 8)
+            + flag(member.is_master, 16),
+        c: or_zero(member.master),
         d: 0,
     }
 }
@@ -97,7 +100,7 @@ fn master_row(master: u32) -> AuditRow
 }
 
 /// What is told of an object.
-fn object_row(object: Kept) -> AuditRow
+fn object_row(object: Object) -> AuditRow
     ensures { result ≡ audit_row object.birth object.size object.holds object.refs }
 {
     AuditRow {
@@ -108,28 +111,18 @@ fn object_row(object: Kept) -> AuditRow
     }
 }
 
-/// The handle at a place, from 0, in the order of clients and handles; none past the last.
-fn hold_at(state: &State, place: usize) -> Option<Hold>
+/// What is told of the handle at a place, from 0, in the order of clients and handles; none past the last.
+fn hold_at(state: &State, place: usize) -> Option<AuditRow>
     requires { IsTied state.now }
-    ensures { result ≡ slice_get (lists_of state.now).holds place }
+    ensures { result ≡ slice_get (map hold_audit (holds_of state.now)) place }
 {
     let hold = state.files.nth_hold(place)?;
-    Some(Hold {
-        client: hold.client,
-        handle: hold.handle,
-        object: state.objects.birth(hold.object),
-    })
-}
-
-fn hold_row(hold: Hold) -> AuditRow
-    ensures { result ≡ hold_audit (hold_row_of hold) }
-{
-    AuditRow {
+    Some(AuditRow {
         a: hold.client as u64,
         b: hold.handle as u64,
-        c: hold.object as u64,
-        d: 0,
-    }
+        c: state.objects.birth(hold.object) as u64,
+        d: or_zero(hold.place),
+    })
 }
 
 /// What is told of the device: no token was given yet.

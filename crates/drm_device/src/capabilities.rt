@@ -1,12 +1,12 @@
 //! What the device tells of itself.
 
-ghost use Rattle.std.specs.Prelude.{◌≡◌, ℕ, Ok};
+ghost use Rattle.std.specs.Prelude.{◌≡◌};
 ghost use Rattle.drm_table.specs.declared.calls.Call.TheVariants.{GetCap, SetClientCap};
-ghost use Rattle.drm_table.specs.declared.limits.Limits as table;
 ghost use Rattle.drm_model.specs.Capabilities.{version_answer};
-ghost use Rattle.drm_device.specs.Refinement.{OwesCall};
+ghost use Rattle.drm_state.specs.Ties.{IsTied};
+ghost use Rattle.drm_state.specs.Refinement.{OwesReply};
 
-use crate::state::State;
+use drm_state::State;
 use drm_table::{Answer, Rule};
 
 /// Whether there are dumb buffers (drm-uapi, `DRM_CAP_DUMB_BUFFER`).
@@ -28,7 +28,8 @@ pub fn version() -> Answer
 
 /// GET_CAP: dumb buffers there are, and PRIME in both directions. It takes no memory and asks for no limit.
 pub fn get_cap(state: &State, client: u32, cap: u64) -> Answer
-    ensures { (limits : table.Limits) (birth : ℕ) → OwesCall state.now limits birth client (GetCap cap) (Ok result) state.now }
+    requires { IsTied state.now }
+    ensures { OwesReply state.now client (GetCap cap) result state.now }
 {
     match cap {
         DUMB_BUFFER => Answer::Number { value: 1 },
@@ -39,7 +40,7 @@ pub fn get_cap(state: &State, client: u32, cap: u64) -> Answer
 
 /// SET_CLIENT_CAP: there is none that a client may set (own). It takes no memory and asks for no limit.
 pub fn set_client_cap(state: &State, client: u32, cap: u64, value: u64) -> Answer
-    ensures { (limits : table.Limits) (birth : ℕ) → OwesCall state.now limits birth client (SetClientCap cap value) (Ok result) state.now }
+    ensures { OwesReply state.now client (SetClientCap cap value) result state.now }
 {
     Answer::Denied(Rule::BadCap)
 }

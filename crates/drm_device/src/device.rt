@@ -6,12 +6,11 @@ ghost use Rattle.drm_model.specs.Audit.{audit_page, audit_rows, rising_rows};
 ghost use Rattle.drm_model.specs.Run.{Step, FoundRoom, no_room, noted_in, rows_of, start_of};
 
 use crate::audits::page_of;
-use crate::clients::client_of;
 use crate::events::advance;
-use crate::state::State;
 use crate::topologies::Topology;
 use drm_files::Files;
 use drm_gem::Objects;
+use drm_state::State;
 use drm_table::{Answer, Apart, AuditKind, AuditPage, Event, Limits, are_in_range};
 use std::alloc::Global;
 use std::marker::Model;
@@ -87,7 +86,7 @@ impl Device {
             return Err(Apart::JournalFull);
         }
         let birth = self.journal.len() as u32 + 1;
-        match advance(&mut self.state, self.limits, birth, &event) {
+        match advance(&mut self.state, birth, &event) {
             Ok(answer) => {
                 self.journal.push_reserved(event);
                 Ok(answer)
@@ -101,12 +100,12 @@ impl Device {
         ensures { result ≡ not (no_room (rows_of self.now) event.now) }
     {
         let left = self.limits.journal as usize - self.journal.len();
-        let clients = self.state.members.len();
+        let clients = self.state.files.len();
         match event {
             Event::Open(_) => left >= clients + 2,
             Event::Ask(_, _) => left >= clients + 1,
             Event::Close(client) => {
-                client_of(&self.state, *client).is_some() || left >= clients + 1
+                self.state.files.flags_of(*client).is_some() || left >= clients + 1
             }
         }
     }
@@ -133,6 +132,6 @@ impl Device {
     pub fn journal_left(&self) -> u32
         ensures left { result + length self.now.journal + length (rows_of self.now).clients ≡ self.now.limits.journal }
     {
-        self.limits.journal - self.journal.len() as u32 - self.state.members.len() as u32
+        self.limits.journal - self.journal.len() as u32 - self.state.files.len() as u32
     }
 }

@@ -1,33 +1,24 @@
 //! One event, by its kind.
 
-ghost use Rattle.std.specs.Prelude.{◌≤◌};
-ghost use Rattle.drm_device.specs.Parts.{IsTied, HaveLimits, IsLater, IsKept};
-ghost use Rattle.drm_device.specs.Refinement.{Owes};
+ghost use Rattle.drm_state.specs.Ties.{IsTied, IsReady};
+ghost use Rattle.drm_state.specs.Refinement.{Owes};
 
 use crate::calls::ask;
-use crate::closings::close;
-use crate::openings::open;
-use crate::state::State;
-use drm_table::{Answer, Event, Limits};
+use drm_client_calls::{close, open};
+use drm_state::State;
+use drm_table::{Answer, Event};
 use std::alloc::AllocError;
 
 /// Answers an event for which the journal has room. Where memory is refused nothing changes.
-pub fn advance(
-    state: &mut State,
-    limits: Limits,
-    birth: u32,
-    event: &Event,
-) -> Result<Answer, AllocError>
-    requires tied { IsTied state.old }
-    requires limits { HaveLimits state.old limits }
-    requires later { IsLater state.old birth }
-    requires birth { 1 ≤ birth }
-    ensures kept { IsKept state.old state.new }
-    ensures owes { Owes state.old limits birth event.now result state.new }
+#[tactic(auto, using(drm_state::proofs::Outcomes::is_done))]
+pub fn advance(state: &mut State, birth: u32, event: &Event) -> Result<Answer, AllocError>
+    requires { IsReady state.old birth }
+    ensures tied { IsTied state.new }
+    ensures owes { Owes state.old birth event.now result state.new }
 {
     match event {
-        Event::Open(opening) => open(state, limits, birth, *opening),
-        Event::Ask(client, call) => ask(state, limits, birth, *client, call),
+        Event::Open(opening) => open(state, birth, *opening),
+        Event::Ask(client, call) => ask(state, birth, *client, call),
         Event::Close(client) => Ok(close(state, *client)),
     }
 }

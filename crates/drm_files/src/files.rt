@@ -1,6 +1,6 @@
 //! The open clients and their handles.
 
-ghost use Rattle.std.specs.Prelude.{◌≡◌, ◌≤◌, ◌<◌, ◌↔◌, true, false, length, find, is_some, OnOk, OnErr, IfOk, IfErr, IfNone, Some, None, option_map};
+ghost use Rattle.std.specs.Prelude.{◌≡◌, ◌≤◌, ◌<◌, ◌↔◌, true, false, nat_le, length, find, is_some, OnOk, OnErr, IfOk, IfErr, IfNone, Some, None, option_map};
 ghost use Rattle.drm_files.specs.Files.{AreFiles, empty_files, is_client, is_hold, is_present, free_handle, with_client, without_client, left_by, with_hold, without_hold, with_authenticated, new_flags, hold};
 ghost use Rattle.drm_files.specs.FileFault.{IsFull};
 
@@ -102,6 +102,20 @@ impl Files {
         };
         let FileRecord { handles, .. } = record;
         FileRest::new(handles)
+    }
+
+    /// How many clients are open.
+    pub fn len(&self) -> usize
+        ensures { result ≡ length self.now.clients }
+    {
+        self.clients.len()
+    }
+
+    /// Whether as many clients are open as may be.
+    pub fn is_full(&self) -> bool
+        ensures { result ≡ nat_le self.now.limit (length self.now.clients) }
+    {
+        self.clients.len() >= self.open_limit as usize
     }
 
     /// Whether an open client has a free handle.

@@ -3,7 +3,7 @@ use Rattle.std.proofs.Common.{◌≡◌, ℕ, ◌+◌, ◌==◌, ◌<◌, ◌≤
 use Rattle.std.specs.Prelude.{if◌then◌else◌}
 use Rattle.std.specs.List.{AllByRecursion}
 use Rattle.drm_table.specs.declared.calls.Call.{Call}
-use Rattle.drm_table.specs.declared.calls.Call.TheVariants.{Unknown, BadLayout, Version, GemClose, GetCap, SetClientCap, BufCreate, StampWrite, StampRead, ListHandles, Audit, CreateDumb, DestroyDumb}
+use Rattle.drm_table.specs.declared.calls.Call.TheVariants.{BufCreate, StampWrite, CreateDumb}
 use Rattle.drm_table.specs.declared.events.Event.{Event}
 use Rattle.drm_table.specs.declared.events.Event.TheVariants.{Open, Ask, Close}
 use Rattle.drm_table.specs.declared.events.Opening.TheVariants.{Primary, Render, Lease}
@@ -60,7 +60,7 @@ abbrev object_birth : ObjectRow → ℕ
 object_birth row = row.object
 
 later : (w : Rows) → BirthsRise w.steps w → BirthsRise (birth w) w
-later w h = record { clients = turn-later client_birth w.steps w.clients h.clients; masters = turn-later master_birth w.steps w.masters h.masters; objects = turn-later object_birth w.steps w.objects h.objects }
+later w h = (turn-later client_birth w.steps w.clients h.0, turn-later master_birth w.steps w.masters h.1, turn-later object_birth w.steps w.objects h.2)
 
 -- taking a token from a master leaves its number
 untoken : (row : MasterRow) (b : Bool) → master_birth (if b then record row { lease_token = None } else row) ≡ master_birth row
@@ -69,7 +69,7 @@ untoken row false = refl
 
 ended_if-births : (w : Rows) (b : Bool) (m : Option ℕ) → BirthsRise w.steps w → BirthsRise w.steps (ended_if w b m)
 unfolding ended
-ended_if-births w true (Some m) h = record { clients = h.clients; masters = turn-map master_birth _ (λ row. untoken row (is_under w.masters m row.master)) w.steps w.masters h.masters; objects = h.objects }
+ended_if-births w true (Some m) h = (h.0, turn-map master_birth _ (λ row. untoken row (is_under w.masters m row.master)) w.steps w.masters h.1, h.2)
 ended_if-births w true None h = h
 ended_if-births w false m h = h
 
@@ -81,55 +81,44 @@ closed-births : (w : Rows) (c : ℕ) → BirthsRise w.steps w → BirthsRise (bi
 unfolding closed
 closed-births w c h =
     let k = ended_own-births w (client_row w c) h in
-    record {
-      clients = turn-later client_birth w.steps _ (turn-filter client_birth _ w.steps w.clients h.clients);
-      masters = turn-later master_birth w.steps (ended_own w (client_row w c)).masters k.masters;
-      objects = turn-later object_birth w.steps (ended_own w (client_row w c)).objects k.objects;
-    }
+    let u = ended_own w (client_row w c) in
+    (turn-later client_birth w.steps _ (turn-filter client_birth _ w.steps w.clients h.0), turn-later master_birth w.steps u.masters k.1, turn-later object_birth w.steps u.objects k.2)
 
 opened_primary-births : (w : Rows) (root : Bool) (m : Option ℕ) → BirthsRise w.steps w → BirthsRise (birth w) (opened_primary w root m)
-opened_primary-births w root None h = record { clients = turn-push client_birth w.steps w.clients _ refl h.clients; masters = turn-push master_birth w.steps w.masters _ refl h.masters; objects = (later w h).objects }
-opened_primary-births w root (Some m) h = record { clients = turn-push client_birth w.steps w.clients _ refl h.clients; masters = (later w h).masters; objects = (later w h).objects }
+opened_primary-births w root None h = (turn-push client_birth w.steps w.clients _ refl h.0, turn-push master_birth w.steps w.masters _ refl h.1, (later w h).2)
+opened_primary-births w root (Some m) h = (turn-push client_birth w.steps w.clients _ refl h.0, (later w h).1, (later w h).2)
 
 -- another stamp is no other object
 stamped : (b : Bool) (row : ObjectRow) (stamp : ℕ) → (if b then record row { stamp = stamp } else row).object ≡ row.object
 stamped true row stamp = refl
 stamped false row stamp = refl
 
+-- a call that is not told here makes and takes no client, master or object
 asked-births : (w : Rows) (c : ℕ) (call : Call) → BirthsRise w.steps w → BirthsRise (birth w) (asked w c call)
 unfolding asked with_object with_stamp
-asked-births w c (Unknown number) h = later w h
-asked-births w c (BadLayout number) h = later w h
-asked-births w c Version h = later w h
-asked-births w c (GemClose handle) h = record { clients = (later w h).clients; masters = (later w h).masters; objects = (later w h).objects }
-asked-births w c (GetCap cap) h = later w h
-asked-births w c (SetClientCap cap value) h = later w h
-asked-births w c (BufCreate size) h = record { clients = (later w h).clients; masters = (later w h).masters; objects = turn-push object_birth w.steps w.objects _ refl h.objects }
-asked-births w c (StampWrite handle stamp) h = record { clients = (later w h).clients; masters = (later w h).masters; objects = turn-map object_birth _ (λ row. stamped (row.object == object_of w c handle) row stamp) (birth w) w.objects (later w h).objects }
-asked-births w c (StampRead handle) h = later w h
-asked-births w c (ListHandles from) h = later w h
-asked-births w c (Audit kind from) h = later w h
-asked-births w c (CreateDumb width height bpp) h = record { clients = (later w h).clients; masters = (later w h).masters; objects = turn-push object_birth w.steps w.objects _ refl h.objects }
-asked-births w c (DestroyDumb handle) h = record { clients = (later w h).clients; masters = (later w h).masters; objects = (later w h).objects }
+asked-births w c (BufCreate size) h = ((later w h).0, (later w h).1, turn-push object_birth w.steps w.objects _ refl h.2)
+asked-births w c (CreateDumb width height bpp) h = ((later w h).0, (later w h).1, turn-push object_birth w.steps w.objects _ refl h.2)
+asked-births w c (StampWrite handle stamp) h = ((later w h).0, (later w h).1, turn-map object_birth _ (λ row. stamped (row.object == object_of w c handle) row stamp) (birth w) w.objects (later w h).2)
+asked-births w c call h = later w h
 
 changed-births : (w : Rows) (event : Event) → BirthsRise w.steps w → BirthsRise (birth w) (changed w event)
 unfolding changed opened
 changed-births w (Open (Primary root)) h = opened_primary-births w root w.device_master h
-changed-births w (Open Render) h = record { clients = turn-push client_birth w.steps w.clients _ refl h.clients; masters = (later w h).masters; objects = (later w h).objects }
-changed-births w (Open (Lease token root)) h = record {
-  clients = turn-push client_birth w.steps w.clients _ refl h.clients;
-  masters = turn-later master_birth w.steps _ (turn-map master_birth _ (λ row. untoken row (is_option token row.lease_token)) w.steps w.masters h.masters);
-  objects = (later w h).objects;
-}
+changed-births w (Open Render) h = (turn-push client_birth w.steps w.clients _ refl h.0, (later w h).1, (later w h).2)
+changed-births w (Open (Lease token root)) h = (
+  turn-push client_birth w.steps w.clients _ refl h.0,
+  turn-later master_birth w.steps _ (turn-map master_birth _ (λ row. untoken row (is_option token row.lease_token)) w.steps w.masters h.1),
+  (later w h).2,
+)
 changed-births w (Ask c call) h = asked-births w c call h
 changed-births w (Close c) h = closed-births w c h
 
 swept-births : (w : Rows) (last : ℕ) → BirthsRise last w → BirthsRise last (swept w)
 unfolding swept
-swept-births w last h = record { clients = h.clients; masters = turn-filter master_birth _ last w.masters h.masters; objects = turn-filter object_birth _ last w.objects h.objects }
+swept-births w last h = (h.0, turn-filter master_birth _ last w.masters h.1, turn-filter object_birth _ last w.objects h.2)
 
 noted-births : (w : Rows) (last : ℕ) → BirthsRise last w → BirthsRise last (noted w)
-noted-births w last h = record { clients = h.clients; masters = h.masters; objects = h.objects }
+noted-births w last h = h
 
 verdict-births : (w : Rows) (event : Event) (v : Option Rule) → BirthsRise w.steps w → BirthsRise (birth w) (after_verdict v w event)
 verdict-births w event (Some rule) h = noted-births w (birth w) (later w h)
@@ -150,4 +139,4 @@ run-births w (e ∷ es) h = run-births (after w e) es (after-births w e h)
 -- the rows of a history
 pub births_rise : (h : History) → BirthsRise (rows_of h).steps (rows_of h)
 unfolding rows_of
-births_rise h = run-births (empty_rows h.topology h.limits) h.journal (record { clients = (tt, tt); masters = (tt, tt); objects = (tt, tt) })
+births_rise h = run-births (empty_rows h.topology h.limits) h.journal ((tt, tt), (tt, tt), (tt, tt))

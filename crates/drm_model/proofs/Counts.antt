@@ -3,17 +3,18 @@ use Rattle.std.proofs.Common.{ℕ, suc, ◌+◌, ◌≤◌, Bool, true, false, c
 use Rattle.drm_table.specs.declared.audits.AuditKind.{AuditKind}
 use Rattle.drm_table.specs.declared.audits.AuditKind.TheVariants as kinds
 use Rattle.drm_table.specs.declared.calls.Call.{Call}
-use Rattle.drm_table.specs.declared.calls.Call.TheVariants.{Unknown, BadLayout, Version, GemClose, GetCap, SetClientCap, BufCreate, StampWrite, StampRead, ListHandles, Audit, CreateDumb, DestroyDumb}
+use Rattle.drm_table.specs.declared.calls.Call.TheVariants.{GemClose, BufCreate, StampWrite, CreateDumb, DestroyDumb}
 use Rattle.drm_table.specs.declared.events.Event.{Event}
 use Rattle.drm_table.specs.declared.events.Event.TheVariants.{Open, Ask, Close}
 use Rattle.drm_table.specs.declared.events.Opening.TheVariants.{Primary, Render, Lease}
 use Rattle.drm_table.specs.declared.rules.Rule.{Rule}
+use Rattle.drm_model.specs.Parts.{Part, Clients, Masters, Magics, Holds, Objects, Names, Tokens, Grants, Framebuffers, Shown, count_in}
 use Rattle.drm_model.specs.Births.{FewRows}
 use Rattle.drm_model.specs.Audit.{audit_rows}
 use Rattle.drm_model.specs.Rows.{Rows, ClientRow, birth, empty_rows, client_row}
 use Rattle.drm_model.specs.Leases.{ended}
 use Rattle.drm_model.specs.Buffers.{with_object, with_stamp}
-use Rattle.drm_model.specs.Clients.{opened, opened_primary, closed, ended_own, ended_if}
+use Rattle.drm_model.specs.Clients.{opened, opened_primary, opened_lease, closed, ended_own, ended_if}
 use Rattle.drm_model.specs.Verdict.{verdict}
 use Rattle.drm_model.specs.Change.{after, after_verdict, changed, asked, swept, noted}
 use Rattle.drm_model.specs.Run.{run, rows_of, History}
@@ -39,118 +40,80 @@ more : (n most : ℕ) → n ≤ most → n ≤ most + 1
 more n most h = omega (arith, h)
 
 later : (w : Rows) (most : ℕ) → FewRows most w → FewRows (most + 1) w
-later w most h = record {
-  clients = more _ most h.clients;
-  masters = more _ most h.masters;
-  holds = more _ most h.holds;
-  objects = more _ most h.objects;
-  names = more _ most h.names;
-  tokens = more _ most h.tokens;
-  grants = more _ most h.grants;
-  framebuffers = more _ most h.framebuffers;
-  shown = more _ most h.shown;
-}
+later w most h = λ part. more (count_in part w) most (h part)
 
-ended_if-few : (w : Rows) (most : ℕ) (b : Bool) (m : Option ℕ) → FewRows most w → FewRows most (ended_if w b m)
-unfolding ended
-ended_if-few w most true (Some m) h = record {
-  clients = h.clients;
-  masters = few-map _ w.masters most h.masters;
-  holds = h.holds;
-  objects = h.objects;
-  names = h.names;
-  tokens = h.tokens;
-  grants = few-filter _ w.grants most h.grants;
-  framebuffers = h.framebuffers;
-  shown = h.shown;
-}
-ended_if-few w most true None h = h
-ended_if-few w most false m h = h
+ended_if-few : (w : Rows) (most : ℕ) (b : Bool) (m : Option ℕ) → FewRows most w → (part : Part) → count_in part (ended_if w b m) ≤ most
+unfolding ended count_in
+ended_if-few w most true (Some m) h Masters = few-map _ w.masters most (h Masters)
+ended_if-few w most true (Some m) h Grants = few-filter _ w.grants most (h Grants)
+ended_if-few w most true (Some m) h part = h part
+ended_if-few w most true None h part = h part
+ended_if-few w most false m h part = h part
 
 ended_own-few : (w : Rows) (most : ℕ) (row : Option ClientRow) → FewRows most w → FewRows most (ended_own w row)
 ended_own-few w most None h = h
 ended_own-few w most (Some row) h = ended_if-few w most row.is_master row.master h
 
-closed-few : (w : Rows) (most : ℕ) (c : ℕ) → FewRows most w → FewRows most (closed w c)
-unfolding closed
-closed-few w most c h =
-    let k = ended_own-few w most (client_row w c) h in
-    record {
-      clients = few-filter _ w.clients most h.clients;
-      masters = k.masters;
-      holds = few-filter _ w.holds most h.holds;
-      objects = k.objects;
-      names = k.names;
-      tokens = few-filter _ w.tokens most h.tokens;
-      grants = k.grants;
-      framebuffers = few-filter _ w.framebuffers most h.framebuffers;
-      shown = k.shown;
-    }
+closed-few : (w : Rows) (most : ℕ) (c : ℕ) → FewRows most w → (part : Part) → count_in part (closed w c) ≤ most
+unfolding closed count_in
+closed-few w most c h Clients = few-filter _ w.clients most (h Clients)
+closed-few w most c h Magics = few-filter _ w.magics most (h Magics)
+closed-few w most c h Holds = few-filter _ w.holds most (h Holds)
+closed-few w most c h Tokens = few-filter _ w.tokens most (h Tokens)
+closed-few w most c h Framebuffers = few-filter _ w.framebuffers most (h Framebuffers)
+closed-few w most c h part = ended_own-few w most (client_row w c) h part
 
--- one more client, with the masters of the rows that it comes to
-with_client-few : (w : Rows) (most : ℕ) (row : ClientRow) → FewRows most w → FewRows (most + 1) (record w { clients = w.clients ++ row ∷ [] })
-with_client-few w most row h =
-    let k = later w most h in
-    record { clients = few-push w.clients row most h.clients; masters = k.masters; holds = k.holds; objects = k.objects; names = k.names; tokens = k.tokens; grants = k.grants; framebuffers = k.framebuffers; shown = k.shown }
+-- one more client
+with_client-few : (w : Rows) (most : ℕ) (row : ClientRow) → FewRows most w → (part : Part) → count_in part (record w { clients = w.clients ++ row ∷ [] }) ≤ most + 1
+unfolding count_in
+with_client-few w most row h Clients = few-push w.clients row most (h Clients)
+with_client-few w most row h part = later w most h part
 
-opened_primary-few : (w : Rows) (root : Bool) (m : Option ℕ) → FewRows w.steps w → FewRows (birth w) (opened_primary w root m)
-opened_primary-few w root None h =
-    let k = later w w.steps h in
-    record { clients = few-push w.clients _ w.steps h.clients; masters = few-push w.masters _ w.steps h.masters; holds = k.holds; objects = k.objects; names = k.names; tokens = k.tokens; grants = k.grants; framebuffers = k.framebuffers; shown = k.shown }
-opened_primary-few w root (Some m) h = with_client-few w w.steps _ h
+opened_primary-few : (w : Rows) (root : Bool) (m : Option ℕ) → FewRows w.steps w → (part : Part) → count_in part (opened_primary w root m) ≤ birth w
+unfolding count_in
+opened_primary-few w root None h Clients = few-push w.clients _ w.steps (h Clients)
+opened_primary-few w root None h Masters = few-push w.masters _ w.steps (h Masters)
+opened_primary-few w root None h part = later w w.steps h part
+opened_primary-few w root (Some m) h part = with_client-few w w.steps _ h part
 
-asked-few : (w : Rows) (c : ℕ) (call : Call) → FewRows w.steps w → FewRows (birth w) (asked w c call)
-unfolding asked with_object with_stamp
-asked-few w c (Unknown number) h = later w w.steps h
-asked-few w c (BadLayout number) h = later w w.steps h
-asked-few w c Version h = later w w.steps h
-asked-few w c (GemClose handle) h =
-    let k = later w w.steps h in
-    record { clients = k.clients; masters = k.masters; holds = few-filter _ w.holds (birth w) k.holds; objects = k.objects; names = k.names; tokens = k.tokens; grants = k.grants; framebuffers = k.framebuffers; shown = k.shown }
-asked-few w c (GetCap cap) h = later w w.steps h
-asked-few w c (SetClientCap cap value) h = later w w.steps h
-asked-few w c (BufCreate size) h =
-    let k = later w w.steps h in
-    record { clients = k.clients; masters = k.masters; holds = few-push w.holds _ w.steps h.holds; objects = few-push w.objects _ w.steps h.objects; names = k.names; tokens = k.tokens; grants = k.grants; framebuffers = k.framebuffers; shown = k.shown }
-asked-few w c (StampWrite handle stamp) h =
-    let k = later w w.steps h in
-    record { clients = k.clients; masters = k.masters; holds = k.holds; objects = few-map _ w.objects (birth w) k.objects; names = k.names; tokens = k.tokens; grants = k.grants; framebuffers = k.framebuffers; shown = k.shown }
-asked-few w c (StampRead handle) h = later w w.steps h
-asked-few w c (ListHandles from) h = later w w.steps h
-asked-few w c (Audit kind from) h = later w w.steps h
-asked-few w c (CreateDumb width height bpp) h =
-    let k = later w w.steps h in
-    record { clients = k.clients; masters = k.masters; holds = few-push w.holds _ w.steps h.holds; objects = few-push w.objects _ w.steps h.objects; names = k.names; tokens = k.tokens; grants = k.grants; framebuffers = k.framebuffers; shown = k.shown }
-asked-few w c (DestroyDumb handle) h =
-    let k = later w w.steps h in
-    record { clients = k.clients; masters = k.masters; holds = few-filter _ w.holds (birth w) k.holds; objects = k.objects; names = k.names; tokens = k.tokens; grants = k.grants; framebuffers = k.framebuffers; shown = k.shown }
+-- a call that is not told here makes no list longer or shorter
+asked-few : (w : Rows) (c : ℕ) (call : Call) → FewRows w.steps w → (part : Part) → count_in part (asked w c call) ≤ birth w
+unfolding asked with_object with_stamp count_in
+asked-few w c (GemClose handle) h Holds = more _ w.steps (few-filter _ w.holds w.steps (h Holds))
+asked-few w c (DestroyDumb handle) h Holds = more _ w.steps (few-filter _ w.holds w.steps (h Holds))
+asked-few w c (BufCreate size) h Holds = few-push w.holds _ w.steps (h Holds)
+asked-few w c (BufCreate size) h Objects = few-push w.objects _ w.steps (h Objects)
+asked-few w c (CreateDumb width height bpp) h Holds = few-push w.holds _ w.steps (h Holds)
+asked-few w c (CreateDumb width height bpp) h Objects = few-push w.objects _ w.steps (h Objects)
+asked-few w c (StampWrite handle stamp) h Objects = more _ w.steps (few-map _ w.objects w.steps (h Objects))
+asked-few w c call h part = later w w.steps h part
+
+leased-few : (w : Rows) (token : ℕ) (root : Bool) → FewRows w.steps w → (part : Part) → count_in part (opened_lease w token root) ≤ birth w
+unfolding count_in
+leased-few w token root h Clients = few-push w.clients _ w.steps (h Clients)
+leased-few w token root h Masters = more _ w.steps (few-map _ w.masters w.steps (h Masters))
+leased-few w token root h part = later w w.steps h part
 
 changed-few : (w : Rows) (event : Event) → FewRows w.steps w → FewRows (birth w) (changed w event)
 unfolding changed opened
 changed-few w (Open (Primary root)) h = opened_primary-few w root w.device_master h
 changed-few w (Open Render) h = with_client-few w w.steps _ h
-changed-few w (Open (Lease token root)) h =
-    let k = later w w.steps h in
-    record { clients = few-push w.clients _ w.steps h.clients; masters = few-map _ w.masters (birth w) k.masters; holds = k.holds; objects = k.objects; names = k.names; tokens = k.tokens; grants = k.grants; framebuffers = k.framebuffers; shown = k.shown }
+changed-few w (Open (Lease token root)) h = leased-few w token root h
 changed-few w (Ask c call) h = asked-few w c call h
 changed-few w (Close c) h = closed-few w (birth w) c (later w w.steps h)
 
-swept-few : (w : Rows) (most : ℕ) → FewRows most w → FewRows most (swept w)
-unfolding swept
-swept-few w most h = record {
-  clients = h.clients;
-  masters = few-filter _ w.masters most h.masters;
-  holds = h.holds;
-  objects = few-filter _ w.objects most h.objects;
-  names = few-filter _ w.names most h.names;
-  tokens = h.tokens;
-  grants = h.grants;
-  framebuffers = h.framebuffers;
-  shown = few-filter _ w.shown most h.shown;
-}
+swept-few : (w : Rows) (most : ℕ) → FewRows most w → (part : Part) → count_in part (swept w) ≤ most
+unfolding swept count_in
+swept-few w most h Masters = few-filter _ w.masters most (h Masters)
+swept-few w most h Objects = few-filter _ w.objects most (h Objects)
+swept-few w most h Names = few-filter _ w.names most (h Names)
+swept-few w most h Shown = few-filter _ w.shown most (h Shown)
+swept-few w most h part = h part
 
-noted-few : (w : Rows) (most : ℕ) → FewRows most w → FewRows most (noted w)
-noted-few w most h = record { clients = h.clients; masters = h.masters; holds = h.holds; objects = h.objects; names = h.names; tokens = h.tokens; grants = h.grants; framebuffers = h.framebuffers; shown = h.shown }
+noted-few : (w : Rows) (most : ℕ) → FewRows most w → (part : Part) → count_in part (noted w) ≤ most
+unfolding count_in
+noted-few w most h Clients = h Clients
+noted-few w most h part = h part
 
 verdict-few : (w : Rows) (event : Event) (v : Option Rule) → FewRows w.steps w → FewRows (birth w) (after_verdict v w event)
 verdict-few w event (Some rule) h = noted-few w (birth w) (later w w.steps h)
@@ -165,26 +128,29 @@ unfolding run
 run-few w [] h = h
 run-few w (e ∷ es) h = run-few (after w e) es (subst (λ n. FewRows n (after w e)) (sym (after-steps w e)) (in_after w e h))
 
+none_yet : (h : History) → (part : Part) → count_in part (empty_rows h.topology h.limits) ≤ 0
+unfolding count_in
+none_yet h Clients = omega arith
+none_yet h part = omega arith
+
 -- the rows of a history: at most one of each list for each of its steps
 pub few_rows : (h : History) → FewRows (rows_of h).steps (rows_of h)
 unfolding rows_of
-few_rows h =
-    let none : 0 ≤ 0 = omega arith in
-    run-few (empty_rows h.topology h.limits) h.journal (record { clients = none; masters = none; holds = none; objects = none; names = none; tokens = none; grants = none; framebuffers = none; shown = none })
+few_rows h = run-few (empty_rows h.topology h.limits) h.journal (none_yet h)
 
 mapped : {X Y : Type 0} (f : X → Y) (xs : List X) (most : ℕ) → length xs ≤ most → length (map f xs) ≤ most + 1
 mapped f xs most h = let l = length-map f xs in omega (arith, l, h)
 
 -- so few rows does an audit show
 pub few_audit_rows : (w : Rows) (most : ℕ) → FewRows most w → (kind : AuditKind) → length (audit_rows w kind) ≤ most + 1
-unfolding audit_rows
-few_audit_rows w most h kinds.Client = mapped _ w.clients most h.clients
-few_audit_rows w most h kinds.Master = mapped _ w.masters most h.masters
-few_audit_rows w most h kinds.Object = mapped _ w.objects most h.objects
-few_audit_rows w most h kinds.Name = mapped _ w.names most h.names
-few_audit_rows w most h kinds.Token = mapped _ w.tokens most h.tokens
-few_audit_rows w most h kinds.Hold = mapped _ w.holds most h.holds
-few_audit_rows w most h kinds.Grant = mapped _ w.grants most h.grants
-few_audit_rows w most h kinds.Framebuffer = mapped _ w.framebuffers most h.framebuffers
-few_audit_rows w most h kinds.Shown = mapped _ w.shown most h.shown
+unfolding audit_rows count_in
+few_audit_rows w most h kinds.Client = mapped _ w.clients most (h Clients)
+few_audit_rows w most h kinds.Master = mapped _ w.masters most (h Masters)
+few_audit_rows w most h kinds.Object = mapped _ w.objects most (h Objects)
+few_audit_rows w most h kinds.Name = mapped _ w.names most (h Names)
+few_audit_rows w most h kinds.Token = mapped _ w.tokens most (h Tokens)
+few_audit_rows w most h kinds.Hold = mapped _ w.holds most (h Holds)
+few_audit_rows w most h kinds.Grant = mapped _ w.grants most (h Grants)
+few_audit_rows w most h kinds.Framebuffer = mapped _ w.framebuffers most (h Framebuffers)
+few_audit_rows w most h kinds.Shown = mapped _ w.shown most (h Shown)
 few_audit_rows w most h kinds.Device = omega arith

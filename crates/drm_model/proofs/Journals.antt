@@ -3,7 +3,7 @@ use Rattle.std.proofs.Common.{◌≡◌, ℕ, suc, ◌+◌, ◌≤◌, nat_lt, B
 use Rattle.std.specs.Option.{is_some}
 use Rattle.std.proofs.lemmas.Bool.{ltb-false}
 use Rattle.drm_table.specs.declared.calls.Call.{Call}
-use Rattle.drm_table.specs.declared.calls.Call.TheVariants.{Unknown, BadLayout, Version, GemClose, GetCap, SetClientCap, BufCreate, StampWrite, StampRead, ListHandles, Audit, CreateDumb, DestroyDumb}
+use Rattle.drm_table.specs.declared.calls.Call.TheVariants.{Version}
 use Rattle.drm_table.specs.declared.events.Event.{Event}
 use Rattle.drm_table.specs.declared.events.Event.TheVariants.{Open, Ask, Close}
 use Rattle.drm_table.specs.declared.events.Opening.{Opening}
@@ -55,19 +55,8 @@ opened_primary-kept w root (Some m) = record { limits = refl; steps = refl }
 
 asked-kept : (w : Rows) (c : ℕ) (call : Call) → IsKept w (asked w c call)
 unfolding asked with_object
-asked-kept w c (Unknown number) = record { limits = refl; steps = refl }
-asked-kept w c (BadLayout number) = record { limits = refl; steps = refl }
 asked-kept w c Version = record { limits = refl; steps = refl }
-asked-kept w c (GemClose handle) = record { limits = refl; steps = refl }
-asked-kept w c (GetCap cap) = record { limits = refl; steps = refl }
-asked-kept w c (SetClientCap cap value) = record { limits = refl; steps = refl }
-asked-kept w c (BufCreate size) = record { limits = refl; steps = refl }
-asked-kept w c (StampWrite handle stamp) = record { limits = refl; steps = refl }
-asked-kept w c (StampRead handle) = record { limits = refl; steps = refl }
-asked-kept w c (ListHandles from) = record { limits = refl; steps = refl }
-asked-kept w c (Audit kind from) = record { limits = refl; steps = refl }
-asked-kept w c (CreateDumb width height bpp) = record { limits = refl; steps = refl }
-asked-kept w c (DestroyDumb handle) = record { limits = refl; steps = refl }
+asked-kept w c _ = record { limits = refl; steps = refl }
 
 changed-kept : (w : Rows) (event : Event) → IsKept w (changed w event)
 unfolding changed opened closed
@@ -126,19 +115,8 @@ opened-count w (Lease token root) = length-append w.clients _
 
 asked-count : (w : Rows) (c : ℕ) (call : Call) → length (asked w c call).clients ≡ length w.clients
 unfolding asked with_object
-asked-count w c (Unknown number) = refl
-asked-count w c (BadLayout number) = refl
 asked-count w c Version = refl
-asked-count w c (GemClose handle) = refl
-asked-count w c (GetCap cap) = refl
-asked-count w c (SetClientCap cap value) = refl
-asked-count w c (BufCreate size) = refl
-asked-count w c (StampWrite handle stamp) = refl
-asked-count w c (StampRead handle) = refl
-asked-count w c (ListHandles from) = refl
-asked-count w c (Audit kind from) = refl
-asked-count w c (CreateDumb width height bpp) = refl
-asked-count w c (DestroyDumb handle) = refl
+asked-count w c _ = refl
 
 without-found : {X : Type 0} (p : X → Bool) → (xs : List X) → is_some (find p xs) ≡ true → length (without p xs) + 1 ≤ length xs
 without-found p [] h = absurd (let e : false ≡ true = h in cc)

@@ -1,8 +1,9 @@
 pub mod Orders
-pub mod Births
 pub mod Numbers
 pub mod Topology
 pub mod Rows
+pub mod Parts
+pub mod Births
 pub mod Masters
 pub mod Leases
 pub mod Capabilities

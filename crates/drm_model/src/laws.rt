@@ -11,7 +11,7 @@ ghost use Rattle.drm_model.specs.Rows.{Rows, is_open};
 ghost use Rattle.drm_model.specs.Verdict.{verdict};
 ghost use Rattle.drm_model.specs.Change.{after, noted};
 ghost use Rattle.drm_model.specs.Births.{BirthsRise};
-ghost use Rattle.drm_model.specs.Run.{Step, Answers, History, run, noted_events, rows_of};
+ghost use Rattle.drm_model.specs.Run.{Step, Answers, History, run, noted_events, noted_in, rows_of};
 
 /// A denial changes no row: it is noted, and that is all.
 pub fn denials_change_no_row()
@@ -40,4 +40,9 @@ pub fn closings_are_carried_out()
 /// a kind have the same number.
 pub fn births_rise()
     ensures { (h : History) → BirthsRise (rows_of h).steps (rows_of h) }
+{}
+
+/// The rows of a longer journal are those after one more step.
+pub fn rows_follow_the_journal()
+    ensures { (h : History) (event : Event) → rows_of (noted_in h event) ≡ after (rows_of h) event }
 {}

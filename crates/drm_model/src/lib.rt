@@ -5,5 +5,5 @@ mod laws;
 
 pub use laws::{
     answers_go_on, births_rise, closings_are_carried_out, denials_change_no_row,
-    rows_are_those_of_noted_events,
+    rows_are_those_of_noted_events, rows_follow_the_journal,
 };

@@ -1,6 +1,9 @@
-use Rattle.std.proofs.Common.{sym, ◌∙◌, ap}
+use Rattle.std.proofs.Common.{sym, ◌∙◌, ap, find}
+use Rattle.std.specs.Option.{is_some}
+use Rattle.drm_files.specs.Files.{is_client}
+use Rattle.drm_model.proofs.Lists.{is_some-map}
 use Rattle.drm_model.specs.Run.{rows_of}
-use Rattle.drm_device.proofs.Lookups.{room_to_open, room_to_ask, room_to_close_open, room_to_close}
+use Rattle.drm_device.proofs.Devices.{room_to_open, room_to_ask, room_to_close_open, room_to_close}
 use Rattle.drm_device.proofs.device.Device.has_room.Goals as goal
 
 pub returns-in-Open : goal.returns-in-Open
@@ -14,9 +17,9 @@ returns-in-Ask c =
 pub returns-then-is_some : goal.returns-then-is_some
 returns-then-is_some c =
     rw (c.if-is_some.true, c.in-Close.is, ← ap rows_of c.self.view_is)
-    (room_to_close_open c.self.inside c.self.invariant c.in-Close.client (rw (← c.client_of.ensures.client) (sym c.is_some.ensures ∙ c.if-is_some.true)))
+    (room_to_close_open c.self.inside c.self.invariant c.in-Close.client (sym (is_some-map _ (find (is_client c.in-Close.client) c.self.inside.state.files.clients)) ∙ ap is_some (sym c.flags_of.ensures.flags) ∙ sym c.is_some.ensures ∙ c.if-is_some.true))
 
 pub returns-else-is_some : goal.returns-else-is_some
 returns-else-is_some c =
     rw (c.in-Close.is, ← ap rows_of c.self.view_is, c.len.ensures, c.len-clients.ensures)
-    (room_to_close c.self.inside c.self.invariant c.in-Close.client (rw (← c.client_of.ensures.client) (sym c.is_some.ensures ∙ c.if-is_some.false)))
+    (room_to_close c.self.inside c.self.invariant c.in-Close.client (sym (is_some-map _ (find (is_client c.in-Close.client) c.self.inside.state.files.clients)) ∙ ap is_some (sym c.flags_of.ensures.flags) ∙ sym c.is_some.ensures ∙ c.if-is_some.false))

@@ -1,4 +1,4 @@
-use Rattle.drm_device.proofs.Lookups.{journal_left_is}
+use Rattle.drm_device.proofs.Devices.{journal_left_is}
 use Rattle.drm_device.proofs.device.Device.journal_left.Goals as goal
 
 pub returns : goal.returns

@@ -1,4 +1,4 @@
-use Rattle.std.proofs.Common.{sym, ◌∙◌, arith}
+use Rattle.std.proofs.Common.{None, refl, sym, ◌∙◌, arith}
 use Rattle.drm_device.proofs.Devices.{new_device, some_handles}
 use Rattle.drm_device.proofs.device.Device.new.Goals as goal
 
@@ -7,5 +7,6 @@ new-requires c = some_handles c.args.limits (sym c.are_in_range.ensures ∙ c.if
 
 pub invariant_of-result : goal.invariant_of-result
 invariant_of-result c =
-    new_device c.args.topology c.args.limits c.in-Ok.journal c.new.result c.new-2.result c.new-3.result c.new-4.result
-    (sym c.are_in_range.ensures ∙ c.if-not-are_in_range.false) c.in-Ok.ensures.items (omega (arith, c.in-Ok.ensures.exact)) c.new.ensures c.new-2.ensures.items c.new-3.ensures.items c.new-4.ensures
+    new_device (record { topology = c.args.topology; limits = c.args.limits; journal = c.in-Ok.journal; state = record { files = c.new.result; members = c.new-2.result; masters = c.new-3.result; objects = c.new-4.result; device_master = None } })
+    (sym c.are_in_range.ensures ∙ c.if-not-are_in_range.false) c.in-Ok.ensures.items (omega (arith, c.in-Ok.ensures.exact))
+    (record { files = c.new.ensures; members = c.new-2.ensures.items; masters = c.new-3.ensures.items; objects = c.new-4.ensures; device_master = refl })

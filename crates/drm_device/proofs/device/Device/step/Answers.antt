@@ -1,17 +1,17 @@
 use Rattle.std.proofs.Common.{refl, sym, ap, ◌∙◌}
 use Rattle.drm_model.specs.Run.{Step, rows_of}
 use Rattle.drm_device.specs.Device.{history_of}
-use Rattle.drm_device.specs.Refinement.{Owes}
-use Rattle.drm_device.proofs.Booleans.{not_false, not_true}
-use Rattle.drm_device.proofs.Devices.{stands, later_than_all, has_place, next_rows, next_device, same_device, within_after}
+use Rattle.drm_state.specs.Refinement.{Owes}
+use Rattle.drm_state.proofs.Booleans.{not_false, not_true}
+use Rattle.drm_device.proofs.Devices.{stands, ready, has_place, next_rows, next_device, same_device, within_after}
 use Rattle.drm_device.proofs.device.Device.step.Goals as goal
 
 pub returns-then-not-has_room-clause-step : goal.returns-then-not-has_room-clause-step
 unfolding Step
 returns-then-not-has_room-clause-step c = (not_false _ (sym c.has_room.ensures ∙ c.if-not-has_room.true), refl)
 
-pub advance-requires-clause-later : goal.advance-requires-clause-later
-advance-requires-clause-later c = later_than_all c.self.inside c.len.result c.self.invariant c.len.ensures
+pub advance-requires : goal.advance-requires
+advance-requires c = ready c.self.inside c.len.result c.self.invariant c.len.ensures
 
 pub push_reserved-requires : goal.push_reserved-requires
 push_reserved-requires c =
@@ -24,13 +24,13 @@ invariant_of-self c =
     let room = not_true _ (sym c.has_room.ensures ∙ c.if-not-has_room.false) in
     let out = c.in-Ok.ensures.owes (rows_of (history_of c.self.inside)) (stands c.self.inside c.len.result c.self.invariant c.len.ensures) in
     next_device c.self.inside c.args.event c.push_reserved.new.self c.advance.new.state c.self.invariant (rw (ap rows_of c.self.view_is) room)
-    c.push_reserved.ensures.items c.push_reserved.ensures.len c.push_reserved.ensures.capacity c.in-Ok.ensures.kept.tied (c.in-Ok.ensures.kept.limits c.self.inside.limits c.self.invariant.limits) out.1
+    c.push_reserved.ensures.items c.push_reserved.ensures.len c.push_reserved.ensures.capacity c.in-Ok.ensures.tied out.1
 
 pub invariant_of-self-in-Err : goal.invariant_of-self-in-Err
 unfolding Owes
 invariant_of-self-in-Err c =
     let out = c.in-Err.ensures.owes (rows_of (history_of c.self.inside)) (stands c.self.inside c.len.result c.self.invariant c.len.ensures) in
-    same_device c.self.inside c.advance.new.state c.self.invariant c.in-Err.ensures.kept.tied (c.in-Err.ensures.kept.limits c.self.inside.limits c.self.invariant.limits) out.1
+    same_device c.self.inside c.advance.new.state c.self.invariant c.in-Err.ensures.tied out.1
 
 pub returns-in-Ok-clause-step : goal.returns-in-Ok-clause-step
 unfolding Step Owes

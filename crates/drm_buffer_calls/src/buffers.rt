@@ -1,0 +1,166 @@
+//! Buffers and their handles.
+
+ghost use Rattle.std.specs.Prelude.{◌≡◌, ◌≤◌, ◌*◌, true};
+ghost use Rattle.drm_files.specs.Files.{is_present};
+ghost use Rattle.drm_table.specs.declared.calls.Call.TheVariants.{GemClose, BufCreate, CreateDumb, DestroyDumb};
+ghost use Rattle.drm_model.specs.Buffers as model;
+ghost use Rattle.drm_state.specs.Ties.{IsTied, IsReady};
+ghost use Rattle.drm_state.specs.Refinement.{OwesCall, OwesReply, MakesBuffer};
+
+use drm_gem::CreateFault;
+use drm_state::State;
+use drm_table::{Answer, Rule};
+use std::alloc::AllocError;
+
+/// The most bytes that a buffer may have: 64 GiB (own).
+const MOST_BYTES: u64 = 68_719_476_736;
+
+/// What a dumb buffer is for: pixels in a row, rows, and bits a pixel.
+#[derive(Clone, Copy)]
+pub struct Pixels {
+    pub width: u32,
+    pub height: u32,
+    pub bpp: u32,
+}
+
+/// MODE_CREATE_DUMB: a new object, and a handle of it. Where memory is refused nothing changes.
+pub fn create_dumb(
+    state: &mut State,
+    birth: u32,
+    client: u32,
+    pixels: Pixels,
+) -> Result<Answer, AllocError>
+    requires ready { IsReady state.old birth }
+    requires present { is_present state.old.files client ≡ true }
+    ensures owes { OwesCall state.old birth client (CreateDumb pixels.width pixels.height pixels.bpp) result state.new }
+    ensures tied { IsTied state.new }
+{
+    if !is_dumb_shape(pixels) {
+        return Ok(Answer::Denied(Rule::BadSize));
+    }
+    let pitch = dumb_pitch(pixels.width, pixels.bpp);
+    let size = dumb_size(pitch, pixels.height);
+    let Some(handle) = new_buffer(state, birth, client, size)? else {
+        return Ok(Answer::Denied(Rule::Full));
+    };
+    Ok(Answer::Dumb {
+        handle,
+        pitch,
+        size,
+    })
+}
+
+/// BUF_CREATE: a new object of so many bytes, rounded up to whole pages, and a handle of it. Where memory is refused
+/// nothing changes.
+pub fn buf_create(
+    state: &mut State,
+    birth: u32,
+    client: u32,
+    size: u64,
+) -> Result<Answer, AllocError>
+    requires ready { IsReady state.old birth }
+    requires present { is_present state.old.files client ≡ true }
+    ensures owes { OwesCall state.old birth client (BufCreate size) result state.new }
+    ensures tied { IsTied state.new }
+{
+    if !is_buffer_size(size) {
+        return Ok(Answer::Denied(Rule::BadSize));
+    }
+    let size = buffer_size(size);
+    let Some(handle) = new_buffer(state, birth, client, size)? else {
+        return Ok(Answer::Denied(Rule::Full));
+    };
+    Ok(Answer::Buffer { handle, size })
+}
+
+/// Makes an object of so many bytes and a handle of it, and answers the handle; none where the client has every handle or
+/// as many objects are there as may be. Where memory is refused nothing changes.
+fn new_buffer(
+    state: &mut State,
+    birth: u32,
+    client: u32,
+    size: u64,
+) -> Result<Option<u32>, AllocError>
+    requires ready { IsReady state.old birth }
+    requires present { is_present state.old.files client ≡ true }
+    ensures makes { MakesBuffer state.old birth client size result state.new }
+    ensures tied { IsTied state.new }
+{
+    if !state.files.has_room(client) {
+        return Ok(None);
+    }
+    let made = match state.objects.create(birth, size) {
+        Ok(made) => made,
+        Err(CreateFault::Full) => return Ok(None),
+        Err(CreateFault::NoMemory) => return Err(AllocError),
+    };
+    let Ok(handle) = state.files.add_handle(client, made, None) else {
+        // the object goes again, since nothing names it
+        let _dead = state.objects.unhold(made);
+        return Err(AllocError);
+    };
+    Ok(Some(handle))
+}
+
+/// Whether a dumb buffer may have this shape.
+fn is_dumb_shape(pixels: Pixels) -> bool
+    ensures { result ≡ model.is_dumb_shape pixels.width pixels.height pixels.bpp }
+{
+    1 <= pixels.width
+        && pixels.width <= 65535
+        && 1 <= pixels.height
+        && pixels.height <= 65535
+        && 1 <= pixels.bpp
+        && pixels.bpp <= 64
+}
+
+/// The bytes of a row of pixels.
+fn dumb_pitch(width: u32, bpp: u32) -> u32
+    requires narrow { width ≤ 65535 }
+    requires shallow { bpp ≤ 64 }
+    ensures value { result ≡ model.dumb_pitch width bpp }
+    ensures small { result ≤ 524288 }
+{
+    (width * ((bpp + 7) / 8) + 63) / 64 * 64
+}
+
+/// The bytes of a buffer of so many rows of this pitch.
+fn dumb_size(pitch: u32, height: u32) -> u64
+    requires narrow { pitch ≤ 524288 }
+    requires low { height ≤ 65535 }
+    ensures { result ≡ model.rounded_up 4096 (pitch * height) }
+{
+    (pitch as u64 * height as u64 + 4095) / 4096 * 4096
+}
+
+/// Whether a buffer may have so many bytes.
+fn is_buffer_size(size: u64) -> bool
+    ensures { result ≡ model.is_buffer_size size }
+{
+    1 <= size && size <= MOST_BYTES
+}
+
+/// The bytes of a buffer of at least so many: whole pages.
+fn buffer_size(size: u64) -> u64
+    requires { size ≤ 68719476736 }
+    ensures { result ≡ model.buffer_size size }
+{
+    (size + 4095) / 4096 * 4096
+}
+
+/// GEM_CLOSE and MODE_DESTROY_DUMB: the handle goes, and the object with its last handle. It takes no memory and asks for
+/// no limit.
+pub fn gem_close(state: &mut State, client: u32, handle: u32) -> Answer
+    requires tied { IsTied state.old }
+    requires present { is_present state.old.files client ≡ true }
+    ensures destroy { OwesReply state.old client (DestroyDumb handle) result state.new }
+    ensures close { OwesReply state.old client (GemClose handle) result state.new }
+    ensures tied { IsTied state.new }
+{
+    let Some(object) = state.files.object_of(client, handle) else {
+        return Answer::Denied(Rule::NoHandleToClose);
+    };
+    let _object = state.files.drop_handle(client, handle);
+    let _dead = state.objects.unhold(object);
+    Answer::Done
+}

@@ -1,0 +1,97 @@
+//! How a client comes to be.
+
+ghost use Rattle.std.specs.Prelude.{◌≡◌, ◌<◌, ◌∷◌, ◌++◌, [], true, length, OnOk, OnErr, if◌then◌else◌};
+ghost use Rattle.std.specs.List.{AllByRecursion};
+ghost use Rattle.drm_files.specs.Files.{client};
+ghost use Rattle.drm_table.specs.declared.events.Event.TheVariants.{Open};
+ghost use Rattle.drm_table.specs.declared.events.Opening.TheVariants.{Primary, Render};
+ghost use Rattle.drm_state.specs.Ties.{IsTied, IsReady};
+ghost use Rattle.drm_state.specs.Refinement.{Owes};
+
+use drm_files::Files;
+use drm_state::{Member, State};
+use drm_table::{Answer, Opening, Rule};
+use std::alloc::AllocError;
+
+/// Opens a client, by the kind of its opening.
+pub fn open(state: &mut State, birth: u32, opening: Opening) -> Result<Answer, AllocError>
+    requires { IsReady state.old birth }
+    ensures owes { Owes state.old birth (Open opening) result state.new }
+    ensures tied { IsTied state.new }
+{
+    match opening {
+        Opening::Primary { root } => open_primary(state, birth, root),
+        Opening::Render => open_render(state, birth),
+        // no lease token is open
+        Opening::Lease { .. } => Ok(Answer::Denied(Rule::NoLeaseToken)),
+    }
+}
+
+/// A primary client: of a master of its own where the device has none, and else of the device's.
+fn open_primary(state: &mut State, birth: u32, root: bool) -> Result<Answer, AllocError>
+    requires { IsReady state.old birth }
+    ensures owes { Owes state.old birth (Open (Primary root)) result state.new }
+    ensures tied { IsTied state.new }
+{
+    if state.files.is_full() {
+        return Ok(Answer::Denied(Rule::Full));
+    }
+    state.members.reserve(1)?;
+    let Some(master) = state.device_master else {
+        state.masters.reserve(1)?;
+        open_file(&mut state.files, birth, false, root, true)?;
+        state.masters.push_reserved(birth);
+        state.device_master = Some(birth);
+        state.members.push_reserved(Member {
+            client: birth,
+            once_master: true,
+            is_master: true,
+            master: Some(birth),
+        });
+        return Ok(Answer::Opened { client: birth });
+    };
+    open_file(&mut state.files, birth, false, root, false)?;
+    state.members.push_reserved(Member {
+        client: birth,
+        once_master: false,
+        is_master: false,
+        master: Some(master),
+    });
+    Ok(Answer::Opened { client: birth })
+}
+
+/// A render client, which has no master.
+fn open_render(state: &mut State, birth: u32) -> Result<Answer, AllocError>
+    requires { IsReady state.old birth }
+    ensures owes { Owes state.old birth (Open Render) result state.new }
+    ensures tied { IsTied state.new }
+{
+    if state.files.is_full() {
+        return Ok(Answer::Denied(Rule::Full));
+    }
+    open_file(&mut state.files, birth, true, false, false)?;
+    Ok(Answer::Opened { client: birth })
+}
+
+/// Opens the file of a client that is newer than all; a founder is authenticated whether it is root or not. Where memory is
+/// refused nothing changes.
+fn open_file(
+    files: &mut Files,
+    number: u32,
+    render: bool,
+    root: bool,
+    founder: bool,
+) -> Result<(), AllocError>
+    requires newest { AllByRecursion (λ f. f.client < number) files.old.clients }
+    requires room { length files.old.clients < files.old.limit }
+    ensures ok { OnOk result (files.new ≡ record files.old { clients = files.old.clients ++ client number (record { render = render; root = root; authenticated = if founder then true else root }) ∷ [] }) }
+    ensures err { OnErr result (files.new ≡ files.old) }
+{
+    if let Err(_fault) = files.open(number, render, root) {
+        return Err(AllocError);
+    }
+    if founder {
+        files.set_authenticated(number);
+    }
+    Ok(())
+}

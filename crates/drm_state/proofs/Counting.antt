@@ -1,0 +1,358 @@
+-- Keys in lists, and how often.
+use Rattle.std.proofs.Common.{◌≡◌, ℕ, suc, ◌-◌, ◌<◌, ◌==◌, Bool, true, false, cond, not, ◌&&◌, ◌||◌, List, [], ◌∷◌, ◌++◌, map, filter, find, length, Option, Some, None, refl, sym, ap, ◌∙◌, subst, arith, eq-eqb}
+use Rattle.std.specs.Prelude.{if◌then◌else◌}
+use Rattle.std.specs.List.{AllByRecursion}
+use Rattle.std.specs.Option.{is_some, option_map, OnSome, IfNone}
+use Rattle.std.proofs.lemmas.Bool.{eqb-true}
+use Rattle.std.proofs.lemmas.Bool.Decides.{nat_tests}
+use Rattle.drm_gem.specs.declared.object.Object.{Object}
+use Rattle.drm_gem.specs.declared.object.Dead.{Dead}
+use Rattle.drm_gem.specs.Objects.{ObjectSet, is_key, changed_at, without_key, unheld, unreferred, is_unused, dead_of, dead_after}
+use Rattle.drm_model.specs.Numbers.{is_among}
+use Rattle.drm_model.specs.Orders.{SameRows, InOrder}
+use Rattle.drm_model.proofs.Lists.{all_weaker, all_append}
+use Rattle.drm_model.proofs.Orders.{in_order_filter, in_order_append, same-any}
+use Rattle.drm_state.specs.Ties.{count, Counts, AreTied, AreThoseNamed, core}
+use Rattle.drm_state.proofs.Booleans.{or_left, or_right, or_assoc, not_or, filter-same, filter-both, all_both, all_each}
+
+pub flipped : (n k : ℕ) → (n == k) ≡ false → (k == n) ≡ false
+flipped n k h = grind (arith, nat_tests)
+
+pub among-more : (keys : List ℕ) (k n : ℕ) → is_among keys n ≡ true → is_among (k ∷ keys) n ≡ true
+among-more keys k n h = or_right (k == n) (is_among keys n) h
+
+pub among-first : (keys : List ℕ) (k : ℕ) → is_among (k ∷ keys) k ≡ true
+among-first keys k = or_left (k == k) (is_among keys k) (eq-eqb k k refl)
+
+pub among-append : (xs ys : List ℕ) (n : ℕ) → is_among (xs ++ ys) n ≡ (is_among xs n || is_among ys n)
+among-append [] ys n = refl
+among-append (x ∷ xs) ys n = ap (λ b. x == n || b) (among-append xs ys n) ∙ or_assoc (x == n) (is_among xs n) (is_among ys n)
+
+pub among-left : (xs ys : List ℕ) (n : ℕ) → is_among xs n ≡ true → is_among (xs ++ ys) n ≡ true
+among-left xs ys n h = among-append xs ys n ∙ or_left (is_among xs n) (is_among ys n) h
+
+pub among-right : (xs ys : List ℕ) (n : ℕ) → is_among ys n ≡ true → is_among (xs ++ ys) n ≡ true
+among-right xs ys n h = among-append xs ys n ∙ or_right (is_among xs n) (is_among ys n) h
+
+-- keys that are fewer, beside the same others
+pub fewer_among : (fewer keys others : List ℕ) (n : ℕ) → (is_among fewer n ≡ true → is_among keys n ≡ true) → is_among (fewer ++ others) n ≡ true → is_among (keys ++ others) n ≡ true
+fewer_among fewer keys others n f h =
+    among-append keys others n
+    ∙ elim (is_among fewer n) as (λ b. (b ≡ true → is_among keys n ≡ true) → (b || is_among others n) ≡ true → (is_among keys n || is_among others n) ≡ true)
+    [ true ↦ λ g e. or_left (is_among keys n) (is_among others n) (g refl) | false ↦ λ g e. or_right (is_among keys n) (is_among others n) e ] f (sym (among-append fewer others n) ∙ h)
+
+none-suc : (n : ℕ) → (suc n == 0) ≡ false
+none-suc n = grind (arith, nat_tests)
+
+pub count-none : (keys : List ℕ) (n : ℕ) → (count keys n == 0) ≡ not (is_among keys n)
+count-none [] n = refl
+count-none (k ∷ keys) n =
+    elim (k == n) as (λ b. (length (cond b (k ∷ filter (λ key. key == n) keys) (filter (λ key. key == n) keys)) == 0) ≡ not (b || is_among keys n))
+    [ true ↦ none-suc (count keys n) | false ↦ count-none keys n ]
+
+pub count-absent : (keys : List ℕ) (n : ℕ) → is_among keys n ≡ false → count keys n ≡ 0
+count-absent keys n h = eqb-true (count keys n) 0 (count-none keys n ∙ ap not h)
+
+pub count-other : (keys : List ℕ) (k n : ℕ) → (n == k) ≡ false → count (k ∷ keys) n ≡ count keys n
+count-other keys k n h = ap (λ b. length (cond b (k ∷ filter (λ key. key == n) keys) (filter (λ key. key == n) keys))) (flipped n k h)
+
+pub count-it : (keys : List ℕ) (k n : ℕ) → (n == k) ≡ true → count (k ∷ keys) n ≡ suc (count keys n)
+count-it keys k n h = ap (λ b. length (cond b (k ∷ filter (λ key. key == n) keys) (filter (λ key. key == n) keys))) (eq-eqb k n (sym (eqb-true n k h)))
+
+-- nothing refers to an object that no key names
+pub unused_is : (keys refs : List ℕ) (x : Object) (n : ℕ) → x.key ≡ n → Counts keys refs x → is_unused x ≡ not (is_among (keys ++ refs) n)
+unused_is keys refs x n e h =
+    ap (λ m. (m == 0) && (x.refs == 0)) h.0 ∙ ap (λ m. (count keys x.key == 0) && (m == 0)) h.1
+    ∙ ap (λ b. b && (count refs x.key == 0)) (count-none keys x.key) ∙ ap (λ b. not (is_among keys x.key) && b) (count-none refs x.key)
+    ∙ not_or (is_among keys x.key) (is_among refs x.key) ∙ ap not (sym (among-append keys refs x.key)) ∙ ap (λ m. not (is_among (keys ++ refs) m)) e
+
+-- ---- what is found of a key
+
+pub is_found : (k : ℕ) → (xs : List Object) → is_some (find (is_key k) xs) ≡ true → (P : Object → Type 0) → AllByRecursion P xs → (x : Object) × (find (is_key k) xs ≡ Some x) × (x.key ≡ k) × P x
+is_found k [] h P all = absurd (let e : false ≡ true = h in cc)
+is_found k (x ∷ xs) h P all =
+    elim (x.key == k) as (λ b. (x.key == k) ≡ b → is_some (cond b (Some x) (find (is_key k) xs)) ≡ true → (y : Object) × (cond b (Some x) (find (is_key k) xs) ≡ Some y) × (y.key ≡ k) × P y)
+    [ true ↦ λ e j. (x, refl, eqb-true x.key k e, all.0) | false ↦ λ e j. is_found k xs j P all.1 ] refl h
+
+found_passing : (k : ℕ) (p : Object → Bool) → (xs : List Object) (x : Object) → find (is_key k) xs ≡ Some x → p x ≡ true → find (λ (z : Object). is_key k z && p z) xs ≡ Some x
+found_passing k p [] x h e = absurd (let n : None ≡ Some x = h in cc)
+found_passing k p (y ∷ ys) x h e =
+    elim (y.key == k) as (λ b. cond b (Some y) (find (is_key k) ys) ≡ Some x → cond (b && p y) (Some y) (find (λ (z : Object). is_key k z && p z) ys) ≡ Some x) [
+      | true ↦ λ j. let same : y ≡ x = let s : Some y ≡ Some x = j in cc in ap (λ b. cond b (Some y) (find (λ (z : Object). is_key k z && p z) ys)) (ap p same ∙ e) ∙ j
+      | false ↦ λ j. found_passing k p ys x j e
+    ] h
+
+none_passing : (k : ℕ) (p : Object → Bool) → (xs : List Object) → AllByRecursion (λ (x : Object). (x.key == k) ≡ true → p x ≡ false) xs → find (λ (z : Object). is_key k z && p z) xs ≡ None
+none_passing k p [] h = refl
+none_passing k p (x ∷ xs) h =
+    elim (x.key == k) as (λ b. (x.key == k) ≡ b → cond (b && p x) (Some x) (find (λ (z : Object). is_key k z && p z) xs) ≡ None)
+    [ true ↦ λ e. ap (λ b. cond b (Some x) (find (λ (z : Object). is_key k z && p z) xs)) (h.0 e) ∙ none_passing k p xs h.1 | false ↦ λ e. none_passing k p xs h.1 ] refl
+
+pub other_keys : (key : ℕ) → (objects : List Object) → find (is_key key) objects ≡ None → AllByRecursion (λ (x : Object). (x.key == key) ≡ false) objects
+other_keys key [] h = tt
+other_keys key (x ∷ xs) h =
+    elim (x.key == key) as (λ b. (x.key == key) ≡ b → cond b (Some x) (find (is_key key) xs) ≡ None → AllByRecursion (λ (x : Object). (x.key == key) ≡ false) (x ∷ xs))
+    [ true ↦ λ e j. absurd (let n : Some x ≡ None = j in cc) | false ↦ λ e j. (e, other_keys key xs j) ] refl h
+
+-- ---- the object of a key changed
+
+-- a change that leaves the key and the number
+pub record IsChange (f : Object → Object) : Type 0 where
+  pub key : (x : Object) → (f x).key ≡ x.key
+  pub birth : (x : Object) → (f x).birth ≡ x.birth
+
+abbrev pub at_key : ℕ → (Object → Object) → List Object → List Object
+at_key k f objects = map (λ (x : Object). if x.key == k then f x else x) objects
+
+find-changed : (n k : ℕ) (f : Object → Object) → IsChange f → (xs : List Object) → is_some (find (is_key n) (at_key k f xs)) ≡ is_some (find (is_key n) xs)
+find-changed n k f is [] = refl
+find-changed n k f is (x ∷ xs) =
+    elim (x.key == k) as (λ b. is_some (find (is_key n) ((if b then f x else x) ∷ at_key k f xs)) ≡ is_some (find (is_key n) (x ∷ xs))) [
+      | true ↦
+          ap (λ m. is_some (cond (m == n) (Some (f x)) (find (is_key n) (at_key k f xs)))) (is.key x)
+          ∙ elim (x.key == n) as (λ t. is_some (cond t (Some (f x)) (find (is_key n) (at_key k f xs))) ≡ is_some (cond t (Some x) (find (is_key n) xs))) [ true ↦ refl | false ↦ find-changed n k f is xs ]
+      | false ↦ elim (x.key == n) as (λ t. is_some (cond t (Some x) (find (is_key n) (at_key k f xs))) ≡ is_some (cond t (Some x) (find (is_key n) xs))) [ true ↦ refl | false ↦ find-changed n k f is xs ]
+    ]
+
+all_changed : (P Q : Object → Type 0) (k : ℕ) (f : Object → Object) → ((x : Object) → (x.key == k) ≡ true → P x → Q (f x)) → ((x : Object) → (x.key == k) ≡ false → P x → Q x) → (xs : List Object) → AllByRecursion P xs → AllByRecursion Q (at_key k f xs)
+all_changed P Q k f g o [] h = tt
+all_changed P Q k f g o (x ∷ xs) h =
+    (elim (x.key == k) as (λ b. (x.key == k) ≡ b → Q (if b then f x else x)) [ true ↦ λ e. g x e h.0 | false ↦ λ e. o x e h.0 ] refl, all_changed P Q k f g o xs h.1)
+
+-- rows in an order by a number that stays
+in_order_changed : (number : Object → ℕ) (k : ℕ) (f : Object → Object) → ((x : Object) → number (f x) ≡ number x) → (xs : List Object) → InOrder (λ x y. (number x == number y) ≡ false) xs → InOrder (λ x y. (number x == number y) ≡ false) (at_key k f xs)
+in_order_changed number k f is [] h = tt
+in_order_changed number k f is (x ∷ xs) h =
+    let later : AllByRecursion (λ y. (number x == number y) ≡ false) (at_key k f xs) = all_changed (λ y. (number x == number y) ≡ false) (λ y. (number x == number y) ≡ false) k f (λ y e b. ap (λ n. number x == n) (is y) ∙ b) (λ y e b. b) xs h.0 in (
+      elim (x.key == k) as (λ b. AllByRecursion (λ y. (number (if b then f x else x) == number y) ≡ false) (at_key k f xs))
+          [ true ↦ all_weaker (λ y. (number x == number y) ≡ false) (λ y. (number (f x) == number y) ≡ false) (λ y b. ap (λ n. n == number y) (is x) ∙ b) (at_key k f xs) later | false ↦ later ],
+      in_order_changed number k f is xs h.1,
+    )
+
+-- the ties of other lists, which name the same keys
+pub changed_tied : (keys refs new_keys new_refs : List ℕ) (k : ℕ) (f : Object → Object) → IsChange f → ((n : ℕ) → is_among (new_keys ++ new_refs) n ≡ is_among (keys ++ refs) n) →
+    ((x : Object) → (x.key == k) ≡ true → Counts keys refs x → Counts new_keys new_refs (f x)) → ((x : Object) → (x.key == k) ≡ false → Counts keys refs x → Counts new_keys new_refs x) →
+    (objects : List Object) → AreTied keys refs objects → AreTied new_keys new_refs (at_key k f objects)
+changed_tied keys refs new_keys new_refs k f is same own others objects h = record {
+  there = λ n e. find-changed n k f is objects ∙ h.there n (sym (same n) ∙ e);
+  counted = all_changed (Counts keys refs) (Counts new_keys new_refs) k f own others objects h.counted;
+  used = all_changed (λ (x : Object). is_among (keys ++ refs) x.key ≡ true) (λ (x : Object). is_among (new_keys ++ new_refs) x.key ≡ true) k f (λ x e u. ap (is_among (new_keys ++ new_refs)) (is.key x) ∙ same x.key ∙ u) (λ x e u. same x.key ∙ u) objects h.used;
+  keys_differ = in_order_changed (λ (x : Object). x.key) k f is.key objects h.keys_differ;
+  births_differ = in_order_changed (λ (x : Object). x.birth) k f is.birth objects h.births_differ;
+}
+
+-- the same keys in another order
+pub same_tied : (keys others refs : List ℕ) (objects : List Object) → SameRows keys others → AreTied keys refs objects → AreTied others refs objects
+same_tied keys others refs objects same h =
+    let agree = λ (n : ℕ). let a : is_among (keys ++ refs) n ≡ is_among (others ++ refs) n = among-append keys refs n ∙ ap (λ b. b || is_among refs n) (same-any (λ k. k == n) keys others same) ∙ sym (among-append others refs n) in a in
+    record {
+      there = λ n e. h.there n (agree n ∙ e);
+      counted = all_weaker (Counts keys refs) (Counts others refs) (λ x e. (e.0 ∙ same (λ key. key == x.key), e.1)) objects h.counted;
+      used = all_weaker (λ (x : Object). is_among (keys ++ refs) x.key ≡ true) (λ (x : Object). is_among (others ++ refs) x.key ≡ true) (λ x e. sym (agree x.key) ∙ e) objects h.used;
+      keys_differ = h.keys_differ;
+      births_differ = h.births_differ;
+    }
+
+-- ---- those that are named
+
+-- at first each object is named
+pub all_named : (keys refs : List ℕ) (objects : List Object) → AreTied keys refs objects → AreThoseNamed objects (keys ++ refs) objects
+all_named keys refs objects h = ap (map core) (sym (filter-all objects h.used))
+  where
+    filter-all : (xs : List Object) → AllByRecursion (λ (x : Object). is_among (keys ++ refs) x.key ≡ true) xs → filter (λ (x : Object). is_among (keys ++ refs) x.key) xs ≡ xs
+    filter-all [] e = refl
+    filter-all (x ∷ xs) e = ap (λ b. cond b (x ∷ filter (λ (x : Object). is_among (keys ++ refs) x.key) xs) (filter (λ (x : Object). is_among (keys ++ refs) x.key) xs)) e.0 ∙ ap (λ l. x ∷ l) (filter-all xs e.1)
+
+core-named : (keys : List ℕ) → (xs : List Object) → map core (filter (λ (x : Object). is_among keys x.key) xs) ≡ filter (λ (x : Object). is_among keys x.key) (map core xs)
+core-named keys [] = refl
+core-named keys (x ∷ xs) =
+    elim (is_among keys x.key) as (λ b. map core (cond b (x ∷ filter (λ (x : Object). is_among keys x.key) xs) (filter (λ (x : Object). is_among keys x.key) xs)) ≡ cond b (core x ∷ filter (λ (x : Object). is_among keys x.key) (map core xs)) (filter (λ (x : Object). is_among keys x.key) (map core xs)))
+    [ true ↦ ap (λ l. core x ∷ l) (core-named keys xs) | false ↦ core-named keys xs ]
+
+and_weaker : (a b : Bool) → (b ≡ true → a ≡ true) → (a && b) ≡ b
+and_weaker true b f = refl
+and_weaker false true f = f refl
+and_weaker false false f = refl
+
+-- of those that are named, those that fewer keys name
+pub named_trans : (objects middle now : List Object) (keys fewer : List ℕ) → ((n : ℕ) → is_among fewer n ≡ true → is_among keys n ≡ true) → AreThoseNamed objects keys middle → AreThoseNamed middle fewer now → AreThoseNamed objects fewer now
+named_trans objects middle now keys fewer f h k =
+    k ∙ core-named fewer middle ∙ ap (filter (λ (x : Object). is_among fewer x.key)) h ∙ sym (core-named fewer (filter (λ (x : Object). is_among keys x.key) objects))
+    ∙ ap (map core) (filter-both (λ (x : Object). is_among fewer x.key) (λ (x : Object). is_among keys x.key) objects
+    ∙ filter-same _ (λ (x : Object). is_among fewer x.key) objects (all_each _ (λ x. and_weaker (is_among keys x.key) (is_among fewer x.key) (f x.key)) objects))
+
+pub same_named : (objects : List Object) (keys others : List ℕ) (now : List Object) → ((n : ℕ) → is_among keys n ≡ is_among others n) → AreThoseNamed objects keys now → AreThoseNamed objects others now
+same_named objects keys others now agree h = h ∙ ap (map core) (filter-same (λ (x : Object). is_among keys x.key) (λ (x : Object). is_among others x.key) objects (all_each _ (λ x. agree x.key) objects))
+
+-- ---- one that names an object fewer
+
+-- the objects that the fewer keys name, which they count
+pub record IsStep (objects : List Object) (keys refs : List ℕ) (new : ObjectSet) : Type 0 where
+  pub tied : AreTied keys refs new.objects
+  pub named : AreThoseNamed objects (keys ++ refs) new.objects
+
+-- one that names the key's object goes, and the object counts one fewer
+pub record IsFewer (k : ℕ) (f : Object → Object) (keys refs fewer_keys fewer_refs : List ℕ) : Type 0 where
+  pub change : IsChange f
+  pub bare : (x : Object) → core (f x) ≡ core x
+  pub one : (n : ℕ) → is_among (keys ++ refs) n ≡ (k == n || is_among (fewer_keys ++ fewer_refs) n)
+  pub own : (x : Object) → (x.key == k) ≡ true → Counts keys refs x → Counts fewer_keys fewer_refs (f x)
+  pub others : (x : Object) → (x.key == k) ≡ false → Counts keys refs x → Counts fewer_keys fewer_refs x
+
+core-changed : (k : ℕ) (f : Object → Object) → ((x : Object) → core (f x) ≡ core x) → (xs : List Object) → map core (at_key k f xs) ≡ map core xs
+core-changed k f h [] = refl
+core-changed k f h (x ∷ xs) =
+    elim (x.key == k) as (λ b. core (if b then f x else x) ∷ map core (at_key k f xs) ≡ core x ∷ map core xs)
+    [ true ↦ ap (λ y. y ∷ map core (at_key k f xs)) (h x) ∙ ap (λ l. core x ∷ l) (core-changed k f h xs) | false ↦ ap (λ l. core x ∷ l) (core-changed k f h xs) ]
+
+other_key : (m n k : ℕ) → (m == k) ≡ true → (n == k) ≡ false → (m == n) ≡ false
+other_key m n k h e = grind (arith, nat_tests)
+
+abbrev without_it : ℕ → List Object → List Object
+without_it k objects = filter (λ (x : Object). not (x.key == k)) objects
+
+find-without : (n k : ℕ) → (n == k) ≡ false → (xs : List Object) → find (is_key n) (without_it k xs) ≡ find (is_key n) xs
+find-without n k h [] = refl
+find-without n k h (x ∷ xs) =
+    elim (x.key == k) as (λ b. (x.key == k) ≡ b → find (is_key n) (cond (not b) (x ∷ without_it k xs) (without_it k xs)) ≡ find (is_key n) (x ∷ xs)) [
+      | true ↦ λ e. find-without n k h xs ∙ ap (λ b. cond b (Some x) (find (is_key n) xs)) (sym (other_key x.key n k e h))
+      | false ↦ λ e. ap (λ r. cond (x.key == n) (Some x) r) (find-without n k h xs)
+    ] refl
+
+all_without : (P Q : Object → Type 0) (k : ℕ) → ((x : Object) → (x.key == k) ≡ false → P x → Q x) → (xs : List Object) → AllByRecursion P xs → AllByRecursion Q (without_it k xs)
+all_without P Q k f [] h = tt
+all_without P Q k f (x ∷ xs) h =
+    elim (x.key == k) as (λ b. (x.key == k) ≡ b → AllByRecursion Q (cond (not b) (x ∷ without_it k xs) (without_it k xs)))
+    [ true ↦ λ e. all_without P Q k f xs h.1 | false ↦ λ e. (f x e h.0, all_without P Q k f xs h.1) ] refl
+
+-- a key that names an object differs from one that names none
+differs : (rest : List ℕ) (k n : ℕ) → is_among rest k ≡ false → is_among rest n ≡ true → (n == k) ≡ false
+differs rest k n h e =
+    elim (n == k) as (λ b. (n == k) ≡ b → b ≡ false) [ true ↦ λ is. absurd (let j : false ≡ true = sym h ∙ ap (is_among rest) (sym (eqb-true n k is)) ∙ e in cc) | false ↦ λ is. refl ] refl
+
+-- of the objects, which are all named, the others are those that the fewer keys name
+left_alone : (rest : List ℕ) (k n : ℕ) → is_among rest k ≡ false → (k == n || is_among rest n) ≡ true → not (n == k) ≡ is_among rest n
+left_alone rest k n h e =
+    elim (n == k) as (λ b. (n == k) ≡ b → not b ≡ is_among rest n) [
+      | true ↦ λ is. sym (ap (is_among rest) (eqb-true n k is) ∙ h)
+      | false ↦ λ is. sym (ap (λ b. b || is_among rest n) (sym (flipped n k is)) ∙ e)
+    ] refl
+
+on_some : {X : Type 0} (o : Option X) (P : Type 0) → is_some o ≡ true → OnSome o P → P
+on_some None P h p = absurd (let e : false ≡ true = h in cc)
+on_some (Some x) P h p = p
+
+stays : (k : ℕ) (f : Object → Object) (keys refs fewer_keys fewer_refs : List ℕ) (set : ObjectSet) → IsFewer k f keys refs fewer_keys fewer_refs → AreTied keys refs set.objects → is_among (fewer_keys ++ fewer_refs) k ≡ true →
+    IsStep set.objects fewer_keys fewer_refs (changed_at k f set)
+stays k f keys refs fewer_keys fewer_refs set is h more =
+    let same = λ (n : ℕ).
+    let a : is_among (fewer_keys ++ fewer_refs) n ≡ is_among (keys ++ refs) n =
+    sym (is.one n ∙ elim (k == n) as (λ b. (k == n) ≡ b → (b || is_among (fewer_keys ++ fewer_refs) n) ≡ is_among (fewer_keys ++ fewer_refs) n)
+    [ true ↦ λ e. sym (ap (is_among (fewer_keys ++ fewer_refs)) (sym (eqb-true k n e)) ∙ more) | false ↦ λ e. refl ] refl) in a in
+    record {
+      tied = changed_tied keys refs fewer_keys fewer_refs k f is.change same is.own is.others set.objects h;
+      named = core-changed k f is.bare set.objects ∙ same_named set.objects (keys ++ refs) (fewer_keys ++ fewer_refs) set.objects (λ n. sym (same n)) (all_named keys refs set.objects h);
+    }
+
+goes : (k : ℕ) (f : Object → Object) (keys refs fewer_keys fewer_refs : List ℕ) (set : ObjectSet) → IsFewer k f keys refs fewer_keys fewer_refs → AreTied keys refs set.objects → is_among (fewer_keys ++ fewer_refs) k ≡ false →
+    IsStep set.objects fewer_keys fewer_refs (without_key k set)
+goes k f keys refs fewer_keys fewer_refs set is h none =
+    let rest = fewer_keys ++ fewer_refs in
+    let named = all_weaker (λ (x : Object). is_among (keys ++ refs) x.key ≡ true) (λ (x : Object). not (x.key == k) ≡ is_among rest x.key) (λ x u. left_alone rest k x.key none (sym (is.one x.key) ∙ u)) set.objects h.used in
+    record {
+      tied = record {
+        there = λ n e. ap is_some (find-without n k (differs rest k n none e) set.objects) ∙ h.there n (is.one n ∙ or_right (k == n) (is_among rest n) e);
+        counted = all_without (Counts keys refs) (Counts fewer_keys fewer_refs) k is.others set.objects h.counted;
+        used = all_without (λ (x : Object). not (x.key == k) ≡ is_among rest x.key) (λ (x : Object). is_among rest x.key ≡ true) k (λ x e u. sym u ∙ ap not e) set.objects named;
+        keys_differ = in_order_filter (λ (x y : Object). (x.key == y.key) ≡ false) _ set.objects h.keys_differ;
+        births_differ = in_order_filter (λ (x y : Object). (x.birth == y.birth) ≡ false) _ set.objects h.births_differ;
+      };
+      named = ap (map core) (filter-same (λ (x : Object). not (x.key == k)) (λ (x : Object). is_among rest x.key) set.objects named);
+    }
+
+dies : (k : ℕ) (f : Object → Object) (keys refs fewer_keys fewer_refs : List ℕ) (set : ObjectSet) → IsFewer k f keys refs fewer_keys fewer_refs → AreTied keys refs set.objects → is_among (fewer_keys ++ fewer_refs) k ≡ false → is_some (dead_after f set k) ≡ true
+dies k f keys refs fewer_keys fewer_refs set is h none =
+    let it = is_found k set.objects (h.there k (is.one k ∙ or_left (k == k) _ (eq-eqb k k refl))) (Counts keys refs) h.counted in
+    let unused : is_unused (f it.0) ≡ true = unused_is fewer_keys fewer_refs (f it.0) k (is.change.key it.0 ∙ it.2) (is.own it.0 (eq-eqb it.0.key k it.2) it.3) ∙ ap not none in
+    ap (λ o. is_some (option_map dead_of o)) (found_passing k (λ x. is_unused (f x)) set.objects it.0 it.1 unused)
+
+lives : (k : ℕ) (f : Object → Object) (keys refs fewer_keys fewer_refs : List ℕ) (set : ObjectSet) → IsFewer k f keys refs fewer_keys fewer_refs → AreTied keys refs set.objects → is_among (fewer_keys ++ fewer_refs) k ≡ true → dead_after f set k ≡ None
+lives k f keys refs fewer_keys fewer_refs set is h more =
+    ap (option_map dead_of) (none_passing k (λ x. is_unused (f x)) set.objects
+    (all_weaker (Counts keys refs) (λ (x : Object). (x.key == k) ≡ true → is_unused (f x) ≡ false) (λ x c e. unused_is fewer_keys fewer_refs (f x) k (is.change.key x ∙ eqb-true x.key k e) (is.own x e c) ∙ ap not more) set.objects h.counted))
+
+-- one fewer, whatever becomes of its object
+pub fewer_step : (k : ℕ) (f : Object → Object) (keys refs fewer_keys fewer_refs : List ℕ) (set new : ObjectSet) (left : Option Dead) → IsFewer k f keys refs fewer_keys fewer_refs → AreTied keys refs set.objects → left ≡ dead_after f set k →
+    OnSome left (new ≡ without_key k set) → IfNone left (new ≡ changed_at k f set) → IsStep set.objects fewer_keys fewer_refs new
+fewer_step k f keys refs fewer_keys fewer_refs set new left is h e gone same =
+    elim (is_among (fewer_keys ++ fewer_refs) k) as (λ b. is_among (fewer_keys ++ fewer_refs) k ≡ b → IsStep set.objects fewer_keys fewer_refs new) [
+      | true ↦ λ more.
+          let now : new ≡ changed_at k f set = subst (λ o. IfNone o (new ≡ changed_at k f set)) (e ∙ lives k f keys refs fewer_keys fewer_refs set is h more) same in
+          subst (IsStep set.objects fewer_keys fewer_refs) (sym now) (stays k f keys refs fewer_keys fewer_refs set is h more)
+      | false ↦ λ none.
+          let now : new ≡ without_key k set = on_some left (new ≡ without_key k set) (ap is_some e ∙ dies k f keys refs fewer_keys fewer_refs set is h none) gone in
+          subst (IsStep set.objects fewer_keys fewer_refs) (sym now) (goes k f keys refs fewer_keys fewer_refs set is h none)
+    ] refl
+
+one_less : (n m : ℕ) → n ≡ suc m → n - 1 ≡ m
+one_less n m h = omega (arith, h)
+
+-- a handle fewer
+pub handle_fewer : (k : ℕ) (keys refs : List ℕ) → IsFewer k unheld (k ∷ keys) refs keys refs
+handle_fewer k keys refs = record {
+  change = record { key = λ x. refl; birth = λ x. refl };
+  bare = λ x. refl;
+  one = λ n. refl;
+  own = λ x e c. (one_less x.holds _ (c.0 ∙ count-it keys k x.key e), c.1);
+  others = λ x e c. (c.0 ∙ count-other keys k x.key e, c.1);
+}
+
+swapped_in : (keys refs : List ℕ) (k n : ℕ) → is_among (keys ++ k ∷ refs) n ≡ (k == n || is_among (keys ++ refs) n)
+swapped_in [] refs k n = refl
+swapped_in (x ∷ keys) refs k n = ap (λ b. x == n || b) (swapped_in keys refs k n) ∙ elim (x == n) as (λ b. (b || (k == n || is_among (keys ++ refs) n)) ≡ (k == n || (b || is_among (keys ++ refs) n)))
+    [ true ↦ sym (or_right (k == n) true refl) | false ↦ refl ]
+
+-- a token or a framebuffer fewer
+pub reference_fewer : (k : ℕ) (keys refs : List ℕ) → IsFewer k unreferred keys (k ∷ refs) keys refs
+reference_fewer k keys refs = record {
+  change = record { key = λ x. refl; birth = λ x. refl };
+  bare = λ x. refl;
+  one = swapped_in keys refs k;
+  own = λ x e c. (c.0, one_less x.refs _ (c.1 ∙ count-it refs k x.key e));
+  others = λ x e c. (c.0, c.1 ∙ count-other refs k x.key e);
+}
+
+-- ---- a new object, which one handle names
+
+find-pushed : (n : ℕ) (y : Object) → (xs : List Object) → is_some (find (is_key n) (xs ++ y ∷ [])) ≡ (is_some (find (is_key n) xs) || y.key == n)
+find-pushed n y [] = elim (y.key == n) as (λ b. is_some (cond b (Some y) None) ≡ b) [ true ↦ refl | false ↦ refl ]
+find-pushed n y (x ∷ xs) =
+    elim (x.key == n) as (λ b. is_some (cond b (Some x) (find (is_key n) (xs ++ y ∷ []))) ≡ (is_some (cond b (Some x) (find (is_key n) xs)) || y.key == n))
+    [ true ↦ refl | false ↦ find-pushed n y xs ]
+
+less-differ : (a b : ℕ) → a < b → (a == b) ≡ false
+less-differ a b h = grind (arith, nat_tests)
+
+fresh_key : (keys refs : List ℕ) (key : ℕ) (objects : List Object) → AreTied keys refs objects → find (is_key key) objects ≡ None → is_among (keys ++ refs) key ≡ false
+fresh_key keys refs key objects h e =
+    elim (is_among (keys ++ refs) key) as (λ b. is_among (keys ++ refs) key ≡ b → b ≡ false) [ true ↦ λ j. absurd (let k : false ≡ true = sym (ap is_some e) ∙ h.there key j in cc) | false ↦ λ j. refl ] refl
+
+neither : (a b : Bool) → (a || b) ≡ false → (a ≡ false) × (b ≡ false)
+neither true b h = absurd (let e : true ≡ false = h in cc)
+neither false b h = (refl, h)
+
+pub created_tied : (keys refs : List ℕ) (objects : List Object) (new : Object) → AreTied keys refs objects → find (is_key new.key) objects ≡ None → AllByRecursion (λ (x : Object). x.birth < new.birth) objects → new.holds ≡ 1 → new.refs ≡ 0 →
+    AreTied (new.key ∷ keys) refs (objects ++ new ∷ [])
+created_tied keys refs objects new h fresh newest one none =
+    let others = other_keys new.key objects fresh in
+    let absent = neither (is_among keys new.key) (is_among refs new.key) (sym (among-append keys refs new.key) ∙ fresh_key keys refs new.key objects h fresh) in
+    let own : Counts (new.key ∷ keys) refs new =
+    (one ∙ sym (count-it keys new.key new.key (eq-eqb new.key new.key refl) ∙ ap (λ n. suc n) (count-absent keys new.key absent.0)), none ∙ sym (count-absent refs new.key absent.1)) in
+    record {
+      there = λ n e. find-pushed n new objects ∙ elim (new.key == n) as (λ b. (b || is_among (keys ++ refs) n) ≡ true → (is_some (find (is_key n) objects) || b) ≡ true) [ true ↦ λ j. or_right _ true refl | false ↦ λ j. or_left _ false (h.there n j) ] e;
+      counted = all_append (Counts (new.key ∷ keys) refs) objects (new ∷ [])
+          (all_both (λ (x : Object). (x.key == new.key) ≡ false) (Counts keys refs) (Counts (new.key ∷ keys) refs) (λ x e c. (c.0 ∙ sym (count-other keys new.key x.key e), c.1)) objects others h.counted) (own, tt);
+      used = all_append (λ (x : Object). is_among (new.key ∷ (keys ++ refs)) x.key ≡ true) objects (new ∷ []) (all_weaker _ _ (λ (x : Object) u. among-more (keys ++ refs) new.key x.key u) objects h.used) (among-first (keys ++ refs) new.key, tt);
+      keys_differ = in_order_append (λ (x y : Object). (x.key == y.key) ≡ false) objects new h.keys_differ others;
+      births_differ = in_order_append (λ (x y : Object). (x.birth == y.birth) ≡ false) objects new h.births_differ (all_weaker _ _ (λ x less. less-differ x.birth new.birth less) objects newest);
+    }

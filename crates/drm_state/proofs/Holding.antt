@@ -1,0 +1,141 @@
+-- Handles in the order of their clients and numbers.
+use Rattle.std.proofs.Common.{◌≡◌, ℕ, suc, ◌==◌, nat_le, Bool, true, false, not, cond, ◌&&◌, ◌||◌, List, [], ◌∷◌, ◌++◌, map, filter, find, length, Some, None, refl, sym, ◌∙◌, ap, subst, arith, eq-eqb}
+use Rattle.std.specs.List.{list_any, AllByRecursion}
+use Rattle.std.specs.Option.{option_map}
+use Rattle.std.proofs.lemmas.Bool.Decides.{nat_tests}
+use Rattle.drm_files.specs.declared.rows.FileHold.{FileHold}
+use Rattle.drm_files.specs.Files.{FileLists, is_hold, of_client, hold_before, placed, handles_of, free_handle}
+use Rattle.drm_index_array.proofs.Least.{least_some}
+use Rattle.drm_model.specs.Orders.{SameRows, InOrder}
+use Rattle.drm_model.specs.Numbers.{is_among}
+use Rattle.drm_model.proofs.Lists.{all_weaker, all_append, is_some-find, is_among-map_filter}
+use Rattle.drm_model.proofs.Orders.{RisesTo, all_filter, in_order_filter, same-trans, same-refl}
+use Rattle.drm_state.specs.Parts.{keys_of}
+use Rattle.drm_state.proofs.Booleans.{filter_true, all_both}
+
+abbrev AreInOrder : List FileHold → Type 0
+AreInOrder holds = InOrder (λ x y. hold_before x y ≡ true) holds
+
+-- ---- the same rows in another order
+
+pub same-cons : {X : Type 0} (x : X) (xs ys : List X) → SameRows xs ys → SameRows (x ∷ xs) (x ∷ ys)
+same-cons x xs ys h = λ test. elim (test x) as (λ b. length (cond b (x ∷ filter test xs) (filter test xs)) ≡ length (cond b (x ∷ filter test ys) (filter test ys))) [ true ↦ ap (λ n. suc n) (h test) | false ↦ h test ]
+
+same-swap : {X : Type 0} (x y : X) (xs : List X) → SameRows (x ∷ y ∷ xs) (y ∷ x ∷ xs)
+same-swap x y xs = λ test. elim (test x) as (λ b. length (cond b (x ∷ cond (test y) (y ∷ filter test xs) (filter test xs)) (cond (test y) (y ∷ filter test xs) (filter test xs))) ≡ length (cond (test y) (y ∷ cond b (x ∷ filter test xs) (filter test xs)) (cond b (x ∷ filter test xs) (filter test xs)))) [
+  | true ↦ elim (test y) as (λ d. length (x ∷ cond d (y ∷ filter test xs) (filter test xs)) ≡ length (cond d (y ∷ x ∷ filter test xs) (x ∷ filter test xs))) [ true ↦ refl | false ↦ refl ]
+  | false ↦ refl
+]
+
+pub moved_in : {X : Type 0} (x : X) → (xs ys : List X) → SameRows (x ∷ (xs ++ ys)) (xs ++ x ∷ ys)
+moved_in x [] ys = λ test. refl
+moved_in x (y ∷ xs) ys = same-trans (x ∷ y ∷ (xs ++ ys)) (y ∷ x ∷ (xs ++ ys)) (y ∷ (xs ++ x ∷ ys)) (same-swap x y (xs ++ ys)) (same-cons y (x ∷ (xs ++ ys)) (xs ++ x ∷ ys) (moved_in x xs ys))
+
+-- those that pass, and those that don't
+pub same_parts : {X : Type 0} (p : X → Bool) → (xs : List X) → SameRows xs (filter p xs ++ filter (λ x. not (p x)) xs)
+same_parts p [] = λ test. refl
+same_parts {X = X} p (x ∷ xs) =
+    let yes_part = filter p xs in
+    let no_part = filter (λ x. not (p x)) xs in
+    elim (p x) as (λ b. SameRows (x ∷ xs) (cond b (x ∷ yes_part) yes_part ++ cond (not b) (x ∷ no_part) no_part)) [
+      | true ↦ same-cons x xs (yes_part ++ no_part) (same_parts p xs)
+      | false ↦ same-trans (x ∷ xs) (x ∷ (yes_part ++ no_part)) (yes_part ++ x ∷ no_part) (same-cons x xs (yes_part ++ no_part) (same_parts p xs)) (moved_in x yes_part no_part)
+    ]
+
+-- one more handle, where it belongs
+pub same_placed : (h : FileHold) (hs : List FileHold) → SameRows (h ∷ hs) (placed hold_before h hs)
+same_placed h hs =
+    let before = filter (λ y. hold_before y h) hs in
+    let behind = filter (λ y. not (hold_before y h)) hs in
+    same-trans (h ∷ hs) (h ∷ (before ++ behind)) (before ++ h ∷ behind) (same-cons h hs (before ++ behind) (same_parts (λ y. hold_before y h) hs)) (moved_in h before behind)
+
+before-trans : (x y z : FileHold) → hold_before x y ≡ true → hold_before y z ≡ true → hold_before x z ≡ true
+before-trans x y z h k = grind (arith, nat_tests)
+
+before-other : (x y : FileHold) → is_hold y.client y.handle x ≡ false → not (hold_before x y) ≡ true → hold_before y x ≡ true
+before-other x y h k = grind (arith, nat_tests)
+
+in_order_join : (y : FileHold) (zs : List FileHold) → AllByRecursion (λ z. hold_before y z ≡ true) zs → AreInOrder zs → (xs : List FileHold) → AllByRecursion (λ x. hold_before x y ≡ true) xs → AreInOrder xs → AreInOrder (xs ++ y ∷ zs)
+in_order_join y zs e k [] h o = (e, k)
+in_order_join y zs e k (x ∷ xs) h o = (
+  all_append (λ z. hold_before x z ≡ true) xs (y ∷ zs) o.0 (h.0, all_weaker (λ z. hold_before y z ≡ true) (λ z. hold_before x z ≡ true) (λ z j. before-trans x y z h.0 j) zs e),
+  in_order_join y zs e k xs h.1 o.1,
+)
+
+pub in_order_placed : (y : FileHold) (hs : List FileHold) → AreInOrder hs → AllByRecursion (λ x. is_hold y.client y.handle x ≡ false) hs → AreInOrder (placed hold_before y hs)
+in_order_placed y hs o new =
+    let behind = filter (λ z. not (hold_before z y)) hs in
+    in_order_join y behind
+    (all_both (λ z. is_hold y.client y.handle z ≡ false) (λ z. not (hold_before z y) ≡ true) (λ z. hold_before y z ≡ true) (λ z e k. before-other z y e k) behind (all_filter (λ z. is_hold y.client y.handle z ≡ false) (λ z. not (hold_before z y)) hs new) (filter_true (λ z. not (hold_before z y)) hs))
+    (in_order_filter (λ x z. hold_before x z ≡ true) (λ z. not (hold_before z y)) hs o)
+    (filter (λ z. hold_before z y) hs) (filter_true (λ z. hold_before z y) hs) (in_order_filter (λ x z. hold_before x z ≡ true) (λ z. hold_before z y) hs o)
+
+none_passes : (p : FileHold → Bool) → (xs : List FileHold) → list_any p xs ≡ false → AllByRecursion (λ x. p x ≡ false) xs
+none_passes p [] h = tt
+none_passes p (x ∷ xs) h =
+    elim (p x) as (λ b. p x ≡ b → (b || list_any p xs) ≡ false → (p x ≡ false) × AllByRecursion (λ x. p x ≡ false) xs)
+    [ true ↦ λ e k. absurd (let no : true ≡ false = k in cc) | false ↦ λ e k. (e, none_passes p xs k) ] refl h
+
+not_true : (b : Bool) → not b ≡ true → b ≡ false
+not_true true h = sym h
+not_true false h = refl
+
+-- no handle is the free one
+pub free_is_new : (files : FileLists) (c n : ℕ) → free_handle files c ≡ Some n → AllByRecursion (λ (x : FileHold). is_hold c n x ≡ false) files.holds
+free_is_new files c n h =
+    none_passes (is_hold c n) files.holds
+    (sym (is_some-find (is_hold c n) files.holds) ∙ sym (is_among-map_filter (of_client c) (λ (x : FileHold). x.handle) n files.holds)
+    ∙ not_true (is_among (handles_of files c) n) (least_some (λ k. not (is_among (handles_of files c) k)) 1 files.last_handle n h).passes)
+
+-- ---- what a handle names
+
+key_after : (x z : FileHold) (c n : ℕ) → is_hold c n x ≡ true → hold_before x z ≡ true → is_hold c n z ≡ false
+key_after x z c n h k = grind (arith, nat_tests)
+
+keeps_rest : (x : FileHold) (c n : ℕ) → is_hold c n x ≡ true → (xs : List FileHold) → AllByRecursion (λ z. hold_before x z ≡ true) xs → filter (λ (z : FileHold). not (is_hold c n z)) xs ≡ xs
+keeps_rest x c n h [] k = refl
+keeps_rest x c n h (z ∷ zs) k = ap (λ b. cond (not b) (z ∷ filter (λ (z : FileHold). not (is_hold c n z)) zs) (filter (λ (z : FileHold). not (is_hold c n z)) zs)) (key_after x z c n h k.0) ∙ ap (λ l. z ∷ l) (keeps_rest x c n h zs k.1)
+
+pub one_goes : (c n key : ℕ) → (hs : List FileHold) → InOrder (λ x y. hold_before x y ≡ true) hs → Some key ≡ option_map (λ (x : FileHold). x.object) (find (is_hold c n) hs) → SameRows (keys_of hs) (key ∷ keys_of (filter (λ (z : FileHold). not (is_hold c n z)) hs))
+one_goes c n key [] h e = absurd (let k : Some key ≡ None = e in cc)
+one_goes c n key (x ∷ xs) h e =
+    let rest = filter (λ (z : FileHold). not (is_hold c n z)) xs in
+    elim (is_hold c n x) as (λ b. is_hold c n x ≡ b → Some key ≡ option_map (λ (x : FileHold). x.object) (cond b (Some x) (find (is_hold c n) xs)) → SameRows (keys_of (x ∷ xs)) (key ∷ keys_of (cond (not b) (x ∷ rest) rest))) [
+      | true ↦ λ is f.
+          let same : key ≡ x.object = let k : Some key ≡ Some x.object = f in cc in
+          subst (λ k. SameRows (keys_of (x ∷ xs)) (k ∷ keys_of rest)) (sym same) (subst (λ l. SameRows (x.object ∷ keys_of xs) (x.object ∷ keys_of l)) (sym (keeps_rest x c n is xs h.0)) (same-refl (x.object ∷ keys_of xs)))
+      | false ↦ λ is f.
+          same-trans (x.object ∷ keys_of xs) (x.object ∷ key ∷ keys_of rest) (key ∷ x.object ∷ keys_of rest) (same-cons x.object (keys_of xs) (key ∷ keys_of rest) (one_goes c n key xs h.1 f)) (same-swap x.object key (keys_of rest))
+    ] refl e
+
+-- the holds of a key name one object
+pub one_object : (c n : ℕ) (number : ℕ → ℕ) → (xs : List FileHold) → AreInOrder xs → (y : FileHold) → find (is_hold c n) xs ≡ Some y → list_any (λ (x : FileHold). is_hold c n x && not (number x.object == number y.object)) xs ≡ false
+one_object c n number [] k y e = refl
+one_object c n number (x ∷ xs) k y e =
+    elim (is_hold c n x) as (λ b. is_hold c n x ≡ b → cond b (Some x) (find (is_hold c n) xs) ≡ Some y → ((b && not (number x.object == number y.object)) || list_any (λ (x : FileHold). is_hold c n x && not (number x.object == number y.object)) xs) ≡ false) [
+      | true ↦ λ is j.
+          let same : x ≡ y = let s : Some x ≡ Some y = j in cc in
+          let first : not (number x.object == number y.object) ≡ false = ap (λ (z : FileHold). not (number z.object == number y.object)) same ∙ ap not (eq-eqb (number y.object) (number y.object) refl) in
+          rw first (none_alike x is xs k.0)
+      | false ↦ λ is j. one_object c n number xs k.1 y j
+    ] refl e
+  where
+    none_alike : (x : FileHold) → is_hold c n x ≡ true → (zs : List FileHold) → AllByRecursion (λ z. hold_before x z ≡ true) zs → list_any (λ (z : FileHold). is_hold c n z && not (number z.object == number y.object)) zs ≡ false
+    none_alike x is [] k = refl
+    none_alike x is (z ∷ zs) k = rw (key_after x z c n is k.0) (none_alike x is zs k.1)
+
+handle_after : (x z : FileHold) (c : ℕ) → of_client c x ≡ true → of_client c z ≡ true → hold_before x z ≡ true → RisesTo nat_le x.handle z.handle
+handle_after x z c e f h = (grind (arith, nat_tests), grind (arith, nat_tests))
+
+later_handles : (x : FileHold) (c : ℕ) → of_client c x ≡ true → (xs : List FileHold) → AllByRecursion (λ z. hold_before x z ≡ true) xs → AllByRecursion (RisesTo nat_le x.handle) (map (λ (x : FileHold). x.handle) (filter (of_client c) xs))
+later_handles x c e [] h = tt
+later_handles x c e (z ∷ zs) h =
+    elim (of_client c z) as (λ b. of_client c z ≡ b → AllByRecursion (RisesTo nat_le x.handle) (map (λ (x : FileHold). x.handle) (cond b (z ∷ filter (of_client c) zs) (filter (of_client c) zs))))
+    [ true ↦ λ f. (handle_after x z c e f h.0, later_handles x c e zs h.1) | false ↦ λ f. later_handles x c e zs h.1 ] refl
+
+-- handles of one client rise
+pub handles_rise : (c : ℕ) → (xs : List FileHold) → AreInOrder xs → InOrder (RisesTo nat_le) (map (λ (x : FileHold). x.handle) (filter (of_client c) xs))
+handles_rise c [] h = tt
+handles_rise c (x ∷ xs) h =
+    elim (of_client c x) as (λ b. of_client c x ≡ b → InOrder (RisesTo nat_le) (map (λ (x : FileHold). x.handle) (cond b (x ∷ filter (of_client c) xs) (filter (of_client c) xs))))
+    [ true ↦ λ e. (later_handles x c e xs h.0, handles_rise c xs h.1) | false ↦ λ e. handles_rise c xs h.1 ] refl

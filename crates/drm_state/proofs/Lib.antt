@@ -1,0 +1,12 @@
+pub mod Booleans
+pub mod Counting
+pub mod Members
+pub mod Represented
+pub mod Naming
+pub mod Holding
+pub mod Flat
+pub mod Sweeps
+pub mod Outcomes
+pub mod Lookups
+pub mod Contents
+pub mod Made

@@ -1,0 +1,36 @@
+-- What look-ups find in the rows, by what they find in the parts.
+use Rattle.std.proofs.Common.{◌≡◌, ℕ, find, None, Some, ◌∙◌, ap, false, ◌&&◌}
+use Rattle.std.specs.Option.{option_map, is_some}
+use Rattle.drm_files.specs.declared.rows.FileFlags.{FileFlags}
+use Rattle.drm_files.specs.declared.rows.FileClient.{FileClient}
+use Rattle.drm_files.specs.Files as files
+use Rattle.drm_model.specs.Rows.{Rows, client_row, is_client, is_open}
+use Rattle.drm_model.specs.Masters.{is_owner, standing_in}
+use Rattle.drm_model.proofs.Lists.{find-map, is_some-map}
+use Rattle.drm_state.specs.declared.state.State.{State}
+use Rattle.drm_state.specs.Parts.{member_of, client_row_by, client_row_of, masters_of}
+use Rattle.drm_state.specs.Refinement.{Represents, is_current}
+use Rattle.drm_state.proofs.Represented.{clients_are, masters_are, device_master_is}
+use Rattle.drm_state.proofs.Members.{row_found, not_found}
+
+client_found : (s : State) (w : Rows) → Represents s w → (c : ℕ) → client_row w c ≡ option_map (client_row_of s.members.items) (find (files.is_client c) s.files.clients)
+client_found s w h c = ap (find (is_client c)) (clients_are s w h) ∙ find-map (is_client c) (client_row_of s.members.items) s.files.clients
+
+pub is_open_is : (s : State) (w : Rows) → Represents s w → (c : ℕ) → is_open w c ≡ files.is_present s.files c
+is_open_is s w h c = ap is_some (client_found s w h c) ∙ is_some-map (client_row_of s.members.items) (find (files.is_client c) s.files.clients)
+
+-- the row of a client whose flags were looked up
+pub client_row_is : (s : State) (w : Rows) → Represents s w → (c : ℕ) (flags : FileFlags) → Some flags ≡ option_map (λ (f : FileClient). f.flags) (find (files.is_client c) s.files.clients) →
+    client_row w c ≡ Some (client_row_by (record { client = c; flags = flags }) (member_of s.members.items c))
+client_row_is s w h c flags e = client_found s w h c ∙ row_found c flags s.members.items s.files.clients e
+
+pub no_client : (s : State) (w : Rows) → Represents s w → (c : ℕ) → None ≡ option_map (λ (f : FileClient). f.flags) (find (files.is_client c) s.files.clients) → is_open w c ≡ false
+no_client s w h c e = is_open_is s w h c ∙ not_found c s.files.clients e
+
+-- what the tests of a row's flags ask of the client
+pub standing_is : (s : State) (w : Rows) → Represents s w → (c : ℕ) (flags : FileFlags) → standing_in w (Some (client_row_by (record { client = c; flags = flags }) (member_of s.members.items c))) ≡
+    record { root = flags.root; render = flags.render; authenticated = flags.authenticated; current = is_current s c }
+standing_is s w h c flags =
+    let m = member_of s.members.items c in
+    ap (λ rows. record { root = flags.root; render = flags.render; authenticated = flags.authenticated; current = m.is_master && is_owner rows w.device_master m.master }) (masters_are s w h)
+    ∙ ap (λ device. record { root = flags.root; render = flags.render; authenticated = flags.authenticated; current = m.is_master && is_owner (masters_of s) device m.master }) (device_master_is s w h)

@@ -1,0 +1,144 @@
+-- What a new buffer leaves of the parts.
+use Rattle.std.proofs.Common.{◌≡◌, ℕ, ◌==◌, Bool, true, false, cond, not, ◌&&◌, List, [], ◌∷◌, ◌++◌, map, filter, find, Option, Some, None, refl, sym, ap, ◌∙◌, subst, eq-eqb}
+use Rattle.std.specs.Prelude.{nat_le, ⊤, unwrap_or}
+use Rattle.std.specs.List.{AllByRecursion}
+use Rattle.std.specs.Option.{is_some, option_map, option_map_or, OnSome}
+use Rattle.drm_gem.specs.declared.object.Object.{Object}
+use Rattle.drm_gem.specs.declared.object.Dead.{Dead}
+use Rattle.drm_gem.specs.Objects as gem
+use Rattle.drm_gem.specs.Objects.{ObjectSet, IsNewBirth, is_key, object_at, passes, without_key, unheld, is_unused, dead_of, dead_after}
+use Rattle.drm_files.specs.declared.rows.FileHold.{FileHold}
+use Rattle.drm_files.specs.Files as files
+use Rattle.drm_files.specs.Files.{hold_before, placed, with_hold, hold}
+use Rattle.drm_index_array.specs.Least.{least}
+use Rattle.drm_index_array.proofs.Least.{least-same}
+use Rattle.drm_model.specs.Numbers.{is_among}
+use Rattle.drm_model.specs.Orders.{SameRows}
+use Rattle.drm_model.specs.Rows.{Rows, HoldRow, hold_row, is_hold, handles_of, free_handle, birth}
+use Rattle.drm_model.specs.Buffers.{with_object}
+use Rattle.drm_model.proofs.Lists.{all_weaker, map-append, is_some-find, list_any-map, is_among-map_filter}
+use Rattle.drm_model.proofs.Orders.{same-map, same-trans, same-refl, same-any, same-sym}
+use Rattle.drm_state.specs.declared.state.State.{State}
+use Rattle.drm_state.specs.Parts.{birth_at, hold_row_by, hold_row_of, object_row_of, holds_of, keys_of, referring_keys}
+use Rattle.drm_state.specs.Ties.{Tie, HoldsRise, ObjectsCounted, is_tied, IsTied}
+use Rattle.drm_model.specs.Parts.{Part, Holds, Objects}
+use Rattle.drm_state.specs.Refinement.{stands_for, Represents, Stands}
+use Rattle.drm_state.proofs.Represented.{limits_are, holds_are, objects_are, holds_rise, objects_counted}
+use Rattle.drm_state.proofs.Booleans.{all_each}
+use Rattle.drm_state.proofs.Counting.{is_found, other_keys, among-more, among-first, among-left, same_tied, created_tied}
+use Rattle.drm_state.proofs.Naming.{same_numbers}
+use Rattle.drm_state.proofs.Holding.{same-cons, moved_in, same_placed, in_order_placed, free_is_new}
+
+abbrev pub new_object : ℕ → ℕ → ℕ → Object
+new_object key birth size = record { key = key; birth = birth; size = size; stamp = 0; holds = 1; refs = 0 }
+
+-- ---- a new object is taken back
+
+find_last : (p : Object → Bool) (y : Object) → p y ≡ true → (xs : List Object) → AllByRecursion (λ x. p x ≡ false) xs → find p (xs ++ y ∷ []) ≡ Some y
+find_last p y e [] h = ap (λ b. cond b (Some y) None) e
+find_last p y e (x ∷ xs) h = ap (λ b. cond b (Some x) (find p (xs ++ y ∷ []))) h.0 ∙ find_last p y e xs h.1
+
+drop_last : (key : ℕ) (y : Object) → (y.key == key) ≡ true → (xs : List Object) → AllByRecursion (λ (x : Object). (x.key == key) ≡ false) xs → filter (λ (x : Object). not (x.key == key)) (xs ++ y ∷ []) ≡ xs
+drop_last key y e [] h = ap (λ b. cond (not b) (y ∷ []) []) e
+drop_last key y e (x ∷ xs) h =
+    ap (λ b. cond (not b) (x ∷ filter (λ (x : Object). not (x.key == key)) (xs ++ y ∷ [])) (filter (λ (x : Object). not (x.key == key)) (xs ++ y ∷ []))) h.0 ∙ ap (λ l. x ∷ l) (drop_last key y e xs h.1)
+
+pub made_there : (old set : ObjectSet) (key birth size : ℕ) → object_at old key ≡ None → set ≡ gem.with_object old key birth size → passes (λ x. nat_le 1 x.holds) set key ≡ true
+made_there old set key birth size fresh e =
+    ap (λ (o : ObjectSet). passes (λ x. nat_le 1 x.holds) o key) e
+    ∙ ap (λ o. option_map_or (λ (x : Object). nat_le 1 x.holds) o false) (find_last (is_key key) (new_object key birth size) (eq-eqb key key refl) old.objects (other_keys key old.objects fresh))
+
+and_no : (a b : Bool) → a ≡ false → (a && b) ≡ false
+and_no true b h = absurd (let e : true ≡ false = h in cc)
+and_no false b h = refl
+
+on_some : {X : Type 0} (o : Option X) (P : Type 0) → is_some o ≡ true → OnSome o P → P
+on_some None P h p = absurd (let e : false ≡ true = h in cc)
+on_some (Some x) P h p = p
+
+pub taken_back : (old set new : ObjectSet) (key birth size : ℕ) (left : Option Dead) → object_at old key ≡ None → set ≡ gem.with_object old key birth size → left ≡ dead_after unheld set key → OnSome left (new ≡ without_key key set) → new ≡ old
+taken_back old set new key birth size left fresh e is gone =
+    let others = other_keys key old.objects fresh in
+    let x = new_object key birth size in
+    let test = λ (z : Object). is_key key z && is_unused (unheld z) in
+    let found : find test (old.objects ++ x ∷ []) ≡ Some x = find_last test x (ap (λ b. b && true) (eq-eqb key key refl)) old.objects (all_weaker (λ (z : Object). (z.key == key) ≡ false) (λ z. test z ≡ false) (λ z h. and_no (z.key == key) (is_unused (unheld z)) h) old.objects others) in
+    let some : is_some left ≡ true = ap is_some (is ∙ ap (λ (o : ObjectSet). dead_after unheld o key) e) ∙ ap (λ o. is_some (option_map dead_of o)) found in
+    on_some left (new ≡ without_key key set) some gone ∙ ap (without_key key) e ∙ ap (λ os. record old { objects = os }) (drop_last key x (eq-eqb key key refl) old.objects others)
+
+-- ---- which handle is free
+
+pub hold_row_is : (s : State) (w : Rows) → Represents s w → (c n : ℕ) → is_some (hold_row w c n) ≡ is_some (find (files.is_hold c n) s.files.holds)
+hold_row_is s w h c n =
+    is_some-find (is_hold c n) w.holds ∙ same-any (is_hold c n) w.holds (holds_of s) (holds_are s w h) ∙ list_any-map (is_hold c n) (hold_row_of s.objects.objects) s.files.holds ∙ sym (is_some-find (files.is_hold c n) s.files.holds)
+
+handles_are : (s : State) (w : Rows) → Represents s w → (c n : ℕ) → is_among (handles_of w c) n ≡ is_among (files.handles_of s.files c) n
+handles_are s w h c n =
+    is_among-map_filter (λ (row : HoldRow). row.client == c) (λ (row : HoldRow). row.handle) n w.holds ∙ hold_row_is s w h c n
+    ∙ sym (is_among-map_filter (files.of_client c) (λ (x : FileHold). x.handle) n s.files.holds)
+
+pub free_handle_is : (s : State) (w : Rows) → Represents s w → (c : ℕ) → free_handle w c ≡ files.free_handle s.files c
+free_handle_is s w h c =
+    least-same (λ n. not (is_among (handles_of w c) n)) (λ n. not (is_among (files.handles_of s.files c) n)) 1 w.limits.handles (λ n _ _. ap not (handles_are s w h c n))
+    ∙ ap (least (λ n. not (is_among (files.handles_of s.files c) n)) 1) (sym (limits_are s w h).1)
+
+-- ---- numbers with one more object
+
+find_pushed : (k : ℕ) (y z : Object) → (xs : List Object) → find (is_key k) xs ≡ Some z → find (is_key k) (xs ++ y ∷ []) ≡ Some z
+find_pushed k y z [] h = absurd (let e : None ≡ Some z = h in cc)
+find_pushed k y z (x ∷ xs) h = elim (x.key == k) as (λ b. cond b (Some x) (find (is_key k) xs) ≡ Some z → cond b (Some x) (find (is_key k) (xs ++ y ∷ [])) ≡ Some z) [ true ↦ λ e. e | false ↦ λ e. find_pushed k y z xs e ] h
+
+number_kept : (k : ℕ) (y : Object) (xs : List Object) → is_some (find (is_key k) xs) ≡ true → birth_at (xs ++ y ∷ []) k ≡ birth_at xs k
+number_kept k y xs h =
+    let it = is_found k xs h (λ x. ⊤) (all_each _ (λ x. tt) xs) in
+    ap (λ o. option_map_or (λ (x : Object). x.birth) o 0) (find_pushed k y it.0 xs it.1 ∙ sym it.1)
+
+holds_kept : (y : Object) (objects : List Object) → (hs : List FileHold) → ((n : ℕ) → is_among (keys_of hs) n ≡ true → is_some (find (is_key n) objects) ≡ true) → map (hold_row_of (objects ++ y ∷ [])) hs ≡ map (hold_row_of objects) hs
+holds_kept y objects hs f = same_numbers hold_row_by (λ (x : FileHold). x.object) objects (objects ++ y ∷ []) hs (λ n e. number_kept n y objects (f n e))
+
+new_number : (key birth size : ℕ) (objects : List Object) → find (is_key key) objects ≡ None → birth_at (objects ++ new_object key birth size ∷ []) key ≡ birth
+new_number key birth size objects fresh = ap (λ o. option_map_or (λ (x : Object). x.birth) o 0) (find_last (is_key key) (new_object key birth size) (eq-eqb key key refl) objects (other_keys key objects fresh))
+
+last_first : {X : Type 0} (xs : List X) (x : X) → SameRows (xs ++ x ∷ []) (x ∷ xs)
+last_first {X = X} xs x = same-trans (xs ++ x ∷ []) (x ∷ (xs ++ [])) (x ∷ xs) (same-sym (x ∷ (xs ++ [])) (xs ++ x ∷ []) (moved_in x xs [])) (subst (λ l. SameRows (x ∷ l) (x ∷ xs)) (sym (nothing_more xs)) (same-refl (x ∷ xs)))
+  where
+    nothing_more : (ys : List X) → ys ++ [] ≡ ys
+    nothing_more [] = refl
+    nothing_more (y ∷ ys) = ap (λ l. y ∷ l) (nothing_more ys)
+
+-- the state with a new object and a handle of it
+abbrev pub with_made : State → ℕ → ℕ → ℕ → ℕ → ℕ → State
+with_made s c handle key birth size = record s { files = with_hold s.files (hold c handle key None); objects = gem.with_object s.objects key birth size }
+
+pub made : (s : State) (w : Rows) (c handle key b size : ℕ) → IsTied s → Stands s b w → object_at s.objects key ≡ None → files.free_handle s.files c ≡ Some handle → (part : Part) → stands_for part (with_made s c handle key b size) (with_object w c size)
+unfolding stands_for with_object
+made s w c handle key b size t h fresh free Objects =
+    ap (λ rows. rows ++ record { object = birth w; size = size; stamp = 0 } ∷ []) (objects_are s w h.rows) ∙ ap (λ n. map object_row_of s.objects.objects ++ record { object = n; size = size; stamp = 0 } ∷ []) h.birth_is
+    ∙ sym (map-append object_row_of s.objects.objects (new_object key b size ∷ []))
+made s w c handle key b size t h fresh free Holds =
+    let y : FileHold = hold c handle key None in
+    let objects = s.objects.objects ++ new_object key b size ∷ [] in
+    let row : HoldRow = record { client = c; handle = handle; object = b; place = None } in
+    let number : unwrap_or (free_handle w c) 0 ≡ handle = ap (λ o. unwrap_or o 0) (free_handle_is s w h.rows c ∙ free) in
+    let named : map (hold_row_of objects) (y ∷ s.files.holds) ≡ row ∷ holds_of s =
+    ap (λ n. record { client = c; handle = handle; object = n; place = None } ∷ map (hold_row_of objects) s.files.holds) (new_number key b size s.objects.objects fresh)
+    ∙ ap (λ l. row ∷ l) (holds_kept (new_object key b size) s.objects.objects s.files.holds (λ n e. (objects_counted s t).there n (among-left (keys_of s.files.holds) (referring_keys s) n e))) in
+    let placed_rows : SameRows (row ∷ holds_of s) (map (hold_row_of objects) (placed hold_before y s.files.holds)) =
+    subst (λ l. SameRows l (map (hold_row_of objects) (placed hold_before y s.files.holds))) named (same-map (hold_row_of objects) (y ∷ s.files.holds) (placed hold_before y s.files.holds) (same_placed y s.files.holds)) in
+    let more : SameRows (w.holds ++ row ∷ []) (map (hold_row_of objects) (placed hold_before y s.files.holds)) =
+    same-trans (w.holds ++ row ∷ []) (row ∷ w.holds) _ (last_first w.holds row) (same-trans (row ∷ w.holds) (row ∷ holds_of s) _ (same-cons row w.holds (holds_of s) (holds_are s w h.rows)) placed_rows) in
+    let numbered : HoldRow = record { client = c; handle = unwrap_or (free_handle w c) 0; object = b; place = None } in
+    let first : row ≡ numbered = ap (λ n. record { client = c; handle = n; object = b; place = None }) (sym number) in
+    let new : numbered ≡ record { client = c; handle = unwrap_or (free_handle w c) 0; object = birth w; place = None } = ap (λ n. record { client = c; handle = unwrap_or (free_handle w c) 0; object = n; place = None }) (sym h.birth_is) in
+    let longer = ap (λ (r : HoldRow). w.holds ++ r ∷ []) (first ∙ new) in
+    subst (λ rows. SameRows rows (map (hold_row_of objects) (placed hold_before y s.files.holds))) longer more
+made s w c handle key b size t h fresh free part = h.rows part
+
+pub made_tied : (s : State) (c handle key b size : ℕ) → IsTied s → IsNewBirth s.objects b → object_at s.objects key ≡ None → files.free_handle s.files c ≡ Some handle → (tie : Tie) → is_tied tie (with_made s c handle key b size)
+unfolding is_tied
+made_tied s c handle key b size t newest fresh free HoldsRise = in_order_placed (hold c handle key None) s.files.holds (holds_rise s t) (free_is_new s.files c handle free)
+made_tied s c handle key b size t newest fresh free ObjectsCounted =
+    let y : FileHold = hold c handle key None in
+    same_tied (key ∷ keys_of s.files.holds) (keys_of (placed hold_before y s.files.holds)) (referring_keys s) (s.objects.objects ++ new_object key b size ∷ [])
+    (same-map (λ (x : FileHold). x.object) (y ∷ s.files.holds) (placed hold_before y s.files.holds) (same_placed y s.files.holds))
+    (created_tied (keys_of s.files.holds) (referring_keys s) s.objects.objects (new_object key b size) (objects_counted s t) fresh newest refl refl)
+made_tied s c handle key b size t newest fresh free tie = t tie

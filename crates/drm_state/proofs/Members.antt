@@ -1,0 +1,193 @@
+-- The rows of clients, by their files and how they stand to masters.
+use Rattle.std.proofs.Common.{◌≡◌, ℕ, ◌<◌, ◌==◌, Bool, true, false, cond, not, ◌||◌, List, [], ◌∷◌, ◌++◌, map, filter, find, Option, Some, None, refl, sym, ap, ◌∙◌, subst, arith, eq-eqb}
+use Rattle.std.specs.Prelude.{unwrap_or}
+use Rattle.std.specs.List.{list_any, AllByRecursion}
+use Rattle.std.specs.Option.{is_some, option_map}
+use Rattle.std.proofs.lemmas.Bool.{eqb-true}
+use Rattle.std.proofs.lemmas.Bool.Decides.{nat_tests}
+use Rattle.drm_files.specs.declared.rows.FileFlags.{FileFlags}
+use Rattle.drm_files.specs.declared.rows.FileClient.{FileClient}
+use Rattle.drm_files.specs.Files.{is_client}
+use Rattle.drm_model.specs.Rows.{ClientRow, is_option}
+use Rattle.drm_model.specs.Orders.{InOrder}
+use Rattle.drm_model.proofs.Lists.{all_weaker, map-append, list_any-map}
+use Rattle.drm_state.specs.declared.state.Member.{Member}
+use Rattle.drm_state.specs.Parts.{no_member, member_of, client_row_by, client_row_of}
+use Rattle.drm_state.proofs.Booleans.{or_left, or_right, list_any_gives, some_passing, same_truth, both_all, all_both}
+
+abbrev is_of : ℕ → Member → Bool
+is_of c m = m.client == c
+
+abbrev IsThere : List FileClient → Member → Type 0
+IsThere fs m = is_some (find (is_client m.client) fs) ≡ true
+
+-- the row of a client that was looked up
+pub row_found : (c : ℕ) (flags : FileFlags) (ms : List Member) → (fs : List FileClient) → Some flags ≡ option_map (λ (f : FileClient). f.flags) (find (is_client c) fs) →
+    option_map (client_row_of ms) (find (is_client c) fs) ≡ Some (client_row_by (record { client = c; flags = flags }) (member_of ms c))
+row_found c flags ms [] e = absurd (let n : Some flags ≡ None = e in cc)
+row_found c flags ms (f ∷ fs) e =
+    elim (f.client == c) as (λ b. (f.client == c) ≡ b → Some flags ≡ option_map (λ (f : FileClient). f.flags) (cond b (Some f) (find (is_client c) fs)) → option_map (client_row_of ms) (cond b (Some f) (find (is_client c) fs)) ≡ Some (client_row_by (record { client = c; flags = flags }) (member_of ms c))) [
+      | true ↦ λ is j.
+          let same : f.flags ≡ flags = let s : Some flags ≡ Some f.flags = j in cc in
+          ap (λ n. Some (client_row_by (record { client = n; flags = f.flags }) (member_of ms n))) (eqb-true f.client c is) ∙ ap (λ g. Some (client_row_by (record { client = c; flags = g }) (member_of ms c))) same
+      | false ↦ λ is j. row_found c flags ms fs j
+    ] refl e
+
+pub not_found : (c : ℕ) (fs : List FileClient) → None ≡ option_map (λ (f : FileClient). f.flags) (find (is_client c) fs) → is_some (find (is_client c) fs) ≡ false
+not_found c fs e = nothing (find (is_client c) fs) e
+  where
+    nothing : (o : Option FileClient) → None ≡ option_map (λ (f : FileClient). f.flags) o → is_some o ≡ false
+    nothing None h = refl
+    nothing (Some f) h = absurd (let n : None ≡ Some f.flags = h in cc)
+
+pub found : (c : ℕ) (flags : FileFlags) (fs : List FileClient) → Some flags ≡ option_map (λ (f : FileClient). f.flags) (find (is_client c) fs) → is_some (find (is_client c) fs) ≡ true
+found c flags fs e = something (find (is_client c) fs) e
+  where
+    something : (o : Option FileClient) → Some flags ≡ option_map (λ (f : FileClient). f.flags) o → is_some o ≡ true
+    something None h = absurd (let n : Some flags ≡ None = h in cc)
+    something (Some f) h = refl
+
+-- ---- one more client
+
+less-differ : (a b : ℕ) → a < b → (a == b) ≡ false
+less-differ a b h = grind (arith, nat_tests)
+
+more-differ : (a b : ℕ) → a < b → (b == a) ≡ false
+more-differ a b h = grind (arith, nat_tests)
+
+older : (c b : ℕ) → (fs : List FileClient) → AllByRecursion (λ (f : FileClient). f.client < b) fs → is_some (find (is_client c) fs) ≡ true → c < b
+older c b [] h e = absurd (let k : false ≡ true = e in cc)
+older c b (f ∷ fs) h e =
+    elim (f.client == c) as (λ t. (f.client == c) ≡ t → is_some (cond t (Some f) (find (is_client c) fs)) ≡ true → c < b)
+    [ true ↦ λ is k. subst (λ n. n < b) (eqb-true f.client c is) h.0 | false ↦ λ is k. older c b fs h.1 k ] refl e
+
+-- those that stand to masters are older than a new client
+pub members_older : (b : ℕ) (fs : List FileClient) (ms : List Member) → AllByRecursion (λ (f : FileClient). f.client < b) fs → AllByRecursion (IsThere fs) ms → AllByRecursion (λ (m : Member). (m.client == b) ≡ false) ms
+members_older b fs ms h k = all_weaker (IsThere fs) (λ (m : Member). (m.client == b) ≡ false) (λ m e. less-differ m.client b (older m.client b fs h e)) ms k
+
+find_none : (b : ℕ) → (ms : List Member) → AllByRecursion (λ (m : Member). (m.client == b) ≡ false) ms → find (is_of b) ms ≡ None
+find_none b [] h = refl
+find_none b (m ∷ ms) h = ap (λ t. cond t (Some m) (find (is_of b) ms)) h.0 ∙ find_none b ms h.1
+
+find_last : (m : Member) → (ms : List Member) → AllByRecursion (λ (x : Member). (x.client == m.client) ≡ false) ms → find (is_of m.client) (ms ++ m ∷ []) ≡ Some m
+find_last m [] h = ap (λ t. cond t (Some m) None) (eq-eqb m.client m.client refl)
+find_last m (x ∷ ms) h = ap (λ t. cond t (Some x) (find (is_of m.client) (ms ++ m ∷ []))) h.0 ∙ find_last m ms h.1
+
+find_before : (c : ℕ) (m : Member) → (m.client == c) ≡ false → (ms : List Member) → find (is_of c) (ms ++ m ∷ []) ≡ find (is_of c) ms
+find_before c m e [] = ap (λ t. cond t (Some m) None) e
+find_before c m e (x ∷ ms) = ap (λ r. cond (x.client == c) (Some x) r) (find_before c m e ms)
+
+rows_before : (m : Member) (ms : List Member) → (fs : List FileClient) → AllByRecursion (λ (f : FileClient). f.client < m.client) fs → map (client_row_of (ms ++ m ∷ [])) fs ≡ map (client_row_of ms) fs
+rows_before m ms [] h = refl
+rows_before m ms (f ∷ fs) h =
+    ap (λ o. client_row_by f (unwrap_or o (no_member f.client)) ∷ map (client_row_of (ms ++ m ∷ [])) fs) (find_before f.client m (more-differ f.client m.client h.0) ms) ∙ ap (λ l. client_row_of ms f ∷ l) (rows_before m ms fs h.1)
+
+-- the rows with one more client, which stands to masters
+pub client_pushed : (flags : FileFlags) (m : Member) (fs : List FileClient) (ms : List Member) → AllByRecursion (λ (f : FileClient). f.client < m.client) fs → AllByRecursion (IsThere fs) ms →
+    map (client_row_of (ms ++ m ∷ [])) (fs ++ record { client = m.client; flags = flags } ∷ []) ≡ map (client_row_of ms) fs ++ client_row_by (record { client = m.client; flags = flags }) m ∷ []
+client_pushed flags m fs ms h k =
+    let f : FileClient = record { client = m.client; flags = flags } in
+    map-append (client_row_of (ms ++ m ∷ [])) fs (f ∷ []) ∙ ap (λ l. l ++ client_row_of (ms ++ m ∷ []) f ∷ []) (rows_before m ms fs h)
+    ∙ ap (λ o. map (client_row_of ms) fs ++ client_row_by f (unwrap_or o (no_member m.client)) ∷ []) (find_last m ms (members_older m.client fs ms h k))
+
+-- and with one that doesn't
+pub render_pushed : (f : FileClient) (fs : List FileClient) (ms : List Member) → AllByRecursion (λ (g : FileClient). g.client < f.client) fs → AllByRecursion (IsThere fs) ms →
+    map (client_row_of ms) (fs ++ f ∷ []) ≡ map (client_row_of ms) fs ++ client_row_by f (no_member f.client) ∷ []
+render_pushed f fs ms h k =
+    map-append (client_row_of ms) fs (f ∷ [])
+    ∙ ap (λ o. map (client_row_of ms) fs ++ client_row_by f (unwrap_or o (no_member f.client)) ∷ []) (find_none f.client ms (members_older f.client fs ms h k))
+
+some-append : (c : ℕ) (f : FileClient) → (fs : List FileClient) → is_some (find (is_client c) fs) ≡ true → is_some (find (is_client c) (fs ++ f ∷ [])) ≡ true
+some-append c f [] h = absurd (let e : false ≡ true = h in cc)
+some-append c f (g ∷ gs) h =
+    elim (g.client == c) as (λ b. is_some (cond b (Some g) (find (is_client c) gs)) ≡ true → is_some (cond b (Some g) (find (is_client c) (gs ++ f ∷ []))) ≡ true) [ true ↦ λ e. refl | false ↦ λ e. some-append c f gs e ] h
+
+-- they are open among more clients
+pub members_open_yet : (f : FileClient) (fs : List FileClient) (ms : List Member) → AllByRecursion (IsThere fs) ms → AllByRecursion (IsThere (fs ++ f ∷ [])) ms
+members_open_yet f fs ms h = all_weaker (IsThere fs) (IsThere (fs ++ f ∷ [])) (λ m e. some-append m.client f fs e) ms h
+
+pub found_last : (f : FileClient) → (fs : List FileClient) → is_some (find (is_client f.client) (fs ++ f ∷ [])) ≡ true
+found_last f [] = ap (λ b. is_some (cond b (Some f) None)) (eq-eqb f.client f.client refl)
+found_last f (g ∷ gs) = elim (g.client == f.client) as (λ b. is_some (cond b (Some g) (find (is_client f.client) (gs ++ f ∷ []))) ≡ true) [ true ↦ refl | false ↦ found_last f gs ]
+
+-- ---- a client fewer
+
+other_one : (m n k : ℕ) → (m == k) ≡ true → (n == k) ≡ false → (m == n) ≡ false
+other_one m n k h e = grind (arith, nat_tests)
+
+find_others : (n c : ℕ) → (n == c) ≡ false → (ms : List Member) → find (is_of n) (filter (λ (x : Member). not (x.client == c)) ms) ≡ find (is_of n) ms
+find_others n c h [] = refl
+find_others n c h (m ∷ ms) =
+    let rest = filter (λ (x : Member). not (x.client == c)) ms in
+    elim (m.client == c) as (λ b. (m.client == c) ≡ b → find (is_of n) (cond (not b) (m ∷ rest) rest) ≡ find (is_of n) (m ∷ ms)) [
+      | true ↦ λ e. find_others n c h ms ∙ ap (λ t. cond t (Some m) (find (is_of n) ms)) (sym (other_one m.client n c e h))
+      | false ↦ λ e. ap (λ r. cond (m.client == n) (Some m) r) (find_others n c h ms)
+    ] refl
+
+pub rows_left : (c : ℕ) (ms : List Member) → (fs : List FileClient) →
+    map (client_row_of (filter (λ (x : Member). not (x.client == c)) ms)) (filter (λ (f : FileClient). not (is_client c f)) fs) ≡ filter (λ (row : ClientRow). not (row.client == c)) (map (client_row_of ms) fs)
+rows_left c ms [] = refl
+rows_left c ms (f ∷ fs) =
+    let left = filter (λ (x : Member). not (x.client == c)) ms in
+    let rest = filter (λ (f : FileClient). not (is_client c f)) fs in
+    elim (f.client == c) as (λ b. (f.client == c) ≡ b → map (client_row_of left) (cond (not b) (f ∷ rest) rest) ≡ cond (not b) (client_row_of ms f ∷ filter (λ (row : ClientRow). not (row.client == c)) (map (client_row_of ms) fs)) (filter (λ (row : ClientRow). not (row.client == c)) (map (client_row_of ms) fs))) [
+      | true ↦ λ e. rows_left c ms fs
+      | false ↦ λ e. ap (λ o. client_row_by f (unwrap_or o (no_member f.client)) ∷ map (client_row_of left) rest) (find_others f.client c e ms) ∙ ap (λ l. client_row_of ms f ∷ l) (rows_left c ms fs)
+    ] refl
+
+find_kept : (n c : ℕ) → (n == c) ≡ false → (fs : List FileClient) → find (is_client n) (filter (λ (f : FileClient). not (is_client c f)) fs) ≡ find (is_client n) fs
+find_kept n c h [] = refl
+find_kept n c h (f ∷ fs) =
+    let rest = filter (λ (f : FileClient). not (is_client c f)) fs in
+    elim (f.client == c) as (λ b. (f.client == c) ≡ b → find (is_client n) (cond (not b) (f ∷ rest) rest) ≡ find (is_client n) (f ∷ fs)) [
+      | true ↦ λ e. find_kept n c h fs ∙ ap (λ t. cond t (Some f) (find (is_client n) fs)) (sym (other_one f.client n c e h))
+      | false ↦ λ e. ap (λ r. cond (f.client == n) (Some f) r) (find_kept n c h fs)
+    ] refl
+
+not_it : (b : Bool) → not b ≡ true → b ≡ false
+not_it false h = refl
+not_it true h = absurd (let e : false ≡ true = h in cc)
+
+-- those that are left are open
+pub members_open_left : (c : ℕ) (fs : List FileClient) (ms : List Member) → AllByRecursion (IsThere fs) ms → AllByRecursion (IsThere (filter (λ (f : FileClient). not (is_client c f)) fs)) (filter (λ (x : Member). not (x.client == c)) ms)
+members_open_left c fs [] h = tt
+members_open_left c fs (m ∷ ms) h =
+    let rest = filter (λ (x : Member). not (x.client == c)) ms in
+    elim (m.client == c) as (λ b. (m.client == c) ≡ b → AllByRecursion (IsThere (filter (λ (f : FileClient). not (is_client c f)) fs)) (cond (not b) (m ∷ rest) rest))
+    [ true ↦ λ e. members_open_left c fs ms h.1 | false ↦ λ e. (ap is_some (find_kept m.client c e fs) ∙ h.0, members_open_left c fs ms h.1) ] refl
+
+-- ---- the masters that clients name
+
+abbrev AreDifferent : List Member → Type 0
+AreDifferent ms = InOrder (λ (x y : Member). (x.client == y.client) ≡ false) ms
+
+found_itself : (ms : List Member) → AreDifferent ms → AllByRecursion (λ (m : Member). find (is_of m.client) ms ≡ Some m) ms
+found_itself [] h = tt
+found_itself (m ∷ ms) h = (
+  ap (λ b. cond b (Some m) (find (is_of m.client) ms)) (eq-eqb m.client m.client refl),
+  all_both (λ (x : Member). (m.client == x.client) ≡ false) (λ (x : Member). find (is_of x.client) ms ≡ Some x) (λ (x : Member). find (is_of x.client) (m ∷ ms) ≡ Some x) (λ x e k. ap (λ b. cond b (Some m) (find (is_of x.client) ms)) e ∙ k) ms h.0 (found_itself ms h.1),
+)
+
+-- what a client's row names a member names
+named_by : (m c : ℕ) → (ms : List Member) → is_option m (unwrap_or (find (is_of c) ms) (no_member c)).master ≡ true → list_any (λ (x : Member). is_option m x.master) ms ≡ true
+named_by m c [] h = absurd (let e : false ≡ true = h in cc)
+named_by m c (x ∷ xs) h =
+    elim (x.client == c) as (λ b. is_option m (unwrap_or (cond b (Some x) (find (is_of c) xs)) (no_member c)).master ≡ true → (is_option m x.master || list_any (λ (x : Member). is_option m x.master) xs) ≡ true)
+    [ true ↦ λ e. or_left (is_option m x.master) _ e | false ↦ λ e. or_right (is_option m x.master) _ (named_by m c xs e) ] h
+
+any_of_client : (c : ℕ) (q : FileClient → Bool) → ((f : FileClient) → f.client ≡ c → q f ≡ true) → (fs : List FileClient) → is_some (find (is_client c) fs) ≡ true → list_any q fs ≡ true
+any_of_client c q g [] h = absurd (let e : false ≡ true = h in cc)
+any_of_client c q g (f ∷ fs) h =
+    elim (f.client == c) as (λ b. (f.client == c) ≡ b → is_some (cond b (Some f) (find (is_client c) fs)) ≡ true → (q f || list_any q fs) ≡ true)
+    [ true ↦ λ e k. or_left (q f) _ (g f (eqb-true f.client c e)) | false ↦ λ e k. or_right (q f) _ (any_of_client c q g fs k) ] refl h
+
+-- the clients' rows name the masters that the members name
+pub masters_named : (m : ℕ) (fs : List FileClient) (ms : List Member) → AllByRecursion (IsThere fs) ms → AreDifferent ms → list_any (λ (row : ClientRow). is_option m row.master) (map (client_row_of ms) fs) ≡ list_any (λ (x : Member). is_option m x.master) ms
+masters_named m fs ms there differ =
+    let test = λ (f : FileClient). is_option m (member_of ms f.client).master in
+    let down : list_any test fs ≡ true → list_any (λ (x : Member). is_option m x.master) ms ≡ true = list_any_gives test (list_any (λ (x : Member). is_option m x.master) ms) (λ f e. named_by m f.client ms e) fs in
+    let up = λ (e : list_any (λ (x : Member). is_option m x.master) ms ≡ true).
+    let it = some_passing (λ (x : Member). is_option m x.master) (λ (x : Member). IsThere fs x × (find (is_of x.client) ms ≡ Some x)) ms (both_all (IsThere fs) (λ (x : Member). find (is_of x.client) ms ≡ Some x) ms there (found_itself ms differ)) e in
+    let some : list_any test fs ≡ true = any_of_client it.0.client test (λ f is. ap (λ n. is_option m (unwrap_or (find (is_of n) ms) (no_member n)).master) is ∙ ap (λ o. is_option m (unwrap_or o (no_member it.0.client)).master) it.2.1 ∙ it.1) fs it.2.0 in
+    some in
+    list_any-map (λ (row : ClientRow). is_option m row.master) (client_row_of ms) fs ∙ same_truth (list_any test fs) (list_any (λ (x : Member). is_option m x.master) ms) down up

@@ -1,0 +1,132 @@
+-- Which objects keys name, by the numbers of the objects.
+use Rattle.std.proofs.Common.{◌≡◌, ℕ, suc, ◌==◌, Bool, true, false, cond, not, List, [], ◌∷◌, ◌++◌, map, filter, find, length, Some, None, refl, sym, ap, ◌∙◌, subst, eq-eqb}
+use Rattle.std.specs.List.{list_any, AllByRecursion}
+use Rattle.std.specs.Prelude.{⊤}
+use Rattle.std.specs.Option.{is_some, option_map_or}
+use Rattle.std.proofs.lemmas.Bool.{eqb-true}
+use Rattle.drm_gem.specs.declared.object.Object.{Object}
+use Rattle.drm_gem.specs.Objects.{is_key}
+use Rattle.drm_files.specs.declared.rows.FileHold.{FileHold}
+use Rattle.drm_model.specs.Numbers.{is_among}
+use Rattle.drm_model.specs.Orders.{SameRows, InOrder}
+use Rattle.drm_model.specs.Rows.{HoldRow}
+use Rattle.drm_model.proofs.Lists.{all_weaker, map-map, list_any-map}
+use Rattle.drm_model.proofs.Orders.{same-any}
+use Rattle.drm_state.specs.Parts.{birth_at, hold_row_by, hold_row_of, object_row_of, keys_of}
+use Rattle.drm_state.specs.Ties.{count, AreTied, AreThoseNamed, core}
+use Rattle.drm_state.proofs.Booleans.{all_both, all_each}
+use Rattle.drm_state.proofs.Counting.{is_found, flipped, among-more, count-none, among-first}
+
+birth_core : (k : ℕ) → (xs : List Object) → birth_at (map core xs) k ≡ birth_at xs k
+birth_core k [] = refl
+birth_core k (x ∷ xs) =
+    elim (x.key == k) as (λ b. option_map_or (λ (x : Object). x.birth) (cond b (Some (core x)) (find (is_key k) (map core xs))) 0 ≡ option_map_or (λ (x : Object). x.birth) (cond b (Some x) (find (is_key k) xs)) 0)
+    [ true ↦ refl | false ↦ birth_core k xs ]
+
+find-named : (keys : List ℕ) (k : ℕ) → is_among keys k ≡ true → (xs : List Object) → find (is_key k) (filter (λ (x : Object). is_among keys x.key) xs) ≡ find (is_key k) xs
+find-named keys k h [] = refl
+find-named keys k h (x ∷ xs) =
+    elim (x.key == k) as (λ b. (x.key == k) ≡ b → find (is_key k) (cond (is_among keys x.key) (x ∷ filter (λ (x : Object). is_among keys x.key) xs) (filter (λ (x : Object). is_among keys x.key) xs)) ≡ cond b (Some x) (find (is_key k) xs)) [
+      | true ↦ λ e. ap (λ b. find (is_key k) (cond b (x ∷ filter (λ (x : Object). is_among keys x.key) xs) (filter (λ (x : Object). is_among keys x.key) xs))) (ap (is_among keys) (eqb-true x.key k e) ∙ h) ∙ ap (λ b. cond b (Some x) (find (is_key k) (filter (λ (x : Object). is_among keys x.key) xs))) e
+      | false ↦ λ e. elim (is_among keys x.key) as (λ d. find (is_key k) (cond d (x ∷ filter (λ (x : Object). is_among keys x.key) xs) (filter (λ (x : Object). is_among keys x.key) xs)) ≡ find (is_key k) xs)
+          [ true ↦ ap (λ b. cond b (Some x) (find (is_key k) (filter (λ (x : Object). is_among keys x.key) xs))) e ∙ find-named keys k h xs | false ↦ find-named keys k h xs ]
+    ] refl
+
+pub birth_kept : (objects : List Object) (keys : List ℕ) (now : List Object) (k : ℕ) → AreThoseNamed objects keys now → is_among keys k ≡ true → birth_at now k ≡ birth_at objects k
+birth_kept objects keys now k h e =
+    sym (birth_core k now) ∙ ap (λ xs. birth_at xs k) h ∙ birth_core k (filter (λ (x : Object). is_among keys x.key) objects) ∙ ap (λ o. option_map_or (λ (x : Object). x.birth) o 0) (find-named keys k e objects)
+
+-- rows that name objects by numbers are the same where their keys have the same numbers
+pub same_numbers : {X Y : Type 0} (row : X → ℕ → Y) (key : X → ℕ) (objects now : List Object) → (xs : List X) → ((n : ℕ) → is_among (map key xs) n ≡ true → birth_at now n ≡ birth_at objects n) →
+    map (λ x. row x (birth_at now (key x))) xs ≡ map (λ x. row x (birth_at objects (key x))) xs
+same_numbers row key objects now [] f = refl
+same_numbers row key objects now (x ∷ xs) f =
+    ap (λ n. row x n ∷ map (λ x. row x (birth_at now (key x))) xs) (f (key x) (among-first (map key xs) (key x)))
+    ∙ ap (λ l. row x (birth_at objects (key x)) ∷ l) (same_numbers row key objects now xs (λ n e. f n (among-more (map key xs) (key x) n e)))
+
+-- handles name the numbers that they named
+pub holds_as_before : (objects now : List Object) (keys : List ℕ) (hs : List FileHold) → AreThoseNamed objects keys now → ((n : ℕ) → is_among (keys_of hs) n ≡ true → is_among keys n ≡ true) → map (hold_row_of now) hs ≡ map (hold_row_of objects) hs
+holds_as_before objects now keys hs h f = same_numbers hold_row_by (λ (x : FileHold). x.object) objects now hs (λ n e. birth_kept objects keys now n h (f n e))
+
+pub rows_left : (objects now : List Object) (keys : List ℕ) → AreThoseNamed objects keys now → map object_row_of now ≡ map object_row_of (filter (λ (x : Object). is_among keys x.key) objects)
+rows_left objects now keys h = sym (map-map object_row_of core now) ∙ ap (map object_row_of) h ∙ map-map object_row_of core (filter (λ (x : Object). is_among keys x.key) objects)
+
+-- ---- by keys, and by numbers
+
+all_true : (xs : List Object) → AllByRecursion (λ (x : Object). ⊤) xs
+all_true xs = all_each (λ (x : Object). ⊤) (λ x. tt) xs
+
+-- an object has the number of a key's object exactly where it has the key
+pub one_number : (k : ℕ) (z : Object) → (xs : List Object) → find (is_key k) xs ≡ Some z → InOrder (λ (x y : Object). (x.key == y.key) ≡ false) xs → InOrder (λ (x y : Object). (x.birth == y.birth) ≡ false) xs → AllByRecursion (λ (x : Object). (z.birth == x.birth) ≡ (k == x.key)) xs
+one_number k z [] e h b = absurd (let n : None ≡ Some z = e in cc)
+one_number k z (y ∷ ys) e h b =
+    elim (y.key == k) as (λ t. (y.key == k) ≡ t → cond t (Some y) (find (is_key k) ys) ≡ Some z → AllByRecursion (λ (x : Object). (z.birth == x.birth) ≡ (k == x.key)) (y ∷ ys)) [
+      | true ↦ λ is j.
+          let same : y ≡ z = let s : Some y ≡ Some z = j in cc in
+          let key = eqb-true y.key k is in
+          subst (λ (o : Object). AllByRecursion (λ (x : Object). (o.birth == x.birth) ≡ (k == x.key)) (y ∷ ys)) same (
+            eq-eqb y.birth y.birth refl ∙ sym (eq-eqb k y.key (sym key)),
+            all_both (λ x. (y.key == x.key) ≡ false) (λ x. (y.birth == x.birth) ≡ false) (λ x. (y.birth == x.birth) ≡ (k == x.key)) (λ x u v. v ∙ sym (subst (λ n. (n == x.key) ≡ false) key u)) ys h.0 b.0,
+          )
+      | false ↦ λ is j.
+          let it = is_found k ys (ap is_some j) (λ (x : Object). (y.birth == x.birth) ≡ false) b.0 in
+          let same : it.0 ≡ z = let s : Some it.0 ≡ Some z = sym it.1 ∙ j in cc in
+          let born : (y.birth == z.birth) ≡ false = subst (λ (o : Object). (y.birth == o.birth) ≡ false) same it.3 in
+          (flipped y.birth z.birth born ∙ sym (flipped y.key k is), one_number k z ys j h.1 b.1)
+    ] refl e
+
+birth_there : (k : ℕ) (xs : List Object) (z : Object) → find (is_key k) xs ≡ Some z → birth_at xs k ≡ z.birth
+birth_there k xs z e = ap (λ o. option_map_or (λ (x : Object). x.birth) o 0) e
+
+-- a key that names an object there tells it by number
+pub key_by_number : (keys refs : List ℕ) (objects : List Object) (k : ℕ) → AreTied keys refs objects → is_among (keys ++ refs) k ≡ true → AllByRecursion (λ (x : Object). (birth_at objects k == x.birth) ≡ (k == x.key)) objects
+key_by_number keys refs objects k h e =
+    let it = is_found k objects (h.there k e) (λ x. ⊤) (all_true objects) in
+    all_weaker (λ (x : Object). (it.0.birth == x.birth) ≡ (k == x.key)) (λ (x : Object). (birth_at objects k == x.birth) ≡ (k == x.key)) (λ x r. ap (λ n. n == x.birth) (birth_there k objects it.0 it.1) ∙ r) objects (one_number k it.0 objects it.1 h.keys_differ h.births_differ)
+
+-- an object's number stands among the numbers of keys as often as its key among them
+pub count_numbers : (keys refs : List ℕ) (objects : List Object) → AreTied keys refs objects → (some : List ℕ) → ((n : ℕ) → is_among some n ≡ true → is_among (keys ++ refs) n ≡ true) →
+    AllByRecursion (λ (x : Object). count (map (birth_at objects) some) x.birth ≡ count some x.key) objects
+count_numbers keys refs objects h [] f = all_each _ (λ x. refl) objects
+count_numbers keys refs objects h (k ∷ ks) f =
+    let rest = map (birth_at objects) ks in
+    all_both (λ (x : Object). (birth_at objects k == x.birth) ≡ (k == x.key)) (λ (x : Object). count rest x.birth ≡ count ks x.key) (λ (x : Object). count (birth_at objects k ∷ rest) x.birth ≡ count (k ∷ ks) x.key)
+    (λ x u v.
+    ap (λ b. length (cond b (birth_at objects k ∷ filter (λ key. key == x.birth) rest) (filter (λ key. key == x.birth) rest))) u
+    ∙ elim (k == x.key) as (λ b. length (cond b (birth_at objects k ∷ filter (λ key. key == x.birth) rest) (filter (λ key. key == x.birth) rest)) ≡ length (cond b (k ∷ filter (λ key. key == x.key) ks) (filter (λ key. key == x.key) ks)))
+    [ true ↦ ap (λ n. suc n) v | false ↦ v ]) objects
+    (key_by_number keys refs objects k h (f k (among-first ks k)))
+    (count_numbers keys refs objects h ks (λ n e. f n (among-more ks k n e)))
+
+same_not : (a b : Bool) → not a ≡ not b → a ≡ b
+same_not true true h = refl
+same_not false false h = refl
+same_not true false h = absurd (let e : false ≡ true = h in cc)
+same_not false true h = absurd (let e : true ≡ false = h in cc)
+
+-- and stands among them exactly where its key does
+pub among_numbers : (keys refs : List ℕ) (objects : List Object) → AreTied keys refs objects → (some : List ℕ) → ((n : ℕ) → is_among some n ≡ true → is_among (keys ++ refs) n ≡ true) →
+    AllByRecursion (λ (x : Object). is_among (map (birth_at objects) some) x.birth ≡ is_among some x.key) objects
+among_numbers keys refs objects h some f =
+    all_weaker (λ (x : Object). count (map (birth_at objects) some) x.birth ≡ count some x.key) (λ (x : Object). is_among (map (birth_at objects) some) x.birth ≡ is_among some x.key)
+    (λ x e. same_not _ _ (sym (count-none (map (birth_at objects) some) x.birth) ∙ ap (λ n. n == 0) e ∙ count-none some x.key)) objects (count_numbers keys refs objects h some f)
+
+pub count_of : {X : Type 0} (f : X → ℕ) (n : ℕ) → (xs : List X) → length (filter (λ x. f x == n) xs) ≡ count (map f xs) n
+count_of f n [] = refl
+count_of f n (x ∷ xs) =
+    elim (f x == n) as (λ b. length (cond b (x ∷ filter (λ x. f x == n) xs) (filter (λ x. f x == n) xs)) ≡ length (cond b (f x ∷ filter (λ key. key == n) (map f xs)) (filter (λ key. key == n) (map f xs))))
+    [ true ↦ ap (λ m. suc m) (count_of f n xs) | false ↦ count_of f n xs ]
+
+abbrev named_object : HoldRow → ℕ
+named_object row = row.object
+
+numbers_of : (objects : List Object) (hs : List FileHold) → map named_object (map (hold_row_of objects) hs) ≡ map (birth_at objects) (keys_of hs)
+numbers_of objects hs = map-map named_object (hold_row_of objects) hs ∙ sym (map-map (birth_at objects) (λ (x : FileHold). x.object) hs)
+
+-- how many rows of handles name a number
+pub holds_counted : (rows : List HoldRow) (objects : List Object) (hs : List FileHold) (n : ℕ) → SameRows rows (map (hold_row_of objects) hs) → length (filter (λ (row : HoldRow). row.object == n) rows) ≡ count (map (birth_at objects) (keys_of hs)) n
+holds_counted rows objects hs n h = h (λ (row : HoldRow). row.object == n) ∙ count_of named_object n (map (hold_row_of objects) hs) ∙ ap (λ l. count l n) (numbers_of objects hs)
+
+pub holds_naming : (rows : List HoldRow) (objects : List Object) (hs : List FileHold) (n : ℕ) → SameRows rows (map (hold_row_of objects) hs) → list_any (λ (row : HoldRow). row.object == n) rows ≡ is_among (map (birth_at objects) (keys_of hs)) n
+holds_naming rows objects hs n h =
+    same-any (λ (row : HoldRow). row.object == n) rows (map (hold_row_of objects) hs) h ∙ sym (list_any-map (λ x. x == n) named_object (map (hold_row_of objects) hs)) ∙ ap (λ l. is_among l n) (numbers_of objects hs)

@@ -1,0 +1,100 @@
+-- The parts of what a state stands for, and its ties, one by one.
+use Rattle.std.proofs.Common.{◌≡◌, ℕ, ◌==◌, true, false, [], List, map, ap, ◌∙◌, ◌++◌}
+use Rattle.std.specs.List.{list_any, AllByRecursion}
+use Rattle.drm_files.specs.declared.rows.FileHold.{FileHold}
+use Rattle.drm_files.specs.Files.{is_present, hold_before}
+use Rattle.drm_model.specs.Rows.{Rows, TokenRow, FramebufferRow, is_option}
+use Rattle.drm_model.specs.Orders.{SameRows, InOrder}
+use Rattle.drm_state.specs.declared.state.Member.{Member}
+use Rattle.drm_state.specs.declared.state.State.{State}
+use Rattle.drm_state.specs.Parts.{clients_of, masters_of, holds_of, objects_of, keys_of, referring_keys, birth_at}
+use Rattle.drm_state.specs.Ties.{MembersOpen, MembersDiffer, MastersNamed, HoldsRise, ObjectsCounted, is_tied, IsTied, AreTied}
+use Rattle.drm_model.specs.Parts.{Bounds, Clients, Masters, Magics, Holds, Objects, Names, Tokens, Grants, Framebuffers, Shown, DeviceMaster, LastToken, LastLeaseToken}
+use Rattle.drm_state.specs.Refinement.{stands_for, Represents, HaveLimits}
+
+-- the objects that tokens and framebuffers name
+abbrev pub references : Rows → List ℕ
+references w = map (λ (row : TokenRow). row.object) w.tokens ++ map (λ (row : FramebufferRow). row.object) w.framebuffers
+
+module _ (s : State) (w : Rows) (h : Represents s w) where
+  pub limits_are : HaveLimits s w.limits
+  unfolding stands_for
+  limits_are = h Bounds
+
+  pub clients_are : w.clients ≡ clients_of s
+  unfolding stands_for
+  clients_are = h Clients
+
+  pub masters_are : w.masters ≡ masters_of s
+  unfolding stands_for
+  masters_are = h Masters
+
+  pub magics_none : w.magics ≡ []
+  unfolding stands_for
+  magics_none = h Magics
+
+  pub holds_are : SameRows w.holds (holds_of s)
+  unfolding stands_for
+  holds_are = h Holds
+
+  pub objects_are : w.objects ≡ objects_of s
+  unfolding stands_for
+  objects_are = h Objects
+
+  pub names_none : w.names ≡ []
+  unfolding stands_for
+  names_none = h Names
+
+  pub tokens_none : w.tokens ≡ []
+  unfolding stands_for
+  tokens_none = h Tokens
+
+  pub grants_none : w.grants ≡ []
+  unfolding stands_for
+  grants_none = h Grants
+
+  pub framebuffers_none : w.framebuffers ≡ []
+  unfolding stands_for
+  framebuffers_none = h Framebuffers
+
+  -- what tokens and framebuffers name, by the numbers of objects
+  pub references_are : references w ≡ map (birth_at s.objects.objects) (referring_keys s)
+  unfolding stands_for
+  references_are = ap (λ rows. map (λ (row : TokenRow). row.object) rows ++ map (λ (row : FramebufferRow). row.object) w.framebuffers) (h Tokens) ∙ ap (λ rows. map (λ (row : FramebufferRow). row.object) rows) (h Framebuffers)
+
+  pub shown_none : w.shown ≡ []
+  unfolding stands_for
+  shown_none = h Shown
+
+  pub device_master_is : w.device_master ≡ s.device_master
+  unfolding stands_for
+  device_master_is = h DeviceMaster
+
+  pub last_token_none : w.last_token ≡ 0
+  unfolding stands_for
+  last_token_none = h LastToken
+
+  pub last_lease_token_none : w.last_lease_token ≡ 0
+  unfolding stands_for
+  last_lease_token_none = h LastLeaseToken
+
+module _ (s : State) (t : IsTied s) where
+  pub members_open : AllByRecursion (λ (m : Member). is_present s.files m.client ≡ true) s.members.items
+  unfolding is_tied
+  members_open = t MembersOpen
+
+  pub members_differ : InOrder (λ (x y : Member). (x.client == y.client) ≡ false) s.members.items
+  unfolding is_tied
+  members_differ = t MembersDiffer
+
+  pub masters_are_named : AllByRecursion (λ m. list_any (λ (x : Member). is_option m x.master) s.members.items ≡ true) s.masters.items
+  unfolding is_tied
+  masters_are_named = t MastersNamed
+
+  pub holds_rise : InOrder (λ (x y : FileHold). hold_before x y ≡ true) s.files.holds
+  unfolding is_tied
+  holds_rise = t HoldsRise
+
+  pub objects_counted : AreTied (keys_of s.files.holds) (referring_keys s) s.objects.objects
+  unfolding is_tied
+  objects_counted = t ObjectsCounted

@@ -1,0 +1,101 @@
+-- Which rows the state of the device stands for, and what the function of each event owes.
+use Rattle.std.specs.Prelude.{◌≡◌, ℕ, ◌+◌, ◌==◌, Bool, false, ◌&&◌, true, [], Option, None, Some, Result, Ok, Err}
+use Rattle.std.specs.declared.alloc.AllocError.{AllocError}
+use Rattle.drm_table.specs.declared.answers.Answer.{Answer}
+use Rattle.drm_table.specs.declared.calls.Call.{Call}
+use Rattle.drm_table.specs.declared.events.Event.{Event}
+use Rattle.drm_table.specs.declared.events.Event.TheVariants.{Ask}
+use Rattle.drm_table.specs.declared.limits.Limits.{Limits}
+use Rattle.drm_table.specs.declared.rules.Rule.{Rule}
+use Rattle.drm_table.specs.Permit.{first_failing}
+use Rattle.drm_model.specs.Rows.{Rows}
+use Rattle.drm_model.specs.Parts.{Part, Bounds, Clients, Masters, Magics, Holds, Objects, Names, Tokens, Grants, Framebuffers, Shown, DeviceMaster, LastToken, LastLeaseToken}
+use Rattle.drm_model.specs.Masters.{is_owner}
+use Rattle.drm_model.specs.Orders.{SameRows}
+use Rattle.drm_model.specs.Births.{BirthsRise}
+use Rattle.drm_model.specs.Verdict.{admission_checks}
+use Rattle.drm_model.specs.Buffers.{with_object, has_buffer_room, new_handle}
+use Rattle.drm_model.specs.Change.{after, swept}
+use Rattle.drm_model.specs.Reply.{reply}
+use Rattle.drm_model.specs.Run.{Growing}
+use Rattle.drm_state.specs.declared.state.State.{State}
+use Rattle.drm_state.specs.Parts.{clients_of, masters_of, holds_of, objects_of, member_of}
+
+-- the limits that the parts keep
+abbrev pub HaveLimits : State → Limits → Type 0
+HaveLimits s limits = (s.files.limit ≡ limits.clients) × (s.files.last_handle ≡ limits.handles) × (s.objects.limit ≡ limits.objects)
+
+-- what the state stands for in a part of the rows. Handles have their own order; no event makes the lists longer yet that
+-- are empty here
+unfoldable pub stands_for : Part → State → Rows → Type 0
+stands_for Bounds s w = HaveLimits s w.limits
+stands_for Clients s w = w.clients ≡ clients_of s
+stands_for Masters s w = w.masters ≡ masters_of s
+stands_for Magics s w = w.magics ≡ []
+stands_for Holds s w = SameRows w.holds (holds_of s)
+stands_for Objects s w = w.objects ≡ objects_of s
+stands_for Names s w = w.names ≡ []
+stands_for Tokens s w = w.tokens ≡ []
+stands_for Grants s w = w.grants ≡ []
+stands_for Framebuffers s w = w.framebuffers ≡ []
+stands_for Shown s w = w.shown ≡ []
+stands_for DeviceMaster s w = w.device_master ≡ s.device_master
+stands_for LastToken s w = w.last_token ≡ 0
+stands_for LastLeaseToken s w = w.last_lease_token ≡ 0
+
+-- the state stands for the rows
+abbrev pub Represents : State → Rows → Type 0
+Represents s w = (part : Part) → stands_for part s w
+
+-- the state stands for w, where the next step has this number
+pub record Stands (s : State) (birth : ℕ) (w : Rows) : Type 0 where
+  pub rows : Represents s w
+  pub births : BirthsRise w.steps w
+  pub birth_is : w.steps + 1 ≡ birth
+
+-- the answer is the reply, and the state stands for the rows after the event; or memory was refused, and it stands for
+-- those before
+abbrev pub Outcome : Rows → Event → Result Answer AllocError → State → Type 0
+Outcome w event (Ok answer) s = (answer ≡ reply w event) × Represents s (after w event)
+Outcome w event (Err e) s = Growing w event × Represents s w
+
+-- what the function of an event owes, whichever rows the state stands for
+unfoldable pub Owes : State → ℕ → Event → Result Answer AllocError → State → Type 0
+Owes old birth event result new = (w : Rows) → Stands old birth w → Outcome w event result new
+
+-- the same where no memory is wanted, and the number of the step is nothing to it
+unfoldable pub OwesAnswer : State → Event → Answer → State → Type 0
+OwesAnswer old event answer new = (w : Rows) → Represents old w → Outcome w event (Ok answer) new
+
+-- the same for a call that is known, laid out, of an open client, and permitted
+unfoldable pub OwesCall : State → ℕ → ℕ → Call → Result Answer AllocError → State → Type 0
+OwesCall old birth c call result new =
+    (w : Rows) → Stands old birth w → first_failing (admission_checks w c call) ≡ None → Outcome w (Ask c call) result new
+
+unfoldable pub OwesReply : State → ℕ → Call → Answer → State → Type 0
+OwesReply old c call answer new =
+    (w : Rows) → Represents old w → first_failing (admission_checks w c call) ≡ None → Outcome w (Ask c call) (Ok answer) new
+
+-- what making a buffer comes to: none where the client may have no more handles or no more objects may be there, or its new
+-- handle; or memory was refused, and the state stands for the rows before
+abbrev pub MadeBuffer : Rows → ℕ → ℕ → Result (Option ℕ) AllocError → State → Type 0
+MadeBuffer w c size (Ok None) s = (has_buffer_room w c ≡ false) × Represents s w
+MadeBuffer w c size (Ok (Some handle)) s = (has_buffer_room w c ≡ true) × (handle ≡ new_handle w c) × Represents s (swept (with_object w c size))
+MadeBuffer w c size (Err e) s = (has_buffer_room w c ≡ true) × Represents s w
+
+unfoldable pub MakesBuffer : State → ℕ → ℕ → ℕ → Result (Option ℕ) AllocError → State → Type 0
+MakesBuffer old birth c size result new = (w : Rows) → Stands old birth w → MadeBuffer w c size result new
+
+-- the first rule of admission that fails, whichever rows the state stands for
+unfoldable pub IsAdmission : State → ℕ → Call → Option Rule → Type 0
+IsAdmission s c call rule = (w : Rows) → Represents s w → rule ≡ first_failing (admission_checks w c call)
+
+-- whether the client is a master, and the device's master the owner of its own
+abbrev pub is_current : State → ℕ → Bool
+is_current s c = (member_of s.members.items c).is_master && is_owner (masters_of s) s.device_master (member_of s.members.items c).master
+
+-- whether both are there and the same
+abbrev pub is_same : Option ℕ → Option ℕ → Bool
+is_same (Some device) (Some master) = device == master
+is_same (Some device) None = false
+is_same None master = false

@@ -1,0 +1,70 @@
+-- How the parts of the device fit together, and what the next step may rely on.
+use Rattle.std.specs.Prelude.{◌≡◌, ℕ, ◌≤◌, ◌<◌, ◌==◌, true, false, List, ◌++◌, length, map, filter, find}
+use Rattle.std.specs.List.{list_any, AllByRecursion}
+use Rattle.std.specs.Option.{is_some}
+use Rattle.drm_gem.specs.declared.object.Object.{Object}
+use Rattle.drm_gem.specs.Objects.{is_key, IsNewBirth}
+use Rattle.drm_files.specs.declared.rows.FileClient.{FileClient}
+use Rattle.drm_files.specs.declared.rows.FileHold.{FileHold}
+use Rattle.drm_files.specs.Files.{is_present, hold_before}
+use Rattle.drm_model.specs.Numbers.{is_among}
+use Rattle.drm_model.specs.Orders.{InOrder}
+use Rattle.drm_model.specs.Rows.{is_option}
+use Rattle.drm_state.specs.declared.state.Member.{Member}
+use Rattle.drm_state.specs.declared.state.State.{State}
+use Rattle.drm_state.specs.Parts.{keys_of, referring_keys}
+
+-- how often a key stands in a list
+abbrev pub count : List ℕ → ℕ → ℕ
+count keys n = length (filter (λ key. key == n) keys)
+
+-- the object counts the handles that name it, and what else refers to it
+abbrev pub Counts : List ℕ → List ℕ → Object → Type 0
+Counts keys refs x = (x.holds ≡ count keys x.key) × (x.refs ≡ count refs x.key)
+
+-- handles name `keys`, and what else refers to objects `refs`: each of them is there, each object is among them and counts
+-- them, and no two objects have one key or one number
+pub record AreTied (keys refs : List ℕ) (objects : List Object) : Type 0 where
+  pub there : (key : ℕ) → is_among (keys ++ refs) key ≡ true → is_some (find (is_key key) objects) ≡ true
+  pub counted : AllByRecursion (Counts keys refs) objects
+  pub used : AllByRecursion (λ (x : Object). is_among (keys ++ refs) x.key ≡ true) objects
+  pub keys_differ : InOrder (λ (x y : Object). (x.key == y.key) ≡ false) objects
+  pub births_differ : InOrder (λ (x y : Object). (x.birth == y.birth) ≡ false) objects
+
+-- an object without its counts
+abbrev pub core : Object → Object
+core x = record x { holds = 0; refs = 0 }
+
+-- now there are those of the objects that a key names, whatever they count
+abbrev pub AreThoseNamed : List Object → List ℕ → List Object → Type 0
+AreThoseNamed objects keys now = map core now ≡ map core (filter (λ (x : Object). is_among keys x.key) objects)
+
+-- what ties the parts: who stands to masters is open, once each; a client names each master; handles stand in the order of
+-- their clients and numbers; objects are those that handles name, which they count
+pub data Tie : Type 0 where
+  MembersOpen : Tie
+  MembersDiffer : Tie
+  MastersNamed : Tie
+  HoldsRise : Tie
+  ObjectsCounted : Tie
+
+unfoldable pub is_tied : Tie → State → Type 0
+is_tied MembersOpen s = AllByRecursion (λ (m : Member). is_present s.files m.client ≡ true) s.members.items
+is_tied MembersDiffer s = InOrder (λ (x y : Member). (x.client == y.client) ≡ false) s.members.items
+is_tied MastersNamed s = AllByRecursion (λ m. list_any (λ (x : Member). is_option m x.master) s.members.items ≡ true) s.masters.items
+is_tied HoldsRise s = InOrder (λ (x y : FileHold). hold_before x y ≡ true) s.files.holds
+is_tied ObjectsCounted s = AreTied (keys_of s.files.holds) (referring_keys s) s.objects.objects
+
+abbrev pub IsTied : State → Type 0
+IsTied s = (tie : Tie) → is_tied tie s
+
+-- the step of this number is later than those that made what is there
+pub record IsLater (s : State) (birth : ℕ) : Type 0 where
+  pub clients : AllByRecursion (λ (f : FileClient). f.client < birth) s.files.clients
+  pub objects : IsNewBirth s.objects birth
+
+-- the state is ready for the step of this number
+pub record IsReady (s : State) (birth : ℕ) : Type 0 where
+  pub tied : IsTied s
+  pub later : IsLater s birth
+  pub first : 1 ≤ birth
