@@ -2,3 +2,4 @@ pub mod Pages
 pub mod Ids
 pub mod Devices
 pub mod AuditRows
+pub mod Crossing

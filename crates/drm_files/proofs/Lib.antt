@@ -5,3 +5,4 @@ mod RecordFacts
 mod Calls
 mod Walks
 mod Rests
+pub mod Crossing

@@ -11,3 +11,4 @@ mod EmptyLemmas
 mod LendLemmas
 mod RootLemmas
 mod ArrayLemmas
+pub mod Crossing

@@ -9,7 +9,7 @@ ghost use Rattle.drm_listeners.specs.Connections.{IsFaultOf, IsSessionOf, Serves
 use crate::serve_faults::ServeFault;
 use drm_sessions::{Class, NoGate, Served, Session, serve_through};
 use drm_streams::{FromRead, ToWrite};
-use drm_turns::{Seat, SharedDevice};
+use drm_turns::{Seat, SharedDevice, Sharing};
 use std::alloc::Global;
 use std::os::unix::net::{UnixListener, UnixStream};
 use std::sync::Wait;
@@ -48,9 +48,9 @@ impl Promise<Served> for ConnectionServed {
 type ConnectionHandle = PromisedHandle<Served, ConnectionServed>;
 
 // Serves a connection, which is closed as the session ends.
-fn serve_connection<R: Wait>(
+fn serve_connection<R: Wait, D: Sharing>(
     rt: &R,
-    shared: &SharedDevice,
+    shared: &D,
     seat: Seat,
     class: Class,
     stream: UnixStream,
@@ -63,7 +63,7 @@ fn serve_connection<R: Wait>(
     let mut sink = ToWrite::new(&stream);
     serve_through(
         rt,
-        shared,
+        shared.device(),
         seat,
         &mut NoGate,
         class,
@@ -74,10 +74,10 @@ fn serve_connection<R: Wait>(
 }
 
 // Accepts a connection, and starts the thread that serves it.
-fn start_connection<'s, E: 's, R: Wait + Threads + Sync>(
+fn start_connection<'s, E: 's, R: Wait + Threads + Sync, D: Sharing + Sync>(
     scope: &Scope<'s, E>,
     rt: &'s R,
-    shared: &'s SharedDevice,
+    shared: &'s D,
     seat: Seat,
     listener: Listener<'_>,
 ) -> Result<ConnectionHandle, ServeFault>

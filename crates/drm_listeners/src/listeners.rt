@@ -10,7 +10,7 @@ use crate::connections::{Listener, ServedListener, serve_listener};
 use crate::counts::Counts;
 use crate::serve_faults::ServeFault;
 use drm_sessions::Class;
-use drm_turns::{Seat, SharedDevice};
+use drm_turns::{Seat, SharedDevice, Sharing};
 use std::alloc::Global;
 use std::os::unix::net::UnixListener;
 use std::sync::Wait;
@@ -40,11 +40,11 @@ impl Promise<Result<ServedListener, ServeFault>> for ListenerServed {
 type ListenerHandle = PromisedHandle<Result<ServedListener, ServeFault>, ListenerServed>;
 
 // Starts the thread that serves a listener.
-fn start_listener<'s, E: 's, R: Wait + Threads + Sync>(
+fn start_listener<'s, E: 's, R: Wait + Threads + Sync, D: Sharing + Sync>(
     scope: &Scope<'s, E>,
     rt: &'s R,
     alloc: Global,
-    shared: &'s SharedDevice,
+    shared: &'s D,
     seat: Seat,
     listener: Listener<'s>,
 ) -> Result<ListenerHandle, ServeFault>
@@ -70,7 +70,7 @@ fn start_listener<'s, E: 's, R: Wait + Threads + Sync>(
                 class,
                 count,
             };
-            serve_listener(rt, alloc, shared, seat, listener)
+            serve_listener(rt, alloc, shared.device(), seat, listener)
         },
     );
     match served {

@@ -9,7 +9,7 @@ use crate::class::Class;
 use crate::end::Session;
 use crate::through::{Served, serve_through};
 use drm_streams::{Sink, Source};
-use drm_turns::{Seat, SharedDevice};
+use drm_turns::{Seat, Sharing};
 use std::snapshot::Snapshot;
 use std::sync::Wait;
 use std::thread::{Promise, PromisedHandle, Scope, Threads};
@@ -60,9 +60,9 @@ impl<G, S: Source, K: Sink> Promise<Returned<S, K>> for JobServed<G, S, K> {
 pub(crate) type JobHandle<G, S, K> = PromisedHandle<Returned<S, K>, JobServed<G, S, K>>;
 
 // Serves the job.
-fn run_job<R: Wait, G: Gate + Drop, S: Source, K: Sink>(
+fn run_job<R: Wait, D: Sharing, G: Gate + Drop, S: Source, K: Sink>(
     rt: &R,
-    shared: &SharedDevice,
+    shared: &D,
     seat: Seat,
     job: Job<G, S, K>,
 ) -> Returned<S, K>
@@ -80,7 +80,7 @@ fn run_job<R: Wait, G: Gate + Drop, S: Source, K: Sink>(
     } = job;
     let Served { session, seat } = serve_through(
         rt,
-        shared,
+        shared.device(),
         seat,
         &mut gate,
         class,
@@ -103,13 +103,14 @@ pub(crate) fn start_job<
     's,
     E: 's,
     R: Wait + Threads + Sync,
+    D: Sharing + Sync,
     G: Gate + Send + Drop + 's,
     S: Source + Send + Drop + 's,
     K: Sink + Send + Drop + 's,
 >(
     scope: &Scope<'s, E>,
     rt: &'s R,
-    shared: &'s SharedDevice,
+    shared: &'s D,
     seat: Seat,
     job: Job<G, S, K>,
 ) -> Option<JobHandle<G, S, K>>

@@ -10,3 +10,4 @@ pub mod Outcomes
 pub mod Lookups
 pub mod Contents
 pub mod Made
+pub mod Crossing

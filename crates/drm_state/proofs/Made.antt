@@ -25,7 +25,7 @@ use Rattle.drm_model.specs.Parts.{Part, Holds, Objects}
 use Rattle.drm_state.specs.Refinement.{stands_for, Represents, Stands}
 use Rattle.drm_state.proofs.Represented.{limits_are, holds_are, objects_are, holds_rise, objects_counted}
 use Rattle.drm_state.proofs.Booleans.{all_each}
-use Rattle.drm_state.proofs.Counting.{is_found, other_keys, among-more, among-first, among-left, same_tied, created_tied}
+use Rattle.drm_state.proofs.Counting.{is_found, other_keys, among-left, same_tied, created_tied}
 use Rattle.drm_state.proofs.Naming.{same_numbers}
 use Rattle.drm_state.proofs.Holding.{same-cons, moved_in, same_placed, in_order_placed, free_is_new}
 

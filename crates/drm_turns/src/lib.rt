@@ -5,7 +5,7 @@ mod seat;
 mod shared;
 
 pub use seat::Seat;
-pub use shared::{NoMemory, SharedDevice, TurnOut};
+pub use shared::{NoMemory, SharedDevice, Sharing, TurnOut};
 
 #[cfg(test)]
 mod tests;

@@ -41,6 +41,19 @@ fn step_locked(device: &mut MutexGuard<'_, Device>, event: Event) -> Result<Answ
     device.step(event)
 }
 
+/// What threads share a device by. A function that starts threads takes it as a type parameter, so that what crosses to
+/// a thread is told by a bound (`Sync`).
+pub trait Sharing {
+    /// The device.
+    fn device(&self) -> &SharedDevice;
+}
+
+impl Sharing for SharedDevice {
+    fn device(&self) -> &SharedDevice {
+        self
+    }
+}
+
 impl SharedDevice {
     /// Shares the device, and gives the first seat. Without memory there is no shared device, and the device is given
     /// back; today it takes no memory and is never refused.

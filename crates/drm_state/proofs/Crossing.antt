@@ -1,0 +1,14 @@
+-- That a state may cross threads.
+use denote.Struct.Declared.{shape}
+use denote.Param.Send.{IsSend, sendable, struct_send}
+use Rattle.std.proofs.Crossing.{Vec-send}
+use Rattle.drm_files.proofs.Crossing.{files_send}
+use Rattle.drm_gem.proofs.Crossing.{objects_send}
+use Rattle.drm_state.proofs.state.Member.TheSendSync as member
+use Rattle.drm_state.specs.contracts.state.State as state
+
+pub state_send : IsSend state.the_field.row
+state_send =
+    struct_send
+      (shape state.the_type)
+      (files_send, (search (Vec-send, member.the_send, sendable) depth 20, (search (Vec-send, sendable) depth 20, (objects_send, (search sendable depth 20, tt)))))
