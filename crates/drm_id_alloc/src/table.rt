@@ -1,6 +1,7 @@
 //! The table.
 
 ghost use Rattle.std.specs.Prelude.{◌≡◌, ◌≤◌, ◌↔◌, ℕ, IsTrue, OnOk, OnErr, OnSome, IfSome, IfNone, IfOk, IfErr, Some, None, option_copied, false};
+ghost use Rattle.std.specs.List.{slice_get};
 ghost use Rattle.std.specs.FinMap as map;
 ghost use Rattle.drm_index_array.specs.Least.{least};
 ghost use Rattle.drm_id_alloc.specs.AddFault.{value_of, IsFull};
@@ -191,6 +192,27 @@ impl<T: Drop> IdTable<T> {
         ensures high { (k : ℕ) → IsTrue (map.contains_key self.now.slots k) → k ≤ self.now.last }
     {
         self.entries.next(from)
+    }
+
+    /// The number at a place of the list of the numbers in use, rising, where 0 is the first. A late place costs what an
+    /// early one does.
+    pub fn nth(&self, place: usize) -> Option<u32>
+        ensures nth { result ≡ slice_get (map.keys self.now.slots) place }
+        ensures present { IfSome result (λ id. IsTrue (map.contains_key self.now.slots id)) }
+        ensures past { IfNone result (map.len self.now.slots ≤ place) }
+        ensures bound { (k : ℕ) → IsTrue (map.contains_key self.now.slots k) → k ≤ u32.MAX }
+        ensures low { (k : ℕ) → IsTrue (map.contains_key self.now.slots k) → self.now.first ≤ k }
+        ensures high { (k : ℕ) → IsTrue (map.contains_key self.now.slots k) → k ≤ self.now.last }
+    {
+        self.entries.nth(place)
+    }
+
+    /// How many numbers are in use.
+    pub fn len(&self) -> usize
+        ensures len { result ≡ map.len self.now.slots }
+        ensures bound { (k : ℕ) → IsTrue (map.contains_key self.now.slots k) → k ≤ u32.MAX }
+    {
+        self.entries.len()
     }
 
     /// Whether no number is free.

@@ -65,6 +65,9 @@ fn compare(rt: &impl Abort, table: &IdTable<u32>, plain: &Plain, numbers: &mut N
     let id = plain.any_id(numbers);
     assert_eq!(rt; table.get(id).copied(), plain.get(id));
     assert_eq!(rt; table.next(id), plain.next(id));
+    let place = numbers.below(SIZE as u32) as usize;
+    assert_eq!(rt; table.nth(place), plain.nth(place));
+    assert_eq!(rt; table.len(), plain.len());
     assert_eq!(rt; table.is_full(), plain.least_free().is_none());
     assert_eq!(rt; table.last_given(), plain.last_given);
 }

@@ -8,15 +8,18 @@ use Rattle.std.specs.FinMap as map
 use Rattle.std.specs.FinSet as set
 use Rattle.std.proofs.lemmas.Bool.{cases_lt, cases_eq, eq-eqb, ne_eqb, false≢true}
 use Rattle.drm_index_array.specs.Least.{least, IsLeastFrom}
+use Rattle.std.specs.List.{slice_get}
+use Rattle.drm_index_array.specs.Place.{passing, IsPlaced}
+use Rattle.drm_index_array.proofs.PlaceLemmas.{passing-moved, passing-none, len_counted, key_placed}
 use Rattle.drm_index_array.specs.Indexed.{Indexed, marked_with, with_item, without_item, written_mark}
-use Rattle.drm_index_array.specs.Marked.{Marked, MarkedMap, mark_of, with_mark, unmarked, get, write_mark, set_value, rewrite, rewritten, values, array_of}
+use Rattle.drm_index_array.specs.Marked.{Marked, MarkedMap, mark_of, with_mark, unmarked, get, write_mark, set_value, values, array_of}
 use Rattle.drm_index_array.specs.Root.{IsRooted}
 use Rattle.drm_index_array.specs.Slots.{option_marked}
 use Rattle.drm_index_array.specs.declared.tree.Entry.{Entry}
 use Rattle.drm_index_array.specs.declared.marks.Mark.{Mark}
 use Rattle.drm_index_array.specs.declared.marks.Mark.TheVariants.{M0, M1, M2}
 use Rattle.drm_index_array.proofs.Least.{least_some, least_none, least_is, least_is_none}
-use Rattle.drm_index_array.proofs.MarkedLemmas.{get-insert, get-remove, get-rewrite, same_by_gets, get-values, len-values, values-write_mark, contains_key-values, marked_with-array_of, marked_is_key, array_of-insert, array_of-remove, array_of-set_value, array_of-write_mark}
+use Rattle.drm_index_array.proofs.MarkedLemmas.{get-insert, get-remove, get-rewrite, same_by_gets, get-values, len-values, len-set_value, values-write_mark, contains_key-values, marked_with-array_of, marked_is_key, array_of-insert, array_of-remove, array_of-set_value, array_of-write_mark}
 use Rattle.drm_index_array.proofs.NextLemmas.{is_some-option_map}
 
 module _ {T : Type 0} (items : MarkedMap T) (v : Indexed T) (view_is : array_of items ≡ v) where
@@ -31,6 +34,31 @@ module _ {T : Type 0} (items : MarkedMap T) (v : Indexed T) (view_is : array_of 
 
   pub mark_is_key : (m : Mark) (k : ℕ) → IsTrue (set.contains (marked_with v m) k) → IsTrue (map.contains_key v.items k)
   mark_is_key m = rw (← view_is) (marked_is_key items m)
+
+  -- the number at a place of the tree's indices
+  placed_at : (end place : ℕ) (r : Option ℕ) → IsPlaced (λ k. map.contains_key items k) end place r → IsPlaced (λ k. map.contains_key v.items k) end place r
+  placed_at end place None few = omega (arith, few, passing-moved (λ k. map.contains_key items k) (λ k. map.contains_key v.items k) 0 0 end (λ r lt. key_at (0 + r)))
+  placed_at end place (Some n) is = record {
+    below = is.below;
+    passes = sym (key_at n) ∙ is.passes;
+    before = sym (passing-moved (λ k. map.contains_key items k) (λ k. map.contains_key v.items k) 0 0 n (λ r lt. key_at (0 + r))) ∙ is.before;
+  }
+
+  module _ (m : MarkedMap T) (same : m ≡ items) (end : ℕ) (past : (k : ℕ) → end ≤ k → map.get m k ≡ None) (place : ℕ) where
+    nothing_past : (k : ℕ) → end ≤ k → map.contains_key v.items k ≡ false
+    nothing_past k le = sym (key_at k) ∙ ap (λ m. map.contains_key m k) (sym same) ∙ ap is_some (past k le)
+
+    here : (r : Option ℕ) → IsPlaced (λ k. map.contains_key m k) end place r → IsPlaced (λ k. map.contains_key v.items k) end place r
+    here r placed = placed_at end place r (subst (λ m. IsPlaced (λ k. map.contains_key m k) end place r) same placed)
+
+    pub nth_found : (r : Option ℕ) → IsPlaced (λ k. map.contains_key m k) end place r → r ≡ slice_get (map.keys v.items) place
+    nth_found r placed = key_placed v.items end nothing_past place r (here r placed)
+
+    pub nth_there : (n : ℕ) → IsPlaced (λ k. map.contains_key m k) end place (Some n) → map.contains_key v.items n ≡ true
+    nth_there n placed = (here (Some n) placed).passes
+
+    pub nth_few : IsPlaced (λ k. map.contains_key m k) end place None → map.len v.items ≤ place
+    nth_few placed = omega (arith, here None placed, len_counted v.items end nothing_past)
 
   -- what a look-up in the tree found
   module _ (k : ℕ) (o : Option (Marked T)) (m : MarkedMap T) (found : o ≡ map.get m k) (same : m ≡ items) where
@@ -93,6 +121,15 @@ module _ {T : Type 0} (items : MarkedMap T) (v : Indexed T) (view_is : array_of 
 
   pub no_key : (k : ℕ) → map.contains_key v.items k ≡ false
   no_key k = ap is_some (no_item k)
+
+  pub no_nth : (place : ℕ) → None ≡ slice_get (map.keys v.items) place
+  no_nth place = key_placed v.items 0 (λ k le. no_key k) place None (omega (arith, none_in))
+    where
+      none_in : passing (λ k. map.contains_key v.items k) 0 0 ≡ 0
+      none_in = passing-none _ 0 0 (λ r lt. no_key (0 + r))
+
+  pub no_len : map.len v.items ≡ 0
+  no_len = len_counted v.items 0 (λ k le. no_key k) ∙ passing-none _ 0 0 (λ r lt. no_key (0 + r))
 
   pub no_mark : (m : Mark) (k : ℕ) → set.contains (marked_with v m) k ≡ false
   no_mark m k = sym (mark_at items v view_is m k) ∙ ap (λ a. option_map_or (λ s. mark_of s m) (map.get a k) false) empty ∙ ap (λ o. option_map_or (λ s. mark_of s m) o false) (map.get-empty nat_cmp k)
@@ -217,14 +254,6 @@ module _ {T : Type 0} (items : MarkedMap T) (v : Indexed T) (view_is : array_of 
   pub array_lent : IsSome (get items i) → (w : T) → array_of (set_value items i w) ≡ with_item v i w
   array_lent there w = array_of-set_value items i w there ∙ ap (λ a. with_item a i w) view_is
 
-  len-rewritten : (f : Marked T → Marked T) (o : Option (Marked T)) → map.get items i ≡ o → map.len (rewritten items i f o) ≡ map.len items
-  len-rewritten f None is = refl
-  len-rewritten f (Some s) is = map.len-insert nat_cmp_total items i (f s) ∙ ap (λ o. cond (is_some o) (map.len items) (map.len items + 1)) is
-
-  len-set_value : (w : T) → map.len (set_value items i w) ≡ map.len items
-  unfolding rewrite
-  len-set_value w = len-rewritten (λ s. record s { value = w }) (map.get items i) refl
-
   keys-set_value : (w : T) (k : ℕ) → map.contains_key (set_value items i w) k ≡ map.contains_key items k
   keys-set_value w k = ap is_some (get-rewrite items i (λ s. record s { value = w }) k) ∙ either (eqb k i) (map.get items k)
     where
@@ -233,7 +262,7 @@ module _ {T : Type 0} (items : MarkedMap T) (v : Indexed T) (view_is : array_of 
       either false o = refl
 
   pub rooted_lent : (count : ℕ) → IsRooted items count → (w : T) → IsRooted (set_value items i w) count
-  rooted_lent count rooted w = record { counted = rooted.counted ∙ sym (len-set_value w); fit = λ k there. rooted.fit k (sym (keys-set_value w k) ∙ there) }
+  rooted_lent count rooted w = record { counted = rooted.counted ∙ sym (len-set_value items i w); fit = λ k there. rooted.fit k (sym (keys-set_value w k) ∙ there) }
 
   -- the borrow of a value that is there
   pub lent_there : {D : Type 0} (r : Option (MutBor T)) → option_copied_mut r ≡ get items i → (f h : T → D) (a b : D) → (IsSome (get items i) → (x : T) → f x ≡ h x) → a ≡ b → read_of (ghost_name_of r) f a ≡ read_of (ghost_name_of r) h b

@@ -3,7 +3,7 @@ use Rattle.std.proofs.Common.{◌≡◌, ℕ, zero, suc, ◌+◌, ◌-◌, ◌*�
 use Rattle.std.specs.FinMap as map
 use Rattle.std.proofs.lemmas.Bool.{cases_eq, cases_lt, eq-eqb, ne_eqb, lt-ltb, le-ltb, false≢true}
 use Rattle.std.proofs.lemmas.List.{get_or-set_same, get_or-set_other, get_or_read, length-set}
-use Rattle.std.proofs.lemmas.Nat.{div-add-mod', pow-add}
+use Rattle.std.proofs.lemmas.Nat.{div-add-mod', pow-add, pow_pos}
 use Rattle.std.proofs.Math.Nat.{div-eq_of_lt, mod-eq_of_lt}
 use Rattle.drm_index_array.specs.Marked.{Marked, MarkedMap, unmarked}
 use Rattle.drm_index_array.proofs.MarkedLemmas.{same_by_gets, get-insert}
@@ -131,6 +131,16 @@ module _ {T : Type 0} {E : Type 0} (old now : MarkedMap T) (q : ℕ) (v : T) whe
 pub on_err_map : {E : Type 0} {P Q : Type 0} (done : Result (Unit {0}) E) → (P → Q) → OnErr done P → OnErr done Q
 on_err_map (Ok _) f p = tt
 on_err_map (Err _) f p = f p
+
+pub first_spot : {T : Type 0} (height : ℕ) (slots : List (Slot T)) (v : Tree T) (words : Words) → IsSound height slots words → view_of height slots ≡ v → Spot height slots 0 0 0 v
+first_spot height slots v words sound view_is = record {
+  at_is = sym (div-eq_of_lt (pow_pos (6 * height)));
+  rest_is = sym (mod-eq_of_lt (pow_pos (6 * height)));
+  in_range = omega (arith, sound.wide);
+  within = pow_pos (6 * height + 6);
+  all_fit = sound.all_fit;
+  view_is = view_is;
+}
 
 -- the first slot written over by a child
 module _ {T : Type 0} {height : ℕ} {slots : List (Slot T)} {v : Tree T} (words : Words) (sound : IsSound height slots words) (view_is : view_of height slots ≡ v) (b : Box (Node T) Global) where

@@ -6,9 +6,10 @@ use Rattle.std.proofs.lemmas.List.{length-replicate}
 use Rattle.std.proofs.lemmas.Nat.Bits.{bit_at-zero}
 use Rattle.drm_index_array.proofs.MarkedLemmas.{same_by_gets}
 use Rattle.drm_index_array.specs.declared.marks.Mark.TheVariants.{M0, M1, M2}
+use Rattle.drm_index_array.specs.Marked.{Marked}
 use Rattle.drm_index_array.specs.Word.{has_bit, tells_of}
-use Rattle.drm_index_array.specs.Tree.{width, span}
-use Rattle.drm_index_array.specs.Slots.{AllFit, has_below, slot, look, below, view_of, IsSound}
+use Rattle.drm_index_array.specs.Tree.{Tree, width, span}
+use Rattle.drm_index_array.specs.Slots.{AllFit, has_below, slot, look, below, view_of, IsSound, IsNode}
 use Rattle.drm_index_array.specs.declared.words.Sought.{Sought}
 use Rattle.drm_index_array.specs.declared.words.Sought.TheVariants.{Taken, Vacant as Free, Marked as WithMark}
 use Rattle.drm_index_array.specs.declared.words.Words.{Words}
@@ -50,7 +51,7 @@ module _ (T : Type 0) where
   vacant_tells height (WithMark M1) i = no_bit i ∙ sym (any_alike height false)
   vacant_tells height (WithMark M2) i = no_bit i ∙ sym (any_alike height false)
 
-  pub empty_sound : (height : ℕ) → height ≤ 5 → IsSound height (vacants 64) no_words
+  empty_sound : (height : ℕ) → height ≤ 5 → IsSound height (vacants 64) no_words
   empty_sound height low = record {
     wide = length-replicate 64 vacant;
     low = low;
@@ -64,3 +65,9 @@ module _ (T : Type 0) where
       get-table (span height) (look height (vacants 64)) k
       ∙ ap (λ s. cond (ltb k (span height)) (below s (k % width height)) None) (slot_vacant 64 (k / width height))
       ∙ same_either _ None ∙ sym (map.get-empty nat_cmp k)))
+
+  pub empty_node : (height : ℕ) → height ≤ 5 → IsNode height (vacants 64) no_words 0
+  empty_node height low = record {
+    sound = empty_sound height low;
+    counted = sym (ap (λ (t : Tree T). map.len t.items) (empty_view height) ∙ map.len-empty nat_cmp (Marked T));
+  }

@@ -79,6 +79,32 @@ module _ {X : Type 0} where
         | inr at_least ↦ absurd (false≢true (sym (none e.0 at_least) ∙ ap (λ b. is_some (cond b (Some e.1) (find nat_cmp e.0 es))) (same_key e.0)))
       ]
 
+-- a number that is no key makes no difference
+skip_key : {X : Type 0} (es : List (ℕ × X)) (from : ℕ) → is_some (find nat_cmp from es) ≡ false → from_on es from ≡ from_on es (from + 1)
+skip_key [] from none = refl
+skip_key (e ∷ es) from none =
+    elim (cases_eq from e.0) [
+      | inl same ↦
+          let tied : eq_by_cmp nat_cmp from e.0 ≡ true = rw same (same_key e.0) in
+          absurd (false≢true (sym none ∙ ap (λ b. is_some (cond b (Some e.1) (find nat_cmp from es))) tied))
+      | inr apart ↦
+          let rest = skip_key es from (ap (λ b. is_some (cond b (Some e.1) (find nat_cmp from es))) (sym (other_key from e.0 apart)) ∙ none) in
+          elim (cases_lt e.0 from) [
+            | inl below ↦ rw (leb_no from e.0 below, leb_no (from + 1) e.0 (omega arith)) rest
+            | inr above ↦ rw (leb_yes from e.0 above, leb_yes (from + 1) e.0 (omega arith)) (ap (λ l. e.0 ∷ l) rest)
+          ]
+    ]
+
+from_zero : (ks : List ℕ) → filter (λ k. leb 0 k) ks ≡ ks
+from_zero [] = refl
+from_zero (k ∷ ks) = rw (leb_yes 0 k (omega arith)) (ap (λ l. k ∷ l) (from_zero ks))
+
+pub keys_from-zero : {X : Type 0} (m : map.FinMap nat_cmp X) → keys_from m 0 ≡ map.keys m
+keys_from-zero m = from_zero (map.keys m)
+
+pub keys_from-skip : {X : Type 0} (m : map.FinMap nat_cmp X) (from : ℕ) → map.contains_key m from ≡ false → keys_from m from ≡ keys_from m (from + 1)
+keys_from-skip m from none = skip_key (map.entries m) from (ap is_some (sym (map.get-entries m from)) ∙ none)
+
 -- the least key from a number on is the first of them, and the others come after it
 pub keys_from-least : {X : Type 0} (m : map.FinMap nat_cmp X) (from to h : ℕ) → IsLeast (map.contains_key m) from to h → keys_from m from ≡ h ∷ keys_from m (h + 1)
 keys_from-least m from to h is =

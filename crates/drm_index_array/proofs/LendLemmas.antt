@@ -10,7 +10,7 @@ use Rattle.std.proofs.lemmas.List.{set-get_or}
 use Rattle.drm_index_array.specs.Lends.{slot_with_value, tree_with_value}
 use Rattle.drm_index_array.specs.Marked.{Marked, set_value}
 use Rattle.drm_index_array.specs.Tree.{Tree, width, is_sought}
-use Rattle.drm_index_array.specs.Slots.{Fits as SlotFits, has_below, slot, below, view_of, IsSound}
+use Rattle.drm_index_array.specs.Slots.{Fits as SlotFits, has_below, slot, below, view_of, IsSound, IsNode}
 use Rattle.drm_index_array.specs.Word.{tells_of}
 use Rattle.drm_index_array.specs.declared.marks.Mark.TheVariants.{M0, M1, M2}
 use Rattle.drm_index_array.specs.declared.words.Sought.{Sought}
@@ -19,7 +19,7 @@ use Rattle.drm_index_array.specs.declared.words.Words.{Words}
 use Rattle.drm_index_array.specs.declared.tree.Slot.{Slot}
 use Rattle.drm_index_array.specs.declared.tree.Slot.TheVariants.{Vacant, Value, Child}
 use Rattle.drm_index_array.proofs.Least.{least-same}
-use Rattle.drm_index_array.proofs.MarkedLemmas.{get-rewrite}
+use Rattle.drm_index_array.proofs.MarkedLemmas.{get-rewrite, len-set_value}
 use Rattle.drm_index_array.proofs.SlotLemmas.{Spot}
 use Rattle.drm_index_array.proofs.EditLemmas.{edited_sound, edited_view, was_fits, value_was, rest_in_slot}
 
@@ -83,7 +83,7 @@ module _ {T : Type 0} where
   fits_alike height (Child b) rest w fits = fits
 
 module _ {T : Type 0} {height : ℕ} {slots : List (Slot T)} {q at rest : ℕ} {v : Tree T} (here : Spot height slots q at rest v) (was : Slot T) (was_is : slot slots at ≡ was) where
-  pub lent_sound : (words : Words) → IsSound height slots words → (w : T) → IsSound height (set slots at (slot_with_value was rest w)) words
+  lent_sound : (words : Words) → IsSound height slots words → (w : T) → IsSound height (set slots at (slot_with_value was rest w)) words
   lent_sound words sound w = edited_sound here (slot_with_value was rest w) words words sound (fits_alike height was rest w (was_fits here was was_is)) sound.fit (λ x i lt. elim (cases_eq i at) as (λ _. tells_of words x i ≡ cond (eqb i at) (has_below height (slot_with_value was rest w) x) (tells_of words x i)) [
     | inl same ↦ rw (eq-eqb i at same) (sound.tells x i lt ∙ ap (λ n. has_below height (slot slots n) x) same ∙ ap (λ s. has_below height s x) was_is ∙ sym (has_alike height was (was_fits here was was_is) rest (rest_in_slot here) w x))
     | inr apart ↦ rw (ne_eqb i at apart) refl
@@ -94,11 +94,20 @@ module _ {T : Type 0} {height : ℕ} {slots : List (Slot T)} {q at rest : ℕ} {
       (λ r lt. below-slot_with_value height was (was_fits here was was_is) rest r (rest_in_slot here) lt w ∙ ap (λ o. cond (eqb r rest) (option_valued w o) (below was r)) (value_was here was was_is) ∙ ap (λ t. cond (eqb r rest) (option_valued w (map.get v.items q)) (below t r)) (sym was_is))
       (set_value v.items q w) (get-set_value v.items q w)
 
+  len_lent : (w : T) → map.len (view_of height slots).items ≡ map.len (view_of height (set slots at (slot_with_value was rest w))).items
+  len_lent w =
+      ap (λ (t : Tree T). map.len t.items) here.view_is
+      ∙ sym (len-set_value v.items q w)
+      ∙ ap (λ (t : Tree T). map.len t.items) (sym (lent_view w))
+
+  pub lent_node : (words : Words) (count : ℕ) → IsNode height slots words count → (w : T) → IsNode height (set slots at (slot_with_value was rest w)) words count
+  lent_node words count node w = record { sound = lent_sound words node.sound w; counted = node.counted ∙ len_lent w }
+
   kept_slots : set slots at was ≡ slots
   kept_slots = ap (set slots at) (sym was_is) ∙ set-get_or slots at Vacant
 
-  pub kept_sound : (words : Words) → IsSound height slots words → IsSound height (set slots at was) words
-  kept_sound words sound = subst (λ ss. IsSound height ss words) (sym kept_slots) sound
+  pub kept_node : (words : Words) (count : ℕ) → IsNode height slots words count → IsNode height (set slots at was) words count
+  kept_node words count node = subst (λ ss. IsNode height ss words count) (sym kept_slots) node
 
   pub kept_view : view_of height (set slots at was) ≡ v
   kept_view = ap (view_of height) kept_slots ∙ here.view_is

@@ -2,10 +2,12 @@ pub mod Least
 pub mod MarkedLemmas
 pub mod KeysLemmas
 mod WordLemmas
+mod PlaceLemmas
 mod TableLemmas
 mod SlotLemmas
 mod NextLemmas
 mod NodeLemmas
+mod CountLemmas
 mod EditLemmas
 mod EmptyLemmas
 mod LendLemmas

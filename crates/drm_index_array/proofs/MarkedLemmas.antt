@@ -1,5 +1,5 @@
 -- What a map of marked values holds after each call, for the crates above.
-use Rattle.std.proofs.Common.{◌≡◌, ℕ, suc, length, Bool, true, false, not, eqb, cond, ◌&&◌, ◌||◌, T, List, [], ◌∷◌, map as list_map, Option, Some, None, option_map, is_some, IsTrue, IsSome, refl, sym, ap, ◌∙◌, subst, inl, inr, arith}
+use Rattle.std.proofs.Common.{◌≡◌, ℕ, suc, ◌+◌, length, Bool, true, false, not, eqb, cond, ◌&&◌, ◌||◌, T, List, [], ◌∷◌, map as list_map, Option, Some, None, option_map, is_some, IsTrue, IsSome, refl, sym, ap, ◌∙◌, subst, inl, inr, arith}
 use Rattle.std.specs.Option.{option_map_or}
 use Rattle.std.specs.Ordering.{nat_cmp, eq_by_cmp, is_lt}
 use Rattle.std.specs.Cmp.{nat_cmp_total}
@@ -353,3 +353,12 @@ module _ {X : Type 0} where
       length_pairs_by : (es : List (ℕ × Marked X)) → length {A = ℕ × X} (list_map (λ e. (e.0, e.1.value)) es) ≡ length es
       length_pairs_by [] = refl
       length_pairs_by (e ∷ es) = ap suc (length_pairs_by es)
+
+-- an entry that is rewritten is neither more nor less
+len-rewritten : {T : Type 0} (a : MarkedMap T) (i : ℕ) (f : Marked T → Marked T) (o : Option (Marked T)) → map.get a i ≡ o → map.len (rewritten a i f o) ≡ map.len a
+len-rewritten a i f None is = refl
+len-rewritten a i f (Some s) is = map.len-insert nat_cmp_total a i (f s) ∙ ap (λ o. cond (is_some o) (map.len a) (map.len a + 1)) is
+
+pub len-set_value : {T : Type 0} (a : MarkedMap T) (i : ℕ) (w : T) → map.len (set_value a i w) ≡ map.len a
+unfolding rewrite
+len-set_value a i w = len-rewritten a i (λ s. record s { value = w }) (map.get a i) refl

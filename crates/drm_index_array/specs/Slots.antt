@@ -3,6 +3,7 @@ use Rattle.std.specs.Prelude.{◌≡◌, ℕ, ◌+◌, ◌-◌, ◌/◌, ◌%◌
 use Rattle.std.specs.FinMap as map
 use Rattle.drm_index_array.specs.Least.{least}
 use Rattle.drm_index_array.specs.Marked.{Marked}
+use Rattle.drm_index_array.specs.Place.{passing}
 use Rattle.drm_index_array.specs.Word.{tells_of, AreWords}
 use Rattle.drm_index_array.specs.Tree.{Tree, width, span, table, is_sought}
 use Rattle.drm_index_array.specs.declared.words.Sought.{Sought}
@@ -51,6 +52,10 @@ module _ {T : Type 0} where
   AllFit height [] = Unit {0}
   AllFit height (s ∷ ss) = Fits height s × AllFit height ss
 
+  -- how many entries lie below the slot
+  abbrev pub entries_below : ℕ → Slot T → ℕ
+  entries_below height s = passing (λ r. is_some (below s r)) 0 (width height)
+
   -- whether some index below the slot is sought
   abbrev pub has_below : ℕ → Slot T → Sought → Bool
   has_below height s x = is_some (least (λ r. is_sought x (below s r)) 0 (width height - 1))
@@ -61,3 +66,8 @@ pub record IsSound {T : Type 0} (height : ℕ) (slots : List (Slot T)) (words : 
   pub all_fit : AllFit height slots
   pub fit : AreWords words
   pub tells : (x : Sought) (i : ℕ) → i < 64 → tells_of words x i ≡ has_below height (slot slots i) x
+
+-- the node counts its entries
+pub record IsNode {T : Type 0} (height : ℕ) (slots : List (Slot T)) (words : Words) (count : ℕ) : Type 0 where
+  pub sound : IsSound height slots words
+  pub counted : count ≡ map.len (view_of height slots).items

@@ -6,7 +6,7 @@ use Rattle.drm_index_array.specs.declared.tree.Slot.{Slot}
 use Rattle.drm_index_array.specs.declared.tree.Slot.TheVariants.{Vacant, Value, Child}
 use Rattle.drm_index_array.specs.declared.tree.Node.TheInside.{Inside}
 use Rattle.drm_index_array.specs.declared.tree.Node.TheDeep.{deep-Node, deep-Slot}
-use Rattle.drm_index_array.specs.Slots.{AllFit, IsSound}
+use Rattle.drm_index_array.specs.Slots.{AllFit, IsNode}
 
 module _ {T : Type 0} where
   -- no subtree is as high as the node
@@ -16,5 +16,5 @@ module _ {T : Type 0} where
   most_falls height (Value v ∷ ss) fit = omega (arith, most_falls height ss fit.1)
   most_falls height (Child b ∷ ss) fit = omega (arith, fit.0, most_falls height ss fit.1)
 
-  pub height_falls : (a : Inside T) → IsSound a.height a.slots.items a.words → deep-Node T a ≤ a.height
-  height_falls a h = omega (arith, most_falls a.height a.slots.items h.all_fit)
+  pub height_falls : (a : Inside T) → IsNode a.height a.slots.items a.words a.count → deep-Node T a ≤ a.height
+  height_falls a h = omega (arith, most_falls a.height a.slots.items h.sound.all_fit)

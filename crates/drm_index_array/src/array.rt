@@ -1,7 +1,8 @@
 //! The array.
 
-ghost use Rattle.std.specs.Prelude.{◌≡◌, ◌≤◌, ◌↔◌, ℕ, IsTrue, IsSome, OnOk, OnErr, IfOk, IfErr, IfNone, option_copied, not, false};
+ghost use Rattle.std.specs.Prelude.{◌≡◌, ◌≤◌, ◌↔◌, ℕ, IsTrue, IsSome, OnOk, OnErr, IfOk, IfErr, IfSome, IfNone, option_copied, not, false};
 ghost use Rattle.std.specs.Option.{option_copied_mut};
+ghost use Rattle.std.specs.List.{slice_get};
 ghost use Rattle.std.specs.Bool.{OnTrue, OnFalse};
 ghost use Rattle.std.specs.FinMap as map;
 ghost use Rattle.std.specs.FinSet as set;
@@ -184,6 +185,23 @@ impl<T: Drop> IndexArray<T> {
             return None;
         };
         let Some(found) = root.first(Sought::Taken, from as u64) else {
+            return None;
+        };
+        Some(found as u32)
+    }
+
+    /// The index at a place of the list of the indices that have an entry, rising, where 0 is the first. Whole subtrees
+    /// are passed over, so a late place costs what an early one does.
+    pub fn nth(&self, place: usize) -> Option<u32>
+        ensures nth { result ≡ slice_get (map.keys self.now.items) place }
+        ensures present { IfSome result (λ index. IsTrue (map.contains_key self.now.items index)) }
+        ensures past { IfNone result (map.len self.now.items ≤ place) }
+        ensures bound { (k : ℕ) → IsTrue (map.contains_key self.now.items k) → k ≤ u32.MAX }
+    {
+        let Some(root) = &self.root else {
+            return None;
+        };
+        let Some(found) = root.nth(place) else {
             return None;
         };
         Some(found as u32)

@@ -57,6 +57,9 @@ fn levels_grow_and_empty(rt: HostRuntime) -> Result<(), Fail> {
     assert_eq!(rt; array.next_vacant(0), Some(63));
     assert_eq!(rt; array.insert(4_294_967_295, 1), Ok(()));
     assert_eq!(rt; array.next_vacant(4_294_967_295), None);
+    assert_eq!(rt; array.nth(62), Some(62));
+    assert_eq!(rt; array.nth(64), Some(4_294_967_295));
+    assert_eq!(rt; array.nth(65), None);
     Ok(())
 }
 
@@ -117,6 +120,7 @@ fn compare(rt: &impl Abort, array: &IndexArray<u32>, plain: &Plain, numbers: &mu
     assert_eq!(rt; array.marked(index, MARKS[mark]), plain.marked[mark][slot]);
     assert_eq!(rt; array.len(), plain.len());
     assert_eq!(rt; array.next(index), plain.next(index));
+    assert_eq!(rt; array.nth(slot), plain.nth(slot));
     assert_eq!(rt;
         array.next_marked(index, MARKS[mark]),
         plain.next_marked(index, mark)

@@ -1,13 +1,14 @@
 //! The tree of nodes.
 
-ghost use Rattle.std.specs.Prelude.{◌≡◌, ℕ, ◌+◌, ◌-◌, ◌*◌, ◌^◌, ◌<◌, ◌≤◌, ◌/◌, ◌%◌, ◌↔◌, ◌==◌, if◌then◌else◌, IsTrue, OnSome, IsSome, is_some, not, nat_lt, option_map, Some, None, option_copied, OnOk, OnErr, IfOk, IfErr};
+ghost use Rattle.std.specs.Prelude.{◌≡◌, ℕ, ◌+◌, ◌-◌, ◌*◌, ◌^◌, ◌<◌, ◌≤◌, ◌/◌, ◌%◌, ◌↔◌, ◌==◌, if◌then◌else◌, IsTrue, OnSome, IsSome, is_some, not, nat_lt, option_map, Some, None, option_copied, OnOk, OnErr, IfOk, IfErr, IfSome, IfNone};
 ghost use Rattle.std.specs.FinMap as map;
 ghost use Rattle.drm_index_array.specs.Least.{least, IsLeastFrom};
+ghost use Rattle.drm_index_array.specs.Place.{passing, IsPlaced};
 ghost use Rattle.drm_index_array.specs.Word.{has_bit, tells_of, AreWords};
 ghost use Rattle.drm_index_array.specs.Marked.{mark_of, with_mark, unmarked};
 ghost use Rattle.drm_index_array.specs.InsertFault.{value_of, IsTaken};
 ghost use Rattle.drm_index_array.specs.Tree.{width, span, is_sought};
-ghost use Rattle.drm_index_array.specs.Slots.{marked, option_marked, Fits, InSlot, below, has_below};
+ghost use Rattle.drm_index_array.specs.Slots.{marked, option_marked, Fits, InSlot, below, entries_below, has_below};
 ghost use Rattle.drm_index_array.specs.Edit.{edited_by, filled_by, taken_by};
 ghost use Rattle.std.specs.Option.{option_copied_mut};
 
@@ -41,6 +42,8 @@ pub struct Node<T> {
     height: u32,
     slots: Vec<Slot<T>>,
     words: Words,
+    // The entries below it.
+    count: usize,
 }
 
 /// What a walk does to the entry at an index, if there is one.
@@ -59,11 +62,11 @@ impl<T> Model for Node<T> {
 
     ghost coded = { tree_code T.code };
 
-    ghost use Rattle.drm_index_array.specs.Slots.{view_of, IsSound};
+    ghost use Rattle.drm_index_array.specs.Slots.{view_of, IsNode};
 
     ghost view = { λ a. view_of a.height a.slots.items };
 
-    ghost invariant = { λ a. IsSound a.height a.slots.items a.words };
+    ghost invariant = { λ a. IsNode a.height a.slots.items a.words a.count };
 
     ghost size = { λ t. t.height };
 
@@ -157,6 +160,17 @@ fn any_below<T>(slot: &Slot<T>, height: u32, sought: Sought) -> bool
     }
 }
 
+/// How many entries lie below a slot.
+fn count_below<T>(slot: &Slot<T>) -> usize
+    ensures { (height : ℕ) → Fits height slot.now → result ≡ entries_below height slot.now }
+{
+    match slot {
+        Slot::Vacant => 0,
+        Slot::Value(_) => 1,
+        Slot::Child(child) => child.len(),
+    }
+}
+
 /// The words of a node, once one slot was written.
 fn refreshed<T>(words: &Words, height: u32, slot: &Slot<T>, at: usize) -> Words
     requires words { AreWords words.now }
@@ -192,6 +206,14 @@ impl<T> Node<T> {
         ensures low { result ≤ 5 }
     {
         self.height
+    }
+
+    /// How many entries there are.
+    pub fn len(&self) -> usize
+        ensures len { result ≡ map.len self.now.items }
+        ensures past { (k : ℕ) → span self.now.height ≤ k → map.get self.now.items k ≡ None }
+    {
+        self.count
     }
 
     /// Whether the index is low enough to lie below the node.
@@ -304,6 +326,45 @@ impl<T> Node<T> {
         }
     }
 
+    /// The index at a place of the list of the indices that have an entry, rising, where 0 is the first. Whole slots are
+    /// passed over by how many entries lie below them.
+    pub fn nth(&self, place: usize) -> Option<u64>
+        ensures placed { IsPlaced (map.contains_key self.now.items) (span self.now.height) place result }
+        ensures past { (k : ℕ) → span self.now.height ≤ k → map.get self.now.items k ≡ None }
+    {
+        let height = self.height;
+        let Some((at, place)) = self.slot_of(place) else {
+            return None;
+        };
+        let base = start(height, at);
+        match &self.slots[at] {
+            Slot::Vacant => None,
+            Slot::Value(_) => Some(base),
+            Slot::Child(child) => match child.nth(place) {
+                Some(found) => Some(base + found),
+                None => None,
+            },
+        }
+    }
+
+    /// The slot below which the index at a place lies, and its place among those below that slot.
+    fn slot_of(&self, place: usize) -> Option<(usize, usize)>
+        ensures slot { IfSome result (λ found. found.0 < 64) }
+        ensures before { IfSome result (λ found. passing (map.contains_key self.now.items) 0 (found.0 * width self.now.height) + found.1 ≡ place) }
+        ensures within { IfSome result (λ found. found.1 < passing (map.contains_key self.now.items) (found.0 * width self.now.height) (width self.now.height)) }
+        ensures past { IfNone result (passing (map.contains_key self.now.items) 0 (span self.now.height) ≤ place) }
+    {
+        let mut left = place;
+        for at in 0..64usize {
+            let here = count_below(&self.slots[at]);
+            if left < here {
+                return Some((at, left));
+            }
+            left -= here;
+        }
+        None
+    }
+
     /// Whether some index is sought.
     fn any(&self, sought: Sought) -> bool
         ensures any { result ≡ is_some (least (λ i. is_sought sought (map.get self.now.items i)) 0 (span self.now.height - 1)) }
@@ -327,6 +388,7 @@ impl<T: Drop> Node<T> {
             height,
             slots,
             words: Words::none(),
+            count: 0,
         })
     }
 
@@ -344,7 +406,9 @@ impl<T: Drop> Node<T> {
     {
         let (at, rest) = parts(self.height, index);
         let slot = mem::replace(&mut self.slots[at], Slot::Vacant);
+        let others = self.count - count_below(&slot);
         let (slot, done) = filled(alloc, slot, self.height, rest, value);
+        self.count = others + count_below(&slot);
         self.slots[at] = slot;
         self.words = refreshed(&self.words, self.height, &self.slots[at], at);
         done
@@ -356,7 +420,9 @@ impl<T: Drop> Node<T> {
         ensures height { self.new.height ≡ self.old.height }
         ensures items { (k : ℕ) → map.get self.new.items k ≡ (if nat_lt k (width self.old.height) then map.get child.value.items k else map.get self.old.items k) }
     {
+        let others = self.count - count_below(&self.slots[0]);
         self.slots[0] = Slot::Child(child);
+        self.count = others + count_below(&self.slots[0]);
         self.words = refreshed(&self.words, self.height, &self.slots[0], 0);
     }
 
@@ -371,7 +437,9 @@ impl<T: Drop> Node<T> {
     {
         let (at, rest) = parts(self.height, index);
         let slot = mem::replace(&mut self.slots[at], Slot::Vacant);
+        let others = self.count - count_below(&slot);
         let (slot, taken) = edited(slot, self.height, rest, edit);
+        self.count = others + count_below(&slot);
         self.slots[at] = slot;
         self.words = refreshed(&self.words, self.height, &self.slots[at], at);
         taken

@@ -134,4 +134,21 @@ impl Plain {
         }
         None
     }
+
+    pub fn nth(&self, place: usize) -> Option<u32> {
+        let mut left = place;
+        for slot in 0..SIZE {
+            if self.values[slot].is_some() {
+                if left == 0 {
+                    return Some(self.id(slot));
+                }
+                left -= 1;
+            }
+        }
+        None
+    }
+
+    pub fn len(&self) -> usize {
+        self.values.iter().filter(|value| value.is_some()).count()
+    }
 }

@@ -122,6 +122,19 @@ impl Plain {
         None
     }
 
+    pub fn nth(&self, place: usize) -> Option<u32> {
+        let mut left = place;
+        for slot in 0..SLOTS {
+            if self.values[slot].is_some() {
+                if left == 0 {
+                    return Some(index_of(slot));
+                }
+                left -= 1;
+            }
+        }
+        None
+    }
+
     pub fn next_marked(&self, from: u32, mark: usize) -> Option<u32>
         requires { mark < 3 }
     {

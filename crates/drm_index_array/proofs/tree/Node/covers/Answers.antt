@@ -5,4 +5,4 @@ pub returns-clause-past : goal.returns-clause-past
 returns-clause-past g c = view_past _ _ _ c.self.view_is
 
 pub returns-clause-few : goal.returns-clause-few
-returns-clause-few g c = view_few _ _ _ c.self.view_is c.self.invariant.low
+returns-clause-few g c = view_few _ _ _ c.self.view_is c.self.invariant.sound.low
