@@ -1,5 +1,5 @@
 -- How the entries of a map are met one after another.
-use Rattle.std.proofs.Common.{◌≡◌, ℕ, zero, suc, ◌+◌, ◌-◌, ◌<◌, ◌≤◌, Bool, true, false, cond, eqb, nat_le, T, List, [], ◌∷◌, map, slice_get, length, is_some, IsTrue, IfNone, Option, Some, None, option_map, option_and_then, unwrap_or, refl, sym, ap, ◌∙◌, inl, inr, arith, nat_cmp, is_lt}
+use Rattle.std.proofs.Common.{◌≡◌, ℕ, zero, suc, ◌+◌, ◌-◌, ◌<◌, ◌≤◌, Bool, true, false, cond, eqb, nat_le, T, List, [], ◌∷◌, ◌++◌, map, slice_get, length, is_some, IsTrue, IfNone, Option, Some, None, option_map, option_and_then, unwrap_or, refl, sym, ap, ◌∙◌, inl, inr, arith, nat_cmp, is_lt}
 use Rattle.std.specs.Ordering.{eq_by_cmp}
 use Rattle.std.specs.Cmp.{nat_cmp_total}
 use Rattle.std.specs.FinMap as fin
@@ -147,12 +147,23 @@ module _ {X : Type 0} where
     next_is from None is none = ap (λ es. slice_get (map (λ e. e.0) es) 0) (sym (from_none from none))
     next_is from (Some h) is none = ap (λ es. slice_get (map (λ e. e.0) es) 0) (sym (from_key from 4294967295 h (least_some _ from 4294967295 h (sym is))).1)
 
--- a place behind the first, counted in turns
-pub nth_next : {Y : Type 0} (y : Y) (ys : List Y) (place turn : ℕ) → turn < place → slice_get (y ∷ ys) (place - turn) ≡ slice_get ys (place - (turn + 1))
-nth_next y ys place turn lt = ap (slice_get (y ∷ ys)) (one_less place turn lt)
-  where
-    one_less : (a b : ℕ) → b < a → a - b ≡ suc (a - (b + 1))
-    one_less a b lt = omega (arith, lt)
+-- a place in the first of two lists, and one behind it
+pub at_front : {Y : Type 0} (xs ys : List Y) (i : ℕ) (y : Y) → slice_get xs i ≡ Some y → slice_get (xs ++ ys) i ≡ Some y
+at_front [] ys i y is = absurd (none_some y is)
+at_front (x ∷ xs) ys zero y is = is
+at_front (x ∷ xs) ys (suc i) y is = at_front xs ys i y is
+
+pub behind_front : {Y : Type 0} (xs ys : List Y) (i n : ℕ) → length xs ≡ n → n ≤ i → slice_get (xs ++ ys) i ≡ slice_get ys (i - n)
+behind_front [] ys i n is le = let none : i ≡ i - n = omega (arith, is) in ap (slice_get ys) none
+behind_front (x ∷ xs) ys zero n is le = absurd (omega (arith, is, le))
+behind_front (x ∷ xs) ys (suc i) n is le =
+    let less : i - (n - 1) ≡ suc i - n = omega (arith, is, le) in
+    behind_front xs ys i (n - 1) (omega (arith, is)) (omega (arith, is, le)) ∙ ap (slice_get ys) less
+
+-- what is there has a value
+pub not_both : {Y : Type 0} (y : Option Y) → IsTrue (is_some y) → y ≡ None → ⊥
+not_both None there none = absurd (false≢true there)
+not_both (Some y) there none = false≢true (sym (ap is_some none))
 
 module _ {X Y : Type 0} where
   -- the row at a place, by the key that stands there

@@ -10,7 +10,6 @@ ghost use Rattle.drm_files.specs.declared.rows.FileHold.{FileHold};
 use crate::files::{FileRecord, Files, Held};
 use crate::rows::{FileClient, FileHold};
 use drm_id_alloc::IdTable;
-use drm_index_array::IndexArray;
 use drm_table::ShownList;
 
 impl Files {
@@ -29,7 +28,7 @@ impl Files {
     pub fn nth_client(&self, place: usize) -> Option<FileClient>
         ensures { result ≡ slice_get self.now.clients place }
     {
-        let client = nth_number(&self.clients, place)?;
+        let client = self.clients.nth(place)?;
         let record = self.clients.get(client)?;
         Some(FileClient {
             client,
@@ -37,7 +36,7 @@ impl Files {
         })
     }
 
-    /// The hold at a place of the list of holds, where 0 is the first. It takes no memory.
+    /// The hold at a place of the list of holds, where 0 is the first. It passes over whole clients, and takes no memory.
     pub fn nth_hold(&self, place: usize) -> Option<FileHold>
         ensures { result ≡ slice_get self.now.holds place }
     {
@@ -77,35 +76,13 @@ fn shown_handles(table: &IdTable<Held>, from: u32) -> ShownList
     list
 }
 
-// The number of the client at a place.
-fn nth_number(clients: &IndexArray<FileRecord>, place: usize) -> Option<u32>
-    ensures { result ≡ slice_get (map.keys clients.now.items) place }
-{
-    let mut at = 0;
-    for _turn in 0..place {
-        let client = clients.next(at)?;
-        at = client.checked_add(1)?;
-    }
-    clients.next(at)
-}
-
 // The hold at a place of one client's, or how far behind the last of them the place is.
 fn nth_held(client: u32, table: &IdTable<Held>, place: usize) -> Result<FileHold, usize>
     ensures ok { IfOk result (λ hold. (rest : List FileHold) → slice_get (rows_in client (map.entries table.now.slots) ++ rest) place ≡ Some hold) }
     ensures err { IfErr result (λ behind. (rest : List FileHold) → slice_get (rows_in client (map.entries table.now.slots) ++ rest) place ≡ slice_get rest behind) }
 {
-    let mut at = 0;
-    for turn in 0..place {
-        let Some(handle) = table.next(at) else {
-            return Err(place - turn);
-        };
-        let Some(above) = handle.checked_add(1) else {
-            return Err(place - turn - 1);
-        };
-        at = above;
-    }
-    let Some(handle) = table.next(at) else {
-        return Err(0);
+    let Some(handle) = table.nth(place) else {
+        return Err(place - table.len());
     };
     let Some(held) = table.get(handle) else {
         unreachable!();

@@ -11,7 +11,15 @@ use Rattle.drm_index_array.specs.contracts.array.IndexArray.TheInside as inside
 use Rattle.drm_index_array.specs.contracts.tree.Node as node
 
 node_send : (T : RattleType) → IsSend T → IsSend (node.the_row T)
-node_send T s = send-Node T (search sendable depth 20) (λ h k. Vec-send h k) (search sendable depth 20) (search (s, entry.the_send, sendable) depth 20) (λ h k. Box-send h k)
+node_send T s =
+    send-Node
+      T
+      (search sendable depth 20)
+      (λ h k. Vec-send h k)
+      (search sendable depth 20)
+      (search sendable depth 20)
+      (search (s, entry.the_send, sendable) depth 20)
+      (λ h k. Box-send h k)
 
 inside_send : (T : RattleType) → IsSend T → IsSend (inside.the_row T)
 inside_send T s =
