@@ -7,18 +7,13 @@ use Rattle.drm_files.specs.declared.rows.FileClient.{FileClient}
 use Rattle.drm_files.specs.declared.rows.FileHold.{FileHold}
 use Rattle.drm_files.specs.Files.{FileLists, is_client, is_hold, client, hold, authenticated, with_client, without_client, with_hold, without_hold, with_authenticated}
 use Rattle.drm_files.specs.Records.{clients_in, holds_in, lists_of, rows_in}
-use Rattle.std.specs.FinMap.Entries.{find as find_entry}
 use Rattle.drm_files.proofs.Flat.{held}
-use Rattle.drm_files.proofs.Walks.{nth_by_key}
+use Rattle.drm_index_array.proofs.Keyed.{row_at, rows_length}
 use Rattle.drm_files.proofs.Changes.{client_of, clients_opened, clients_closed, clients_kept, clients_authenticated, holds_kept, holds_added, holds_dropped, holds_closed, held_here, find_client, find_hold}
 
 module _ (limit last : ℕ) (m : fin.FinMap nat_cmp FileRecord) (c : ℕ) where
   pub length_clients : length (clients_in (fin.entries m)) ≡ fin.len m
-  length_clients = length_of (fin.entries m) ∙ sym (fin.len-entries m)
-    where
-      length_of : (es : List (ℕ × FileRecord)) → length (clients_in es) ≡ length es
-      length_of [] = refl
-      length_of (e ∷ es) = ap (λ n. suc n) (length_of es)
+  length_clients = rows_length m c client_of
 
   by_rows : (k : fin.FinMap nat_cmp FileRecord) (v : FileLists) → clients_in (fin.entries k) ≡ v.clients → holds_in (fin.entries k) ≡ v.holds → lists_of limit last k ≡ record v { limit = limit; last_handle = last }
   by_rows k v a b = λ i. record { limit = limit; last_handle = last; clients = a i; holds = b i }
@@ -64,26 +59,11 @@ abbrev pub client_named : fin.FinMap nat_cmp FileRecord → Option ℕ → Optio
 client_named m k = option_and_then (λ c. option_map (λ (r : FileRecord). client c r.flags) (fin.get m c)) k
 
 pub client_at : (m : fin.FinMap nat_cmp FileRecord) (i : ℕ) → client_named m (slice_get (fin.keys m) i) ≡ slice_get (clients_in (fin.entries m)) i
-client_at m i = same (slice_get (fin.keys m) i) ∙ nth_by_key client_of (fin.entries m) (fin.entries_sorted m) i
-  where
-    same : (k : Option ℕ) → client_named m k ≡ option_and_then (λ c. option_map (λ (r : FileRecord). client c r.flags) (find_entry nat_cmp c (fin.entries m))) k
-    same None = refl
-    same (Some c) = ap (option_map (λ (r : FileRecord). client c r.flags)) (fin.get-entries m c)
+client_at m i = row_at m 0 client_of i
 
 -- the hold at a place of one client's, by its handle
 abbrev pub held_named : ℕ → fin.FinMap nat_cmp Held → Option ℕ → Option FileHold
 held_named c m k = option_and_then (λ h. option_map (λ (x : Held). hold c h x.object x.place) (fin.get m h)) k
 
 pub hold_at : (c : ℕ) (m : fin.FinMap nat_cmp Held) (i : ℕ) → held_named c m (slice_get (fin.keys m) i) ≡ slice_get (rows_in c (fin.entries m)) i
-hold_at c m i = same (slice_get (fin.keys m) i) ∙ nth_by_key (λ e. hold c e.0 e.1.object e.1.place) (fin.entries m) (fin.entries_sorted m) i
-  where
-    same : (k : Option ℕ) → held_named c m k ≡ option_and_then (λ h. option_map (λ (x : Held). hold c h x.object x.place) (find_entry nat_cmp h (fin.entries m))) k
-    same None = refl
-    same (Some h) = ap (option_map (λ (x : Held). hold c h x.object x.place)) (fin.get-entries m h)
-
-pub rows_length : (c : ℕ) (m : fin.FinMap nat_cmp Held) → length (rows_in c (fin.entries m)) ≡ fin.len m
-rows_length c m = length_of (fin.entries m) ∙ sym (fin.len-entries m)
-  where
-    length_of : (es : List (ℕ × Held)) → length (rows_in c es) ≡ length es
-    length_of [] = refl
-    length_of (e ∷ es) = ap (λ n. suc n) (length_of es)
+hold_at c m i = row_at m 0 (λ e. hold c e.0 e.1.object e.1.place) i

@@ -11,9 +11,10 @@ use Rattle.drm_index_array.proofs.MarkedLemmas.{get-insert, get-remove}
 use Rattle.drm_files.specs.declared.files.FileRecord.{FileRecord}
 use Rattle.drm_files.specs.declared.files.Held.{Held}
 use Rattle.drm_files.specs.declared.rows.FileClient.{FileClient}
-use Rattle.drm_files.specs.Files.{client, hold, hold_before, client_before, is_client, is_hold, of_client, placed, authenticated}
+use Rattle.drm_files.specs.Files.{client, hold, hold_before, client_before, is_client, is_hold, of_client, authenticated}
+use Rattle.drm_index_array.specs.Rows.{placed}
 use Rattle.drm_files.specs.Records.{rows_in, holds_in, clients_in}
-use Rattle.drm_files.proofs.Keyed.{rows_where, find_rows, rows_put, rows_put_found}
+use Rattle.drm_index_array.proofs.Keyed.{rows_where, find_rows, rows_put, rows_put_found, entries_removed}
 use Rattle.drm_files.proofs.Flat.{Place, place_cmp, place_total, place_exact, place_eq, place_lt, row_of, tagged, flat, rows_flat, rows_tagged, sorted_flat, sorted_tagged, held, find_held, find_tagged, flat_is, eqb_same, eqb_other}
 
 -- clients
@@ -38,26 +39,9 @@ module _ (m : fin.FinMap nat_cmp FileRecord) (c : ℕ) where
       ap clients_in (fin.entries-insert nat_cmp_total m c r)
       ∙ rows_put nat_cmp nat_cmp_total client_of client_before (λ e f. before_test e.0 f.0) c r (fin.entries m) (fin.entries_sorted m) (sym (fin.get-entries m c) ∙ none)
 
-  entries_removed : fin.entries (fin.remove m c) ≡ where_key nat_cmp (λ k. not (eq_by_cmp nat_cmp c k)) (fin.entries m)
-  entries_removed =
-      same_entries nat_cmp nat_cmp_total nat_cmp-IsAntisymmetric _ _ (fin.entries_sorted (fin.remove m c)) (is_sorted-where_key nat_cmp _ (fin.entries m) (fin.entries_sorted m)) (λ q.
-      sym (fin.get-entries (fin.remove m c) q) ∙ get-remove m c q ∙ turn q
-      ∙ ap (λ x. cond (not (eq_by_cmp nat_cmp c q)) x None) (fin.get-entries m q)
-      ∙ sym (find-where_key nat_cmp (λ k. not (eq_by_cmp nat_cmp c k)) q (λ x t. ap (λ k. not (eq_by_cmp nat_cmp c k)) (sym (nat_cmp-IsAntisymmetric q x t))) (fin.entries m)))
-    where
-      swap : (b : Bool) (x : Option FileRecord) → cond b None x ≡ cond (not b) x None
-      swap true x = refl
-      swap false x = refl
-
-      test : (q : ℕ) → eqb q c ≡ eq_by_cmp nat_cmp c q
-      test q = grind (arith, nat_tests)
-
-      turn : (q : ℕ) → cond (eqb q c) None (fin.get m q) ≡ cond (not (eq_by_cmp nat_cmp c q)) (fin.get m q) None
-      turn q = swap (eqb q c) (fin.get m q) ∙ ap (λ b. cond (not b) (fin.get m q) None) (test q)
-
   pub clients_closed : clients_in (fin.entries (fin.remove m c)) ≡ filter (λ row. not (is_client c row)) (clients_in (fin.entries m))
   clients_closed =
-      ap clients_in entries_removed
+      ap clients_in (entries_removed m c)
       ∙ rows_where nat_cmp nat_cmp_total client_of (λ k. not (eq_by_cmp nat_cmp c k)) (λ row. not (is_client c row)) (λ e. ap not (same_test c e.0)) (fin.entries m)
 
   clients_put : (f : FileClient → FileClient) (r s : FileRecord) → fin.get m c ≡ Some r → ((k : ℕ) → eq_by_cmp nat_cmp c k ≡ true → client k s.flags ≡ f (client k r.flags)) → ((k : ℕ) (t : FileRecord) → eq_by_cmp nat_cmp c k ≡ false → f (client k t.flags) ≡ client k t.flags) →

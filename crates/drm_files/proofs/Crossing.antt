@@ -3,23 +3,26 @@ use denote.Struct.Declared.{shape}
 use denote.Param.Send.{IsSend, sendable, view_send, recorded_send, struct_send}
 use Rattle.drm_index_array.proofs.Crossing.{array_send}
 use Rattle.drm_id_alloc.proofs.Crossing.{table_send}
-use Rattle.drm_files.proofs.files.Held.TheSendSync as held
+use Rattle.drm_files.specs.contracts.files.Held as held
 use Rattle.drm_files.specs.contracts.files.FileRecord as record_of
 use Rattle.drm_files.specs.contracts.files.Files as files
 use Rattle.drm_files.specs.contracts.files.Files.TheInside as inside
 
+held_send : IsSend held.the_row
+held_send = recorded_send held.the_field.row _ _ held.the_type.to_one (struct_send (shape held.the_type) (search sendable depth 20, (search sendable depth 20, tt)))
+
 record_send : IsSend record_of.the_row
 record_send =
-    recorded_send record_of.the_field.row _ _ record_of.the_type.to_one (struct_send (shape record_of.the_type) (search sendable depth 20, (search (table_send, held.the_send, sendable) depth 20, tt)))
+    recorded_send record_of.the_field.row _ _ record_of.the_type.to_one (struct_send (shape record_of.the_type) (search sendable depth 20, (search (table_send, held_send, sendable) depth 20, tt)))
 
 inside_send : IsSend inside.the_row
 inside_send =
     recorded_send
-      inside.the_field.row
-      _
-      _
-      inside.the_type.to_one
-      (struct_send (shape inside.the_type) (search sendable depth 20, (search (array_send, record_send, sendable) depth 20, (search sendable depth 20, (search sendable depth 20, tt)))))
+    inside.the_field.row
+    _
+    _
+    inside.the_type.to_one
+    (struct_send (shape inside.the_type) (search sendable depth 20, (search (array_send, record_send, sendable) depth 20, (search sendable depth 20, (search sendable depth 20, tt)))))
 
 pub files_send : IsSend files.the_row
 files_send = view_send inside.the_row _ _ _ _ inside_send

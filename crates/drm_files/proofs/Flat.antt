@@ -16,7 +16,7 @@ use Rattle.drm_files.specs.declared.files.Held.{Held}
 use Rattle.drm_files.specs.declared.rows.FileHold.{FileHold}
 use Rattle.drm_files.specs.Files.{hold}
 use Rattle.drm_files.specs.Records.{rows_in, holds_in}
-use Rattle.drm_files.proofs.Keyed.{left, right, both, find_below}
+use Rattle.drm_index_array.proofs.Keyed.{left, right, both, find_below}
 
 abbrev pub Place : Type 0
 Place = ℕ × ℕ

@@ -1,4 +1,3 @@
-mod Keyed
 mod Flat
 mod Changes
 mod RecordFacts

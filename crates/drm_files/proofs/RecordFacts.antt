@@ -16,7 +16,7 @@ use Rattle.drm_files.specs.declared.files.Held.{Held}
 use Rattle.drm_files.specs.declared.rows.FileHold.{FileHold}
 use Rattle.drm_files.specs.Files.{client, hold, hold_before, client_before, is_present, is_among, handles_of, free_handle, left_by, empty_files, AreFiles, IsHoldOf, InOrder}
 use Rattle.drm_files.specs.Records.{rows_in, holds_in, clients_in, lists_of, pairs_of, IsTable, AreRecords}
-use Rattle.drm_files.proofs.Keyed.{all_rows, rows_in_order, none_some}
+use Rattle.drm_index_array.proofs.Keyed.{all_rows, rows_in_order, none_some}
 use Rattle.drm_files.proofs.Flat.{place_cmp, place_total, row_of, flat, rows_flat, sorted_flat, held, find_held, eqb_other}
 use Rattle.drm_files.proofs.Changes.{client_of, before_test, hold_order, find_client, rows_of_client}
 

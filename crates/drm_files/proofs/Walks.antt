@@ -10,7 +10,7 @@ use Rattle.std.proofs.lemmas.Bool.Decides.{nat_tests}
 use Rattle.drm_index_array.specs.Least.{least, IsLeast}
 use Rattle.drm_index_array.proofs.Least.{least_some}
 use Rattle.drm_index_array.proofs.MarkedLemmas.{get-remove, eq_by_cmp-nat_cmp}
-use Rattle.drm_files.proofs.Keyed.{both, none_some, skip_first, right}
+use Rattle.drm_index_array.proofs.Keyed.{both, none_some, skip_first, right}
 use Rattle.drm_files.proofs.Flat.{eqb_same, eqb_other}
 
 -- the entries from a number on
@@ -164,29 +164,6 @@ behind_front (x ∷ xs) ys (suc i) n is le =
 pub not_both : {Y : Type 0} (y : Option Y) → IsTrue (is_some y) → y ≡ None → ⊥
 not_both None there none = absurd (false≢true there)
 not_both (Some y) there none = false≢true (sym (ap is_some none))
-
-module _ {X Y : Type 0} where
-  -- the row at a place, by the key that stands there
-  pub nth_by_key : (row : ℕ × X → Y) (es : List (ℕ × X)) → T (is_sorted nat_cmp es) → (i : ℕ) → option_and_then (λ k. option_map (λ v. row (k, v)) (find nat_cmp k es)) (slice_get (map (λ e. e.0) es) i) ≡ slice_get (map row es) i
-  nth_by_key row [] h i = refl
-  nth_by_key row (e ∷ es) h zero = ap (λ b. option_map (λ v. row (e.0, v)) (cond b (Some e.1) (find nat_cmp e.0 es))) (eq_by_cmp-nat_cmp e.0 e.0 ∙ eqb_same e.0 e.0 refl)
-  nth_by_key row (e ∷ es) h (suc i) = later (slice_get (map (λ f. f.0) es) i) (λ k is. key_there es k i is) ∙ nth_by_key row es (right _ _ h) i
-    where
-      key_there : (fs : List (ℕ × X)) (k i : ℕ) → slice_get (map (λ f. f.0) fs) i ≡ Some k → is_some (find nat_cmp k fs) ≡ true
-      key_there [] k i is = absurd (none_some k is)
-      key_there (f ∷ fs) k zero is =
-          ap (λ b. is_some (cond b (Some f.1) (find nat_cmp k fs))) (eq_by_cmp-nat_cmp k f.0 ∙ eqb_same k f.0 (sym (ap (λ x. unwrap_or x 0) is)))
-      key_there (f ∷ fs) k (suc i) is =
-          elim (eq_by_cmp nat_cmp k f.0) as (λ b. is_some (cond b (Some f.1) (find nat_cmp k fs)) ≡ true) [ true ↦ refl | false ↦ key_there fs k i is ]
-
-      skipped : (k : ℕ) (x : Option X) → find nat_cmp k es ≡ x → is_some x ≡ true → find nat_cmp k (e ∷ es) ≡ find nat_cmp k es
-      skipped k None is there = absurd (false≢true there)
-      skipped k (Some v) is there = skip_first nat_cmp nat_cmp_total e es h k v is ∙ sym is
-
-      later : (x : Option ℕ) → ((k : ℕ) → x ≡ Some k → is_some (find nat_cmp k es) ≡ true) →
-          option_and_then (λ k. option_map (λ v. row (k, v)) (find nat_cmp k (e ∷ es))) x ≡ option_and_then (λ k. option_map (λ v. row (k, v)) (find nat_cmp k es)) x
-      later None there = refl
-      later (Some k) there = ap (option_map (λ v. row (k, v))) (skipped k (find nat_cmp k es) refl (there k refl))
 
 pub no_length : {Y : Type 0} (ys : List Y) → length ys ≡ 0 → ys ≡ []
 no_length [] e = refl

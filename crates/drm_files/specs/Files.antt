@@ -2,6 +2,7 @@
 use Rattle.std.specs.Prelude.{◌≡◌, ℕ, ◌==◌, ◌≤◌, ◌&&◌, ◌||◌, Bool, true, not, if◌then◌else◌, nat_lt, List, [], ◌∷◌, ◌++◌, map, filter, find, Option, is_some}
 use Rattle.std.specs.List.{list_any, AllByRecursion}
 use Rattle.drm_index_array.specs.Least.{least}
+pub use Rattle.drm_index_array.specs.Rows.{placed, InOrder}
 use Rattle.drm_files.specs.declared.rows.FileFlags.{FileFlags}
 use Rattle.drm_files.specs.declared.rows.FileClient.{FileClient}
 use Rattle.drm_files.specs.declared.rows.FileHold.{FileHold}
@@ -35,10 +36,6 @@ client_before x y = nat_lt x.client y.client
 
 abbrev pub hold_before : FileHold → FileHold → Bool
 hold_before x y = nat_lt x.client y.client || ((x.client == y.client) && nat_lt x.handle y.handle)
-
--- the list with one more row, behind those that come before it
-abbrev pub placed : {X : Type 0} → (X → X → Bool) → X → List X → List X
-placed before x ys = filter (λ y. before y x) ys ++ x ∷ filter (λ y. not (before y x)) ys
 
 abbrev pub client : ℕ → FileFlags → FileClient
 client c flags = record { client = c; flags = flags }
@@ -85,11 +82,6 @@ without_hold files c h = record files { holds = filter (λ row. not (is_hold c h
 
 abbrev pub with_authenticated : FileLists → ℕ → FileLists
 with_authenticated files c = record files { clients = map (λ row. if is_client c row then authenticated row else row) files.clients }
-
--- each row stands before all that follow it
-abbrev pub InOrder : {X : Type 0} → (X → X → Bool) → List X → Type 0
-InOrder before [] = Unit {0}
-InOrder before (x ∷ xs) = AllByRecursion (λ y. before x y ≡ true) xs × InOrder before xs
 
 -- what is so of a hold: its client is open, and its numbers are in their ranges
 pub record IsHoldOf (files : FileLists) (row : FileHold) : Type 0 where

@@ -1,3 +1,3 @@
 pub mod Places
-pub mod Searches
+mod Records
 pub mod Crossing

@@ -5,10 +5,12 @@ ghost use Rattle.std.specs.Option.{option_map};
 ghost use Rattle.drm_gem.specs.declared.object.Object as gem;
 ghost use Rattle.drm_gem.specs.declared.objects.CreateFault.TheVariants as fault;
 ghost use Rattle.drm_gem.specs.Rising.{AreRising};
+ghost use Rattle.drm_gem.specs.Fields.{object};
 ghost use Rattle.drm_gem.specs.Objects.{IsNewBirth, with_object, changed_at, without_key, object_at, is_there, is_key, passes, held, unheld, referred, unreferred, stamped, dead_of, dead_after, is_unused};
 
 use crate::keys::ObjectKey;
 use crate::object::{Dead, Object};
+use drm_index_array::{IndexArray, InsertFault};
 use std::alloc::Global;
 use std::marker::Model;
 
@@ -21,10 +23,20 @@ pub enum CreateFault {
     NoMemory,
 }
 
-/// The objects that are there, in the order of the steps that made them.
+// What is kept of an object beside its key, which is its birth.
+#[derive(Clone, Copy)]
+pub(crate) struct Kept {
+    pub(crate) size: u64,
+    pub(crate) stamp: u64,
+    pub(crate) holds: u32,
+    pub(crate) refs: u32,
+}
+
+/// The objects that are there, in the order of the steps that made them. Contracts see a flat list.
 #[derive(Drop)]
 pub struct Objects {
-    objects: Vec<Object>,
+    // by their births
+    objects: IndexArray<Kept>,
     limit: u32,
 }
 
@@ -34,11 +46,8 @@ impl Model for Objects {
     ghost Value = { ObjectSet };
 
     ghost use Rattle.drm_gem.specs.Fields.{objects_of};
-    ghost use Rattle.drm_gem.specs.Rising.{AreRising};
 
     ghost view = { objects_of };
-
-    ghost invariant = { λ a. AreRising a.objects.items };
 }
 
 impl Objects {
@@ -47,7 +56,7 @@ impl Objects {
         ensures { result ≡ record { limit = limit; objects = [] } }
     {
         Objects {
-            objects: Vec::new(alloc),
+            objects: IndexArray::new(alloc),
             limit,
         }
     }
@@ -66,26 +75,25 @@ impl Objects {
         if self.objects.len() >= self.limit as usize {
             return Err(CreateFault::Full);
         }
-        if let Err(_refused) = self.objects.reserve(1) {
-            return Err(CreateFault::NoMemory);
-        }
-        let key = ObjectKey::from_number(birth);
-        self.objects.push_reserved(Object {
-            key,
-            birth,
+        let kept = Kept {
             size,
             stamp: 0,
             holds: 1,
             refs: 0,
-        });
-        Ok(key)
+        };
+        match self.objects.insert(birth, kept) {
+            Ok(()) => {}
+            Err(InsertFault::NoMemory(_)) => return Err(CreateFault::NoMemory),
+            Err(InsertFault::Taken(_)) => unreachable!(),
+        }
+        Ok(ObjectKey::from_number(birth))
     }
 
     /// The object of a key, if it is there.
     pub fn get(&self, key: ObjectKey) -> Option<Object>
         ensures { result ≡ object_at self.now key }
     {
-        Some(self.objects[place_of(&self.objects, key)?])
+        self.find(key)
     }
 
     /// One handle more names the object.
@@ -195,7 +203,19 @@ impl Objects {
     pub fn nth(&self, place: usize) -> Option<Object>
         ensures { result ≡ slice_get self.now.objects place }
     {
-        self.objects.get(place).copied()
+        let birth = self.objects.nth(place)?;
+        let kept = self.objects.get(birth)?;
+        Some(object_of(birth, *kept))
+    }
+
+    // the object of a key, if it is there
+    fn find(&self, key: ObjectKey) -> Option<Object>
+        ensures value { result ≡ object_at self.now key }
+        ensures rising { AreRising self.now.objects }
+    {
+        let birth = key.number();
+        let kept = self.objects.get(birth)?;
+        Some(object_of(birth, *kept))
     }
 
     // the object of a key that is there
@@ -204,8 +224,8 @@ impl Objects {
         ensures value { object_at self.now key ≡ Some result }
         ensures rising { AreRising self.now.objects }
     {
-        match place_of(&self.objects, key) {
-            Some(place) => self.objects[place],
+        match self.find(key) {
+            Some(object) => object,
             None => unreachable!(),
         }
     }
@@ -215,10 +235,15 @@ impl Objects {
         requires { option_map (λ x. x.birth) (object_at self.old object.key) ≡ Some object.birth }
         ensures { self.new ≡ changed_at object.key (λ x. object) self.old }
     {
-        let Some(place) = place_of(&self.objects, object.key) else {
+        let Some(kept) = self.objects.get_mut(object.key.number()) else {
             unreachable!()
         };
-        self.objects[place] = object;
+        *kept = Kept {
+            size: object.size,
+            stamp: object.stamp,
+            holds: object.holds,
+            refs: object.refs,
+        };
     }
 
     // the same, or takes the object away where nothing refers to it any more
@@ -243,22 +268,20 @@ impl Objects {
         requires { is_there self.old key ≡ true }
         ensures { self.new ≡ without_key key self.old }
     {
-        let Some(place) = place_of(&self.objects, key) else {
-            unreachable!()
-        };
-        let _object = self.objects.remove(place);
+        let _kept = self.objects.remove(key.number());
     }
 }
 
-/// Where the object of a key stands.
-fn place_of(objects: &[Object], key: ObjectKey) -> Option<usize>
-    requires { AreRising objects.now }
-    ensures within { IfSome result (λ place. place < length objects.now) }
-    ensures here { IfSome result (λ place. slice_get objects.now place ≡ find (is_key key) objects.now) }
-    ensures none { IfNone result (find (is_key key) objects.now ≡ None) }
+/// The object of a birth, of which this is kept.
+fn object_of(birth: u32, kept: Kept) -> Object
+    ensures { result ≡ object birth kept }
 {
-    match objects.binary_search_by_key(&key.number(), |object| object.key.number()) {
-        Ok(place) => Some(place),
-        Err(_gap) => None,
+    Object {
+        key: ObjectKey::from_number(birth),
+        birth,
+        size: kept.size,
+        stamp: kept.stamp,
+        holds: kept.holds,
+        refs: kept.refs,
     }
 }

@@ -1,6 +1,7 @@
 pub mod Least
 pub mod MarkedLemmas
 pub mod KeysLemmas
+pub mod Keyed
 mod WordLemmas
 mod PlaceLemmas
 mod TableLemmas

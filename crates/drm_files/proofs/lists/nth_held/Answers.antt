@@ -3,14 +3,15 @@ use Rattle.std.specs.FinMap as fin
 use Rattle.drm_files.specs.declared.files.Held.{Held}
 use Rattle.drm_files.specs.Files.{hold}
 use Rattle.drm_files.specs.Records.{rows_in}
-use Rattle.drm_files.proofs.Calls.{held_named, hold_at, rows_length}
+use Rattle.drm_index_array.proofs.Keyed.{rows_length}
+use Rattle.drm_files.proofs.Calls.{held_named, hold_at}
 use Rattle.drm_files.proofs.Walks.{at_front, behind_front, not_both}
 use Rattle.drm_files.proofs.lists.nth_held.Goals as goal
 
 pub returns-in_default-clause-err : goal.returns-in_default-clause-err
 returns-in_default-clause-err c = λ rest.
     let m = c.args.table.now.slots in
-    behind_front (rows_in c.args.client (fin.entries m)) rest c.args.place (fin.len m) (rows_length c.args.client m) c.in_default.ensures.past
+    behind_front (rows_in c.args.client (fin.entries m)) rest c.args.place (fin.len m) (rows_length m 0 (λ e. hold c.args.client e.0 e.1.object e.1.place)) c.in_default.ensures.past
     ∙ ap (λ n. slice_get rest (c.args.place - n)) (sym c.len.ensures.len)
 
 pub unreachable-requires : goal.unreachable-requires

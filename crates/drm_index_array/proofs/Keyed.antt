@@ -1,12 +1,15 @@
 -- Lists of rows that stand for entries in the order of their keys.
-use Rattle.std.proofs.Common.{◌≡◌, Bool, true, false, not, ◌&&◌, cond, T, List, [], ◌∷◌, ◌++◌, map, filter, find as find_row, is_some, Some, None, option_map, unwrap_or, refl, sym, ap, subst, ◌∙◌, Ordering, Less, Equal, Greater, is_lt, is_eq}
+use Rattle.std.proofs.Common.{◌≡◌, ℕ, zero, suc, Bool, true, false, not, ◌&&◌, eqb, cond, T, List, [], ◌∷◌, ◌++◌, map, filter, length, slice_get, find as find_row, is_some, Option, Some, None, option_map, option_and_then, unwrap_or, refl, sym, ap, subst, ◌∙◌, arith, Ordering, Less, Equal, Greater, is_lt, is_eq, nat_cmp}
 use Rattle.std.specs.Ordering.{ordering_reverse, eq_by_cmp}
-use Rattle.std.specs.Cmp.{IsTotalOrder, tied_itself}
+use Rattle.std.specs.Cmp.{IsTotalOrder, tied_itself, nat_cmp_total}
 use Rattle.std.specs.List.{AllByRecursion}
-use Rattle.std.specs.FinMap.{IsAntisymmetric}
-use Rattle.std.specs.FinMap.Entries.{find, put, where_key, is_sorted, below_all, by_order, find_tied}
+use Rattle.std.specs.FinMap as fin
+use Rattle.std.specs.FinMap.{IsAntisymmetric, nat_cmp-IsAntisymmetric}
+use Rattle.std.specs.FinMap.Entries.{find, put, where_key, is_sorted, below_all, by_order, find_tied, is_sorted-where_key, find-where_key, same_entries}
 use Rattle.std.proofs.lemmas.Bool.{false≢true}
-use Rattle.drm_files.specs.Files.{placed, InOrder}
+use Rattle.std.proofs.lemmas.Bool.Decides.{nat_tests}
+use Rattle.drm_index_array.proofs.MarkedLemmas.{get-remove}
+use Rattle.drm_index_array.specs.Rows.{placed, InOrder}
 
 pub left : (a b : Bool) → T (a && b) → T a
 left true b h = tt
@@ -149,3 +152,66 @@ module _ {K X : Type 0} (R : K → K → Ordering) (o : IsTotalOrder R) where
               let later : find R k es ≡ Some v = sym (ap (λ r. cond (is_eq r) (Some e.1) (find R k es)) p) ∙ found in
               λ i. sym (kept e (ap is_eq p)) i ∷ rows_put_found v w new es (right _ _ h) later i
         ] refl
+
+-- ---- by numbers
+
+tied_key : (a b : ℕ) → a ≡ b → eq_by_cmp nat_cmp a b ≡ true
+tied_key a b same = grind (arith, nat_tests)
+
+module _ {X Y : Type 0} where
+  -- the row at a place, by the key that stands there
+  pub nth_by_key : (row : ℕ × X → Y) (es : List (ℕ × X)) → T (is_sorted nat_cmp es) → (i : ℕ) → option_and_then (λ k. option_map (λ v. row (k, v)) (find nat_cmp k es)) (slice_get (map (λ e. e.0) es) i) ≡ slice_get (map row es) i
+  nth_by_key row [] h i = refl
+  nth_by_key row (e ∷ es) h zero = ap (λ b. option_map (λ v. row (e.0, v)) (cond b (Some e.1) (find nat_cmp e.0 es))) (tied_key e.0 e.0 refl)
+  nth_by_key row (e ∷ es) h (suc i) = later (slice_get (map (λ f. f.0) es) i) (λ k is. key_there es k i is) ∙ nth_by_key row es (right _ _ h) i
+    where
+      key_there : (fs : List (ℕ × X)) (k i : ℕ) → slice_get (map (λ f. f.0) fs) i ≡ Some k → is_some (find nat_cmp k fs) ≡ true
+      key_there [] k i is = absurd (none_some k is)
+      key_there (f ∷ fs) k zero is =
+          ap (λ b. is_some (cond b (Some f.1) (find nat_cmp k fs))) (tied_key k f.0 (sym (ap (λ x. unwrap_or x 0) is)))
+      key_there (f ∷ fs) k (suc i) is =
+          elim (eq_by_cmp nat_cmp k f.0) as (λ b. is_some (cond b (Some f.1) (find nat_cmp k fs)) ≡ true) [ true ↦ refl | false ↦ key_there fs k i is ]
+
+      skipped : (k : ℕ) (x : Option X) → find nat_cmp k es ≡ x → is_some x ≡ true → find nat_cmp k (e ∷ es) ≡ find nat_cmp k es
+      skipped k None is there = absurd (false≢true there)
+      skipped k (Some v) is there = skip_first nat_cmp nat_cmp_total e es h k v is ∙ sym is
+
+      later : (x : Option ℕ) → ((k : ℕ) → x ≡ Some k → is_some (find nat_cmp k es) ≡ true) →
+          option_and_then (λ k. option_map (λ v. row (k, v)) (find nat_cmp k (e ∷ es))) x ≡ option_and_then (λ k. option_map (λ v. row (k, v)) (find nat_cmp k es)) x
+      later None there = refl
+      later (Some k) there = ap (option_map (λ v. row (k, v))) (skipped k (find nat_cmp k es) refl (there k refl))
+
+module _ {X : Type 0} (m : fin.FinMap nat_cmp X) (c : ℕ) where
+  -- a map without a key has the other entries
+  pub entries_removed : fin.entries (fin.remove m c) ≡ where_key nat_cmp (λ k. not (eq_by_cmp nat_cmp c k)) (fin.entries m)
+  entries_removed =
+      same_entries nat_cmp nat_cmp_total nat_cmp-IsAntisymmetric _ _ (fin.entries_sorted (fin.remove m c)) (is_sorted-where_key nat_cmp _ (fin.entries m) (fin.entries_sorted m)) (λ q.
+      sym (fin.get-entries (fin.remove m c) q) ∙ get-remove m c q ∙ turn q
+      ∙ ap (λ x. cond (not (eq_by_cmp nat_cmp c q)) x None) (fin.get-entries m q)
+      ∙ sym (find-where_key nat_cmp (λ k. not (eq_by_cmp nat_cmp c k)) q (λ x t. ap (λ k. not (eq_by_cmp nat_cmp c k)) (sym (nat_cmp-IsAntisymmetric q x t))) (fin.entries m)))
+    where
+      swap : (b : Bool) (x : Option X) → cond b None x ≡ cond (not b) x None
+      swap true x = refl
+      swap false x = refl
+
+      test : (q : ℕ) → eqb q c ≡ eq_by_cmp nat_cmp c q
+      test q = grind (arith, nat_tests)
+
+      turn : (q : ℕ) → cond (eqb q c) None (fin.get m q) ≡ cond (not (eq_by_cmp nat_cmp c q)) (fin.get m q) None
+      turn q = swap (eqb q c) (fin.get m q) ∙ ap (λ b. cond (not b) (fin.get m q) None) (test q)
+
+  -- as many rows as entries
+  pub rows_length : {Y : Type 0} (row : ℕ × X → Y) → length (map row (fin.entries m)) ≡ fin.len m
+  rows_length {Y} row = length_of (fin.entries m) ∙ sym (fin.len-entries m)
+    where
+      length_of : (es : List (ℕ × X)) → length (map row es) ≡ length es
+      length_of [] = refl
+      length_of (e ∷ es) = ap (λ n. suc n) (length_of es)
+
+  -- the row at a place, by the key that stands there
+  pub row_at : {Y : Type 0} (row : ℕ × X → Y) (i : ℕ) → option_and_then (λ k. option_map (λ v. row (k, v)) (fin.get m k)) (slice_get (fin.keys m) i) ≡ slice_get (map row (fin.entries m)) i
+  row_at {Y} row i = same (slice_get (fin.keys m) i) ∙ nth_by_key row (fin.entries m) (fin.entries_sorted m) i
+    where
+      same : (k : Option ℕ) → option_and_then (λ h. option_map (λ v. row (h, v)) (fin.get m h)) k ≡ option_and_then (λ h. option_map (λ v. row (h, v)) (find nat_cmp h (fin.entries m))) k
+      same None = refl
+      same (Some h) = ap (option_map (λ v. row (h, v))) (fin.get-entries m h)
