@@ -1,5 +1,6 @@
 -- One slot of a node written over.
-use Rattle.std.proofs.Common.{◌≡◌, ℕ, zero, suc, ◌+◌, ◌-◌, ◌*◌, ◌/◌, ◌%◌, ◌<◌, ◌≤◌, false, cond, eqb, ltb, List, [], ◌∷◌, length, get_or, set, Box, Global, Option, Some, None, is_some, refl, sym, ap, ◌∙◌, subst, inl, inr, arith, Result, Ok, Err, OnOk, OnErr}
+use Rattle.std.proofs.Common.{◌≡◌, ℕ, zero, suc, ◌+◌, ◌*◌, ◌/◌, ◌%◌, ◌<◌, ◌≤◌, IsTrue, true, false, cond, eqb, ltb, List, [], ◌∷◌, length, get_or, set, Box, Global, Option, Some, None, is_some, refl, sym, ap, ◌∙◌, subst, inl, inr, arith, Result, Ok, Err, OnOk, OnErr}
+use Rattle.std.specs.Ordering.{nat_cmp}
 use Rattle.std.specs.FinMap as map
 use Rattle.std.proofs.lemmas.Bool.{cases_eq, cases_lt, eq-eqb, ne_eqb, lt-ltb, le-ltb, false≢true}
 use Rattle.std.proofs.lemmas.List.{get_or-set_same, get_or-set_other, get_or_read, length-set}
@@ -7,9 +8,8 @@ use Rattle.std.proofs.lemmas.Nat.{div-add-mod', pow-add, pow_pos}
 use Rattle.std.proofs.Math.Nat.{div-eq_of_lt, mod-eq_of_lt}
 use Rattle.drm_index_array.specs.Marked.{Marked, MarkedMap, unmarked}
 use Rattle.drm_index_array.proofs.MarkedLemmas.{same_by_gets, get-insert}
-use Rattle.drm_index_array.specs.Least.{least}
-use Rattle.drm_index_array.specs.Tree.{Tree, width, span, is_sought}
-use Rattle.drm_index_array.specs.Slots.{Fits as SlotFits, AllFit, has_below, slot, look, below, view_of, IsSound}
+use Rattle.drm_index_array.specs.Tree.{Tree, width, span}
+use Rattle.drm_index_array.specs.Slots.{Fits as SlotFits, AllFit, has_below, slot, look, below, view_of, IsUsed, IsSound}
 use Rattle.drm_index_array.specs.Word.{tells_of, AreWords}
 use Rattle.drm_index_array.specs.declared.words.Sought.{Sought}
 use Rattle.drm_index_array.specs.declared.words.Words.{Words}
@@ -18,14 +18,37 @@ use Rattle.drm_index_array.specs.declared.tree.Slot.{Slot}
 use Rattle.drm_index_array.specs.declared.tree.Slot.TheVariants.{Vacant, Child}
 use Rattle.drm_index_array.proofs.TableLemmas.{get-table_within, get-table_past}
 use Rattle.drm_index_array.specs.Edit.{filled_by}
-use Rattle.drm_index_array.specs.declared.words.Sought.TheVariants.{Taken}
-use Rattle.drm_index_array.proofs.NextLemmas.{none_of}
-use Rattle.drm_index_array.proofs.SlotLemmas.{Spot, slot_fits, rest_in_range, child_span}
+use Rattle.drm_index_array.proofs.SlotLemmas.{Spot, slot_fits, rest_in_range}
 
 AllFit-set : {T : Type 0} (height : ℕ) (slots : List (Slot T)) (at : ℕ) (s : Slot T) → AllFit height slots → SlotFits height s → AllFit height (set slots at s)
 AllFit-set height [] at s fit one = tt
 AllFit-set height (t ∷ ss) zero s fit one = (one, fit.1)
 AllFit-set height (t ∷ ss) (suc at) s fit one = (fit.0, AllFit-set height ss at s fit.1 one)
+
+pub used_set : {T : Type 0} (slots : List (Slot T)) (at : ℕ) (s : Slot T) → at < length slots → ((i : ℕ) → IsUsed (slot slots i)) → IsUsed s → (i : ℕ) → IsUsed (slot (set slots at s) i)
+used_set slots at s lt used one i =
+    elim (cases_eq i at) as (λ _. IsUsed (slot (set slots at s) i)) [
+      | inl same ↦ subst IsUsed (sym (ap (slot (set slots at s)) same ∙ get_or-set_same slots at s Vacant lt)) one
+      | inr apart ↦ subst IsUsed (sym (get_or-set_other slots at i s Vacant apart)) (used i)
+    ]
+
+-- a map with a key has an entry
+pub used_key : {X : Type 0} (m : map.FinMap nat_cmp X) (q : ℕ) → map.contains_key m q ≡ true → 0 < map.len m
+used_key m q there =
+    elim (cases_lt 0 (map.len m)) [
+      | inl some ↦ some
+      | inr none ↦ absurd (false≢true (sym (ap is_some (ap (λ m. map.get m q) (map.empty_of_len m (omega arith)) ∙ map.get-empty nat_cmp q)) ∙ there))
+    ]
+
+pub used_more : {T : Type 0} (old now : MarkedMap T) (q : ℕ) (v : T) → now ≡ map.insert old q (unmarked v) → 0 < map.len now
+used_more old now q v is =
+    let tied : eqb q q ≡ true = eq-eqb q q refl in
+    used_key now q (ap (λ m. map.contains_key m q) is ∙ ap is_some (get-insert old q (unmarked v) q) ∙ ap (λ b. is_some (cond b (Some (unmarked v)) (map.get old q))) tied)
+
+-- a map that an entry was added to, or that stayed
+pub used_filled : {T E : Type 0} (old now : MarkedMap T) (q : ℕ) (v : T) (done : Result (Unit {0}) E) → OnOk done (now ≡ map.insert old q (unmarked v)) → OnErr done (now ≡ old) → 0 < map.len old → 0 < map.len now
+used_filled old now q v (Ok _) ok err used = used_more old now q v ok
+used_filled old now q v (Err _) ok err used = subst (λ m. 0 < map.len m) (sym err) used
 
 module _ {T : Type 0} {height : ℕ} {slots : List (Slot T)} {q at rest : ℕ} {v : Tree T} (here : Spot height slots q at rest v) (s : Slot T) where
   -- its words written for that slot
@@ -104,13 +127,16 @@ module _ {T : Type 0} {height : ℕ} {slots : List (Slot T)} {q at rest : ℕ} {
     pub edit_gets : (s : Slot T) (edit : Option (Marked T) → Option (Marked T)) → ((r : ℕ) → r < width height → below s r ≡ cond (eqb r rest) (edit (below was rest)) (below was r)) → (k : ℕ) → map.get (view_of height (set slots at s)).items k ≡ cond (eqb k q) (edit (map.get v.items q)) (map.get v.items k)
     edit_gets s edit below_s = edited_gets here s (edit (map.get v.items q)) (λ r lt. below_s r lt ∙ ap (λ o. cond (eqb r rest) (edit o) (below was r)) value_was ∙ ap (λ t. cond (eqb r rest) (edit (map.get v.items q)) (below t r)) (sym was_is))
 
--- no index below an empty child has an entry
-pub none_below : {T : Type 0} (height : ℕ) (v : Tree T) → v.height + 1 ≡ height → is_some (least (λ k. is_sought Taken (map.get v.items k)) 0 (span v.height - 1)) ≡ false → (r : ℕ) → r < width height → map.get v.items r ≡ None
-none_below height v fits none r lt = is_none (map.get v.items r) (none_of _ 0 _ none r (omega arith) (omega (arith, child_span v.height height fits)))
-  where
-    is_none : {X : Type 0} (o : Option X) → is_some o ≡ false → o ≡ None
-    is_none None e = refl
-    is_none (Some x) e = absurd (false≢true (sym e))
+-- no index of an empty map has an entry
+pub none_below : {X : Type 0} (m : map.FinMap nat_cmp X) → map.len m ≡ 0 → (r : ℕ) → map.get m r ≡ None
+none_below m none r = ap (λ m. map.get m r) (map.empty_of_len m none) ∙ map.get-empty nat_cmp r
+
+pub some_left : (n : ℕ) → (n ≡ 0 → IsTrue false) → 0 < n
+some_left n none =
+    elim (cases_lt 0 n) [
+      | inl some ↦ some
+      | inr few ↦ absurd (false≢true (none (omega arith)))
+    ]
 
 pub read_set : {T : Type 0} (slots : List (Slot T)) (at : ℕ) (s now : Slot T) → at < length slots → now ≡ get_or (set slots at s) at now → now ≡ s
 read_set slots at s now lt read = get_or_read (set slots at s) at now (omega (arith, length-set slots at s)) read Vacant ∙ get_or-set_same slots at s Vacant lt

@@ -1,5 +1,5 @@
 -- A node with no entry.
-use Rattle.std.proofs.Common.{◌≡◌, ℕ, zero, suc, ◌%◌, ◌/◌, ◌≤◌, Bool, true, false, cond, ltb, not, List, replicate, None, refl, sym, ap, ◌∙◌, arith}
+use Rattle.std.proofs.Common.{◌≡◌, ℕ, zero, suc, ◌%◌, ◌/◌, ◌≤◌, Bool, true, false, cond, ltb, not, List, replicate, None, refl, sym, ap, ◌∙◌, subst, arith}
 use Rattle.std.specs.FinMap as map
 use Rattle.std.specs.Ordering.{nat_cmp}
 use Rattle.std.proofs.lemmas.List.{length-replicate}
@@ -9,7 +9,7 @@ use Rattle.drm_index_array.specs.declared.marks.Mark.TheVariants.{M0, M1, M2}
 use Rattle.drm_index_array.specs.Marked.{Marked}
 use Rattle.drm_index_array.specs.Word.{has_bit, tells_of}
 use Rattle.drm_index_array.specs.Tree.{Tree, width, span}
-use Rattle.drm_index_array.specs.Slots.{AllFit, has_below, slot, look, below, view_of, IsSound, IsNode}
+use Rattle.drm_index_array.specs.Slots.{AllFit, has_below, slot, look, below, view_of, IsUsed, IsSound, IsNode}
 use Rattle.drm_index_array.specs.declared.words.Sought.{Sought}
 use Rattle.drm_index_array.specs.declared.words.Sought.TheVariants.{Taken, Vacant as Free, Marked as WithMark}
 use Rattle.drm_index_array.specs.declared.words.Words.{Words}
@@ -70,4 +70,5 @@ module _ (T : Type 0) where
   empty_node height low = record {
     sound = empty_sound height low;
     counted = sym (ap (λ (t : Tree T). map.len t.items) (empty_view height) ∙ map.len-empty nat_cmp (Marked T));
+    used = λ i. subst IsUsed (sym (slot_vacant 64 i)) tt;
   }

@@ -10,7 +10,7 @@ use Rattle.std.proofs.lemmas.List.{set-get_or}
 use Rattle.drm_index_array.specs.Lends.{slot_with_value, tree_with_value}
 use Rattle.drm_index_array.specs.Marked.{Marked, set_value}
 use Rattle.drm_index_array.specs.Tree.{Tree, width, is_sought}
-use Rattle.drm_index_array.specs.Slots.{Fits as SlotFits, has_below, slot, below, view_of, IsSound, IsNode}
+use Rattle.drm_index_array.specs.Slots.{Fits as SlotFits, has_below, slot, below, view_of, IsUsed, IsSound, IsNode}
 use Rattle.drm_index_array.specs.Word.{tells_of}
 use Rattle.drm_index_array.specs.declared.marks.Mark.TheVariants.{M0, M1, M2}
 use Rattle.drm_index_array.specs.declared.words.Sought.{Sought}
@@ -21,7 +21,7 @@ use Rattle.drm_index_array.specs.declared.tree.Slot.TheVariants.{Vacant, Value, 
 use Rattle.drm_index_array.proofs.Least.{least-same}
 use Rattle.drm_index_array.proofs.MarkedLemmas.{get-rewrite, len-set_value}
 use Rattle.drm_index_array.proofs.SlotLemmas.{Spot}
-use Rattle.drm_index_array.proofs.EditLemmas.{edited_sound, edited_view, was_fits, value_was, rest_in_slot}
+use Rattle.drm_index_array.proofs.EditLemmas.{used_set, edited_sound, edited_view, was_fits, value_was, rest_in_slot}
 
 -- lenders that end alike
 pub lent_same : {D E : Type 0} (name : maybe.Option GName) (f h : E → D) (v w : D) → ((x : E) → f x ≡ h x) → v ≡ w → read_of name f v ≡ read_of name h w
@@ -100,8 +100,13 @@ module _ {T : Type 0} {height : ℕ} {slots : List (Slot T)} {q at rest : ℕ} {
       ∙ sym (len-set_value v.items q w)
       ∙ ap (λ (t : Tree T). map.len t.items) (sym (lent_view w))
 
+  used_lent : (s : Slot T) (w : T) → IsUsed s → IsUsed (slot_with_value s rest w)
+  used_lent Vacant w used = tt
+  used_lent (Value e) w used = tt
+  used_lent (Child b) w used = omega (arith, used, len-set_value b.value.items rest w)
+
   pub lent_node : (words : Words) (count : ℕ) → IsNode height slots words count → (w : T) → IsNode height (set slots at (slot_with_value was rest w)) words count
-  lent_node words count node w = record { sound = lent_sound words node.sound w; counted = node.counted ∙ len_lent w }
+  lent_node words count node w = record { sound = lent_sound words node.sound w; counted = node.counted ∙ len_lent w; used = used_set slots at _ here.in_range node.used (used_lent was w (subst IsUsed was_is (node.used at))) }
 
   kept_slots : set slots at was ≡ slots
   kept_slots = ap (set slots at) (sym was_is) ∙ set-get_or slots at Vacant

@@ -9,12 +9,10 @@ use Rattle.drm_index_array.specs.Least.{least, IsLeastFrom}
 use Rattle.drm_index_array.specs.Marked.{Marked, MarkedMap, get, unmarked}
 use Rattle.drm_index_array.specs.Root.{IsPast}
 use Rattle.drm_index_array.specs.Slots.{view_of, look}
-use Rattle.drm_index_array.specs.Tree.{Tree, width, span, is_sought}
+use Rattle.drm_index_array.specs.Tree.{Tree, width, span}
 use Rattle.drm_index_array.specs.declared.tree.Slot.{Slot}
-use Rattle.drm_index_array.specs.declared.words.Sought.TheVariants.{Taken}
 use Rattle.drm_index_array.proofs.Least.{least_some, least_none, least_is_none}
 use Rattle.drm_index_array.proofs.MarkedLemmas.{same_by_gets, get-insert, get-remove}
-use Rattle.drm_index_array.proofs.NextLemmas.{none_of}
 use Rattle.drm_index_array.proofs.TableLemmas.{get-table_past, len-table}
 
 module _ {T : Type 0} (height : ℕ) (slots : List (Slot T)) (v : Tree T) (view_is : view_of height slots ≡ v) where
@@ -105,21 +103,7 @@ same_some x y e = ap (λ o. or_else o x) e
     or_else None d = d
     or_else (Some x) d = x
 
-pub is_none : {X : Type 0} (o : Option X) → is_some o ≡ false → o ≡ None
-is_none None e = refl
-is_none (Some x) e = absurd (false≢true (sym e))
-
 module _ {T : Type 0} where
-  pub none_taken : (v : Tree T) → IsPast v (span v.height) → is_some (least (λ k. is_sought Taken (map.get v.items k)) 0 (span v.height - 1)) ≡ false → v.items ≡ map.empty
-  none_taken v past none = same_by_gets v.items map.empty (λ k. absent k ∙ sym (map.get-empty nat_cmp k))
-    where
-      absent : (k : ℕ) → map.get v.items k ≡ None
-      absent k =
-          elim (cases_lt k (span v.height)) as (λ _. map.get v.items k ≡ None) [
-            | inl lt ↦ is_none (map.get v.items k) (none_of (λ k. is_sought Taken (map.get v.items k)) 0 (span v.height - 1) none k (omega arith) (omega arith))
-            | inr ge ↦ past k ge
-          ]
-
   -- an entry taken out of a map
   pub removed_by : (old now : MarkedMap T) (q : ℕ) → ((k : ℕ) → map.get now k ≡ cond (eqb k q) None (map.get old k)) → now ≡ map.remove old q
   removed_by old now q gets = same_by_gets now (map.remove old q) (λ k. gets k ∙ sym (get-remove old q k))
@@ -141,7 +125,3 @@ module _ {T : Type 0} where
   pub kept_unless : (m : MarkedMap T) (q : ℕ) (o : Option T) → o ≡ get m q → IfNone o (map.remove m q ≡ m)
   kept_unless m q None is = remove_none m q (no_value m q is)
   kept_unless m q (Some x) is = tt
-
-pub not_true : (b : Bool) → IsTrue (not b) → b ≡ false
-not_true true e = absurd (false≢true e)
-not_true false e = refl

@@ -1,5 +1,5 @@
 -- A tree, or none.
-use Rattle.std.specs.Prelude.{◌≡◌, ℕ, ◌≤◌, IsTrue, Option, Some, None, Box}
+use Rattle.std.specs.Prelude.{◌≡◌, ℕ, ◌<◌, ◌≤◌, IsTrue, Option, Some, None, Box}
 use Rattle.std.proofs.Common.{Global}
 use Rattle.std.specs.FinMap as map
 use Rattle.drm_index_array.specs.Marked.{MarkedMap}
@@ -12,6 +12,11 @@ module _ {T : Type 0} where
   items_of None = map.empty
   items_of (Some b) = b.value.items
 
+  -- a tree that is there is not empty
+  abbrev pub IsUsedRoot : Option (Box (Node T) Global) → Type 0
+  IsUsedRoot None = Unit {0}
+  IsUsedRoot (Some b) = 0 < map.len b.value.items
+
   -- no index from n on has an entry
   abbrev pub IsPast : Tree T → ℕ → Type 0
   IsPast t n = (k : ℕ) → n ≤ k → map.get t.items k ≡ None
@@ -20,3 +25,7 @@ module _ {T : Type 0} where
 pub record IsRooted {T : Type 0} (items : MarkedMap T) (count : ℕ) : Type 0 where
   pub counted : count ≡ map.len items
   pub fit : (k : ℕ) → IsTrue (map.contains_key items k) → k ≤ 4294967295
+
+pub record IsArray {T : Type 0} (root : Option (Box (Node T) Global)) (count : ℕ) : Type 0 where
+  pub rooted : IsRooted (items_of root) count
+  pub used : IsUsedRoot root

@@ -52,6 +52,12 @@ module _ {T : Type 0} where
   AllFit height [] = Unit {0}
   AllFit height (s ∷ ss) = Fits height s × AllFit height ss
 
+  -- a subtree below the slot is not empty
+  abbrev pub IsUsed : Slot T → Type 0
+  IsUsed Vacant = Unit {0}
+  IsUsed (Value v) = Unit {0}
+  IsUsed (Child b) = 0 < map.len b.value.items
+
   -- how many entries lie below the slot
   abbrev pub entries_below : ℕ → Slot T → ℕ
   entries_below height s = passing (λ r. is_some (below s r)) 0 (width height)
@@ -67,7 +73,8 @@ pub record IsSound {T : Type 0} (height : ℕ) (slots : List (Slot T)) (words : 
   pub fit : AreWords words
   pub tells : (x : Sought) (i : ℕ) → i < 64 → tells_of words x i ≡ has_below height (slot slots i) x
 
--- the node counts its entries
+-- the node counts its entries, and no subtree below it is empty
 pub record IsNode {T : Type 0} (height : ℕ) (slots : List (Slot T)) (words : Words) (count : ℕ) : Type 0 where
   pub sound : IsSound height slots words
   pub counted : count ≡ map.len (view_of height slots).items
+  pub used : (i : ℕ) → IsUsed (slot slots i)

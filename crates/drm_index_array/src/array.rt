@@ -35,11 +35,11 @@ impl<T> Model for IndexArray<T> {
     ghost coded = { indexed_code T.code };
 
     ghost use Rattle.drm_index_array.specs.Marked.{array_of};
-    ghost use Rattle.drm_index_array.specs.Root.{items_of, IsRooted};
+    ghost use Rattle.drm_index_array.specs.Root.{items_of, IsArray};
 
     ghost view = { λ a. array_of (items_of a.root) };
 
-    ghost invariant = { λ a. IsRooted (items_of a.root) a.count };
+    ghost invariant = { λ a. IsArray a.root a.count };
 }
 
 impl<T: Drop> IndexArray<T> {

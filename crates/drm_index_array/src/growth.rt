@@ -5,7 +5,7 @@ ghost use Rattle.std.specs.FinMap as map;
 ghost use Rattle.drm_index_array.specs.Marked.{get, unmarked};
 ghost use Rattle.drm_index_array.specs.InsertFault.{value_of, IsTaken};
 ghost use Rattle.drm_index_array.specs.Tree.{width, span};
-ghost use Rattle.drm_index_array.specs.Root.{items_of, IsPast};
+ghost use Rattle.drm_index_array.specs.Root.{items_of, IsUsedRoot, IsPast};
 
 use crate::faults::InsertFault;
 use crate::tree::{Edit, Node};
@@ -67,6 +67,7 @@ fn raised<T: Drop>(
     requires low { height ≤ 5 }
     requires high { root.value.height ≤ height }
     requires past { IsPast root.value (span root.value.height) }
+    requires used { 0 < map.len root.value.items }
     ensures height { IfOk result (λ node. node.value.height ≡ height) }
     ensures items { IfOk result (λ node. node.value.items ≡ root.value.items) }
     ensures err { IfErr result (λ node. node ≡ root) }
@@ -96,6 +97,7 @@ fn grown<T: Drop>(
     requires index { index < 2 ^ 36 }
     requires beyond { span root.value.height ≤ index }
     requires past { IsPast root.value (span root.value.height) }
+    requires used { 0 < map.len root.value.items }
     ensures items { IfOk result (λ node. node.value.items ≡ map.insert root.value.items index (unmarked value)) }
     ensures kept { IfErr result (λ failed. failed.0 ≡ root) }
     ensures returned { IfErr result (λ failed. failed.1 ≡ value) }
@@ -124,9 +126,11 @@ pub fn inserted<T: Drop>(
     index: u64,
     value: T,
 ) -> (Option<Box<Node<T>>>, Result<(), InsertFault<T>>)
-    requires { index < 2 ^ 36 }
+    requires index { index < 2 ^ 36 }
+    requires used { IsUsedRoot root }
+    ensures used { IsUsedRoot result.0 }
     ensures ok { OnOk result.1 (items_of result.0 ≡ map.insert (items_of root) index (unmarked value)) }
-    ensures err { OnErr result.1 (items_of result.0 ≡ items_of root) }
+    ensures err { OnErr result.1 (result.0 ≡ root) }
     ensures returned { IfErr result.1 (λ fault. value_of fault ≡ value) }
     ensures absent { OnOk result.1 (map.get (items_of root) index ≡ None) }
     ensures taken { IfErr result.1 (λ fault. IsTaken fault ↔ IsSome (map.get (items_of root) index)) }
@@ -151,6 +155,8 @@ pub fn inserted<T: Drop>(
 /// The tree with no entry at the index, and the value that was there. No memory is taken, and a tree that became empty
 /// is dropped.
 pub fn removed<T: Drop>(root: Option<Box<Node<T>>>, index: u64) -> (Option<Box<Node<T>>>, Option<T>)
+    requires used { IsUsedRoot root }
+    ensures used { IsUsedRoot result.0 }
     ensures items { items_of result.0 ≡ map.remove (items_of root) index }
     ensures value { result.1 ≡ get (items_of root) index }
     ensures kept { IfNone result.1 (map.remove (items_of root) index ≡ items_of root) }

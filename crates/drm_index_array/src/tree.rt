@@ -8,7 +8,7 @@ ghost use Rattle.drm_index_array.specs.Word.{has_bit, tells_of, AreWords};
 ghost use Rattle.drm_index_array.specs.Marked.{mark_of, with_mark, unmarked};
 ghost use Rattle.drm_index_array.specs.InsertFault.{value_of, IsTaken};
 ghost use Rattle.drm_index_array.specs.Tree.{width, span, is_sought};
-ghost use Rattle.drm_index_array.specs.Slots.{marked, option_marked, Fits, InSlot, below, entries_below, has_below};
+ghost use Rattle.drm_index_array.specs.Slots.{marked, option_marked, Fits, IsUsed, InSlot, below, entries_below, has_below};
 ghost use Rattle.drm_index_array.specs.Edit.{edited_by, filled_by, taken_by};
 ghost use Rattle.std.specs.Option.{option_copied_mut};
 
@@ -227,9 +227,9 @@ impl<T> Node<T> {
 
     /// Whether there is no entry.
     pub fn is_empty(&self) -> bool
-        ensures { IsTrue result → self.now.items ≡ map.empty }
+        ensures { IsTrue result ↔ (map.len self.now.items ≡ 0) }
     {
-        !self.any(Sought::Taken)
+        self.count == 0
     }
 
     /// The entry at the index, if there is one.
@@ -416,7 +416,8 @@ impl<T: Drop> Node<T> {
 
     /// Hangs a subtree into the first slot.
     pub fn hang(&mut self, child: Box<Node<T>>)
-        requires { child.value.height + 1 ≡ self.old.height }
+        requires lower { child.value.height + 1 ≡ self.old.height }
+        requires used { 0 < map.len child.value.items }
         ensures height { self.new.height ≡ self.old.height }
         ensures items { (k : ℕ) → map.get self.new.items k ≡ (if nat_lt k (width self.old.height) then map.get child.value.items k else map.get self.old.items k) }
     {
@@ -458,8 +459,10 @@ fn filled<T: Drop>(
 ) -> (Slot<T>, Result<(), InsertFault<T>>)
     requires low { height ≤ 5 }
     requires fits { Fits height slot }
+    requires used { IsUsed slot }
     requires rest { rest < width height }
     ensures fits { Fits height result.0 }
+    ensures used { IsUsed result.0 }
     ensures below { (r : ℕ) → r < width height → below result.0 r ≡ (if r == rest then filled_by result.1 value (below slot rest) else below slot r) }
     ensures returned { IfErr result.1 (λ fault. value_of fault ≡ value) }
     ensures absent { OnOk result.1 (below slot rest ≡ None) }
@@ -499,8 +502,10 @@ fn filled<T: Drop>(
 #[cycle(edit)]
 fn edited<T: Drop>(slot: Slot<T>, height: u32, rest: u64, edit: Edit) -> (Slot<T>, Option<T>)
     requires fits { Fits height slot }
+    requires used { IsUsed slot }
     requires rest { rest < width height }
     ensures fits { Fits height result.0 }
+    ensures used { IsUsed result.0 }
     ensures below { (r : ℕ) → r < width height → below result.0 r ≡ (if r == rest then edited_by edit (below slot rest) else below slot r) }
     ensures taken { result.1 ≡ taken_by edit (below slot rest) }
 {
@@ -516,10 +521,10 @@ fn edited<T: Drop>(slot: Slot<T>, height: u32, rest: u64, edit: Edit) -> (Slot<T
         }
         Slot::Child(mut child) => {
             let taken = child.edit(rest, edit);
-            if child.any(Sought::Taken) {
-                return (Slot::Child(child), taken);
+            if child.is_empty() {
+                return (Slot::Vacant, taken);
             }
-            (Slot::Vacant, taken)
+            (Slot::Child(child), taken)
         }
     }
 }

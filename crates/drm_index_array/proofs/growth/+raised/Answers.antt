@@ -7,7 +7,7 @@ pub raised-requires : goal.raised-requires
 raised-requires g t c κs within =
     let lower : c.args.root.value.height + 1 ≤ c.args.height = omega (arith, c.requires.high, c.if-height.false, c.height.ensures.height, ap (λ t. t.height) c.deref.ensures) in
     let falls : c.args.height - 1 < c.args.height = omega (arith, lower) in
-    (search rules, (search rules, (omega (arith, c.requires.low), (omega (arith, lower), c.requires.past))))
+    (search rules, (search rules, (omega (arith, c.requires.low), (omega (arith, lower), (c.requires.past, c.requires.used)))))
 
 pub returns-clause-items : goal.returns-clause-items
 returns-clause-items g t c =

@@ -1,4 +1,5 @@
 use Rattle.std.proofs.Common.{ap, arith}
+use Rattle.std.specs.FinMap as map
 use Rattle.drm_index_array.specs.Tree.{width}
 use Rattle.drm_index_array.proofs.RootLemmas.{span_low, higher, hung_beside, lone_taken, not_none, same_some}
 use Rattle.drm_index_array.proofs.growth.grown.Goals as goal
@@ -16,7 +17,7 @@ raised-requires-clause-high g c =
 pub hang-requires : goal.hang-requires
 hang-requires g c =
     let higher = higher c.args.root.value.height c.in-Ok.top.value.height c.args.index c.requires.beyond c.in-Ok.ensures.within in
-    omega (arith, higher, c.height.ensures.height, ap (λ t. t.height) c.deref.ensures, ap (λ t. t.height) c.deref_mut.ensures.value, c.in-Ok-raised.ensures.height)
+    omega (arith, higher, c.height.ensures.height, ap (λ t. t.height) c.deref.ensures, ap (λ t. t.height) c.deref_mut.ensures.value, c.in-Ok-raised.ensures.height, c.requires.used, ap map.len c.in-Ok-raised.ensures.items)
 
 pub unreachable-requires : goal.unreachable-requires
 unreachable-requires g c = not_none c.args.value (lone_taken c.args.index c.args.value _ _ _ c.in-None.ensures.taken c.deref_mut-in-Err-raised.ensures.value c.in-Ok.ensures.items)

@@ -1,8 +1,9 @@
-use Rattle.std.proofs.Common.{◌<◌, ◌∙◌, ap, sym, arith, length, rules, set}
+use Rattle.std.proofs.Common.{subst, refl, ◌<◌, ◌∙◌, ap, sym, arith, length, rules, set}
 use Rattle.std.proofs.lemmas.List.{length-set, set-set}
 use Rattle.drm_index_array.specs.Edit.{edited_by, taken_by}
 use Rattle.drm_index_array.proofs.SlotLemmas.{spot, slot_is}
-use Rattle.drm_index_array.proofs.EditLemmas.{edited_sound, edit_gets, was_fits, value_was, rest_in_slot, none_below, read_set}
+use Rattle.drm_index_array.specs.Slots.{IsUsed}
+use Rattle.drm_index_array.proofs.EditLemmas.{used_set, some_left, edited_sound, edit_gets, was_fits, value_was, rest_in_slot, none_below, read_set}
 use Rattle.drm_index_array.proofs.CountLemmas.{part_of_count, new_count, new_count_fits}
 use Rattle.drm_index_array.proofs.tree.+edit.Goals as goal
 
@@ -14,7 +15,7 @@ Node::edit-edited-slot-requires g t c κs within =
     let here = spot _ c.self.invariant.sound c.parts-at.ensures.slot c.parts-at.ensures.rest c.self.view_is c.requires in
     let was = slot_is here _ c.replace-slot.result c.index_mut.ensures.value (sym c.replace-slot.ensures.value) in
     let same = ap (λ t. t.height) c.self.view_is in
-    (search rules, (search rules, (was_fits here _ was, rest_in_slot here)))
+    (search rules, (search rules, (was_fits here _ was, (subst IsUsed was (c.self.invariant.used c.parts-at.result.0), rest_in_slot here))))
 
 pub Node::edit-index_mut-requires-2 : goal.Node::edit-index_mut-requires-2
 Node::edit-index_mut-requires-2 g t c = let lt = (spot _ c.self.invariant.sound c.parts-at.ensures.slot c.parts-at.ensures.rest c.self.view_is c.requires).in_range in search (rules, length-set)
@@ -58,6 +59,7 @@ Node::edit-invariant_of-self g t c =
     record {
       sound = rw (set-set c.self.inside.slots.items c.parts-at.result.0 _ _) (edited_sound here _ _ _ c.self.invariant.sound c.edited-slot.ensures.fits c.refreshed-self-inside.ensures.words (rw now at c.refreshed-self-inside.ensures.tells));
       counted = rw (set-set c.self.inside.slots.items c.parts-at.result.0 _ _) (new_count _ _ c.self.invariant low _ was c.count_below.result c.count_below.ensures _ c.edited-slot.ensures.fits c.count_below-2.result c.count_below-2.ensures);
+      used = rw (set-set c.self.inside.slots.items c.parts-at.result.0 _ _) (used_set c.self.inside.slots.items c.parts-at.result.0 _ here.in_range c.self.invariant.used c.edited-slot.ensures.used);
     }
 
 pub Node::edit-returns-clause-items : goal.Node::edit-returns-clause-items
@@ -72,10 +74,11 @@ Node::edit-returns-clause-taken g t c =
     let was = slot_is here _ c.replace-slot.result c.index_mut.ensures.value (sym c.replace-slot.ensures.value) in
     c.edited-slot.ensures.taken ∙ ap (taken_by c.args.edit) (value_was here _ was)
 
-pub edited-returns-else-any-clause-below : goal.edited-returns-else-any-clause-below
-edited-returns-else-any-clause-below g t c =
-    let was = ap (λ t. t.height) c.deref_mut.ensures.value in
-    let fits = rw c.in-Child.is at c.requires.fits in
-    let none = none_below c.args.height c.edit-taken.new.self (omega (arith, fits, was, c.edit-taken.ensures.height)) (sym (rw c.deref.ensures at c.if-any.ensures.any)) in
+pub edited-returns-then-is_empty-clause-below : goal.edited-returns-then-is_empty-clause-below
+edited-returns-then-is_empty-clause-below g t c =
+    let none = none_below _ (rw c.deref.ensures at (c.if-is_empty.ensures.0 refl)) in
     let items = rw c.deref_mut.ensures.value at c.edit-taken.ensures.items in
-    rw c.in-Child.is (λ r lt. sym (none r lt) ∙ items r)
+    rw c.in-Child.is (λ r lt. sym (none r) ∙ items r)
+
+pub edited-returns-else-is_empty-clause-used : goal.edited-returns-else-is_empty-clause-used
+edited-returns-else-is_empty-clause-used g t c = some_left _ (rw c.deref.ensures at c.if-is_empty.ensures.1)

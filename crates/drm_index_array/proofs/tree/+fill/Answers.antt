@@ -1,10 +1,11 @@
-use Rattle.std.proofs.Common.{◌<◌, ◌∙◌, Some, cond, eqb, ap, sym, arith, length, rules, set}
+use Rattle.std.proofs.Common.{subst, ◌<◌, ◌∙◌, Some, cond, eqb, ap, sym, arith, length, rules, set}
 use Rattle.std.proofs.lemmas.List.{length-set, set-set}
 use Rattle.std.specs.Ordering.{nat_cmp}
 use Rattle.std.specs.FinMap as map
 use Rattle.drm_index_array.specs.Marked.{unmarked}
 use Rattle.drm_index_array.specs.Edit.{filled_by}
-use Rattle.drm_index_array.proofs.EditLemmas.{edited_sound, edit_gets, filled_ok, filled_err, on_err_map, rest_in_slot, value_was, was_fits, read_set}
+use Rattle.drm_index_array.specs.Slots.{IsUsed}
+use Rattle.drm_index_array.proofs.EditLemmas.{used_set, used_more, used_filled, edited_sound, edit_gets, filled_ok, filled_err, on_err_map, rest_in_slot, value_was, was_fits, read_set}
 use Rattle.drm_index_array.proofs.SlotLemmas.{slot_is, spot}
 use Rattle.drm_index_array.proofs.CountLemmas.{part_of_count, new_count, new_count_fits}
 use Rattle.drm_index_array.proofs.tree.+fill.Goals as goal
@@ -17,7 +18,7 @@ Node::insert-filled-slot-requires g t c κs within =
     let here = spot _ c.self.invariant.sound c.parts-at.ensures.slot c.parts-at.ensures.rest c.self.view_is c.requires in
     let was = slot_is here _ c.replace-slot.result c.index_mut.ensures.value (sym c.replace-slot.ensures.value) in
     let same = ap (λ t. t.height) c.self.view_is in
-    (search rules, (search rules, (c.self.invariant.sound.low, (was_fits here _ was, rest_in_slot here))))
+    (search rules, (search rules, (c.self.invariant.sound.low, (was_fits here _ was, (subst IsUsed was (c.self.invariant.used c.parts-at.result.0), rest_in_slot here)))))
 
 pub Node::insert-index_mut-requires-2 : goal.Node::insert-index_mut-requires-2
 Node::insert-index_mut-requires-2 g t c = let lt = (spot _ c.self.invariant.sound c.parts-at.ensures.slot c.parts-at.ensures.rest c.self.view_is c.requires).in_range in search (rules, length-set)
@@ -61,6 +62,7 @@ Node::insert-invariant_of-self g t c =
     record {
       sound = rw (set-set c.self.inside.slots.items c.parts-at.result.0 _ _) (edited_sound here _ _ _ c.self.invariant.sound c.filled-slot.ensures.fits c.refreshed-self-inside.ensures.words (rw now at c.refreshed-self-inside.ensures.tells));
       counted = rw (set-set c.self.inside.slots.items c.parts-at.result.0 _ _) (new_count _ _ c.self.invariant low _ was c.count_below.result c.count_below.ensures _ c.filled-slot.ensures.fits c.count_below-2.result c.count_below-2.ensures);
+      used = rw (set-set c.self.inside.slots.items c.parts-at.result.0 _ _) (used_set c.self.inside.slots.items c.parts-at.result.0 _ here.in_range c.self.invariant.used c.filled-slot.ensures.used);
     }
 
 pub Node::insert-returns-clause-items : goal.Node::insert-returns-clause-items
@@ -105,3 +107,12 @@ filled-returns-in-Err-clause-taken g t c =
     let made = c.deref_mut-in-Vacant.ensures.value ∙ c.in-Ok-new.ensures.ok ∙ c.in-Ok.ensures in
     let taken = rw (made, map.get-empty nat_cmp c.args.rest) at c.in-Err.ensures.taken in
     rw c.in-Vacant.is taken
+
+pub filled-returns-in-Child-clause-used : goal.filled-returns-in-Child-clause-used
+filled-returns-in-Child-clause-used g t c =
+    let err = on_err_map c.insert-done.result (ap (λ t. t.items)) c.insert-done.ensures.err in
+    let child = rw c.in-Child.is at c.requires.used in
+    used_filled _ _ c.args.rest c.args.value c.insert-done.result c.insert-done.ensures.ok err (subst (λ t. 0 < map.len t.items) (sym c.deref_mut.ensures.value) child)
+
+pub filled-returns-in-Ok-insert-clause-used : goal.filled-returns-in-Ok-insert-clause-used
+filled-returns-in-Ok-insert-clause-used g t c = used_more _ _ c.args.rest c.args.value c.in-Ok-insert.ensures.ok

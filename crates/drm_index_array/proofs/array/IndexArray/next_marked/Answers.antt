@@ -37,13 +37,13 @@ pub overflow_cast-result : goal.overflow_cast-result
 overflow_cast-result g c =
     let tree = ap (λ t. t.items) c.deref.ensures ∙ sym (ap items_of c.in-Some.is) in
     let same = λ (k : ℕ). ap (λ m. option_map_or (λ s. mark_of s c.args.mark) (map.get m k) false) tree ∙ mark_at _ _ c.self.view_is c.args.mark k in
-    omega (arith, search_low _ (set.contains (marked_with c.args.self.now c.args.mark)) same (span c.deref.result.now.height) c.args.from (λ k le. ap (λ o. option_map_or (λ s. mark_of s c.args.mark) o false) (c.first.ensures.past k le)) (mark_bound _ _ c.self.view_is _ c.self.invariant c.args.mark) c.in-Some-first.found c.in-Some-first.ensures.first)
+    omega (arith, search_low _ (set.contains (marked_with c.args.self.now c.args.mark)) same (span c.deref.result.now.height) c.args.from (λ k le. ap (λ o. option_map_or (λ s. mark_of s c.args.mark) o false) (c.first.ensures.past k le)) (mark_bound _ _ c.self.view_is _ c.self.invariant.rooted c.args.mark) c.in-Some-first.found c.in-Some-first.ensures.first)
 
 pub returns-clause-least : goal.returns-clause-least
 returns-clause-least g c =
     let tree = ap (λ t. t.items) c.deref.ensures ∙ sym (ap items_of c.in-Some.is) in
     let same = λ (k : ℕ). ap (λ m. option_map_or (λ s. mark_of s c.args.mark) (map.get m k) false) tree ∙ mark_at _ _ c.self.view_is c.args.mark k in
-    search_some _ (set.contains (marked_with c.args.self.now c.args.mark)) same (span c.deref.result.now.height) c.args.from (λ k le. ap (λ o. option_map_or (λ s. mark_of s c.args.mark) o false) (c.first.ensures.past k le)) (mark_bound _ _ c.self.view_is _ c.self.invariant c.args.mark) c.in-Some-first.found c.in-Some-first.ensures.first
+    search_some _ (set.contains (marked_with c.args.self.now c.args.mark)) same (span c.deref.result.now.height) c.args.from (λ k le. ap (λ o. option_map_or (λ s. mark_of s c.args.mark) o false) (c.first.ensures.past k le)) (mark_bound _ _ c.self.view_is _ c.self.invariant.rooted c.args.mark) c.in-Some-first.found c.in-Some-first.ensures.first
 
 pub returns-clause-present : goal.returns-clause-present
 returns-clause-present g c = mark_is_key _ _ c.self.view_is c.args.mark

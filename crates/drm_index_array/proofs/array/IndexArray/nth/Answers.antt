@@ -11,7 +11,7 @@ pub returns-in_default-clause-past : goal.returns-in_default-clause-past
 returns-in_default-clause-past g c = omega (arith, no_len _ _ c.self.view_is (ap items_of c.in_default.is))
 
 pub returns-in_default-clause-bound : goal.returns-in_default-clause-bound
-returns-in_default-clause-bound g c = item_bound _ _ c.self.view_is _ c.self.invariant
+returns-in_default-clause-bound g c = item_bound _ _ c.self.view_is _ c.self.invariant.rooted
 
 pub returns-in_default-nth-clause-nth : goal.returns-in_default-nth-clause-nth
 returns-in_default-nth-clause-nth g c =
@@ -24,13 +24,13 @@ returns-in_default-nth-clause-past g c =
     nth_few _ _ c.self.view_is _ tree (span c.deref.result.now.height) c.nth.ensures.past c.args.place c.in_default-nth.ensures.placed
 
 pub returns-in_default-nth-clause-bound : goal.returns-in_default-nth-clause-bound
-returns-in_default-nth-clause-bound g c = item_bound _ _ c.self.view_is _ c.self.invariant
+returns-in_default-nth-clause-bound g c = item_bound _ _ c.self.view_is _ c.self.invariant.rooted
 
 pub overflow_cast-result : goal.overflow_cast-result
 overflow_cast-result g c =
     let tree = ap (λ t. t.items) c.deref.ensures ∙ sym (ap items_of c.in-Some.is) in
     let there = nth_there _ _ c.self.view_is _ tree (span c.deref.result.now.height) c.nth.ensures.past c.args.place _ c.in-Some-nth.ensures.placed in
-    omega (arith, item_bound _ _ c.self.view_is _ c.self.invariant _ there)
+    omega (arith, item_bound _ _ c.self.view_is _ c.self.invariant.rooted _ there)
 
 pub returns-clause-nth : goal.returns-clause-nth
 returns-clause-nth g c =
@@ -43,4 +43,4 @@ returns-clause-present g c =
     nth_there _ _ c.self.view_is _ tree (span c.deref.result.now.height) c.nth.ensures.past c.args.place _ c.in-Some-nth.ensures.placed
 
 pub returns-clause-bound : goal.returns-clause-bound
-returns-clause-bound g c = item_bound _ _ c.self.view_is _ c.self.invariant
+returns-clause-bound g c = item_bound _ _ c.self.view_is _ c.self.invariant.rooted

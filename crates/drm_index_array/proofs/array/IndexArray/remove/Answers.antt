@@ -14,7 +14,7 @@ pub invariant_of-self : goal.invariant_of-self
 invariant_of-self g c =
     let items = rw c.take.ensures.value at c.removed-root.ensures.items in
     let kept = rw (c.in_default.is, c.take.ensures.value) at c.removed-root.ensures.kept in
-    rooted_same _ _ c.self.view_is c.args.index _ items _ c.self.invariant kept
+    record { rooted = rooted_same _ _ c.self.view_is c.args.index _ items _ c.self.invariant.rooted kept; used = c.removed-root.ensures.used }
 
 pub returns-in_default-clause-absent : goal.returns-in_default-clause-absent
 returns-in_default-clause-absent g c =
@@ -26,13 +26,13 @@ pub overflow_sub-self : goal.overflow_sub-self
 overflow_sub-self g c =
     let items = rw c.take.ensures.value at c.removed-root.ensures.items in
     let found = rw (c.in-Some.is, c.take.ensures.value) at c.removed-root.ensures.value in
-    some_counted _ _ c.self.view_is c.args.index _ items c.in-Some.value found _ c.self.invariant
+    some_counted _ _ c.self.view_is c.args.index _ items c.in-Some.value found _ c.self.invariant.rooted
 
 pub invariant_of-self-2 : goal.invariant_of-self-2
 invariant_of-self-2 g c =
     let items = rw c.take.ensures.value at c.removed-root.ensures.items in
     let found = rw (c.in-Some.is, c.take.ensures.value) at c.removed-root.ensures.value in
-    rooted_less _ _ c.self.view_is c.args.index _ items c.in-Some.value found _ c.self.invariant
+    record { rooted = rooted_less _ _ c.self.view_is c.args.index _ items c.in-Some.value found _ c.self.invariant.rooted; used = c.removed-root.ensures.used }
 
 pub returns-clause-value : goal.returns-clause-value
 returns-clause-value g c = (rw (c.in-Some.is, c.take.ensures.value) at c.removed-root.ensures.value) ∙ item_at _ _ c.self.view_is c.args.index
