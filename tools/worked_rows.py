@@ -39,7 +39,7 @@ def unfoldables(folder):
 
 def rules():
     text = (TABLE / "Rules.antt").read_text()
-    return {int(number): rule for rule, number in re.findall(r"rule_number (\w+) = (\d+)", text)}
+    return {int(number): rule for rule, number in re.findall(r"^rule_row (\w+) = refusal_row (\d+) ", text, re.M)}
 
 
 def calls():

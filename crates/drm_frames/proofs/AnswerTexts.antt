@@ -26,7 +26,8 @@ use Rattle.drm_frames.specs.Lists.{list_text, FitsList, ids_in}
 use Rattle.drm_frames.specs.Pages.{row_text, page_text, FitsPage, rows_in}
 use Rattle.drm_frames.proofs.Numbers.{u32_in-u32, length-u32}
 use Rattle.drm_frames.proofs.FieldLaws.{two-bytes, length-two, last-of-two}
-use Rattle.drm_frames.proofs.RuleLaws.{rule-found, rule-small, apart-found, apart-small}
+use Rattle.drm_table.proofs.RefusalRows.{rule-small, apart-small}
+use Rattle.drm_frames.proofs.RuleLaws.{rule-found, apart-found}
 use Rattle.drm_frames.proofs.FieldTexts.{length-fields, fields-bytes, numbers-read}
 use Rattle.drm_frames.proofs.ListLaws.{ids_in-ids, length-list, list-bytes}
 use Rattle.drm_frames.proofs.PageLaws.{rows_in-rows, length-page, page-bytes}

@@ -1,16 +1,14 @@
 -- What a result is as a frame (own).
-use Rattle.std.specs.Prelude.{◌≡◌, ℕ, ◌+◌, ◌*◌, ◌&&◌, if◌then◌else◌, nat_eq, nat_le, List, [], ◌∷◌, ◌++◌, All, length, find, drop, Option, Some, None, Result, Ok, Err}
+use Rattle.std.specs.Prelude.{◌≡◌, ℕ, ◌+◌, ◌*◌, ◌&&◌, if◌then◌else◌, nat_eq, nat_le, List, [], ◌∷◌, ◌++◌, All, length, drop, Option, Some, None, Result, Ok, Err}
 use Rattle.drm_table.specs.declared.answers.Answer.{Answer}
 use Rattle.drm_table.specs.declared.answers.Answer.TheVariants.{List as Listed, Audit, Denied}
 use Rattle.drm_table.specs.declared.answer_kinds.AnswerKind.{AnswerKind}
 use Rattle.drm_table.specs.declared.apart.Apart.{Apart}
-use Rattle.drm_table.specs.declared.apart.Apart.TheVariants.{JournalFull, NoMemory, Worn}
 use Rattle.drm_table.specs.declared.rules.Rule.{Rule}
-use Rattle.drm_table.specs.declared.rules.Rule.TheVariants.{Unknown, Layout, NoClient, RootOnly, Auth, Master, RenderAllow, NoHandle, NoHandleToClose, NoName, NoToken, NoMagic, MasterPerm, MasterBusy, NotCurrent, IsLessee, NoModeObject, NotLeasable, Repeated, LeaseShape, LeasedOut, SubLease, NoLessee, NotYourLessee, NoFb, BadSize, BadRoute, BadCap, NoLeaseToken, Full}
 use Rattle.drm_table.specs.Answers.{Told, answer_number, answer_widths, answer_kind_of, answer_with, told}
 use Rattle.drm_table.specs.Answers.Told.{row, list, page, denial}
 use Rattle.drm_table.specs.Fields.{FitsField}
-use Rattle.drm_table.specs.Rules.{rule_number, rule_errno, apart_number, apart_errno}
+use Rattle.drm_table.specs.Rules.{rule_number, rule_errno, rule_of_number, apart_number, apart_errno, apart_of_number}
 use Rattle.std.specs.List.{flat_map}
 use Rattle.std.specs.Option.{option_map, option_and_then}
 use Rattle.drm_frames.specs.Number.{u32, u32_in}
@@ -74,23 +72,17 @@ abbrev pub audit_in : List ℕ → Option Outcome
 audit_in fields =
     if nat_le 4 (length fields) && nat_le (u32_in fields) 16 && nat_eq (length fields) (4 + 32 * u32_in fields) then Some (Ok (Audit (rows_in (u32_in fields) (drop 4 fields)))) else None
 
--- every rule
-abbrev pub rules : List Rule
-rules = Unknown ∷ Layout ∷ NoClient ∷ RootOnly ∷ Auth ∷ Master ∷ RenderAllow ∷ NoHandle ∷ NoHandleToClose ∷ NoName ∷ NoToken ∷ NoMagic
-    ∷ MasterPerm ∷ MasterBusy ∷ NotCurrent ∷ IsLessee ∷ NoModeObject ∷ NotLeasable ∷ Repeated ∷ LeaseShape ∷ LeasedOut ∷ SubLease
-    ∷ NoLessee ∷ NotYourLessee ∷ NoFb ∷ BadSize ∷ BadRoute ∷ BadCap ∷ NoLeaseToken ∷ Full ∷ []
-
--- all that stands apart
-abbrev pub aparts : List Apart
-aparts = JournalFull ∷ NoMemory ∷ Worn ∷ []
+-- one whose errno is this
+abbrev pub if_errno : {A : Type 0} → (A → ℕ) → ℕ → A → Option A
+if_errno errno_of errno one = if nat_eq (errno_of one) errno then Some one else None
 
 -- the rule of a number and its own errno
 unfoldable pub rule_of : ℕ → ℕ → Option Rule
-rule_of number errno = find (λ rule. nat_eq (rule_number rule) number && nat_eq (rule_errno rule) errno) rules
+rule_of number errno = option_and_then (if_errno rule_errno errno) (rule_of_number number)
 
--- what stands apart of a number and its own errno
+-- what stands apart by a number and its own errno
 unfoldable pub apart_of : ℕ → ℕ → Option Apart
-apart_of number errno = find (λ apart. nat_eq (apart_number apart) number && nat_eq (apart_errno apart) errno) aparts
+apart_of number errno = option_and_then (if_errno apart_errno errno) (apart_of_number number)
 
 -- the denial by a rule, or by none
 abbrev pub denied : Option Rule → Option Outcome

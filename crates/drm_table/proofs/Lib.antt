@@ -3,3 +3,4 @@ pub mod AuditKinds
 pub mod TableRows
 pub mod Readers
 pub mod AnswerRows
+pub mod RefusalRows

@@ -1,119 +1,153 @@
--- The number and the errno of each rule, and of what stands apart.
-use Rattle.std.specs.Prelude.{ℕ, List, codes}
+-- The rules and what stands apart from them: the number, the errno and the name of each (the numbers and names are own; so is
+-- the errno where the rule is own, and else it is that of drm-uapi).
+use Rattle.std.specs.Prelude.{◌≡◌, ℕ, ◌==◌, Option, Some, ◌↔◌, List, [], ◌∷◌, find, codes}
 use Rattle.drm_table.specs.declared.rules.Rule.{Rule}
 use Rattle.drm_table.specs.declared.rules.Rule.TheVariants.{Unknown, Layout, NoClient, RootOnly, Auth, Master, RenderAllow, NoHandle, NoHandleToClose, NoName, NoToken, NoMagic, MasterPerm, MasterBusy, NotCurrent, IsLessee, NoModeObject, NotLeasable, Repeated, LeaseShape, LeasedOut, SubLease, NoLessee, NotYourLessee, NoFb, BadSize, BadRoute, BadCap, NoLeaseToken, Full}
 use Rattle.drm_table.specs.declared.apart.Apart.{Apart}
 use Rattle.drm_table.specs.declared.apart.Apart.TheVariants.{JournalFull, NoMemory, Worn}
 
+-- ---- the errnos, by Linux's numbers
+
+-- there is no such thing
+abbrev pub enoent : ℕ
+enoent = 2
+
+-- memory is wanted
+abbrev pub enomem : ℕ
+enomem = 12
+
+-- the caller may not
+abbrev pub eacces : ℕ
+eacces = 13
+
+-- it is in use
+abbrev pub ebusy : ℕ
+ebusy = 16
+
+-- what was asked is no such request
+abbrev pub einval : ℕ
+einval = 22
+
+-- there is no room
+abbrev pub enospc : ℕ
+enospc = 28
+
+-- ---- the tables: a line for each rule, and for each thing apart
+
+pub record RefusalRow : Type 0 where
+  pub number : ℕ
+  pub errno : ℕ
+  pub name : List ℕ
+
+abbrev pub refusal_row : ℕ → ℕ → List ℕ → RefusalRow
+refusal_row number errno name = record { number = number; errno = errno; name = name }
+
+abbrev pub rule_row : Rule → RefusalRow
+rule_row Unknown = refusal_row 1 einval (codes "Unknown")
+rule_row Layout = refusal_row 2 einval (codes "Layout")
+rule_row NoClient = refusal_row 3 einval (codes "NoClient")
+rule_row RootOnly = refusal_row 11 eacces (codes "RootOnly")
+rule_row Auth = refusal_row 12 eacces (codes "Auth")
+rule_row Master = refusal_row 13 eacces (codes "Master")
+rule_row RenderAllow = refusal_row 14 eacces (codes "RenderAllow")
+rule_row NoHandle = refusal_row 21 enoent (codes "NoHandle")
+rule_row NoHandleToClose = refusal_row 22 einval (codes "NoHandleToClose")
+rule_row NoName = refusal_row 23 enoent (codes "NoName")
+rule_row NoToken = refusal_row 24 enoent (codes "NoToken")
+rule_row NoMagic = refusal_row 25 einval (codes "NoMagic")
+rule_row MasterPerm = refusal_row 26 eacces (codes "MasterPerm")
+rule_row MasterBusy = refusal_row 27 ebusy (codes "MasterBusy")
+rule_row NotCurrent = refusal_row 28 einval (codes "NotCurrent")
+rule_row IsLessee = refusal_row 29 einval (codes "IsLessee")
+rule_row NoModeObject = refusal_row 30 enoent (codes "NoModeObject")
+rule_row NotLeasable = refusal_row 31 einval (codes "NotLeasable")
+rule_row Repeated = refusal_row 32 einval (codes "Repeated")
+rule_row LeaseShape = refusal_row 33 einval (codes "LeaseShape")
+rule_row LeasedOut = refusal_row 34 ebusy (codes "LeasedOut")
+rule_row SubLease = refusal_row 35 einval (codes "SubLease")
+rule_row NoLessee = refusal_row 36 enoent (codes "NoLessee")
+rule_row NotYourLessee = refusal_row 37 eacces (codes "NotYourLessee")
+rule_row NoFb = refusal_row 38 enoent (codes "NoFb")
+rule_row BadSize = refusal_row 39 einval (codes "BadSize")
+rule_row BadRoute = refusal_row 40 einval (codes "BadRoute")
+rule_row BadCap = refusal_row 41 einval (codes "BadCap")
+rule_row NoLeaseToken = refusal_row 42 enoent (codes "NoLeaseToken")
+rule_row Full = refusal_row 43 enospc (codes "Full")
+
+abbrev pub apart_row : Apart → RefusalRow
+apart_row JournalFull = refusal_row 50 enospc (codes "JournalFull")
+apart_row NoMemory = refusal_row 51 enomem (codes "NoMemory")
+apart_row Worn = refusal_row 52 enospc (codes "Worn")
+
+-- all rules, rising by number
+abbrev pub all_rules : List Rule
+all_rules =
+    Unknown
+    ∷ Layout
+    ∷ NoClient
+    ∷ RootOnly
+    ∷ Auth
+    ∷ Master
+    ∷ RenderAllow
+    ∷ NoHandle
+    ∷ NoHandleToClose
+    ∷ NoName
+    ∷ NoToken
+    ∷ NoMagic
+    ∷ MasterPerm
+    ∷ MasterBusy
+    ∷ NotCurrent
+    ∷ IsLessee
+    ∷ NoModeObject
+    ∷ NotLeasable
+    ∷ Repeated
+    ∷ LeaseShape
+    ∷ LeasedOut
+    ∷ SubLease
+    ∷ NoLessee
+    ∷ NotYourLessee
+    ∷ NoFb
+    ∷ BadSize
+    ∷ BadRoute
+    ∷ BadCap
+    ∷ NoLeaseToken
+    ∷ Full
+    ∷ []
+
+-- all that stands apart, rising by number
+abbrev pub all_aparts : List Apart
+all_aparts = JournalFull ∷ NoMemory ∷ Worn ∷ []
+
+-- ---- what follows from them
+
 abbrev pub rule_number : Rule → ℕ
-rule_number Unknown = 1
-rule_number Layout = 2
-rule_number NoClient = 3
-rule_number RootOnly = 11
-rule_number Auth = 12
-rule_number Master = 13
-rule_number RenderAllow = 14
-rule_number NoHandle = 21
-rule_number NoHandleToClose = 22
-rule_number NoName = 23
-rule_number NoToken = 24
-rule_number NoMagic = 25
-rule_number MasterPerm = 26
-rule_number MasterBusy = 27
-rule_number NotCurrent = 28
-rule_number IsLessee = 29
-rule_number NoModeObject = 30
-rule_number NotLeasable = 31
-rule_number Repeated = 32
-rule_number LeaseShape = 33
-rule_number LeasedOut = 34
-rule_number SubLease = 35
-rule_number NoLessee = 36
-rule_number NotYourLessee = 37
-rule_number NoFb = 38
-rule_number BadSize = 39
-rule_number BadRoute = 40
-rule_number BadCap = 41
-rule_number NoLeaseToken = 42
-rule_number Full = 43
+rule_number rule = (rule_row rule).number
 
--- 2 is ENOENT, 13 EACCES, 16 EBUSY, 22 EINVAL, 28 ENOSPC
 abbrev pub rule_errno : Rule → ℕ
-rule_errno Unknown = 22
-rule_errno Layout = 22
-rule_errno NoClient = 22
-rule_errno RootOnly = 13
-rule_errno Auth = 13
-rule_errno Master = 13
-rule_errno RenderAllow = 13
-rule_errno NoHandle = 2
-rule_errno NoHandleToClose = 22
-rule_errno NoName = 2
-rule_errno NoToken = 2
-rule_errno NoMagic = 22
-rule_errno MasterPerm = 13
-rule_errno MasterBusy = 16
-rule_errno NotCurrent = 22
-rule_errno IsLessee = 22
-rule_errno NoModeObject = 2
-rule_errno NotLeasable = 22
-rule_errno Repeated = 22
-rule_errno LeaseShape = 22
-rule_errno LeasedOut = 16
-rule_errno SubLease = 22
-rule_errno NoLessee = 2
-rule_errno NotYourLessee = 13
-rule_errno NoFb = 2
-rule_errno BadSize = 22
-rule_errno BadRoute = 22
-rule_errno BadCap = 22
-rule_errno NoLeaseToken = 2
-rule_errno Full = 28
-
-abbrev pub apart_number : Apart → ℕ
-apart_number JournalFull = 50
-apart_number NoMemory = 51
-apart_number Worn = 52
-
--- 12 is ENOMEM
-abbrev pub apart_errno : Apart → ℕ
-apart_errno JournalFull = 28
-apart_errno NoMemory = 12
-apart_errno Worn = 28
+rule_errno rule = (rule_row rule).errno
 
 abbrev pub rule_name : Rule → List ℕ
-rule_name Unknown = codes "Unknown"
-rule_name Layout = codes "Layout"
-rule_name NoClient = codes "NoClient"
-rule_name RootOnly = codes "RootOnly"
-rule_name Auth = codes "Auth"
-rule_name Master = codes "Master"
-rule_name RenderAllow = codes "RenderAllow"
-rule_name NoHandle = codes "NoHandle"
-rule_name NoHandleToClose = codes "NoHandleToClose"
-rule_name NoName = codes "NoName"
-rule_name NoToken = codes "NoToken"
-rule_name NoMagic = codes "NoMagic"
-rule_name MasterPerm = codes "MasterPerm"
-rule_name MasterBusy = codes "MasterBusy"
-rule_name NotCurrent = codes "NotCurrent"
-rule_name IsLessee = codes "IsLessee"
-rule_name NoModeObject = codes "NoModeObject"
-rule_name NotLeasable = codes "NotLeasable"
-rule_name Repeated = codes "Repeated"
-rule_name LeaseShape = codes "LeaseShape"
-rule_name LeasedOut = codes "LeasedOut"
-rule_name SubLease = codes "SubLease"
-rule_name NoLessee = codes "NoLessee"
-rule_name NotYourLessee = codes "NotYourLessee"
-rule_name NoFb = codes "NoFb"
-rule_name BadSize = codes "BadSize"
-rule_name BadRoute = codes "BadRoute"
-rule_name BadCap = codes "BadCap"
-rule_name NoLeaseToken = codes "NoLeaseToken"
-rule_name Full = codes "Full"
+rule_name rule = (rule_row rule).name
+
+abbrev pub apart_number : Apart → ℕ
+apart_number apart = (apart_row apart).number
+
+abbrev pub apart_errno : Apart → ℕ
+apart_errno apart = (apart_row apart).errno
 
 abbrev pub apart_name : Apart → List ℕ
-apart_name JournalFull = codes "JournalFull"
-apart_name NoMemory = codes "NoMemory"
-apart_name Worn = codes "Worn"
+apart_name apart = (apart_row apart).name
+
+-- the rule of a number, if it is one's
+unfoldable pub rule_of_number : ℕ → Option Rule
+rule_of_number number = find (λ rule. rule_number rule == number) all_rules
+
+-- what stands apart by a number, if it is one's
+unfoldable pub apart_of_number : ℕ → Option Apart
+apart_of_number number = find (λ apart. apart_number apart == number) all_aparts
+
+-- ---- laws
+
+-- Each is found by its number, and by no other.
+abbrev pub IsFoundByNumber : {A : Type 0} → (ℕ → Option A) → (A → ℕ) → Type 0
+IsFoundByNumber {A} find_of number_of = (one : A) (number : ℕ) → (find_of number ≡ Some one) ↔ (number_of one ≡ number)

@@ -1,6 +1,10 @@
 //! What stands apart from the rules.
 
 ghost use Rattle.std.specs.Prelude.{◌≡◌};
+ghost use Rattle.drm_table.specs.Rules.{apart_errno, apart_name, apart_number, apart_of_number, apart_row};
+
+use crate::errnos::{ENOMEM, ENOSPC};
+use crate::refusal_rows::{RefusalRow, row};
 
 /// Why a step was not made: it changed nothing and is not noted (own).
 #[derive(Clone, Copy, PartialEq, Eq, Debug)]
@@ -14,37 +18,51 @@ pub enum Apart {
 }
 
 impl Apart {
-    ghost use Rattle.drm_table.specs.Rules.{apart_number, apart_errno, apart_name};
+    /// All that stands apart, rising by number.
+    pub const ALL: [Apart; 3] = [Apart::JournalFull, Apart::NoMemory, Apart::Worn];
+
+    // The row: a line for each (own).
+    fn row(self) -> RefusalRow
+        ensures number { result.number ≡ (apart_row self).number }
+        ensures errno { result.errno ≡ (apart_row self).errno }
+        ensures name { result.name.now ≡ (apart_row self).name }
+    {
+        match self {
+            Apart::JournalFull => row(50, ENOSPC, "JournalFull"),
+            Apart::NoMemory => row(51, ENOMEM, "NoMemory"),
+            Apart::Worn => row(52, ENOSPC, "Worn"),
+        }
+    }
 
     /// The number, as answers show it (own).
     pub fn number(self) -> u32
         ensures { result ≡ apart_number self }
     {
-        match self {
-            Apart::JournalFull => 50,
-            Apart::NoMemory => 51,
-            Apart::Worn => 52,
-        }
+        self.row().number
     }
 
     /// The errno: ENOSPC, ENOMEM, ENOSPC.
     pub fn errno(self) -> u32
         ensures { result ≡ apart_errno self }
     {
-        match self {
-            Apart::JournalFull | Apart::Worn => 28,
-            Apart::NoMemory => 12,
-        }
+        self.row().errno
     }
 
     /// The name, as scripts show it (own).
     pub fn name(self) -> &'static str
         ensures { result.now ≡ apart_name self }
     {
-        match self {
-            Apart::JournalFull => "JournalFull",
-            Apart::NoMemory => "NoMemory",
-            Apart::Worn => "Worn",
-        }
+        self.row().name
+    }
+
+    /// What stands apart by a number, if it is one's.
+    #[tactic(auto, unfolding(crate::specs::Rules::apart_of_number))]
+    pub fn of_number(number: u32) -> Option<Apart>
+        ensures { result ≡ apart_of_number number }
+    {
+        Apart::ALL
+            .iter()
+            .copied()
+            .find(|apart| apart.number() == number)
     }
 }

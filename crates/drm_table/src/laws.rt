@@ -1,6 +1,7 @@
 //! Laws of the table. Each function is its contract: there is nothing to call it for.
 ghost use Rattle.std.specs.Prelude.{◌≡◌, ◌↔◌, ℕ, List, Some};
 ghost use Rattle.drm_table.specs.Answers.{AreToldBy, HasToldWidths, TellsBack, answer_kind_of, answer_number, answer_with, told};
+ghost use Rattle.drm_table.specs.Rules.{IsFoundByNumber, apart_number, apart_of_number, rule_number, rule_of_number};
 ghost use Rattle.drm_table.specs.Table.{AreFieldsOf, HasWidths, IsFoundBy, IsReadBack, call_row, call_with, kind_number, call_kind_of, call_kind_of_word, kind_word};
 ghost use Rattle.drm_table.specs.declared.answer_kinds.AnswerKind.{AnswerKind as AnAnswerKind};
 ghost use Rattle.drm_table.specs.declared.answers.Answer.{Answer as AnAnswer};
@@ -30,4 +31,10 @@ pub fn answers_by_their_fields()
     ensures widths { (answer : AnAnswer) → HasToldWidths (told answer) }
     ensures numbers { (kind : AnAnswerKind) (number : ℕ)
         → (answer_kind_of number ≡ Some kind) ↔ (answer_number kind ≡ number) }
+{}
+
+/// A rule is found by its number, what stands apart by its own, and neither by another (own).
+pub fn refusals_by_their_numbers()
+    ensures rules { IsFoundByNumber rule_of_number rule_number }
+    ensures aparts { IsFoundByNumber apart_of_number apart_number }
 {}

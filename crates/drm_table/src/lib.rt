@@ -6,6 +6,7 @@ mod answers;
 mod apart;
 mod audits;
 mod calls;
+mod errnos;
 mod events;
 mod fields;
 mod flags;
@@ -15,6 +16,7 @@ mod limits;
 mod lists;
 mod lookup;
 mod permits;
+mod refusal_rows;
 mod rows;
 mod rules;
 
@@ -27,7 +29,10 @@ pub use events::{Event, Opening};
 pub use fields::{Field, Fields, Layout, Width};
 pub use flags::RowFlags;
 pub use kinds::CallKind;
-pub use laws::{answers_by_their_fields, calls_by_their_fields, rows_by_their_numbers_and_words};
+pub use laws::{
+    answers_by_their_fields, calls_by_their_fields, refusals_by_their_numbers,
+    rows_by_their_numbers_and_words,
+};
 pub use limits::{Limits, are_in_range};
 pub use lists::ShownList;
 pub use lookup::row;

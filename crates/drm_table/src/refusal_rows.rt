@@ -1,0 +1,24 @@
+//! A row of the tables of rules and of what stands apart.
+
+ghost use Rattle.std.specs.Prelude.{◌≡◌};
+
+/// By what number, errno and name a refusal is told.
+#[derive(Clone, Copy)]
+pub(crate) struct RefusalRow {
+    pub(crate) number: u32,
+    pub(crate) errno: u32,
+    pub(crate) name: &'static str,
+}
+
+/// The row of these columns.
+pub(crate) fn row(number: u32, errno: u32, name: &'static str) -> RefusalRow
+    ensures number { result.number ≡ number }
+    ensures errno { result.errno ≡ errno }
+    ensures name { result.name.now ≡ name.now }
+{
+    RefusalRow {
+        number,
+        errno,
+        name,
+    }
+}
