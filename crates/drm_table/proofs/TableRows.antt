@@ -1,5 +1,5 @@
 -- The table of calls: its rows are found by number and word, and a call is that of its row with its fields.
-use Rattle.std.proofs.Common.{◌≡◌, ℕ, ◌^◌, ◌<◌, List, [], ◌∷◌, Option, Some, None, refl, sym, ap, subst, lit<, lit≤}
+use Rattle.std.proofs.Common.{◌≡◌, ℕ, ◌^◌, ◌<◌, List, [], ◌∷◌, Option, Some, None, is_some, true, refl, sym, ap, subst, lit<, lit≤}
 use Rattle.std.specs.Prelude.{◌==◌}
 use Rattle.std.specs.Option.{option_map}
 use Rattle.std.specs.Str.{bytes_eq}
@@ -64,6 +64,17 @@ read-back (calls.Unknown n) = tt
 read-back (calls.BadLayout n) = tt
 read-back (calls.Audit kind from) = audit-back kind from
 read-back _ = refl
+
+-- the call of the row and the fields of a call is that call
+pub read-again : (call : Call) (kind : CallKind) (fs : List Field) → call_row call ≡ Some (kind, fs) → call_with kind fs ≡ Some call
+read-again call kind fs e = subst (IsReadBack call) e (read-back call)
+
+-- a call with a number that has a row, and with its fields
+pub has-row : (call : Call) → ((n : ℕ) → call ≡ calls.Unknown n → ⊥) → ((n : ℕ) → call ≡ calls.BadLayout n → ⊥) → is_some (call_row call) ≡ true
+unfolding call_row
+has-row (calls.Unknown n) known laid_out = absurd (known n refl)
+has-row (calls.BadLayout n) known laid_out = absurd (laid_out n refl)
+has-row _ known laid_out = refl
 
 audit-by : (number from : ℕ) (found : Option AuditKind) → audits.kind_of number ≡ found → AreFieldsOf kinds.Audit (U32 number ∷ U32 from ∷ []) (option_map (λ kind. calls.Audit kind from) found)
 unfolding call_row

@@ -1,5 +1,7 @@
 pub mod Answers
 pub mod Audits
+pub mod BufferCalls
+pub mod DeviceCalls
 pub mod Fields
 pub mod Limits
 pub mod Permit

@@ -1,17 +1,17 @@
 -- The table of calls: the number of each, its name, its word in a script, who may make it, and its fields (drm-uapi; 0x40 to
 -- 0x45 are this project's own, as are the words).
 use Rattle.std.specs.Prelude.{◌≡◌, ℕ, ◌==◌, Option, Some, None, ◌↔◌, List, [], ◌∷◌, find, map, length, codes}
-use Rattle.std.specs.Option.{option_map, option_map_or}
+use Rattle.std.specs.Option.{option_map, option_map_or, option_or}
 use Rattle.std.specs.Str.{bytes_eq}
 use Rattle.drm_table.specs.declared.fields.Width.TheVariants.{U32, U64}
 use Rattle.drm_table.specs.declared.fields.Field.{Field}
-use Rattle.drm_table.specs.declared.fields.Field.TheVariants as fields
 use Rattle.drm_table.specs.declared.flags.RowFlags.{RowFlags}
 use Rattle.drm_table.specs.declared.kinds.CallKind.{CallKind}
 use Rattle.drm_table.specs.declared.kinds.CallKind.TheVariants as kinds
 use Rattle.drm_table.specs.declared.calls.Call.{Call}
 use Rattle.drm_table.specs.declared.calls.Call.TheVariants as calls
-use Rattle.drm_table.specs.Audits as audits
+use Rattle.drm_table.specs.BufferCalls.{buffer_row, buffer_call}
+use Rattle.drm_table.specs.DeviceCalls.{device_row, device_call}
 use Rattle.drm_table.specs.Fields.{Layout, width_of, widths_in}
 use Rattle.drm_table.specs.Fields.Layout.{numbers}
 
@@ -75,36 +75,13 @@ all_kinds =
     ∷ kinds.DestroyDumb
     ∷ []
 
--- the row of each call and its fields in order, on the wire and in a script alike; none of a call without a row
+-- the row of each call and its fields in order, on the wire and in a script alike, told by family; none of a call without a row
 unfoldable pub call_row : Call → Option (CallKind × List Field)
-call_row (calls.Unknown number) = None
-call_row (calls.BadLayout number) = None
-call_row calls.Version = Some (kinds.Version, [])
-call_row (calls.GemClose handle) = Some (kinds.GemClose, fields.U32 handle ∷ [])
-call_row (calls.GetCap cap) = Some (kinds.GetCap, fields.U64 cap ∷ [])
-call_row (calls.SetClientCap cap value) = Some (kinds.SetClientCap, fields.U64 cap ∷ fields.U64 value ∷ [])
-call_row (calls.BufCreate size) = Some (kinds.BufCreate, fields.U64 size ∷ [])
-call_row (calls.StampWrite handle stamp) = Some (kinds.StampWrite, fields.U32 handle ∷ fields.U64 stamp ∷ [])
-call_row (calls.StampRead handle) = Some (kinds.StampRead, fields.U32 handle ∷ [])
-call_row (calls.ListHandles from) = Some (kinds.ListHandles, fields.U32 from ∷ [])
-call_row (calls.Audit kind from) = Some (kinds.Audit, fields.U32 (audits.kind_number kind) ∷ fields.U32 from ∷ [])
-call_row (calls.CreateDumb width height bpp) = Some (kinds.CreateDumb, fields.U32 width ∷ fields.U32 height ∷ fields.U32 bpp ∷ [])
-call_row (calls.DestroyDumb handle) = Some (kinds.DestroyDumb, fields.U32 handle ∷ [])
+call_row call = option_or (buffer_row call) (device_row call)
 
 -- the call of a row and these fields, if they are a call's
 unfoldable pub call_with : CallKind → List Field → Option Call
-call_with kinds.Version [] = Some calls.Version
-call_with kinds.GemClose (fields.U32 handle ∷ []) = Some (calls.GemClose handle)
-call_with kinds.GetCap (fields.U64 cap ∷ []) = Some (calls.GetCap cap)
-call_with kinds.SetClientCap (fields.U64 cap ∷ fields.U64 value ∷ []) = Some (calls.SetClientCap cap value)
-call_with kinds.BufCreate (fields.U64 size ∷ []) = Some (calls.BufCreate size)
-call_with kinds.StampWrite (fields.U32 handle ∷ fields.U64 stamp ∷ []) = Some (calls.StampWrite handle stamp)
-call_with kinds.StampRead (fields.U32 handle ∷ []) = Some (calls.StampRead handle)
-call_with kinds.ListHandles (fields.U32 from ∷ []) = Some (calls.ListHandles from)
-call_with kinds.Audit (fields.U32 number ∷ fields.U32 from ∷ []) = option_map (λ kind. calls.Audit kind from) (audits.kind_of number)
-call_with kinds.CreateDumb (fields.U32 width ∷ fields.U32 height ∷ fields.U32 bpp ∷ []) = Some (calls.CreateDumb width height bpp)
-call_with kinds.DestroyDumb (fields.U32 handle ∷ []) = Some (calls.DestroyDumb handle)
-call_with _ _ = None
+call_with kind fs = option_or (buffer_call kind fs) (device_call kind fs)
 
 -- ---- what follows from it
 

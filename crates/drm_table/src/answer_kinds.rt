@@ -1,11 +1,13 @@
 //! The table of answers.
 
 ghost use Rattle.std.specs.Prelude.{◌≡◌, ◌≤◌, length};
+ghost use Rattle.drm_table.specs.Answers.Told.{row as ToldFields};
 ghost use Rattle.drm_table.specs.Answers.{answer_kind_of, answer_number, answer_widths, answer_with, answer_word, answer_kind_row, told, told_of};
 
 use crate::answers::Answer;
 use crate::audits::AuditPage;
-use crate::fields::{Field, Fields, Width};
+use crate::fields::Field::{self, U32, U64};
+use crate::fields::{Fields, Width};
 use crate::lists::ShownList;
 use crate::rules::Rule;
 
@@ -125,52 +127,33 @@ impl AnswerKind {
     pub fn answer(self, fields: &[Field]) -> Option<Answer>
         ensures { result ≡ answer_with self fields.now }
     {
-        match self {
-            AnswerKind::Done => match fields {
-                [] => Some(Answer::Done),
-                _ => None,
+        Some(match (self, fields) {
+            (AnswerKind::Done, []) => Answer::Done,
+            (AnswerKind::Opened, &[U32(client)]) => Answer::Opened { client },
+            (AnswerKind::Version, &[U32(major), U32(minor), U32(patch)]) => Answer::Version {
+                major,
+                minor,
+                patch,
             },
-            AnswerKind::Opened => match fields {
-                [Field::U32(client)] => Some(Answer::Opened { client: *client }),
-                _ => None,
+            (AnswerKind::Number, &[U64(value)]) => Answer::Number { value },
+            (AnswerKind::Dumb, &[U32(handle), U32(pitch), U64(size)]) => Answer::Dumb {
+                handle,
+                pitch,
+                size,
             },
-            AnswerKind::Version => match fields {
-                [Field::U32(major), Field::U32(minor), Field::U32(patch)] => {
-                    Some(Answer::Version {
-                        major: *major,
-                        minor: *minor,
-                        patch: *patch,
-                    })
-                }
-                _ => None,
-            },
-            AnswerKind::Number => match fields {
-                [Field::U64(value)] => Some(Answer::Number { value: *value }),
-                _ => None,
-            },
-            AnswerKind::Dumb => match fields {
-                [Field::U32(handle), Field::U32(pitch), Field::U64(size)] => {
-                    Some(Answer::Dumb {
-                        handle: *handle,
-                        pitch: *pitch,
-                        size: *size,
-                    })
-                }
-                _ => None,
-            },
-            AnswerKind::Buffer => match fields {
-                [Field::U32(handle), Field::U64(size)] => Some(Answer::Buffer {
-                    handle: *handle,
-                    size: *size,
-                }),
-                _ => None,
-            },
-            AnswerKind::Closed => match fields {
-                [] => Some(Answer::Closed),
-                _ => None,
-            },
-        }
+            (AnswerKind::Buffer, &[U32(handle), U64(size)]) => Answer::Buffer { handle, size },
+            (AnswerKind::Closed, []) => Answer::Closed,
+            _ => return None,
+        })
     }
+}
+
+/// Fields of fixed number are told.
+fn row_told(kind: AnswerKind, fields: &[Field]) -> Told<'static>
+    requires { length fields.now ≤ 32 }
+    ensures { told_of result ≡ ToldFields kind fields.now }
+{
+    Told::Fields(kind, Fields::of(fields))
 }
 
 impl Answer {
@@ -180,36 +163,29 @@ impl Answer {
         ensures { told_of result ≡ told self.now }
     {
         match self {
-            Answer::Done => Told::Fields(AnswerKind::Done, Fields::of(&[])),
-            Answer::Opened { client } => {
-                Told::Fields(AnswerKind::Opened, Fields::of(&[Field::U32(*client)]))
-            }
+            Answer::Done => row_told(AnswerKind::Done, &[]),
+            Answer::Opened { client } => row_told(AnswerKind::Opened, &[U32(*client)]),
             Answer::Version {
                 major,
                 minor,
                 patch,
-            } => Told::Fields(
+            } => row_told(
                 AnswerKind::Version,
-                Fields::of(&[Field::U32(*major), Field::U32(*minor), Field::U32(*patch)]),
+                &[U32(*major), U32(*minor), U32(*patch)],
             ),
-            Answer::Number { value } => {
-                Told::Fields(AnswerKind::Number, Fields::of(&[Field::U64(*value)]))
-            }
+            Answer::Number { value } => row_told(AnswerKind::Number, &[U64(*value)]),
             Answer::Dumb {
                 handle,
                 pitch,
                 size,
-            } => Told::Fields(
-                AnswerKind::Dumb,
-                Fields::of(&[Field::U32(*handle), Field::U32(*pitch), Field::U64(*size)]),
-            ),
-            Answer::Buffer { handle, size } => Told::Fields(
+            } => row_told(AnswerKind::Dumb, &[U32(*handle), U32(*pitch), U64(*size)]),
+            Answer::Buffer { handle, size } => row_told(
                 AnswerKind::Buffer,
-                Fields::of(&[Field::U32(*handle), Field::U64(*size)]),
+                &[U32(*handle), U64(*size)],
             ),
             Answer::List { list } => Told::List(list),
             Answer::Audit { page } => Told::Page(page),
-            Answer::Closed => Told::Fields(AnswerKind::Closed, Fields::of(&[])),
+            Answer::Closed => row_told(AnswerKind::Closed, &[]),
             Answer::Denied(rule) => Told::Denial(*rule),
         }
     }

@@ -1,9 +1,9 @@
 //! What a client asks.
 
-ghost use Rattle.std.specs.Prelude.{◌≡◌};
+ghost use Rattle.std.specs.Prelude.{◌≡◌, is_some, true};
 
 use crate::audits::AuditKind;
-use crate::fields::{Field, Fields};
+use crate::fields::Fields;
 use crate::flags::RowFlags;
 use crate::kinds::CallKind;
 use crate::lookup::row;
@@ -53,30 +53,7 @@ impl Clone for Call {
         Ok(match self {
             Call::Unknown(number) => Call::Unknown(*number),
             Call::BadLayout(number) => Call::BadLayout(*number),
-            Call::Version => Call::Version,
-            Call::GemClose { handle } => Call::GemClose { handle: *handle },
-            Call::GetCap { cap } => Call::GetCap { cap: *cap },
-            Call::SetClientCap { cap, value } => Call::SetClientCap {
-                cap: *cap,
-                value: *value,
-            },
-            Call::BufCreate { size } => Call::BufCreate { size: *size },
-            Call::StampWrite { handle, stamp } => Call::StampWrite {
-                handle: *handle,
-                stamp: *stamp,
-            },
-            Call::StampRead { handle } => Call::StampRead { handle: *handle },
-            Call::ListHandles { from } => Call::ListHandles { from: *from },
-            Call::Audit { kind, from } => Call::Audit {
-                kind: *kind,
-                from: *from,
-            },
-            Call::CreateDumb { width, height, bpp } => Call::CreateDumb {
-                width: *width,
-                height: *height,
-                bpp: *bpp,
-            },
-            Call::DestroyDumb { handle } => Call::DestroyDumb { handle: *handle },
+            _ => self.read_back(),
         })
     }
 }
@@ -90,34 +67,21 @@ impl Call {
     pub fn row(&self) -> Option<(CallKind, Fields)>
         ensures { result ≡ call_row self.now }
     {
-        Some(match self {
-            Call::Unknown(_) | Call::BadLayout(_) => return None,
-            Call::Version => (CallKind::Version, Fields::of(&[])),
-            Call::GemClose { handle } => (CallKind::GemClose, Fields::of(&[Field::U32(*handle)])),
-            Call::GetCap { cap } => (CallKind::GetCap, Fields::of(&[Field::U64(*cap)])),
-            Call::SetClientCap { cap, value } => (
-                CallKind::SetClientCap,
-                Fields::of(&[Field::U64(*cap), Field::U64(*value)]),
-            ),
-            Call::BufCreate { size } => (CallKind::BufCreate, Fields::of(&[Field::U64(*size)])),
-            Call::StampWrite { handle, stamp } => (
-                CallKind::StampWrite,
-                Fields::of(&[Field::U32(*handle), Field::U64(*stamp)]),
-            ),
-            Call::StampRead { handle } => (CallKind::StampRead, Fields::of(&[Field::U32(*handle)])),
-            Call::ListHandles { from } => (CallKind::ListHandles, Fields::of(&[Field::U32(*from)])),
-            Call::Audit { kind, from } => (
-                CallKind::Audit,
-                Fields::of(&[Field::U32(kind.number()), Field::U32(*from)]),
-            ),
-            Call::CreateDumb { width, height, bpp } => (
-                CallKind::CreateDumb,
-                Fields::of(&[Field::U32(*width), Field::U32(*height), Field::U32(*bpp)]),
-            ),
-            Call::DestroyDumb { handle } => {
-                (CallKind::DestroyDumb, Fields::of(&[Field::U32(*handle)]))
-            }
-        })
+        self.buffer_row().or_else(|| self.device_row())
+    }
+
+    /// The call of the row and the fields, which is the same call.
+    fn read_back(&self) -> Call
+        requires { is_some (call_row self.now) ≡ true }
+        ensures { result ≡ self.now }
+    {
+        let Some((kind, fields)) = self.row() else {
+            unreachable!()
+        };
+        let Some(call) = kind.call(fields.as_slice()) else {
+            unreachable!()
+        };
+        call
     }
 
     /// The number of the call's row; of a call without one, the number that was asked.
