@@ -12,7 +12,8 @@ use Rattle.drm_table.specs.declared.calls.Call.{Call}
 use Rattle.drm_table.specs.declared.calls.Call.TheVariants as calls
 use Rattle.drm_table.specs.BufferCalls.{buffer_row, buffer_call}
 use Rattle.drm_table.specs.DeviceCalls.{device_row, device_call}
-use Rattle.drm_table.specs.Fields.{Layout, width_of, widths_in}
+use Rattle.drm_table.specs.declared.rows.Row.{Row}
+use Rattle.drm_table.specs.Fields.{Layout, layout_of, width_of, widths_in}
 use Rattle.drm_table.specs.Fields.Layout.{numbers}
 
 -- the caller is root
@@ -43,6 +44,10 @@ pub record TableRow : Type 0 where
 
 abbrev pub table_row : ℕ → List ℕ → List ℕ → RowFlags → Layout → TableRow
 table_row number name word flags layout = record { number = number; name = name; word = word; flags = flags; layout = layout }
+
+-- the columns of a row
+abbrev pub columns : Row → TableRow
+columns row = table_row row.number row.name.now row.word.now row.flags (layout_of row.layout)
 
 -- ---- the table: a line for each call
 

@@ -1,8 +1,8 @@
 //! The table of calls.
 
-ghost use Rattle.std.specs.Prelude.{◌≡◌, ◌≤◌, length};
+ghost use Rattle.std.specs.Prelude.{◌≡◌, ◌≤◌, length, map};
 ghost use Rattle.drm_table.specs.Fields.{IsShort, layout_of};
-ghost use Rattle.drm_table.specs.Table.{call_with, kind_layout, kind_number, call_kind_of, call_kind_of_word, kind_row, kind_word};
+ghost use Rattle.drm_table.specs.Table.{all_kinds, call_with, columns, kind_layout, kind_number, call_kind_of, call_kind_of_word, kind_row, kind_word};
 
 use crate::calls::Call;
 use crate::fields::Layout::Numbers;
@@ -47,7 +47,7 @@ const RENDER: RowFlags = RowFlags::RENDER_ALLOW;
 const ROOT: RowFlags = RowFlags::ROOT_ONLY;
 
 /// The table: a line for each call, in the order of the kinds (drm-uapi; 0x40 to 0x45 are own, as are the words).
-const ROWS: [Row; 11] = [
+static ROWS: [Row; 11] = [
     row!(0x00 => "VERSION", b"version", RENDER, Numbers(&[])),
     row!(0x09 => "GEM_CLOSE", b"gem_close", RENDER, Numbers(&[U32])),
     row!(0x0C => "GET_CAP", b"get_cap", RENDER, Numbers(&[U64])),
@@ -60,6 +60,15 @@ const ROWS: [Row; 11] = [
     row!(0xB2 => "MODE_CREATE_DUMB", b"create_dumb", NONE, Numbers(&[U32, U32, U32])),
     row!(0xB4 => "MODE_DESTROY_DUMB", b"destroy_dumb", NONE, Numbers(&[U32])),
 ];
+
+/// The rows in the order of the kinds.
+#[tactic(auto, unfolding(crate::specs::Table::kind_row))]
+fn rows() -> &'static [Row]
+    ensures rows { map columns result.now ≡ map kind_row all_kinds }
+    ensures length { length result.now ≡ length all_kinds }
+{
+    &ROWS
+}
 
 impl CallKind {
     /// All rows, rising by number.
@@ -78,7 +87,6 @@ impl CallKind {
     ];
 
     /// The row.
-    #[tactic(auto, unfolding(crate::specs::Table::kind_row))]
     pub fn row(self) -> Row
         ensures number { result.number ≡ (kind_row self).number }
         ensures name { result.name.now ≡ (kind_row self).name }
@@ -86,7 +94,7 @@ impl CallKind {
         ensures flags { result.flags ≡ (kind_row self).flags }
         ensures layout { layout_of result.layout ≡ (kind_row self).layout }
     {
-        ROWS[self as usize]
+        rows()[self as usize]
     }
 
     /// The number.
@@ -136,6 +144,7 @@ impl CallKind {
     /// The call of the row and these fields; none where they are not a call's.
     #[tactic(auto, unfolding(crate::specs::Table::call_with))]
     pub fn call(self, fields: &[Field]) -> Option<Call>
+        requires { length fields.now ≤ 32 }
         ensures { result ≡ call_with self fields.now }
     {
         self.buffer_call(fields)
