@@ -2,6 +2,7 @@
 
 ghost use Rattle.std.specs.Prelude.{◌≡◌};
 ghost use Rattle.std.specs.Option.{option_map};
+ghost use Rattle.drm_table.specs.Fields.{layout_of};
 ghost use Rattle.drm_table.specs.Table.{row_of};
 
 use crate::kinds::CallKind;
@@ -10,6 +11,9 @@ use crate::rows::Row;
 /// The row of a number, if it has one.
 #[tactic(auto, unfolding(crate::specs::Table::row_of))]
 pub fn row(number: u16) -> Option<Row>
+    ensures number { option_map (λ row. row.number) result ≡ option_map (λ row. row.number) (row_of number) }
+    ensures word { option_map (λ row. row.word.now) result ≡ option_map (λ row. row.word) (row_of number) }
+    ensures layout { option_map (λ row. layout_of row.layout) result ≡ option_map (λ row. row.layout) (row_of number) }
     ensures flags { option_map (λ row. row.flags) result ≡ option_map (λ row. row.flags) (row_of number) }
     ensures name { option_map (λ row. row.name.now) result ≡ option_map (λ row. row.name) (row_of number) }
 {

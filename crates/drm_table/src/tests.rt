@@ -97,13 +97,16 @@ fn rules_have_their_numbers_and_names(rt: HostRuntime) {
         assert_eq!(&rt; rule.number(), number);
         assert_eq!(&rt; rule.errno(), errno);
         assert_eq!(&rt; rule.name(), name);
+        assert!(&rt; Rule::of_number(number) == Some(rule));
     }
+    assert!(&rt; Rule::of_number(4).is_none());
 }
 
 fn check_apart(rt: &impl Abort, apart: Apart, number: u32, errno: u32, name: &str) {
     assert_eq!(rt; apart.number(), number);
     assert_eq!(rt; apart.errno(), errno);
     assert_eq!(rt; apart.name(), name);
+    assert!(rt; Apart::of_number(number) == Some(apart));
 }
 
 #[test]
