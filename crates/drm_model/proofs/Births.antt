@@ -15,8 +15,9 @@ use Rattle.drm_model.specs.Masters.{is_under}
 use Rattle.drm_model.specs.Leases.{ended}
 use Rattle.drm_model.specs.Buffers.{with_object, with_stamp}
 use Rattle.drm_model.specs.Clients.{opened, opened_primary, closed, ended_own, ended_if}
+use Rattle.drm_model.specs.Calls.{meaning}
 use Rattle.drm_model.specs.Verdict.{verdict}
-use Rattle.drm_model.specs.Change.{after, after_verdict, changed, asked, swept, noted}
+use Rattle.drm_model.specs.Change.{after, after_verdict, changed, swept, noted}
 use Rattle.drm_model.specs.Run.{run, rows_of, History}
 use Rattle.drm_model.proofs.Lists.{all_weaker, all_append}
 use Rattle.drm_model.proofs.Journals.{after-steps}
@@ -94,8 +95,8 @@ stamped true row stamp = refl
 stamped false row stamp = refl
 
 -- a call that is not told here makes and takes no client, master or object
-asked-births : (w : Rows) (c : ℕ) (call : Call) → BirthsRise w.steps w → BirthsRise (birth w) (asked w c call)
-unfolding asked with_object with_stamp
+asked-births : (w : Rows) (c : ℕ) (call : Call) → BirthsRise w.steps w → BirthsRise (birth w) (meaning w c call).rows
+unfolding meaning with_object with_stamp
 asked-births w c (BufCreate size) h = ((later w h).0, (later w h).1, turn-push object_birth w.steps w.objects _ refl h.2)
 asked-births w c (CreateDumb width height bpp) h = ((later w h).0, (later w h).1, turn-push object_birth w.steps w.objects _ refl h.2)
 asked-births w c (StampWrite handle stamp) h = ((later w h).0, (later w h).1, turn-map object_birth _ (λ row. stamped (row.object == object_of w c handle) row stamp) (birth w) w.objects (later w h).2)

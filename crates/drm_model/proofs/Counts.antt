@@ -15,8 +15,9 @@ use Rattle.drm_model.specs.Rows.{Rows, ClientRow, birth, empty_rows, client_row}
 use Rattle.drm_model.specs.Leases.{ended}
 use Rattle.drm_model.specs.Buffers.{with_object, with_stamp}
 use Rattle.drm_model.specs.Clients.{opened, opened_primary, opened_lease, closed, ended_own, ended_if}
+use Rattle.drm_model.specs.Calls.{meaning}
 use Rattle.drm_model.specs.Verdict.{verdict}
-use Rattle.drm_model.specs.Change.{after, after_verdict, changed, asked, swept, noted}
+use Rattle.drm_model.specs.Change.{after, after_verdict, changed, swept, noted}
 use Rattle.drm_model.specs.Run.{run, rows_of, History}
 use Rattle.drm_model.proofs.Journals.{after-steps}
 use Rattle.drm_model.proofs.Lists.{length-map}
@@ -77,8 +78,8 @@ opened_primary-few w root None h part = later w w.steps h part
 opened_primary-few w root (Some m) h part = with_client-few w w.steps _ h part
 
 -- a call that is not told here makes no list longer or shorter
-asked-few : (w : Rows) (c : ℕ) (call : Call) → FewRows w.steps w → (part : Part) → count_in part (asked w c call) ≤ birth w
-unfolding asked with_object with_stamp count_in
+asked-few : (w : Rows) (c : ℕ) (call : Call) → FewRows w.steps w → (part : Part) → count_in part (meaning w c call).rows ≤ birth w
+unfolding meaning with_object with_stamp count_in
 asked-few w c (GemClose handle) h Holds = more _ w.steps (few-filter _ w.holds w.steps (h Holds))
 asked-few w c (DestroyDumb handle) h Holds = more _ w.steps (few-filter _ w.holds w.steps (h Holds))
 asked-few w c (BufCreate size) h Holds = few-push w.holds _ w.steps (h Holds)

@@ -11,8 +11,9 @@ use Rattle.drm_table.specs.declared.events.Opening.TheVariants.{Primary, Render,
 use Rattle.drm_table.specs.declared.rules.Rule.{Rule}
 use Rattle.drm_table.specs.declared.rules.Rule.TheVariants.{NoClient}
 use Rattle.drm_model.specs.Rows.{Rows, ClientRow, empty_rows, client_row, is_client, is_open, without}
+use Rattle.drm_model.specs.Calls.{meaning}
 use Rattle.drm_model.specs.Verdict.{verdict}
-use Rattle.drm_model.specs.Change.{after, after_verdict, changed, asked, swept}
+use Rattle.drm_model.specs.Change.{after, after_verdict, changed, swept}
 use Rattle.drm_model.specs.Clients.{opened, opened_primary, closed, ended_own, ended_if}
 use Rattle.drm_model.specs.Run.{FoundRoom, no_room, places_left, run, rows_of, History, noted_in}
 use Rattle.drm_model.specs.Leases.{ended}
@@ -53,8 +54,8 @@ opened_primary-kept : (w : Rows) (root : Bool) (m : Option ℕ) → IsKept w (op
 opened_primary-kept w root None = record { limits = refl; steps = refl }
 opened_primary-kept w root (Some m) = record { limits = refl; steps = refl }
 
-asked-kept : (w : Rows) (c : ℕ) (call : Call) → IsKept w (asked w c call)
-unfolding asked with_object
+asked-kept : (w : Rows) (c : ℕ) (call : Call) → IsKept w (meaning w c call).rows
+unfolding meaning with_object
 asked-kept w c Version = record { limits = refl; steps = refl }
 asked-kept w c _ = record { limits = refl; steps = refl }
 
@@ -113,8 +114,8 @@ opened-count w (Primary root) = opened_primary-count w root w.device_master
 opened-count w Render = length-append w.clients _
 opened-count w (Lease token root) = length-append w.clients _
 
-asked-count : (w : Rows) (c : ℕ) (call : Call) → length (asked w c call).clients ≡ length w.clients
-unfolding asked with_object
+asked-count : (w : Rows) (c : ℕ) (call : Call) → length (meaning w c call).rows.clients ≡ length w.clients
+unfolding meaning with_object
 asked-count w c Version = refl
 asked-count w c _ = refl
 

@@ -16,17 +16,19 @@ use Rattle.drm_table.specs.Limits.{are_in_range}
 use Rattle.drm_table.specs.Table.{kind_row, call_row, call_with, call_kind_of, call_kind_of_word, row_of, call_number, flags_of}
 use Rattle.drm_model.specs.Audit.{audit_rows, audit_page}
 use Rattle.drm_model.specs.Buffers.{dumb_pitch, dumb_size, buffer_size, with_object, with_stamp}
-use Rattle.drm_model.specs.Change.{asked, changed, swept, after}
+use Rattle.drm_model.specs.Calls.{meaning}
+use Rattle.drm_model.specs.Change.{changed, swept, after}
 use Rattle.drm_model.specs.Clients.{opening_checks, opened, closed}
 use Rattle.drm_model.specs.Leases.{ended}
 use Rattle.drm_model.specs.Masters.{chain_within}
 use Rattle.drm_model.specs.Numbers.{numbers_from}
 use Rattle.drm_model.specs.Orders.{sorted_by}
-use Rattle.drm_model.specs.Reply.{answer_to, answer_of, reply}
+use Rattle.drm_model.specs.Parts.{count_in}
+use Rattle.drm_model.specs.Reply.{answer_of, reply}
 use Rattle.drm_model.specs.Results.{results}
 use Rattle.drm_model.specs.Run.{no_room, run, rows_of}
 use Rattle.drm_model.specs.Topology.{is_topology}
-use Rattle.drm_model.specs.Verdict.{own_checks, admission_checks, checks, verdict}
+use Rattle.drm_model.specs.Verdict.{admission_checks, checks, verdict}
 use Rattle.drm_model.specs.Rows.{empty_rows}
 use Rattle.drm_model.specs.Topology.{Topology}
 
@@ -61,5 +63,5 @@ answers =
     []
 
 pub render_and_lease_openings : results (empty_rows test_topology limits) events ≡ answers
-unfolding first_passing least answer_kind_row told answer_with answer_kind_of kind_number kind_of kind_name are_in_range kind_row call_row call_with call_kind_of call_kind_of_word row_of call_number flags_of audit_rows audit_page dumb_pitch dumb_size buffer_size with_object with_stamp asked changed swept after opening_checks opened closed ended chain_within numbers_from sorted_by answer_to answer_of reply results no_room run rows_of is_topology own_checks admission_checks checks verdict
+unfolding first_passing least answer_kind_row told answer_with answer_kind_of kind_number kind_of kind_name are_in_range kind_row call_row call_with call_kind_of call_kind_of_word row_of call_number flags_of audit_rows audit_page dumb_pitch dumb_size buffer_size with_object with_stamp meaning changed swept after opening_checks opened closed ended chain_within numbers_from sorted_by count_in answer_of reply results no_room run rows_of is_topology admission_checks checks verdict
 render_and_lease_openings = refl

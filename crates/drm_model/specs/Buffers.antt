@@ -2,12 +2,12 @@
 -- drm-mm and drm-gem(7) tell, dumb buffers as drm-uapi tells; stamps, lists of handles and BUF_CREATE are this project's own.
 use Rattle.std.specs.Prelude.{ℕ, ◌+◌, ◌*◌, ◌/◌, ◌-◌, ◌==◌, nat_le, Bool, ◌&&◌, List, [], ◌∷◌, ◌++◌, None, unwrap_or, map, filter, take, if◌then◌else◌}
 use Rattle.std.specs.Option.{is_some, option_map}
-use Rattle.drm_table.specs.declared.answers.Answer.{Answer}
 use Rattle.drm_table.specs.declared.answers.Answer.TheVariants.{Number, Dumb, Buffer, List as ListIs}
 use Rattle.drm_table.specs.declared.rules.Rule.TheVariants.{NoHandle, NoHandleToClose, BadSize, Full}
-use Rattle.drm_table.specs.Permit.{Check, check}
+use Rattle.drm_table.specs.Permit.{check}
 use Rattle.drm_model.specs.Numbers.{rising}
 use Rattle.drm_model.specs.Rows.{Rows, ObjectRow, birth, without, is_hold, has_handle, object_of, object_row, handles_of, free_handle, has_object_room, with_hold}
+use Rattle.drm_model.specs.Meaning.{Meaning, nothing}
 
 -- sizes (the ranges and the roundings are own)
 
@@ -52,52 +52,48 @@ abbrev pub new_handle : Rows → ℕ → ℕ
 new_handle w c = unwrap_or (free_handle w c) 0
 
 -- MODE_CREATE_DUMB
-abbrev pub create_dumb_checks : Rows → ℕ → ℕ → ℕ → ℕ → List Check
-create_dumb_checks w c width height bpp =
-    check BadSize (is_dumb_shape width height bpp)
-    ∷ check Full (has_buffer_room w c)
-    ∷ []
-
-abbrev pub create_dumb_rows : Rows → ℕ → ℕ → ℕ → ℕ → Rows
-create_dumb_rows w c width height bpp = with_object w c (dumb_size width height bpp)
-
-abbrev pub create_dumb_answer : Rows → ℕ → ℕ → ℕ → ℕ → Answer
-create_dumb_answer w c width height bpp = Dumb (new_handle w c) (dumb_pitch width bpp) (dumb_size width height bpp)
+abbrev pub create_dumb : Rows → ℕ → ℕ → ℕ → ℕ → Meaning
+create_dumb w c width height bpp = record {
+  checks = check BadSize (is_dumb_shape width height bpp) ∷ check Full (has_buffer_room w c) ∷ [];
+  rows = with_object w c (dumb_size width height bpp);
+  answer = Dumb (new_handle w c) (dumb_pitch width bpp) (dumb_size width height bpp);
+}
 
 -- BUF_CREATE
-abbrev pub buf_create_checks : Rows → ℕ → ℕ → List Check
-buf_create_checks w c size =
-    check BadSize (is_buffer_size size)
-    ∷ check Full (has_buffer_room w c)
-    ∷ []
-
-abbrev pub buf_create_rows : Rows → ℕ → ℕ → Rows
-buf_create_rows w c size = with_object w c (buffer_size size)
-
-abbrev pub buf_create_answer : Rows → ℕ → ℕ → Answer
-buf_create_answer w c size = Buffer (new_handle w c) (buffer_size size)
+abbrev pub buf_create : Rows → ℕ → ℕ → Meaning
+buf_create w c size = record {
+  checks = check BadSize (is_buffer_size size) ∷ check Full (has_buffer_room w c) ∷ [];
+  rows = with_object w c (buffer_size size);
+  answer = Buffer (new_handle w c) (buffer_size size);
+}
 
 -- GEM_CLOSE, and MODE_DESTROY_DUMB, which does the same
-abbrev pub gem_close_checks : Rows → ℕ → ℕ → List Check
-gem_close_checks w c handle = check NoHandleToClose (has_handle w c handle) ∷ []
-
-abbrev pub gem_close_rows : Rows → ℕ → ℕ → Rows
-gem_close_rows w c handle = record w { holds = without (is_hold c handle) w.holds }
-
--- STAMP_WRITE and STAMP_READ
-abbrev pub stamp_checks : Rows → ℕ → ℕ → List Check
-stamp_checks w c handle = check NoHandle (has_handle w c handle) ∷ []
+abbrev pub gem_close : Rows → ℕ → ℕ → Meaning
+gem_close w c handle = record (nothing w) {
+  checks = check NoHandleToClose (has_handle w c handle) ∷ [];
+  rows = record w { holds = without (is_hold c handle) w.holds };
+}
 
 -- the objects, of which one has another stamp
 unfoldable pub with_stamp : ℕ → ℕ → List ObjectRow → List ObjectRow
 with_stamp o stamp objects = map (λ (row : ObjectRow). if row.object == o then record row { stamp = stamp } else row) objects
 
-abbrev pub stamp_write_rows : Rows → ℕ → ℕ → ℕ → Rows
-stamp_write_rows w c handle stamp = record w { objects = with_stamp (object_of w c handle) stamp w.objects }
+-- STAMP_WRITE
+abbrev pub stamp_write : Rows → ℕ → ℕ → ℕ → Meaning
+stamp_write w c handle stamp = record (nothing w) {
+  checks = check NoHandle (has_handle w c handle) ∷ [];
+  rows = record w { objects = with_stamp (object_of w c handle) stamp w.objects };
+}
 
-abbrev pub stamp_read_answer : Rows → ℕ → ℕ → Answer
-stamp_read_answer w c handle = Number (unwrap_or (option_map (λ (row : ObjectRow). row.stamp) (object_row w (object_of w c handle))) 0)
+-- STAMP_READ
+abbrev pub stamp_read : Rows → ℕ → ℕ → Meaning
+stamp_read w c handle = record (nothing w) {
+  checks = check NoHandle (has_handle w c handle) ∷ [];
+  answer = Number (unwrap_or (option_map (λ (row : ObjectRow). row.stamp) (object_row w (object_of w c handle))) 0);
+}
 
 -- LIST_HANDLES: the caller's handles that are not below `from`, rising, the first 64
-abbrev pub list_handles_answer : Rows → ℕ → ℕ → Answer
-list_handles_answer w c from = ListIs (take 64 (filter (λ handle. nat_le from handle) (rising (handles_of w c))))
+abbrev pub list_handles : Rows → ℕ → ℕ → Meaning
+list_handles w c from = record (nothing w) {
+  answer = ListIs (take 64 (filter (λ handle. nat_le from handle) (rising (handles_of w c))));
+}

@@ -2,37 +2,19 @@
 use Rattle.std.specs.Prelude.{ℕ, ◌+◌, ◌==◌, Bool, ◌&&◌, ◌||◌, Option, None, Some, filter}
 use Rattle.std.specs.List.{list_any}
 use Rattle.std.specs.Option.{is_some}
-use Rattle.drm_table.specs.declared.calls.Call.{Call}
-use Rattle.drm_table.specs.declared.calls.Call.TheVariants.{Unknown, BadLayout, Version, GemClose, GetCap, SetClientCap, BufCreate, StampWrite, StampRead, ListHandles, Audit, CreateDumb, DestroyDumb}
 use Rattle.drm_table.specs.declared.events.Event.{Event}
 use Rattle.drm_table.specs.declared.events.Event.TheVariants.{Open, Ask, Close}
 use Rattle.drm_table.specs.declared.rules.Rule.{Rule}
 use Rattle.drm_model.specs.Rows.{Rows, MasterRow, is_option, is_framebuffer}
 use Rattle.drm_model.specs.Masters.{is_under}
 use Rattle.drm_model.specs.Verdict.{verdict}
-use Rattle.drm_model.specs.Buffers.{gem_close_rows, buf_create_rows, create_dumb_rows, stamp_write_rows}
+use Rattle.drm_model.specs.Calls.{meaning}
 use Rattle.drm_model.specs.Clients.{opened, closed}
-
--- what an accepted call does; what each changes stands with the call
-unfoldable pub asked : Rows → ℕ → Call → Rows
-asked w c (Unknown number) = w
-asked w c (BadLayout number) = w
-asked w c Version = w
-asked w c (GemClose handle) = gem_close_rows w c handle
-asked w c (GetCap cap) = w
-asked w c (SetClientCap cap value) = w
-asked w c (BufCreate size) = buf_create_rows w c size
-asked w c (StampWrite handle stamp) = stamp_write_rows w c handle stamp
-asked w c (StampRead handle) = w
-asked w c (ListHandles from) = w
-asked w c (Audit kind from) = w
-asked w c (CreateDumb width height bpp) = create_dumb_rows w c width height bpp
-asked w c (DestroyDumb handle) = gem_close_rows w c handle
 
 -- what an accepted event does
 unfoldable pub changed : Rows → Event → Rows
 changed w (Open opening) = opened w opening
-changed w (Ask c call) = asked w c call
+changed w (Ask c call) = (meaning w c call).rows
 changed w (Close c) = closed w c
 
 -- whether a handle, a token or a framebuffer refers to the object (drm-gem(7); tokens and framebuffers are no handles: own)

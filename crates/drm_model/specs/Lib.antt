@@ -6,9 +6,11 @@ pub mod Parts
 pub mod Births
 pub mod Masters
 pub mod Leases
+pub mod Meaning
 pub mod Capabilities
 pub mod Audit
 pub mod Buffers
+pub mod Calls
 pub mod Clients
 pub mod Verdict
 pub mod Change

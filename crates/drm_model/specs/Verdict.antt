@@ -2,7 +2,7 @@
 -- first three is this project's own, that of the row's flags is drm_ioctl_permit's.
 use Rattle.std.specs.Prelude.{ℕ, Bool, true, false, List, [], ◌∷◌, ◌++◌, Option}
 use Rattle.drm_table.specs.declared.calls.Call.{Call}
-use Rattle.drm_table.specs.declared.calls.Call.TheVariants.{Unknown as UnknownCall, BadLayout, Version, GemClose, GetCap, SetClientCap, BufCreate, StampWrite, StampRead, ListHandles, Audit, CreateDumb, DestroyDumb}
+use Rattle.drm_table.specs.declared.calls.Call.TheVariants.{Unknown as UnknownCall, BadLayout}
 use Rattle.drm_table.specs.declared.events.Event.{Event}
 use Rattle.drm_table.specs.declared.events.Event.TheVariants.{Open, Ask, Close}
 use Rattle.drm_table.specs.declared.rules.Rule.{Rule}
@@ -11,8 +11,7 @@ use Rattle.drm_table.specs.Permit.{Check, check, first_failing, permit_checks}
 use Rattle.drm_table.specs.Table.{flags_of}
 use Rattle.drm_model.specs.Rows.{Rows, is_open}
 use Rattle.drm_model.specs.Masters.{standing_of}
-use Rattle.drm_model.specs.Capabilities.{get_cap_checks, set_client_cap_checks}
-use Rattle.drm_model.specs.Buffers.{gem_close_checks, buf_create_checks, create_dumb_checks, stamp_checks}
+use Rattle.drm_model.specs.Calls.{meaning}
 use Rattle.drm_model.specs.Clients.{opening_checks}
 
 -- whether a row has the number
@@ -25,23 +24,7 @@ abbrev pub is_laid_out : Call → Bool
 is_laid_out (BadLayout number) = false
 is_laid_out _ = true
 
--- the call's own rules, in order; what each tests stands with the call
-unfoldable pub own_checks : Rows → ℕ → Call → List Check
-own_checks w c (UnknownCall number) = []
-own_checks w c (BadLayout number) = []
-own_checks w c Version = []
-own_checks w c (GemClose handle) = gem_close_checks w c handle
-own_checks w c (GetCap cap) = get_cap_checks cap
-own_checks w c (SetClientCap cap value) = set_client_cap_checks
-own_checks w c (BufCreate size) = buf_create_checks w c size
-own_checks w c (StampWrite handle stamp) = stamp_checks w c handle
-own_checks w c (StampRead handle) = stamp_checks w c handle
-own_checks w c (ListHandles from) = []
-own_checks w c (Audit kind from) = []
-own_checks w c (CreateDumb width height bpp) = create_dumb_checks w c width height bpp
-own_checks w c (DestroyDumb handle) = gem_close_checks w c handle
-
--- what comes before them: the call is known and laid out, its client is open, and its row's flags let the client make it
+-- what comes before a call's own rules: it is known and laid out, its client is open, and its row's flags let the client make it
 unfoldable pub admission_checks : Rows → ℕ → Call → List Check
 admission_checks w c call =
     check Unknown (is_known call)
@@ -52,7 +35,7 @@ admission_checks w c call =
 -- all that an event is tested for, in order
 unfoldable pub checks : Rows → Event → List Check
 checks w (Open opening) = opening_checks w opening
-checks w (Ask c call) = admission_checks w c call ++ own_checks w c call
+checks w (Ask c call) = admission_checks w c call ++ (meaning w c call).checks
 checks w (Close c) = check NoClient (is_open w c) ∷ []
 
 -- the first rule that fails, or none

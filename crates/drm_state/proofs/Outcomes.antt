@@ -17,7 +17,8 @@ use Rattle.drm_table.specs.Table.{flags_of}
 use Rattle.drm_model.specs.Buffers.{with_object}
 use Rattle.drm_model.specs.Rows.{Rows, ClientRow, birth, client_row, free_handle, has_client_room, has_object_room}
 use Rattle.drm_model.specs.Masters.{standing_in}
-use Rattle.drm_model.specs.Verdict.{verdict, checks, admission_checks, own_checks, is_known, is_laid_out}
+use Rattle.drm_model.specs.Calls.{meaning}
+use Rattle.drm_model.specs.Verdict.{verdict, checks, admission_checks, is_known, is_laid_out}
 use Rattle.drm_model.specs.Clients.{opening_checks}
 use Rattle.drm_model.specs.Change.{after, after_verdict, changed, swept, noted}
 use Rattle.drm_model.specs.Reply.{reply, reply_by, answer_of}
@@ -77,9 +78,9 @@ first_failing-append (x ∷ xs) ys h =
     [ true ↦ first_failing-append xs ys | false ↦ λ e. cc ]) h
 
 -- an admitted call is judged by its own rules
-pub call_verdict : (w : Rows) (c : ℕ) (call : Call) → first_failing (admission_checks w c call) ≡ None → verdict w (Ask c call) ≡ first_failing (own_checks w c call)
+pub call_verdict : (w : Rows) (c : ℕ) (call : Call) → first_failing (admission_checks w c call) ≡ None → verdict w (Ask c call) ≡ first_failing (meaning w c call).checks
 unfolding verdict checks
-call_verdict w c call h = first_failing-append (admission_checks w c call) (own_checks w c call) h
+call_verdict w c call h = first_failing-append (admission_checks w c call) (meaning w c call).checks h
 
 first_failing-front : (xs ys : List Check) (rule : Rule) → first_failing xs ≡ Some rule → first_failing (xs ++ ys) ≡ Some rule
 first_failing-front [] ys rule h = cc
@@ -90,7 +91,7 @@ first_failing-front (x ∷ xs) ys rule h =
 -- a call that isn't admitted is denied for it
 pub unadmitted : (w : Rows) (c : ℕ) (call : Call) (rule : Rule) → first_failing (admission_checks w c call) ≡ Some rule → verdict w (Ask c call) ≡ Some rule
 unfolding verdict checks
-unadmitted w c call rule h = first_failing-front (admission_checks w c call) (own_checks w c call) rule h
+unadmitted w c call rule h = first_failing-front (admission_checks w c call) (meaning w c call).checks rule h
 
 pub admitted_by_permit : (w : Rows) (c : ℕ) (call : Call) (row : ClientRow) → is_known call ≡ true → is_laid_out call ≡ true → client_row w c ≡ Some row →
     first_failing (admission_checks w c call) ≡ first_failing (permit_checks (flags_of call) (standing_in w (Some row)))

@@ -5,9 +5,9 @@ use Rattle.drm_table.specs.declared.events.Event.TheVariants.{Ask}
 use Rattle.drm_table.specs.declared.rules.Rule.TheVariants.{NoHandleToClose}
 use Rattle.drm_files.specs.Files.{without_hold}
 use Rattle.drm_model.specs.Rows.{Rows, is_hold, without}
-use Rattle.drm_model.specs.Verdict.{own_checks}
-use Rattle.drm_model.specs.Change.{changed, asked, swept}
-use Rattle.drm_model.specs.Reply.{answer_of, answer_to}
+use Rattle.drm_model.specs.Calls.{meaning}
+use Rattle.drm_model.specs.Change.{changed, swept}
+use Rattle.drm_model.specs.Reply.{answer_of}
 use Rattle.drm_state.specs.Parts.{keys_of, referring_keys}
 use Rattle.drm_state.specs.Ties.{IsTied}
 use Rattle.drm_state.specs.Refinement.{OwesReply, Represents}
@@ -18,13 +18,13 @@ use Rattle.drm_state.proofs.Sweeps.{handle_gone}
 use Rattle.drm_buffer_calls.proofs.buffers.gem_close.Goals as goal
 
 pub returns-in_default-clause-destroy : goal.returns-in_default-clause-destroy
-unfolding OwesReply own_checks
+unfolding OwesReply meaning
 returns-in_default-clause-destroy c = λ w h a.
     let none = holds_it c.args.state.now w h c.args.client c.args.handle _ None c.object_of.ensures.object c.in_default.is in
     denied c.args.state.now w (Ask c.args.client (DestroyDumb c.args.handle)) NoHandleToClose (call_verdict w c.args.client (DestroyDumb c.args.handle) a ∙ rw none refl) h
 
 pub returns-in_default-clause-close : goal.returns-in_default-clause-close
-unfolding OwesReply own_checks
+unfolding OwesReply meaning
 returns-in_default-clause-close c = λ w h a.
     let none = holds_it c.args.state.now w h c.args.client c.args.handle _ None c.object_of.ensures.object c.in_default.is in
     denied c.args.state.now w (Ask c.args.client (GemClose c.args.handle)) NoHandleToClose (call_verdict w c.args.client (GemClose c.args.handle) a ∙ rw none refl) h
@@ -45,13 +45,13 @@ gone c w h =
     (handle_gone c.args.state.now w c.args.client c.args.handle c.unhold-dead.new.self c.requires.tied (step c) (unhold_limit c.args.state.now.objects c.unhold-dead.new.self c.in-Some.object c.unhold-dead.result c.unhold-dead.ensures.gone c.unhold-dead.ensures.stays) h)
 
 pub returns-clause-destroy : goal.returns-clause-destroy
-unfolding OwesReply own_checks changed asked answer_of answer_to
+unfolding OwesReply meaning changed answer_of
 returns-clause-destroy c = λ w h a.
     let some = holds_it c.args.state.now w h c.args.client c.args.handle _ (Some c.in-Some.object) c.object_of.ensures.object c.in-Some.is in
     carried (record c.args.state.now { files = c.drop_handle-object.new.self; objects = c.unhold-dead.new.self }) w (Ask c.args.client (DestroyDumb c.args.handle)) Done (call_verdict w c.args.client (DestroyDumb c.args.handle) a ∙ rw some refl) refl (gone c w h)
 
 pub returns-clause-close : goal.returns-clause-close
-unfolding OwesReply own_checks changed asked answer_of answer_to
+unfolding OwesReply meaning changed answer_of
 returns-clause-close c = λ w h a.
     let some = holds_it c.args.state.now w h c.args.client c.args.handle _ (Some c.in-Some.object) c.object_of.ensures.object c.in-Some.is in
     carried (record c.args.state.now { files = c.drop_handle-object.new.self; objects = c.unhold-dead.new.self }) w (Ask c.args.client (GemClose c.args.handle)) Done (call_verdict w c.args.client (GemClose c.args.handle) a ∙ rw some refl) refl (gone c w h)

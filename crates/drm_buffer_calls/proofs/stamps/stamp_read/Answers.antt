@@ -4,16 +4,16 @@ use Rattle.drm_table.specs.declared.calls.Call.TheVariants.{StampRead}
 use Rattle.drm_table.specs.declared.events.Event.TheVariants.{Ask}
 use Rattle.drm_table.specs.declared.rules.Rule.TheVariants.{NoHandle}
 use Rattle.drm_model.specs.Rows.{object_of}
-use Rattle.drm_model.specs.Verdict.{own_checks}
-use Rattle.drm_model.specs.Change.{changed, asked}
-use Rattle.drm_model.specs.Reply.{answer_of, answer_to}
+use Rattle.drm_model.specs.Calls.{meaning}
+use Rattle.drm_model.specs.Change.{changed}
+use Rattle.drm_model.specs.Reply.{answer_of}
 use Rattle.drm_state.specs.Refinement.{OwesReply}
 use Rattle.drm_state.proofs.Outcomes.{denied, carried_on, call_verdict}
 use Rattle.drm_state.proofs.Contents.{holds_it, object_found, key_found, key_there, stamp_found}
 use Rattle.drm_buffer_calls.proofs.stamps.stamp_read.Goals as goal
 
 pub returns-in_default : goal.returns-in_default
-unfolding OwesReply own_checks
+unfolding OwesReply meaning
 returns-in_default c = λ w h a.
     let none = holds_it c.args.state.now w h c.args.client c.args.handle _ None c.object_of.ensures.object c.in_default.is in
     denied c.args.state.now w (Ask c.args.client (StampRead c.args.handle)) NoHandle (call_verdict w c.args.client (StampRead c.args.handle) a ∙ rw none refl) h
@@ -22,7 +22,7 @@ pub stamp-requires : goal.stamp-requires
 stamp-requires c = key_there c.args.state.now c.args.client c.args.handle c.in-Some.object _ c.requires.tied c.object_of.ensures.object c.in-Some.is
 
 pub returns : goal.returns
-unfolding OwesReply own_checks changed asked answer_of answer_to
+unfolding OwesReply meaning changed answer_of
 returns c = λ w h a.
     let some = holds_it c.args.state.now w h c.args.client c.args.handle _ (Some c.in-Some.object) c.object_of.ensures.object c.in-Some.is in
     let object : object_of w c.args.client c.args.handle ≡ _ = object_found c.args.state.now w c.requires.tied h c.args.client c.args.handle c.in-Some.object _ c.object_of.ensures.object c.in-Some.is in

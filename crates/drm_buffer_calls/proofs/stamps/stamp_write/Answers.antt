@@ -5,9 +5,9 @@ use Rattle.drm_table.specs.declared.events.Event.TheVariants.{Ask}
 use Rattle.drm_table.specs.declared.rules.Rule.TheVariants.{NoHandle}
 use Rattle.drm_model.specs.Rows.{object_of}
 use Rattle.drm_model.specs.Buffers.{with_stamp}
-use Rattle.drm_model.specs.Verdict.{own_checks}
-use Rattle.drm_model.specs.Change.{changed, asked}
-use Rattle.drm_model.specs.Reply.{answer_of, answer_to}
+use Rattle.drm_model.specs.Calls.{meaning}
+use Rattle.drm_model.specs.Change.{changed}
+use Rattle.drm_model.specs.Reply.{answer_of}
 use Rattle.drm_state.specs.Parts.{birth_at}
 use Rattle.drm_state.specs.Ties.{IsTied}
 use Rattle.drm_state.specs.Refinement.{OwesReply, Represents}
@@ -16,7 +16,7 @@ use Rattle.drm_state.proofs.Contents.{holds_it, object_found, key_found, key_the
 use Rattle.drm_buffer_calls.proofs.stamps.stamp_write.Goals as goal
 
 pub returns-in_default-clause-owes : goal.returns-in_default-clause-owes
-unfolding OwesReply own_checks
+unfolding OwesReply meaning
 returns-in_default-clause-owes c = λ w h a.
     let none = holds_it c.args.state.now w h c.args.client c.args.handle _ None c.object_of.ensures.object c.in_default.is in
     denied c.args.state.now w (Ask c.args.client (StampWrite c.args.handle c.args.stamp)) NoHandle (call_verdict w c.args.client (StampWrite c.args.handle c.args.stamp) a ∙ rw none refl) h
@@ -28,7 +28,7 @@ pub returns-clause-tied : goal.returns-clause-tied
 returns-clause-tied c = subst (λ set. IsTied (record c.args.state.now { objects = set })) (sym c.set_stamp.ensures) (stamped_tied c.args.state.now c.in-Some.object c.args.stamp c.requires.tied)
 
 pub returns-clause-owes : goal.returns-clause-owes
-unfolding OwesReply own_checks changed asked answer_of answer_to
+unfolding OwesReply meaning changed answer_of
 returns-clause-owes c = λ w h a.
     let some = holds_it c.args.state.now w h c.args.client c.args.handle _ (Some c.in-Some.object) c.object_of.ensures.object c.in-Some.is in
     let object : object_of w c.args.client c.args.handle ≡ _ = object_found c.args.state.now w c.requires.tied h c.args.client c.args.handle c.in-Some.object _ c.object_of.ensures.object c.in-Some.is in

@@ -1,0 +1,25 @@
+-- What each call means. Its meaning stands with its family.
+use Rattle.std.specs.Prelude.{ℕ}
+use Rattle.drm_table.specs.declared.calls.Call.{Call}
+use Rattle.drm_table.specs.declared.calls.Call.TheVariants.{Unknown, BadLayout, Version, GemClose, GetCap, SetClientCap, BufCreate, StampWrite, StampRead, ListHandles, Audit, CreateDumb, DestroyDumb}
+use Rattle.drm_model.specs.Rows.{Rows}
+use Rattle.drm_model.specs.Meaning.{Meaning, nothing}
+use Rattle.drm_model.specs.Capabilities.{version, get_cap, set_client_cap}
+use Rattle.drm_model.specs.Audit.{audit}
+use Rattle.drm_model.specs.Buffers.{gem_close, buf_create, create_dumb, stamp_write, stamp_read, list_handles}
+
+-- the first two are never admitted
+unfoldable pub meaning : Rows → ℕ → Call → Meaning
+meaning w c (Unknown number) = nothing w
+meaning w c (BadLayout number) = nothing w
+meaning w c Version = version w
+meaning w c (GemClose handle) = gem_close w c handle
+meaning w c (GetCap cap) = get_cap w cap
+meaning w c (SetClientCap cap value) = set_client_cap w
+meaning w c (BufCreate size) = buf_create w c size
+meaning w c (StampWrite handle stamp) = stamp_write w c handle stamp
+meaning w c (StampRead handle) = stamp_read w c handle
+meaning w c (ListHandles from) = list_handles w c from
+meaning w c (Audit kind from) = audit w kind from
+meaning w c (CreateDumb width height bpp) = create_dumb w c width height bpp
+meaning w c (DestroyDumb handle) = gem_close w c handle

@@ -1,0 +1,15 @@
+-- What a call means: the rules that it has of its own, in order, and the rows after it and its answer where none fails.
+use Rattle.std.specs.Prelude.{List, []}
+use Rattle.drm_table.specs.declared.answers.Answer.{Answer}
+use Rattle.drm_table.specs.declared.answers.Answer.TheVariants.{Done}
+use Rattle.drm_table.specs.Permit.{Check}
+use Rattle.drm_model.specs.Rows.{Rows}
+
+pub record Meaning : Type 0 where
+  pub checks : List Check
+  pub rows : Rows
+  pub answer : Answer
+
+-- a call that has no rules, changes no row and tells nothing
+abbrev pub nothing : Rows → Meaning
+nothing w = record { checks = []; rows = w; answer = Done }
