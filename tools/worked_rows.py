@@ -11,6 +11,7 @@ import re
 MODEL = pathlib.Path("crates/drm_model")
 TABLE = pathlib.Path("crates/drm_table/specs")
 ARRAYS = pathlib.Path("crates/drm_index_array/specs")
+LISTS = pathlib.Path("crates/drm_lists/specs")
 # the word of each answer that is told by numbers, and the variant that stands for it
 ANSWERS = {
     "done": "Done",
@@ -125,6 +126,7 @@ def lemma(name, lines):
             labels[asked.split()[1]] = got.split()[1]
     opened = unfoldables(MODEL / "specs")
     table = unfoldables(TABLE)
+    lists = unfoldables(LISTS)
     least = [(module, word) for module, word in unfoldables(ARRAYS) if module == "Least"]
     denials = ", ".join(f"{rule} as Denied{rule}" for rule in sorted(set(rules().values())))
     uses = [
@@ -141,7 +143,7 @@ def lemma(name, lines):
         "use Rattle.drm_table.specs.declared.limits.Limits.{Limits}",
         "use Rattle.drm_table.specs.declared.audits.AuditKind.TheVariants.{" + ", ".join(f"{kind} as Of{kind}" for kind in KINDS) + "}",
     ]
-    for crate, words in (("drm_index_array", least), ("drm_table", table), ("drm_model", opened)):
+    for crate, words in (("drm_index_array", least), ("drm_lists", lists), ("drm_table", table), ("drm_model", opened)):
         for module in sorted({module for module, _ in words}):
             names = ", ".join(word for where, word in words if where == module)
             uses.append(f"use Rattle.{crate}.specs.{module}.{{{names}}}")
@@ -155,7 +157,7 @@ def lemma(name, lines):
         + f"\nabbrev events : List Event\nevents =\n{listed(events)}"
         + f"\nabbrev answers : List (Result Answer Apart)\nanswers =\n{listed(answers)}"
         + f"\npub {name} : results (empty_rows test_topology limits) events ≡ answers\n"
-        + f"unfolding {' '.join(word for _, word in least + table + opened)}\n{name} = refl\n"
+        + f"unfolding {' '.join(word for _, word in least + lists + table + opened)}\n{name} = refl\n"
     )
     head = f"-- Made by tools/worked_rows.py: the worked row {name}, as the definitions compute it.\n"
     return head + "".join(used(line, body) for line in uses) + "\n" + body

@@ -1,9 +1,12 @@
 -- The file of a new client.
-use Rattle.std.proofs.Common.{◌≡◌, ℕ, ◌<◌, ◌==◌, Bool, true, false, cond, not, List, [], ◌∷◌, ◌++◌, map, filter, find, Some, None, refl, ap, ◌∙◌, arith, eq-eqb}
+use Rattle.std.proofs.Common.{◌≡◌, ℕ, ◌<◌, Bool, true, false, cond, not, List, [], ◌∷◌, ◌++◌, map, filter, find, Some, refl, ap, ◌∙◌, arith, eq-eqb}
 use Rattle.std.specs.Prelude.{nat_lt, if◌then◌else◌}
 use Rattle.std.specs.List.{AllByRecursion}
 use Rattle.std.specs.Option.{is_some}
 use Rattle.std.proofs.lemmas.Bool.Decides.{nat_tests}
+use Rattle.std.proofs.lemmas.List.{map-append}
+use Rattle.drm_state.proofs.Members.{found_last}
+use Rattle.drm_lists.proofs.Numbers.{less-differ}
 use Rattle.drm_files.specs.declared.rows.FileClient.{FileClient}
 use Rattle.drm_files.specs.Files.{FileLists, is_client, is_present, client_before, placed, authenticated, new_flags, with_client, with_authenticated}
 
@@ -18,17 +21,14 @@ placed_last f (g ∷ gs) h =
     ap (λ b. cond b (g ∷ filter (λ (y : FileClient). client_before y f) gs) (filter (λ (y : FileClient). client_before y f) gs) ++ f ∷ cond (not b) (g ∷ filter (λ (y : FileClient). not (client_before y f)) gs) (filter (λ (y : FileClient). not (client_before y f)) gs)) (newer g.client f.client h.0)
     ∙ ap (λ l. g ∷ l) (placed_last f gs h.1)
 
-other_client : (a b : ℕ) → a < b → (a == b) ≡ false
-other_client a b h = grind (arith, nat_tests)
-
 pub authenticated_last : (f : FileClient) → (fs : List FileClient) → AllByRecursion (λ (g : FileClient). g.client < f.client) fs → map (λ (row : FileClient). if is_client f.client row then authenticated row else row) fs ≡ fs
 authenticated_last f [] h = refl
 authenticated_last f (g ∷ gs) h =
-    ap (λ b. (if b then authenticated g else g) ∷ map (λ (row : FileClient). if is_client f.client row then authenticated row else row) gs) (other_client g.client f.client h.0) ∙ ap (λ l. g ∷ l) (authenticated_last f gs h.1)
+    ap (λ b. (if b then authenticated g else g) ∷ map (λ (row : FileClient). if is_client f.client row then authenticated row else row) gs) (less-differ g.client f.client h.0) ∙ ap (λ l. g ∷ l) (authenticated_last f gs h.1)
 
 pub not_there : (c : ℕ) → (fs : List FileClient) → AllByRecursion (λ (g : FileClient). g.client < c) fs → is_some (find (is_client c) fs) ≡ false
 not_there c [] h = refl
-not_there c (g ∷ gs) h = ap (λ b. is_some (cond b (Some g) (find (is_client c) gs))) (other_client g.client c h.0) ∙ not_there c gs h.1
+not_there c (g ∷ gs) h = ap (λ b. is_some (cond b (Some g) (find (is_client c) gs))) (less-differ g.client c h.0) ∙ not_there c gs h.1
 
 -- ---- the file of a new client
 
@@ -38,17 +38,9 @@ opened files number render root authenticated = record files { clients = files.c
 pub opened_file : (files : FileLists) (number : ℕ) (render root : Bool) → AllByRecursion (λ (g : FileClient). g.client < number) files.clients → with_client files number (new_flags render root) ≡ opened files number render root root
 opened_file files number render root h = ap (λ fs. record files { clients = fs }) (placed_last (record { client = number; flags = new_flags render root }) files.clients h)
 
-found_last : (f : FileClient) → (fs : List FileClient) → is_some (find (is_client f.client) (fs ++ f ∷ [])) ≡ true
-found_last f [] = ap (λ b. is_some (cond b (Some f) None)) (eq-eqb f.client f.client refl)
-found_last f (g ∷ gs) = elim (g.client == f.client) as (λ b. is_some (cond b (Some g) (find (is_client f.client) (gs ++ f ∷ []))) ≡ true) [ true ↦ refl | false ↦ found_last f gs ]
-
 pub opened_present : (files new : FileLists) (number : ℕ) (render root : Bool) → AllByRecursion (λ (g : FileClient). g.client < number) files.clients → new ≡ with_client files number (new_flags render root) → is_present new number ≡ true
 opened_present files new number render root h e =
     ap (λ (l : FileLists). is_present l number) (e ∙ opened_file files number render root h) ∙ found_last (record { client = number; flags = new_flags render root }) files.clients
-
-map-append : (f : FileClient → FileClient) → (xs ys : List FileClient) → map f (xs ++ ys) ≡ map f xs ++ map f ys
-map-append f [] ys = refl
-map-append f (x ∷ xs) ys = ap (λ zs. f x ∷ zs) (map-append f xs ys)
 
 pub opened_authenticated : (files new : FileLists) (number : ℕ) (render root : Bool) → AllByRecursion (λ (g : FileClient). g.client < number) files.clients → new ≡ with_client files number (new_flags render root) → with_authenticated new number ≡ opened files number render root true
 opened_authenticated files new number render root h e =

@@ -2,20 +2,21 @@
 use Rattle.std.proofs.Common.{◌≡◌, ℕ, ◌==◌, true, false, List, [], ◌∷◌, ◌++◌, map, Option, Some, sym, ap, ◌∙◌, subst}
 use Rattle.std.specs.List.{list_any, AllByRecursion}
 use Rattle.std.specs.Global.{Vec}
+use Rattle.std.proofs.lemmas.Bool.{or_left}
+use Rattle.std.proofs.lemmas.List.{map-append}
+use Rattle.drm_lists.specs.Orders.{InOrder}
+use Rattle.drm_lists.proofs.Lists.{all_weaker, all_append, list_any_left, list_any_right}
+use Rattle.drm_lists.proofs.Orders.{in_order_append}
 use Rattle.drm_files.specs.declared.rows.FileFlags.{FileFlags}
 use Rattle.drm_files.specs.declared.rows.FileClient.{FileClient}
 use Rattle.drm_files.specs.Files.{FileLists, is_present}
-use Rattle.drm_model.specs.Orders.{InOrder}
 use Rattle.drm_model.specs.Rows.{Rows, ClientRow, MasterRow, is_option}
-use Rattle.drm_model.proofs.Lists.{all_weaker, all_append, map-append}
-use Rattle.drm_model.proofs.Orders.{in_order_append}
 use Rattle.drm_state.specs.declared.state.Member.{Member}
 use Rattle.drm_state.specs.declared.state.State.{State}
 use Rattle.drm_state.specs.Parts.{no_member, client_row_by, client_row_of, master_row_of, clients_of, masters_of}
 use Rattle.drm_state.specs.Ties.{Tie, MembersOpen, MembersDiffer, MastersNamed, is_tied, IsTied, IsLater}
 use Rattle.drm_model.specs.Parts.{Part, Clients, Masters, DeviceMaster}
 use Rattle.drm_state.specs.Refinement.{stands_for, Represents}
-use Rattle.drm_state.proofs.Booleans.{list_any_left, list_any_right, or_left}
 use Rattle.drm_state.proofs.Represented.{clients_are, masters_are, members_open, members_differ, masters_are_named}
 use Rattle.drm_state.proofs.Members.{client_pushed, render_pushed, members_older, members_open_yet, found_last}
 

@@ -1,11 +1,16 @@
 -- The rows of an audit, by the parts that stand for them.
-use Rattle.std.proofs.Common.{◌≡◌, ℕ, zero, suc, ◌+◌, ◌==◌, ◌<◌, true, List, ◌++◌, filter, length, length-append, [], ◌∷◌, map, find, Option, Some, None, refl, sym, ◌∙◌, ap, subst, arith, eq-eqb}
+use Rattle.std.proofs.Common.{◌≡◌, ℕ, zero, suc, ◌+◌, ◌==◌, ◌<◌, true, List, ◌++◌, filter, length, [], ◌∷◌, map, find, Option, Some, None, refl, sym, ◌∙◌, ap, subst, arith, eq-eqb}
 use Rattle.std.specs.Prelude.{slice_get}
-use Rattle.std.specs.List.{AllByRecursion}
 use Rattle.std.specs.Option.{option_map, option_map_or}
 use Rattle.std.proofs.lemmas.Bool.Decides.{nat_tests}
 use Rattle.std.proofs.lemmas.Option.{slice_get-map}
-use Rattle.std.proofs.lemmas.List.Elements.{filter-append}
+use Rattle.std.proofs.lemmas.Bool.{or_left}
+use Rattle.drm_lists.specs.Orders.{InOrder, sorted_by}
+use Rattle.drm_lists.specs.Numbers.{is_among, count}
+use Rattle.drm_lists.proofs.Lists.{map-map}
+use Rattle.drm_lists.proofs.Found.{all_at}
+use Rattle.drm_lists.proofs.Numbers.{among-left, among-right, among-more, count_of, count-append}
+use Rattle.drm_lists.proofs.Orders.{RisesTo, sorted-as_is, sorted-same, same-map, in_order_map, in_order_weaker}
 use Rattle.drm_table.specs.declared.audits.AuditRow.{AuditRow}
 use Rattle.drm_table.specs.declared.audits.AuditKind.TheVariants as kinds
 use Rattle.drm_gem.specs.declared.object.Object.{Object}
@@ -13,20 +18,15 @@ use Rattle.drm_gem.specs.Objects.{is_key}
 use Rattle.drm_files.specs.declared.rows.FileHold.{FileHold}
 use Rattle.drm_files.specs.Files.{hold_before}
 use Rattle.drm_model.specs.Rows.{Rows, TokenRow, FramebufferRow}
-use Rattle.drm_model.specs.Numbers.{is_among}
 use Rattle.drm_model.specs.Births.{MadeInTurn}
-use Rattle.drm_model.specs.Orders.{InOrder, sorted_by}
 use Rattle.drm_model.specs.Audit.{audit_row, or_zero, is_before, client_audit, master_audit, object_audit, hold_audit, hold_count, reference_count, audit_rows, rising_rows}
-use Rattle.drm_model.proofs.Lists.{map-map}
-use Rattle.drm_model.proofs.Orders.{RisesTo, is_row, order_of_rows, sorted-as_is, sorted-same, same-map, in_order_map, in_order_weaker}
+use Rattle.drm_model.proofs.Orders.{is_row, order_of_rows}
 use Rattle.drm_state.specs.declared.state.State.{State}
 use Rattle.drm_state.specs.Parts.{client_row_of, master_row_of, object_row_of, hold_row_of, holds_of, birth_at, keys_of, referring_keys}
-use Rattle.drm_state.specs.Ties.{IsTied, Counts, count}
+use Rattle.drm_state.specs.Ties.{IsTied, Counts}
 use Rattle.drm_device.specs.Audits.{StandsAfter}
 use Rattle.drm_state.proofs.Represented.{references, references_are, clients_are, masters_are, holds_are, objects_are, device_master_is, last_token_none, last_lease_token_none, holds_rise, objects_counted}
-use Rattle.drm_state.proofs.Booleans.{or_left}
-use Rattle.drm_state.proofs.Counting.{among-left, among-right, among-more}
-use Rattle.drm_state.proofs.Naming.{count_of, holds_counted, count_numbers}
+use Rattle.drm_state.proofs.Naming.{holds_counted, count_numbers}
 
 before-less : (x y : AuditRow) → x.a < y.a → is_before x y ≡ true
 before-less x y h = grind (arith, nat_tests)
@@ -51,19 +51,11 @@ object_rows s steps w h = by_number (object_audit w) w.objects w.steps h.births.
 pub row_of_item : {X : Type 0} (f : X → AuditRow) (xs : List X) (rows : List AuditRow) (place : ℕ) (found : Option X) → rows ≡ map f xs → found ≡ slice_get xs place → option_map f found ≡ slice_get rows place
 row_of_item f xs rows place found e h = ap (option_map f) h ∙ sym (slice_get-map f xs place) ∙ ap (λ ys. slice_get ys place) (sym e)
 
-at_place : (P : Object → Type 0) → (xs : List Object) (i : ℕ) (x : Object) → AllByRecursion P xs → slice_get xs i ≡ Some x → P x
-at_place P [] i x h e = absurd (let n : None ≡ Some x = e in cc)
-at_place P (y ∷ ys) zero x h e = subst P (let s : Some y ≡ Some x = e in cc) h.0
-at_place P (y ∷ ys) (suc i) x h e = at_place P ys i x h.1 e
-
-count_both : (xs ys : List ℕ) (n : ℕ) → count (xs ++ ys) n ≡ count xs n + count ys n
-count_both xs ys n = ap length (filter-append (λ key. key == n) xs ys) ∙ length-append (filter (λ key. key == n) xs) (filter (λ key. key == n) ys)
-
 references_counted : (w : Rows) (n : ℕ) → reference_count w n ≡ count (references w) n
 references_counted w n =
     ap (λ m. m + length (filter (λ (row : FramebufferRow). row.object == n) w.framebuffers)) (count_of (λ (row : TokenRow). row.object) n w.tokens)
     ∙ ap (λ m. count (map (λ (row : TokenRow). row.object) w.tokens) n + m) (count_of (λ (row : FramebufferRow). row.object) n w.framebuffers)
-    ∙ sym (count_both (map (λ (row : TokenRow). row.object) w.tokens) (map (λ (row : FramebufferRow). row.object) w.framebuffers) n)
+    ∙ sym (count-append (map (λ (row : TokenRow). row.object) w.tokens) (map (λ (row : FramebufferRow). row.object) w.framebuffers) n)
 
 -- what refers to an object is what it counts
 object_is : (s : State) (w : Rows) (place : ℕ) (x : Object) (steps : ℕ) → IsTied s → StandsAfter s steps w → slice_get s.objects.objects place ≡ Some x → audit_row x.birth x.size x.holds x.refs ≡ object_audit w (object_row_of x)
@@ -71,9 +63,9 @@ object_is s w place x steps t h e =
     let keys = keys_of s.files.holds in
     let refs = referring_keys s in
     let tied = objects_counted s t in
-    let counts = at_place (Counts keys refs) s.objects.objects place x tied.counted e in
+    let counts = all_at (Counts keys refs) s.objects.objects place x tied.counted e in
     let numbers = λ (some : List ℕ) (sub : (n : ℕ) → is_among some n ≡ true → is_among (keys ++ refs) n ≡ true).
-    at_place (λ (x : Object). count (map (birth_at s.objects.objects) some) x.birth ≡ count some x.key) s.objects.objects place x (count_numbers keys refs s.objects.objects tied some sub) e in
+    all_at (λ (x : Object). count (map (birth_at s.objects.objects) some) x.birth ≡ count some x.key) s.objects.objects place x (count_numbers keys refs s.objects.objects tied some sub) e in
     let holds : hold_count w x.birth ≡ x.holds = holds_counted w.holds s.objects.objects s.files.holds x.birth (holds_are s w h.rows) ∙ numbers keys (λ n k. among-left keys refs n k) ∙ sym counts.0 in
     let others : reference_count w x.birth ≡ x.refs = references_counted w x.birth ∙ ap (λ l. count l x.birth) (references_are s w h.rows) ∙ numbers refs (λ n k. among-right keys refs n k) ∙ sym counts.1 in
     ap (λ m. audit_row x.birth x.size m x.refs) (sym holds) ∙ ap (audit_row x.birth x.size (hold_count w x.birth)) (sym others)

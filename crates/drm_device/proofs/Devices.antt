@@ -1,10 +1,12 @@
 -- What is true of a device's fields, and of the fields after a step.
-use Rattle.std.proofs.Common.{◌≡◌, ℕ, ◌+◌, ◌-◌, ◌<◌, ◌≤◌, ◌==◌, Bool, true, false, not, refl, sym, ap, ◌∙◌, arith, subst, length, map, [], ◌∷◌, ◌++◌, ◌&&◌, nat_le, nat_lt, None, filter}
+use Rattle.std.proofs.Common.{◌≡◌, ℕ, ◌+◌, ◌-◌, ◌<◌, ◌≤◌, ◌==◌, true, false, not, refl, sym, ap, ◌∙◌, arith, subst, length, map, [], ◌∷◌, ◌++◌, nat_le, nat_lt, None, filter}
 use Rattle.std.specs.List.{list_any, AllByRecursion}
 use Rattle.std.specs.Vec.{vec_len, vec_capacity}
 use Rattle.std.specs.Global.{Vec}
-use Rattle.std.proofs.lemmas.Bool.{leb-true}
+use Rattle.std.proofs.lemmas.Bool.{leb-true, and_parts}
 use Rattle.std.proofs.lemmas.Bool.Decides.{nat_tests}
+use Rattle.drm_lists.specs.Orders.{InOrder}
+use Rattle.drm_lists.proofs.Lists.{all_weaker, all_of_map}
 use Rattle.drm_gem.specs.declared.object.Object.{Object}
 use Rattle.drm_gem.specs.Objects.{ObjectSet}
 use Rattle.drm_files.specs.declared.rows.FileHold.{FileHold}
@@ -17,8 +19,6 @@ use Rattle.drm_table.specs.declared.events.Opening.{Opening}
 use Rattle.drm_table.specs.declared.limits.Limits.{Limits}
 use Rattle.drm_table.specs.Limits.{are_in_range, is_between}
 use Rattle.drm_model.specs.Rows.{ClientRow, ObjectRow, empty_rows, is_option}
-use Rattle.drm_model.specs.Orders.{InOrder}
-use Rattle.drm_model.proofs.Lists.{all_weaker}
 use Rattle.drm_model.specs.Topology.{Topology}
 use Rattle.drm_model.specs.Change.{after}
 use Rattle.drm_model.specs.Run.{FoundRoom, places_left, run, rows_of, no_room, start_of}
@@ -32,7 +32,6 @@ use Rattle.drm_state.specs.Parts.{client_row_of, master_row_of, object_row_of, h
 use Rattle.drm_state.specs.Ties.{Tie, MembersOpen, MembersDiffer, MastersNamed, HoldsRise, ObjectsCounted, is_tied, IsTied, IsLater, IsReady, AreTied}
 use Rattle.drm_model.specs.Parts.{Part, Bounds, Masters, Holds, Clients, Objects, DeviceMaster}
 use Rattle.drm_state.specs.Refinement.{stands_for, Represents, Stands}
-use Rattle.drm_state.proofs.Booleans.{all_of_map}
 use Rattle.drm_state.proofs.Represented.{clients_are, objects_are}
 use Rattle.drm_state.proofs.Outcomes.{represented_count}
 use Rattle.drm_state.proofs.Lookups.{is_open_is}
@@ -102,31 +101,28 @@ same_device d s h t r =
     let before = represented_count d.state (rows_of (history_of d)) h.rows in
     record { rows = r; tied = t; found_room = h.found_room; places = omega (arith, h.places); reserved = h.reserved; journal_fits = h.journal_fits }
 
-and_left : (a b : Bool) → (a && b) ≡ true → a ≡ true
-and_left true b h = refl
-and_left false b h = absurd (let e : false ≡ true = h in cc)
-
-and_right : (a b : Bool) → (a && b) ≡ true → b ≡ true
-and_right true b h = h
-and_right false b h = absurd (let e : false ≡ true = h in cc)
-
 -- a number that is tested for its range is at most the greatest
 at_most : (low high n : ℕ) → is_between low high n ≡ true → n ≤ high
-at_most low high n h = leb-true n high (and_right (nat_le low n) (nat_le n high) h)
+at_most low high n h = leb-true n high (and_parts (nat_le low n) (nat_le n high) h).1
 
 journal_fits : (limits : Limits) → are_in_range limits ≡ true → limits.journal ≤ 100000
 unfolding are_in_range
-journal_fits limits h = at_most 2 100000 limits.journal (and_right _ (is_between 2 100000 limits.journal) h)
+journal_fits limits h = at_most 2 100000 limits.journal (and_parts _ (is_between 2 100000 limits.journal) h).1
 
 at_least : (low high n : ℕ) → is_between low high n ≡ true → low ≤ n
-at_least low high n h = leb-true low n (and_left (nat_le low n) (nat_le n high) h)
+at_least low high n h = leb-true low n (and_parts (nat_le low n) (nat_le n high) h).0
 
 -- `&&` groups to the left: six parts stand behind the limit of handles
 pub some_handles : (limits : Limits) → are_in_range limits ≡ true → 1 ≤ limits.handles
 unfolding are_in_range
 some_handles limits h =
-    at_least 1 65535 limits.handles (and_right _ (is_between 1 65535 limits.handles)
-    (and_left _ _ (and_left _ _ (and_left _ _ (and_left _ _ (and_left _ _ (and_left _ _ h)))))))
+    let before_journal = (and_parts _ _ h).0 in
+    let before_lessees = (and_parts _ _ before_journal).0 in
+    let before_framebuffers = (and_parts _ _ before_lessees).0 in
+    let before_objects = (and_parts _ _ before_framebuffers).0 in
+    let before_tokens = (and_parts _ _ before_objects).0 in
+    let before_names = (and_parts _ _ before_tokens).0 in
+    at_least 1 65535 limits.handles (and_parts _ (is_between 1 65535 limits.handles) before_names).1
 
 -- ---- a device without rows
 

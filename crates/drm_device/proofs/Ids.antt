@@ -3,7 +3,8 @@ use Rattle.std.proofs.Common.{◌≡◌, ℕ, zero, suc, ◌+◌, ◌==◌, nat_
 use Rattle.std.specs.Prelude.{nat_le}
 use Rattle.std.specs.List.{list_all}
 use Rattle.std.proofs.lemmas.Bool.Decides.{nat_tests}
-use Rattle.drm_model.specs.Numbers.{is_among, numbers_from}
+use Rattle.drm_lists.specs.Numbers.{is_among}
+use Rattle.drm_model.specs.Numbers.{numbers_from}
 
 none_between : (first x : ℕ) → false ≡ (nat_le first x && nat_lt x (first + 0))
 none_between first x = grind (arith, nat_tests)

@@ -2,13 +2,15 @@
 use Rattle.std.proofs.Common.{◌≡◌, ℕ, ◌+◌, ◌==◌, ◌<◌, ◌≤◌, Bool, true, false, List, [], ◌∷◌, ◌++◌, map, filter, Option, None, Some, refl, sym, subst, arith}
 use Rattle.std.specs.Prelude.{if◌then◌else◌}
 use Rattle.std.specs.List.{AllByRecursion}
+use Rattle.drm_lists.specs.Orders.{InOrder}
+use Rattle.drm_lists.proofs.Lists.{all_weaker, all_append, all_filter}
+use Rattle.drm_lists.proofs.Orders.{in_order_filter, in_order_append}
 use Rattle.drm_table.specs.declared.calls.Call.{Call}
 use Rattle.drm_table.specs.declared.calls.Call.TheVariants.{BufCreate, StampWrite, CreateDumb}
 use Rattle.drm_table.specs.declared.events.Event.{Event}
 use Rattle.drm_table.specs.declared.events.Event.TheVariants.{Open, Ask, Close}
 use Rattle.drm_table.specs.declared.events.Opening.TheVariants.{Primary, Render, Lease}
 use Rattle.drm_table.specs.declared.rules.Rule.{Rule}
-use Rattle.drm_model.specs.Orders.{InOrder}
 use Rattle.drm_model.specs.Births.{MadeInTurn, BirthsRise}
 use Rattle.drm_model.specs.Rows.{Rows, ClientRow, MasterRow, ObjectRow, birth, empty_rows, is_option, client_row, object_of}
 use Rattle.drm_model.specs.Masters.{is_under}
@@ -19,9 +21,7 @@ use Rattle.drm_model.specs.Calls.{meaning}
 use Rattle.drm_model.specs.Verdict.{verdict}
 use Rattle.drm_model.specs.Change.{after, after_verdict, changed, swept, noted}
 use Rattle.drm_model.specs.Run.{run, rows_of, History}
-use Rattle.drm_model.proofs.Lists.{all_weaker, all_append}
 use Rattle.drm_model.proofs.Journals.{after-steps}
-use Rattle.drm_model.proofs.Orders.{all_filter, in_order_filter, in_order_append}
 
 module _ {X : Type 0} (birth_of : X → ℕ) where
   turn-filter : (p : X → Bool) (last : ℕ) (rows : List X) → MadeInTurn birth_of last rows → MadeInTurn birth_of last (filter p rows)

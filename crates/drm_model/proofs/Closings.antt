@@ -1,13 +1,15 @@
 -- A closing adds no row, so that it takes no memory.
-use Rattle.std.proofs.Common.{◌≡◌, ◌∙◌, ℕ, suc, ◌≤◌, Bool, true, false, cond, not, List, [], ◌∷◌, length, Option, None, Some, refl, ap, arith}
+use Rattle.std.proofs.Common.{◌≡◌, ◌∙◌, ℕ, ◌≤◌, Bool, true, false, cond, length, Option, None, Some, refl, ap, arith}
 use Rattle.std.specs.Prelude.{if◌then◌else◌, Ok, Err, Result}
+use Rattle.std.proofs.lemmas.List.{length-map}
+use Rattle.drm_lists.proofs.Lists.{filter-shorter}
 use Rattle.drm_table.specs.declared.answers.Answer.{Answer}
 use Rattle.drm_table.specs.declared.answers.Answer.TheVariants.{Closed}
 use Rattle.drm_table.specs.declared.apart.Apart.{Apart}
 use Rattle.drm_table.specs.declared.apart.Apart.TheVariants.{JournalFull, NoMemory, Worn}
 use Rattle.drm_table.specs.declared.events.Event.TheVariants.{Close}
 use Rattle.drm_table.specs.declared.rules.Rule.TheVariants.{NoClient}
-use Rattle.drm_model.specs.Rows.{Rows, ClientRow, MasterRow, is_open, client_row, without}
+use Rattle.drm_model.specs.Rows.{Rows, ClientRow, MasterRow, is_open, client_row}
 use Rattle.drm_model.specs.Masters.{is_under}
 use Rattle.drm_model.specs.Leases.{ended}
 use Rattle.drm_model.specs.Clients.{closed, ended_own, ended_if}
@@ -15,13 +17,6 @@ use Rattle.drm_model.specs.Verdict.{verdict, checks}
 use Rattle.drm_model.specs.Change.{changed}
 use Rattle.drm_model.specs.Reply.{reply, reply_by, answer_of}
 use Rattle.drm_model.specs.Run.{Step, Growing, IsLonger, no_room}
-use Rattle.drm_model.proofs.Lists.{length-map}
-
-pub without-shorter : {X : Type 0} (p : X → Bool) → (xs : List X) → length (without p xs) ≤ length xs
-without-shorter p [] = omega arith
-without-shorter {X = X} p (x ∷ xs) =
-    let shorter = without-shorter p xs in
-    elim (p x) as (λ b. length (cond (not b) (x ∷ without p xs) (without p xs)) ≤ suc (length xs)) [ true ↦ omega arith | false ↦ omega arith ]
 
 -- rows of which no list is longer than those of others, in the lists that a closing's own master has a part in
 record IsShorter (w v : Rows) : Type 0 where
@@ -33,8 +28,8 @@ record IsShorter (w v : Rows) : Type 0 where
 ended_if-shorter : (w : Rows) (b : Bool) (m : Option ℕ) → IsShorter w (ended_if w b m)
 unfolding ended
 ended_if-shorter w true (Some m) = record {
-  masters = let e = length-map (λ (row : MasterRow). if is_under w.masters m row.master then record row { lease_token = None } else row) w.masters in omega arith;
-  grants = without-shorter _ w.grants;
+  masters = let e = length-map w.masters (λ (row : MasterRow). if is_under w.masters m row.master then record row { lease_token = None } else row) in omega arith;
+  grants = filter-shorter _ w.grants;
   objects = refl;
   names = refl;
 }
@@ -54,9 +49,9 @@ pub closing_adds_no_row : (w : Rows) (c : ℕ) → Growing w (Close c) → ⊥
 unfolding Growing changed closed
 closing_adds_no_row w c grows =
     let own = ended_own-shorter w (client_row w c) in
-    longer-not w (closed w c) (without-shorter _ w.clients) own.masters (without-shorter _ w.magics) (without-shorter _ w.holds)
+    longer-not w (closed w c) (filter-shorter _ w.clients) own.masters (filter-shorter _ w.magics) (filter-shorter _ w.holds)
     (let e = ap length own.objects in omega arith) (let e = ap length own.names in omega arith)
-    (without-shorter _ w.tokens) own.grants (without-shorter _ w.framebuffers) grows.1
+    (filter-shorter _ w.tokens) own.grants (filter-shorter _ w.framebuffers) grows.1
 
 pub closing_verdict : (w : Rows) (c : ℕ) → verdict w (Close c) ≡ cond (is_open w c) None (Some NoClient)
 unfolding verdict checks

@@ -1,5 +1,7 @@
 -- A step adds one row at most to each list.
-use Rattle.std.proofs.Common.{ℕ, suc, ◌+◌, ◌≤◌, Bool, true, false, cond, List, [], ◌∷◌, ◌++◌, map, filter, length, length-append, Option, None, Some, sym, subst, arith}
+use Rattle.std.proofs.Common.{ℕ, ◌+◌, ◌≤◌, Bool, true, false, List, [], ◌∷◌, ◌++◌, map, filter, length, length-append, Option, None, Some, sym, subst, arith}
+use Rattle.std.proofs.lemmas.List.{length-map}
+use Rattle.drm_lists.proofs.Lists.{filter-shorter}
 use Rattle.drm_table.specs.declared.audits.AuditKind.{AuditKind}
 use Rattle.drm_table.specs.declared.audits.AuditKind.TheVariants as kinds
 use Rattle.drm_table.specs.declared.calls.Call.{Call}
@@ -20,22 +22,15 @@ use Rattle.drm_model.specs.Verdict.{verdict}
 use Rattle.drm_model.specs.Change.{after, after_verdict, changed, swept, noted}
 use Rattle.drm_model.specs.Run.{run, rows_of, History}
 use Rattle.drm_model.proofs.Journals.{after-steps}
-use Rattle.drm_model.proofs.Lists.{length-map}
-
-fewer : {X : Type 0} (p : X → Bool) → (xs : List X) → length (filter p xs) ≤ length xs
-fewer p [] = omega arith
-fewer p (x ∷ xs) =
-    let rest = fewer p xs in
-    elim (p x) as (λ b. length (cond b (x ∷ filter p xs) (filter p xs)) ≤ suc (length xs)) [ true ↦ omega (arith, rest) | false ↦ omega (arith, rest) ]
 
 few-filter : {X : Type 0} (p : X → Bool) (xs : List X) (most : ℕ) → length xs ≤ most → length (filter p xs) ≤ most
-few-filter p xs most h = let f = fewer p xs in omega (arith, f, h)
+few-filter p xs most h = let f = filter-shorter p xs in omega (arith, f, h)
 
 few-push : {X : Type 0} (xs : List X) (x : X) (most : ℕ) → length xs ≤ most → length (xs ++ x ∷ []) ≤ most + 1
 few-push xs x most h = let l = length-append xs (x ∷ []) in omega (arith, l, h)
 
 few-map : {X : Type 0} (f : X → X) (xs : List X) (most : ℕ) → length xs ≤ most → length (map f xs) ≤ most
-few-map f xs most h = let l = length-map f xs in omega (arith, l, h)
+few-map f xs most h = let l = length-map xs f in omega (arith, l, h)
 
 more : (n most : ℕ) → n ≤ most → n ≤ most + 1
 more n most h = omega (arith, h)
@@ -140,7 +135,7 @@ unfolding rows_of
 few_rows h = run-few (empty_rows h.topology h.limits) h.journal (none_yet h)
 
 mapped : {X Y : Type 0} (f : X → Y) (xs : List X) (most : ℕ) → length xs ≤ most → length (map f xs) ≤ most + 1
-mapped f xs most h = let l = length-map f xs in omega (arith, l, h)
+mapped f xs most h = let l = length-map xs f in omega (arith, l, h)
 
 -- so few rows does an audit show
 pub few_audit_rows : (w : Rows) (most : ℕ) → FewRows most w → (kind : AuditKind) → length (audit_rows w kind) ≤ most + 1

@@ -2,6 +2,7 @@
 use Rattle.std.proofs.Common.{◌≡◌, ℕ, suc, ◌+◌, ◌≤◌, nat_lt, Bool, true, false, cond, not, ◌&&◌, List, [], ◌∷◌, ◌++◌, length, find, Option, None, Some, refl, sym, ◌∙◌, ap, arith, length-append}
 use Rattle.std.specs.Option.{is_some}
 use Rattle.std.proofs.lemmas.Bool.{ltb-false}
+use Rattle.drm_lists.proofs.Lists.{filter-shorter}
 use Rattle.drm_table.specs.declared.calls.Call.{Call}
 use Rattle.drm_table.specs.declared.calls.Call.TheVariants.{Version}
 use Rattle.drm_table.specs.declared.events.Event.{Event}
@@ -18,7 +19,7 @@ use Rattle.drm_model.specs.Clients.{opened, opened_primary, closed, ended_own, e
 use Rattle.drm_model.specs.Run.{FoundRoom, no_room, places_left, run, rows_of, History, noted_in}
 use Rattle.drm_model.specs.Leases.{ended}
 use Rattle.drm_model.specs.Buffers.{with_object}
-use Rattle.drm_model.proofs.Closings.{without-shorter, closing_verdict}
+use Rattle.drm_model.proofs.Closings.{closing_verdict}
 
 pub run_push : (w : Rows) (events : List Event) (event : Event) → run w (events ++ event ∷ []) ≡ after (run w events) event
 unfolding run
@@ -122,7 +123,7 @@ asked-count w c _ = refl
 without-found : {X : Type 0} (p : X → Bool) → (xs : List X) → is_some (find p xs) ≡ true → length (without p xs) + 1 ≤ length xs
 without-found p [] h = absurd (let e : false ≡ true = h in cc)
 without-found {X = X} p (x ∷ xs) h =
-    let shorter = without-shorter p xs in
+    let shorter = filter-shorter (λ x. not (p x)) xs in
     (elim (p x) as (λ b. is_some (cond b (Some x) (find p xs)) ≡ true → length (cond (not b) (x ∷ without p xs) (without p xs)) + 1 ≤ suc (length xs))
     [ true ↦ λ e. omega arith | false ↦ λ e. let shorter_rest = without-found p xs e in omega arith ]) h
 

@@ -1,6 +1,5 @@
 pub mod Closings
 pub mod Journals
-pub mod Lists
 pub mod Orders
 pub mod Births
 pub mod Counts

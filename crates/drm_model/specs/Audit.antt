@@ -1,11 +1,11 @@
 -- AUDIT: the rows of a kind, in pages (all of it is this project's own).
 use Rattle.std.specs.Prelude.{ℕ, ◌+◌, ◌==◌, nat_lt, nat_le, Bool, false, ◌&&◌, ◌||◌, List, [], ◌∷◌, length, Option, unwrap_or, find, map, filter, take, drop, if◌then◌else◌}
 use Rattle.std.specs.Option.{option_map_or}
+use Rattle.drm_lists.specs.Orders.{sorted_by}
 use Rattle.drm_table.specs.declared.answers.Answer.TheVariants as answers
 use Rattle.drm_table.specs.declared.audits.AuditKind.{AuditKind}
 use Rattle.drm_table.specs.declared.audits.AuditKind.TheVariants.{Client, Master, Object, Name, Token, Hold, Grant, Framebuffer, Shown, Device}
 use Rattle.drm_table.specs.declared.audits.AuditRow.{AuditRow}
-use Rattle.drm_model.specs.Orders.{sorted_by}
 use Rattle.drm_model.specs.Meaning.{Meaning, nothing}
 use Rattle.drm_model.specs.Rows.{Rows, ClientRow, MasterRow, MagicRow, HoldRow, ObjectRow, NameRow, TokenRow, GrantRow, FramebufferRow, ShownRow}
 

@@ -1,8 +1,8 @@
 -- Births: the numbers of the steps that made clients, masters and objects (own).
 use Rattle.std.specs.Prelude.{ℕ, ◌<◌, ◌≤◌, List}
 use Rattle.std.specs.List.{AllByRecursion}
+use Rattle.drm_lists.specs.Orders.{InOrder}
 use Rattle.drm_model.specs.Parts.{Part, count_in}
-use Rattle.drm_model.specs.Orders.{InOrder}
 use Rattle.drm_model.specs.Rows.{Rows, ClientRow, MasterRow, ObjectRow}
 
 -- the rows stand in the order of the steps that made them, a step made one at most, and the last step is this one

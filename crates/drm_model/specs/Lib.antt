@@ -1,4 +1,3 @@
-pub mod Orders
 pub mod Numbers
 pub mod Topology
 pub mod Rows

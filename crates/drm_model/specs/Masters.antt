@@ -1,7 +1,7 @@
 -- Masters, their chains of lessors, and who is current (drm(7), masters; drm-uapi, leases).
 use Rattle.std.specs.Prelude.{ℕ, zero, suc, ◌==◌, Bool, false, ◌&&◌, List, [], ◌∷◌, Option, None, Some, find}
 use Rattle.std.specs.Option.{option_and_then}
-use Rattle.drm_model.specs.Numbers.{is_among}
+use Rattle.drm_lists.specs.Numbers.{is_among}
 use Rattle.drm_model.specs.Rows.{Rows, MasterRow, ClientRow, client_row}
 use Rattle.drm_table.specs.declared.permits.Standing.{Standing}
 

@@ -1,10 +1,6 @@
 -- Lists of numbers.
-use Rattle.std.specs.Prelude.{ℕ, ◌+◌, zero, suc, ◌==◌, nat_le, Bool, List, [], ◌∷◌}
-use Rattle.std.specs.List.{list_any}
-use Rattle.drm_model.specs.Orders.{sorted_by}
-
-abbrev pub is_among : List ℕ → ℕ → Bool
-is_among numbers n = list_any (λ x. x == n) numbers
+use Rattle.std.specs.Prelude.{ℕ, ◌+◌, zero, suc, nat_le, List, [], ◌∷◌}
+use Rattle.drm_lists.specs.Orders.{sorted_by}
 
 -- so many numbers, from the first on
 unfoldable pub numbers_from : ℕ → ℕ → List ℕ

@@ -1,5 +1,5 @@
 -- What the device answers.
-use Rattle.std.specs.Prelude.{ℕ, Option, None, Some}
+use Rattle.std.specs.Prelude.{Option, None, Some}
 use Rattle.drm_table.specs.declared.answers.Answer.{Answer}
 use Rattle.drm_table.specs.declared.answers.Answer.TheVariants.{Opened, Closed, Denied}
 use Rattle.drm_table.specs.declared.events.Event.{Event}

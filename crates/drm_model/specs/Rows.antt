@@ -1,10 +1,10 @@
 -- The rows of a device: flat lists, in which a client, a master or an object is named by its birth, the number of the
 -- step that made it (births are this project's own; what a row stands for is in drm-uapi, drm-mm, drm(7) and drm-gem(7)).
 use Rattle.std.specs.Prelude.{ℕ, ◌+◌, ◌==◌, Bool, false, not, ◌&&◌, nat_lt, List, [], ◌∷◌, ◌++◌, length, Option, None, Some, unwrap_or, find, map, filter}
-use Rattle.std.specs.Option.{is_some, option_map, option_and_then}
+use Rattle.std.specs.Option.{is_some, option_map}
+use Rattle.drm_lists.specs.Numbers.{is_among}
 use Rattle.drm_table.specs.declared.limits.Limits.{Limits}
 use Rattle.drm_index_array.specs.Least.{least}
-use Rattle.drm_model.specs.Numbers.{is_among}
 use Rattle.drm_model.specs.Topology.{Topology}
 
 -- an open client; a render client's master is none (drm-uapi: primary and render nodes)
@@ -142,9 +142,6 @@ is_open w c = is_some (client_row w c)
 -- whether one more client may be open (the limit is own)
 abbrev pub has_client_room : Rows → Bool
 has_client_room w = nat_lt (length w.clients) w.limits.clients
-
-abbrev pub master_of : Rows → ℕ → Option ℕ
-master_of w c = option_and_then (λ (row : ClientRow). row.master) (client_row w c)
 
 -- handles and objects
 

@@ -1,7 +1,8 @@
 -- The fixed mode objects (drm-uapi, mode setting): CRTCs, planes, encoders and connectors, with ids from 1 in that order.
 use Rattle.std.specs.Prelude.{ℕ, ◌+◌, ◌^◌, Bool, ◌&&◌, nat_le, nat_lt, List, length}
 use Rattle.std.specs.List.{list_all}
-use Rattle.drm_model.specs.Numbers.{is_among, numbers_from}
+use Rattle.drm_lists.specs.Numbers.{is_among}
+use Rattle.drm_model.specs.Numbers.{numbers_from}
 
 -- so many CRTCs; of each plane and encoder the mask of possible CRTCs, whose bit i is CRTC i + 1; of each connector its encoder
 pub record Topology : Type 0 where

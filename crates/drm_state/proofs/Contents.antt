@@ -1,10 +1,17 @@
 -- What a client's handles name, their list, stamps, and what a handle fewer leaves of the objects.
-use Rattle.std.proofs.Common.{◌≡◌, ℕ, suc, ◌<◌, ◌≤◌, ◌==◌, nat_le, Bool, true, false, not, cond, ◌&&◌, ◌||◌, List, [], ◌∷◌, ◌++◌, map, filter, find, take, length, Option, Some, None, refl, sym, ap, ◌∙◌, subst, arith, eq-eqb}
+use Rattle.std.proofs.Common.{◌≡◌, ℕ, suc, ◌<◌, ◌≤◌, ◌==◌, nat_le, true, false, not, cond, ◌&&◌, ◌||◌, List, [], ◌∷◌, ◌++◌, map, filter, find, take, length, Option, Some, None, refl, sym, ap, ◌∙◌, subst, arith, eq-eqb}
 use Rattle.std.specs.Prelude.{unwrap_or, if◌then◌else◌, slice_get, drop}
 use Rattle.std.specs.List.{list_any, AllByRecursion}
 use Rattle.std.specs.Option.{is_some, option_map, option_map_or, OnSome, IfNone}
 use Rattle.std.proofs.lemmas.Bool.{le-leb}
 use Rattle.std.proofs.lemmas.Bool.Decides.{nat_tests}
+use Rattle.std.proofs.lemmas.List.{map-append}
+use Rattle.drm_lists.specs.Orders.{SameRows}
+use Rattle.drm_lists.specs.Numbers.{is_among}
+use Rattle.drm_lists.proofs.Lists.{all_weaker, filter-map, map-map, list_any-map}
+use Rattle.drm_lists.proofs.Found.{find-map, found-number, is_some-map, find-same}
+use Rattle.drm_lists.proofs.Numbers.{among-more, among-first, among-left}
+use Rattle.drm_lists.proofs.Orders.{in_order_filter, same-any, same-map, same-filter, sorted-same, order_of_numbers, same_parts}
 use Rattle.drm_gem.specs.declared.object.Object.{Object}
 use Rattle.drm_gem.specs.declared.object.Dead.{Dead}
 use Rattle.drm_gem.specs.Objects.{ObjectSet, is_key, passes, changed_at, without_key, unheld, stamped, dead_after}
@@ -12,32 +19,25 @@ use Rattle.drm_files.specs.declared.rows.FileHold.{FileHold}
 use Rattle.drm_files.specs.Files as files
 use Rattle.drm_files.specs.Files.{FileLists, of_client, left_by, without_hold, without_client}
 use Rattle.drm_model.specs.Rows.{Rows, HoldRow, ObjectRow, is_hold, hold_row, object_of, object_row, handles_of}
-use Rattle.drm_model.specs.Numbers.{rising, is_among}
-use Rattle.drm_model.specs.Orders.{SameRows}
+use Rattle.drm_model.specs.Numbers.{rising}
 use Rattle.drm_model.specs.Buffers.{with_stamp}
-use Rattle.drm_model.proofs.Lists.{all_weaker, find-map, filter-map, map-map, map-append, list_any-map, found-number}
-use Rattle.drm_model.proofs.Orders.{in_order_filter, same-any, same-map, same-filter, sorted-same, order_of_numbers}
 use Rattle.drm_state.specs.declared.state.State.{State}
 use Rattle.drm_state.specs.Parts.{birth_at, hold_row_by, hold_row_of, object_row_of, holds_of, keys_of, referring_keys}
 use Rattle.drm_state.specs.Ties.{Tie, ObjectsCounted, is_tied, IsTied, AreTied, Counts, HoldsRise}
 use Rattle.drm_model.specs.Parts.{Part, Holds, Objects}
 use Rattle.drm_state.specs.Refinement.{stands_for, Represents}
 use Rattle.drm_state.proofs.Represented.{holds_are, objects_are, holds_rise, objects_counted}
-use Rattle.drm_state.proofs.Counting.{IsStep, at_key, is_found, among-more, among-first, among-left, changed_tied, same_tied, fewer_step, handle_fewer}
+use Rattle.drm_state.proofs.Counting.{IsStep, at_key, is_found, changed_tied, same_tied, fewer_step, handle_fewer}
 use Rattle.drm_state.proofs.Naming.{same_numbers, key_by_number}
-use Rattle.drm_state.proofs.Holding.{one_object, handles_rise, one_goes, same_parts}
+use Rattle.drm_state.proofs.Holding.{one_object, handles_rise, one_goes}
 use Rattle.drm_state.proofs.Made.{hold_row_is}
-
-some_of : {X Y : Type 0} (f : X → Y) (o : Option X) → is_some (option_map f o) ≡ is_some o
-some_of f None = refl
-some_of f (Some x) = refl
 
 abbrev object_behind : FileHold → ℕ
 object_behind x = x.object
 
 -- whether the client has the handle, by what a look-up found
 pub holds_it : (s : State) (w : Rows) → Represents s w → (c n : ℕ) (r o : Option ℕ) → r ≡ option_map object_behind (find (files.is_hold c n) s.files.holds) → r ≡ o → is_some (hold_row w c n) ≡ is_some o
-holds_it s w h c n r o e g = hold_row_is s w h c n ∙ sym (some_of object_behind (find (files.is_hold c n) s.files.holds)) ∙ ap is_some (sym e ∙ g)
+holds_it s w h c n r o e g = hold_row_is s w h c n ∙ sym (is_some-map object_behind (find (files.is_hold c n) s.files.holds)) ∙ ap is_some (sym e ∙ g)
 
 number_named : (s : State) (w : Rows) → IsTied s → Represents s w → (c n key : ℕ) (found : Option FileHold) → find (files.is_hold c n) s.files.holds ≡ found → Some key ≡ option_map object_behind found → object_of w c n ≡ birth_at s.objects.objects key
 number_named s w t h c n key None e f = absurd (let k : Some key ≡ None = f in cc)
@@ -121,10 +121,6 @@ stamped_tied s key stamp t ObjectsCounted =
     let keys = keys_of s.files.holds in
     changed_tied keys (referring_keys s) keys (referring_keys s) key (stamped stamp) (record { key = λ x. refl; birth = λ x. refl }) (λ n. refl) (λ x e c. c) (λ x e c. c) s.objects.objects (objects_counted s t)
 stamped_tied s key stamp t tie = t tie
-
-find-same : (p q : Object → Bool) → (xs : List Object) → AllByRecursion (λ x. p x ≡ q x) xs → find p xs ≡ find q xs
-find-same p q [] h = refl
-find-same p q (x ∷ xs) h = ap (λ b. cond b (Some x) (find p xs)) h.0 ∙ ap (λ r. cond (q x) (Some x) r) (find-same p q xs h.1)
 
 read_stamp : (o : Option Object) (n : ℕ) → option_map (λ (x : Object). x.stamp) o ≡ Some n → unwrap_or (option_map (λ (row : ObjectRow). row.stamp) (option_map object_row_of o)) 0 ≡ n
 read_stamp None n h = absurd (let e : None ≡ Some n = h in cc)

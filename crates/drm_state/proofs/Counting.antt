@@ -1,63 +1,23 @@
--- Keys in lists, and how often.
-use Rattle.std.proofs.Common.{◌≡◌, ℕ, suc, ◌-◌, ◌<◌, ◌==◌, Bool, true, false, cond, not, ◌&&◌, ◌||◌, List, [], ◌∷◌, ◌++◌, map, filter, find, length, Option, Some, None, refl, sym, ap, ◌∙◌, subst, arith, eq-eqb}
+-- Objects, and how often keys name them.
+use Rattle.std.proofs.Common.{◌≡◌, ℕ, suc, ◌-◌, ◌<◌, ◌==◌, Bool, true, false, cond, not, ◌&&◌, ◌||◌, List, [], ◌∷◌, ◌++◌, map, filter, find, Option, Some, None, refl, sym, ap, ◌∙◌, subst, arith, eq-eqb}
 use Rattle.std.specs.Prelude.{if◌then◌else◌}
 use Rattle.std.specs.List.{AllByRecursion}
 use Rattle.std.specs.Option.{is_some, option_map, OnSome, IfNone}
-use Rattle.std.proofs.lemmas.Bool.{eqb-true}
-use Rattle.std.proofs.lemmas.Bool.Decides.{nat_tests}
+use Rattle.std.proofs.lemmas.Bool.{eqb-true, or_left, or_right, or_parts}
+use Rattle.drm_lists.specs.Orders.{SameRows, InOrder}
+use Rattle.drm_lists.specs.Numbers.{is_among, count}
+use Rattle.drm_lists.proofs.Lists.{all_weaker, all_append, filter-same, filter-both, all_both, all_each, filter_all}
+use Rattle.drm_lists.proofs.Found.{find_others, none_found, on_some}
+use Rattle.drm_lists.proofs.Numbers.{flipped, less-differ, among-more, among-first, among-append, among-differs, count-none, count-absent, count-other, count-it}
+use Rattle.drm_lists.proofs.Orders.{in_order_filter, in_order_append, same-any}
 use Rattle.drm_gem.specs.declared.object.Object.{Object}
 use Rattle.drm_gem.specs.declared.object.Dead.{Dead}
-use Rattle.drm_gem.specs.Objects.{ObjectSet, is_key, changed_at, without_key, unheld, unreferred, is_unused, dead_of, dead_after}
-use Rattle.drm_model.specs.Numbers.{is_among}
-use Rattle.drm_model.specs.Orders.{SameRows, InOrder}
-use Rattle.drm_model.proofs.Lists.{all_weaker, all_append}
-use Rattle.drm_model.proofs.Orders.{in_order_filter, in_order_append, same-any}
-use Rattle.drm_state.specs.Ties.{count, Counts, AreTied, AreThoseNamed, core}
-use Rattle.drm_state.proofs.Booleans.{or_left, or_right, or_assoc, not_or, filter-same, filter-both, all_both, all_each}
+use Rattle.drm_gem.specs.Objects.{ObjectSet, is_key, changed_at, without_key, unheld, is_unused, dead_of, dead_after}
+use Rattle.drm_state.specs.Ties.{Counts, AreTied, AreThoseNamed, core}
 
-pub flipped : (n k : ℕ) → (n == k) ≡ false → (k == n) ≡ false
-flipped n k h = grind (arith, nat_tests)
-
-pub among-more : (keys : List ℕ) (k n : ℕ) → is_among keys n ≡ true → is_among (k ∷ keys) n ≡ true
-among-more keys k n h = or_right (k == n) (is_among keys n) h
-
-pub among-first : (keys : List ℕ) (k : ℕ) → is_among (k ∷ keys) k ≡ true
-among-first keys k = or_left (k == k) (is_among keys k) (eq-eqb k k refl)
-
-pub among-append : (xs ys : List ℕ) (n : ℕ) → is_among (xs ++ ys) n ≡ (is_among xs n || is_among ys n)
-among-append [] ys n = refl
-among-append (x ∷ xs) ys n = ap (λ b. x == n || b) (among-append xs ys n) ∙ or_assoc (x == n) (is_among xs n) (is_among ys n)
-
-pub among-left : (xs ys : List ℕ) (n : ℕ) → is_among xs n ≡ true → is_among (xs ++ ys) n ≡ true
-among-left xs ys n h = among-append xs ys n ∙ or_left (is_among xs n) (is_among ys n) h
-
-pub among-right : (xs ys : List ℕ) (n : ℕ) → is_among ys n ≡ true → is_among (xs ++ ys) n ≡ true
-among-right xs ys n h = among-append xs ys n ∙ or_right (is_among xs n) (is_among ys n) h
-
--- keys that are fewer, beside the same others
-pub fewer_among : (fewer keys others : List ℕ) (n : ℕ) → (is_among fewer n ≡ true → is_among keys n ≡ true) → is_among (fewer ++ others) n ≡ true → is_among (keys ++ others) n ≡ true
-fewer_among fewer keys others n f h =
-    among-append keys others n
-    ∙ elim (is_among fewer n) as (λ b. (b ≡ true → is_among keys n ≡ true) → (b || is_among others n) ≡ true → (is_among keys n || is_among others n) ≡ true)
-    [ true ↦ λ g e. or_left (is_among keys n) (is_among others n) (g refl) | false ↦ λ g e. or_right (is_among keys n) (is_among others n) e ] f (sym (among-append fewer others n) ∙ h)
-
-none-suc : (n : ℕ) → (suc n == 0) ≡ false
-none-suc n = grind (arith, nat_tests)
-
-pub count-none : (keys : List ℕ) (n : ℕ) → (count keys n == 0) ≡ not (is_among keys n)
-count-none [] n = refl
-count-none (k ∷ keys) n =
-    elim (k == n) as (λ b. (length (cond b (k ∷ filter (λ key. key == n) keys) (filter (λ key. key == n) keys)) == 0) ≡ not (b || is_among keys n))
-    [ true ↦ none-suc (count keys n) | false ↦ count-none keys n ]
-
-pub count-absent : (keys : List ℕ) (n : ℕ) → is_among keys n ≡ false → count keys n ≡ 0
-count-absent keys n h = eqb-true (count keys n) 0 (count-none keys n ∙ ap not h)
-
-pub count-other : (keys : List ℕ) (k n : ℕ) → (n == k) ≡ false → count (k ∷ keys) n ≡ count keys n
-count-other keys k n h = ap (λ b. length (cond b (k ∷ filter (λ key. key == n) keys) (filter (λ key. key == n) keys))) (flipped n k h)
-
-pub count-it : (keys : List ℕ) (k n : ℕ) → (n == k) ≡ true → count (k ∷ keys) n ≡ suc (count keys n)
-count-it keys k n h = ap (λ b. length (cond b (k ∷ filter (λ key. key == n) keys) (filter (λ key. key == n) keys))) (eq-eqb k n (sym (eqb-true n k h)))
+not_or : (a b : Bool) → (not a && not b) ≡ not (a || b)
+not_or true b = refl
+not_or false b = refl
 
 -- nothing refers to an object that no key names
 pub unused_is : (keys refs : List ℕ) (x : Object) (n : ℕ) → x.key ≡ n → Counts keys refs x → is_unused x ≡ not (is_among (keys ++ refs) n)
@@ -87,12 +47,6 @@ none_passing k p [] h = refl
 none_passing k p (x ∷ xs) h =
     elim (x.key == k) as (λ b. (x.key == k) ≡ b → cond (b && p x) (Some x) (find (λ (z : Object). is_key k z && p z) xs) ≡ None)
     [ true ↦ λ e. ap (λ b. cond b (Some x) (find (λ (z : Object). is_key k z && p z) xs)) (h.0 e) ∙ none_passing k p xs h.1 | false ↦ λ e. none_passing k p xs h.1 ] refl
-
-pub other_keys : (key : ℕ) → (objects : List Object) → find (is_key key) objects ≡ None → AllByRecursion (λ (x : Object). (x.key == key) ≡ false) objects
-other_keys key [] h = tt
-other_keys key (x ∷ xs) h =
-    elim (x.key == key) as (λ b. (x.key == key) ≡ b → cond b (Some x) (find (is_key key) xs) ≡ None → AllByRecursion (λ (x : Object). (x.key == key) ≡ false) (x ∷ xs))
-    [ true ↦ λ e j. absurd (let n : Some x ≡ None = j in cc) | false ↦ λ e j. (e, other_keys key xs j) ] refl h
 
 -- ---- the object of a key changed
 
@@ -157,11 +111,7 @@ same_tied keys others refs objects same h =
 
 -- at first each object is named
 pub all_named : (keys refs : List ℕ) (objects : List Object) → AreTied keys refs objects → AreThoseNamed objects (keys ++ refs) objects
-all_named keys refs objects h = ap (map core) (sym (filter-all objects h.used))
-  where
-    filter-all : (xs : List Object) → AllByRecursion (λ (x : Object). is_among (keys ++ refs) x.key ≡ true) xs → filter (λ (x : Object). is_among (keys ++ refs) x.key) xs ≡ xs
-    filter-all [] e = refl
-    filter-all (x ∷ xs) e = ap (λ b. cond b (x ∷ filter (λ (x : Object). is_among (keys ++ refs) x.key) xs) (filter (λ (x : Object). is_among (keys ++ refs) x.key) xs)) e.0 ∙ ap (λ l. x ∷ l) (filter-all xs e.1)
+all_named keys refs objects h = ap (map core) (sym (filter_all (λ (x : Object). is_among (keys ++ refs) x.key) objects h.used))
 
 core-named : (keys : List ℕ) → (xs : List Object) → map core (filter (λ (x : Object). is_among keys x.key) xs) ≡ filter (λ (x : Object). is_among keys x.key) (map core xs)
 core-named keys [] = refl
@@ -205,30 +155,14 @@ core-changed k f h (x ∷ xs) =
     elim (x.key == k) as (λ b. core (if b then f x else x) ∷ map core (at_key k f xs) ≡ core x ∷ map core xs)
     [ true ↦ ap (λ y. y ∷ map core (at_key k f xs)) (h x) ∙ ap (λ l. core x ∷ l) (core-changed k f h xs) | false ↦ ap (λ l. core x ∷ l) (core-changed k f h xs) ]
 
-other_key : (m n k : ℕ) → (m == k) ≡ true → (n == k) ≡ false → (m == n) ≡ false
-other_key m n k h e = grind (arith, nat_tests)
-
 abbrev without_it : ℕ → List Object → List Object
 without_it k objects = filter (λ (x : Object). not (x.key == k)) objects
-
-find-without : (n k : ℕ) → (n == k) ≡ false → (xs : List Object) → find (is_key n) (without_it k xs) ≡ find (is_key n) xs
-find-without n k h [] = refl
-find-without n k h (x ∷ xs) =
-    elim (x.key == k) as (λ b. (x.key == k) ≡ b → find (is_key n) (cond (not b) (x ∷ without_it k xs) (without_it k xs)) ≡ find (is_key n) (x ∷ xs)) [
-      | true ↦ λ e. find-without n k h xs ∙ ap (λ b. cond b (Some x) (find (is_key n) xs)) (sym (other_key x.key n k e h))
-      | false ↦ λ e. ap (λ r. cond (x.key == n) (Some x) r) (find-without n k h xs)
-    ] refl
 
 all_without : (P Q : Object → Type 0) (k : ℕ) → ((x : Object) → (x.key == k) ≡ false → P x → Q x) → (xs : List Object) → AllByRecursion P xs → AllByRecursion Q (without_it k xs)
 all_without P Q k f [] h = tt
 all_without P Q k f (x ∷ xs) h =
     elim (x.key == k) as (λ b. (x.key == k) ≡ b → AllByRecursion Q (cond (not b) (x ∷ without_it k xs) (without_it k xs)))
     [ true ↦ λ e. all_without P Q k f xs h.1 | false ↦ λ e. (f x e h.0, all_without P Q k f xs h.1) ] refl
-
--- a key that names an object differs from one that names none
-differs : (rest : List ℕ) (k n : ℕ) → is_among rest k ≡ false → is_among rest n ≡ true → (n == k) ≡ false
-differs rest k n h e =
-    elim (n == k) as (λ b. (n == k) ≡ b → b ≡ false) [ true ↦ λ is. absurd (let j : false ≡ true = sym h ∙ ap (is_among rest) (sym (eqb-true n k is)) ∙ e in cc) | false ↦ λ is. refl ] refl
 
 -- of the objects, which are all named, the others are those that the fewer keys name
 left_alone : (rest : List ℕ) (k n : ℕ) → is_among rest k ≡ false → (k == n || is_among rest n) ≡ true → not (n == k) ≡ is_among rest n
@@ -237,10 +171,6 @@ left_alone rest k n h e =
       | true ↦ λ is. sym (ap (is_among rest) (eqb-true n k is) ∙ h)
       | false ↦ λ is. sym (ap (λ b. b || is_among rest n) (sym (flipped n k is)) ∙ e)
     ] refl
-
-on_some : {X : Type 0} (o : Option X) (P : Type 0) → is_some o ≡ true → OnSome o P → P
-on_some None P h p = absurd (let e : false ≡ true = h in cc)
-on_some (Some x) P h p = p
 
 stays : (k : ℕ) (f : Object → Object) (keys refs fewer_keys fewer_refs : List ℕ) (set : ObjectSet) → IsFewer k f keys refs fewer_keys fewer_refs → AreTied keys refs set.objects → is_among (fewer_keys ++ fewer_refs) k ≡ true →
     IsStep set.objects fewer_keys fewer_refs (changed_at k f set)
@@ -261,7 +191,7 @@ goes k f keys refs fewer_keys fewer_refs set is h none =
     let named = all_weaker (λ (x : Object). is_among (keys ++ refs) x.key ≡ true) (λ (x : Object). not (x.key == k) ≡ is_among rest x.key) (λ x u. left_alone rest k x.key none (sym (is.one x.key) ∙ u)) set.objects h.used in
     record {
       tied = record {
-        there = λ n e. ap is_some (find-without n k (differs rest k n none e) set.objects) ∙ h.there n (is.one n ∙ or_right (k == n) (is_among rest n) e);
+        there = λ n e. ap is_some (find_others (λ (x : Object). x.key) n k (among-differs rest k n none e) set.objects) ∙ h.there n (is.one n ∙ or_right (k == n) (is_among rest n) e);
         counted = all_without (Counts keys refs) (Counts fewer_keys fewer_refs) k is.others set.objects h.counted;
         used = all_without (λ (x : Object). not (x.key == k) ≡ is_among rest x.key) (λ (x : Object). is_among rest x.key ≡ true) k (λ x e u. sym u ∙ ap not e) set.objects named;
         keys_differ = in_order_filter (λ (x y : Object). (x.key == y.key) ≡ false) _ set.objects h.keys_differ;
@@ -307,21 +237,6 @@ handle_fewer k keys refs = record {
   others = λ x e c. (c.0 ∙ count-other keys k x.key e, c.1);
 }
 
-swapped_in : (keys refs : List ℕ) (k n : ℕ) → is_among (keys ++ k ∷ refs) n ≡ (k == n || is_among (keys ++ refs) n)
-swapped_in [] refs k n = refl
-swapped_in (x ∷ keys) refs k n = ap (λ b. x == n || b) (swapped_in keys refs k n) ∙ elim (x == n) as (λ b. (b || (k == n || is_among (keys ++ refs) n)) ≡ (k == n || (b || is_among (keys ++ refs) n)))
-    [ true ↦ sym (or_right (k == n) true refl) | false ↦ refl ]
-
--- a token or a framebuffer fewer
-pub reference_fewer : (k : ℕ) (keys refs : List ℕ) → IsFewer k unreferred keys (k ∷ refs) keys refs
-reference_fewer k keys refs = record {
-  change = record { key = λ x. refl; birth = λ x. refl };
-  bare = λ x. refl;
-  one = swapped_in keys refs k;
-  own = λ x e c. (c.0, one_less x.refs _ (c.1 ∙ count-it refs k x.key e));
-  others = λ x e c. (c.0, c.1 ∙ count-other refs k x.key e);
-}
-
 -- ---- a new object, which one handle names
 
 find-pushed : (n : ℕ) (y : Object) → (xs : List Object) → is_some (find (is_key n) (xs ++ y ∷ [])) ≡ (is_some (find (is_key n) xs) || y.key == n)
@@ -330,22 +245,15 @@ find-pushed n y (x ∷ xs) =
     elim (x.key == n) as (λ b. is_some (cond b (Some x) (find (is_key n) (xs ++ y ∷ []))) ≡ (is_some (cond b (Some x) (find (is_key n) xs)) || y.key == n))
     [ true ↦ refl | false ↦ find-pushed n y xs ]
 
-less-differ : (a b : ℕ) → a < b → (a == b) ≡ false
-less-differ a b h = grind (arith, nat_tests)
-
 fresh_key : (keys refs : List ℕ) (key : ℕ) (objects : List Object) → AreTied keys refs objects → find (is_key key) objects ≡ None → is_among (keys ++ refs) key ≡ false
 fresh_key keys refs key objects h e =
     elim (is_among (keys ++ refs) key) as (λ b. is_among (keys ++ refs) key ≡ b → b ≡ false) [ true ↦ λ j. absurd (let k : false ≡ true = sym (ap is_some e) ∙ h.there key j in cc) | false ↦ λ j. refl ] refl
 
-neither : (a b : Bool) → (a || b) ≡ false → (a ≡ false) × (b ≡ false)
-neither true b h = absurd (let e : true ≡ false = h in cc)
-neither false b h = (refl, h)
-
 pub created_tied : (keys refs : List ℕ) (objects : List Object) (new : Object) → AreTied keys refs objects → find (is_key new.key) objects ≡ None → AllByRecursion (λ (x : Object). x.birth < new.birth) objects → new.holds ≡ 1 → new.refs ≡ 0 →
     AreTied (new.key ∷ keys) refs (objects ++ new ∷ [])
 created_tied keys refs objects new h fresh newest one none =
-    let others = other_keys new.key objects fresh in
-    let absent = neither (is_among keys new.key) (is_among refs new.key) (sym (among-append keys refs new.key) ∙ fresh_key keys refs new.key objects h fresh) in
+    let others = none_found (is_key new.key) objects fresh in
+    let absent = or_parts (is_among keys new.key) (is_among refs new.key) (sym (among-append keys refs new.key) ∙ fresh_key keys refs new.key objects h fresh) in
     let own : Counts (new.key ∷ keys) refs new =
     (one ∙ sym (count-it keys new.key new.key (eq-eqb new.key new.key refl) ∙ ap (λ n. suc n) (count-absent keys new.key absent.0)), none ∙ sym (count-absent refs new.key absent.1)) in
     record {

@@ -2,9 +2,10 @@
 use Rattle.std.proofs.Common.{◌≡◌, ℕ, zero, suc, ◌==◌, Bool, true, false, cond, ◌&&◌, ◌||◌, List, [], ◌∷◌, map, find, filter, Option, None, Some, refl, sym, ◌∙◌, ap, eq-eqb}
 use Rattle.std.specs.List.{list_any, AllByRecursion}
 use Rattle.std.specs.Option.{option_and_then}
-use Rattle.std.proofs.lemmas.Bool.{eqb-true}
-use Rattle.drm_model.proofs.Lists.{all_weaker, filter-map, list_any-map}
-use Rattle.drm_model.specs.Numbers.{is_among}
+use Rattle.std.proofs.lemmas.Bool.{eqb-true, or_right}
+use Rattle.std.proofs.Math.Bool.{and-false, and-true}
+use Rattle.drm_lists.specs.Numbers.{is_among}
+use Rattle.drm_lists.proofs.Lists.{all_weaker, filter-map, list_any-map, list_any_agree, filter-same}
 use Rattle.drm_model.specs.Rows.{Rows, ClientRow, MasterRow, is_option}
 use Rattle.drm_model.specs.Masters.{lessor_of, chain_within, chain_of, is_owner, last_of}
 use Rattle.drm_model.specs.Change.{is_held, is_living}
@@ -12,7 +13,6 @@ use Rattle.drm_state.specs.declared.state.Member.{Member}
 use Rattle.drm_state.specs.declared.state.State.{State}
 use Rattle.drm_state.specs.Parts.{member_of, master_row_of, masters_of}
 use Rattle.drm_state.specs.Refinement.{is_same, is_current}
-use Rattle.drm_state.proofs.Booleans.{list_any_agree, or_right, filter-same}
 
 lessor_flat : (ms : List ℕ) → (m : ℕ) → lessor_of (map master_row_of ms) m ≡ None
 lessor_flat [] m = refl
@@ -30,25 +30,17 @@ owner_flat ms None master = refl
 owner_flat ms (Some device) None = refl
 owner_flat ms (Some device) (Some m) = ap (λ chain. device == last_of m chain) (chain_flat ms m)
 
-and_false : (b : Bool) → (b && false) ≡ false
-and_false true = refl
-and_false false = refl
-
-and_true : (b : Bool) → (b && true) ≡ b
-and_true true = refl
-and_true false = refl
-
 absorbed : (a b : Bool) → (a || (b && a)) ≡ a
 absorbed true b = refl
-absorbed false b = and_false b
+absorbed false b = and-false b
 
 -- a test of the masters that are m
 among_and : (f : ℕ → Bool) (m : ℕ) → (ms : List ℕ) → list_any (λ x. f x && (x == m || false)) ms ≡ (is_among ms m && f m)
 among_and f m [] = refl
 among_and f m (x ∷ xs) =
     elim (x == m) as (λ b. x == m ≡ b → ((f x && (b || false)) || list_any (λ x. f x && (x == m || false)) xs) ≡ ((b || is_among xs m) && f m)) [
-      | true ↦ λ e. rw (eqb-true x m e, and_true (f m), among_and f m xs) (absorbed (f m) (is_among xs m))
-      | false ↦ λ e. rw (and_false (f x)) (among_and f m xs)
+      | true ↦ λ e. rw (eqb-true x m e, and-true (f m), among_and f m xs) (absorbed (f m) (is_among xs m))
+      | false ↦ λ e. rw (and-false (f x)) (among_and f m xs)
     ] refl
 
 all_among : (ms : List ℕ) → AllByRecursion (λ m. is_among ms m ≡ true) ms

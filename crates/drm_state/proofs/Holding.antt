@@ -1,46 +1,20 @@
 -- Handles in the order of their clients and numbers.
-use Rattle.std.proofs.Common.{◌≡◌, ℕ, suc, ◌==◌, nat_le, Bool, true, false, not, cond, ◌&&◌, ◌||◌, List, [], ◌∷◌, ◌++◌, map, filter, find, length, Some, None, refl, sym, ◌∙◌, ap, subst, arith, eq-eqb}
+use Rattle.std.proofs.Common.{◌≡◌, ℕ, ◌==◌, nat_le, Bool, true, false, not, cond, ◌&&◌, ◌||◌, List, [], ◌∷◌, ◌++◌, map, filter, find, Some, None, refl, sym, ◌∙◌, ap, subst, arith, eq-eqb}
 use Rattle.std.specs.List.{list_any, AllByRecursion}
 use Rattle.std.specs.Option.{option_map}
 use Rattle.std.proofs.lemmas.Bool.Decides.{nat_tests}
+use Rattle.drm_lists.specs.Orders.{SameRows, InOrder}
+use Rattle.drm_lists.specs.Numbers.{is_among}
+use Rattle.drm_lists.proofs.Lists.{all_weaker, all_append, all_filter, filter_true, all_both}
+use Rattle.drm_lists.proofs.Found.{is_some-find, is_among-map_filter}
+use Rattle.drm_lists.proofs.Orders.{RisesTo, in_order_filter, same-trans, same-refl, same-cons, same-swap, moved_in, same_parts}
 use Rattle.drm_files.specs.declared.rows.FileHold.{FileHold}
 use Rattle.drm_files.specs.Files.{FileLists, is_hold, of_client, hold_before, placed, handles_of, free_handle}
 use Rattle.drm_index_array.proofs.Least.{least_some}
-use Rattle.drm_model.specs.Orders.{SameRows, InOrder}
-use Rattle.drm_model.specs.Numbers.{is_among}
-use Rattle.drm_model.proofs.Lists.{all_weaker, all_append, is_some-find, is_among-map_filter}
-use Rattle.drm_model.proofs.Orders.{RisesTo, all_filter, in_order_filter, same-trans, same-refl}
 use Rattle.drm_state.specs.Parts.{keys_of}
-use Rattle.drm_state.proofs.Booleans.{filter_true, all_both}
 
 abbrev AreInOrder : List FileHold → Type 0
 AreInOrder holds = InOrder (λ x y. hold_before x y ≡ true) holds
-
--- ---- the same rows in another order
-
-pub same-cons : {X : Type 0} (x : X) (xs ys : List X) → SameRows xs ys → SameRows (x ∷ xs) (x ∷ ys)
-same-cons x xs ys h = λ test. elim (test x) as (λ b. length (cond b (x ∷ filter test xs) (filter test xs)) ≡ length (cond b (x ∷ filter test ys) (filter test ys))) [ true ↦ ap (λ n. suc n) (h test) | false ↦ h test ]
-
-same-swap : {X : Type 0} (x y : X) (xs : List X) → SameRows (x ∷ y ∷ xs) (y ∷ x ∷ xs)
-same-swap x y xs = λ test. elim (test x) as (λ b. length (cond b (x ∷ cond (test y) (y ∷ filter test xs) (filter test xs)) (cond (test y) (y ∷ filter test xs) (filter test xs))) ≡ length (cond (test y) (y ∷ cond b (x ∷ filter test xs) (filter test xs)) (cond b (x ∷ filter test xs) (filter test xs)))) [
-  | true ↦ elim (test y) as (λ d. length (x ∷ cond d (y ∷ filter test xs) (filter test xs)) ≡ length (cond d (y ∷ x ∷ filter test xs) (x ∷ filter test xs))) [ true ↦ refl | false ↦ refl ]
-  | false ↦ refl
-]
-
-pub moved_in : {X : Type 0} (x : X) → (xs ys : List X) → SameRows (x ∷ (xs ++ ys)) (xs ++ x ∷ ys)
-moved_in x [] ys = λ test. refl
-moved_in x (y ∷ xs) ys = same-trans (x ∷ y ∷ (xs ++ ys)) (y ∷ x ∷ (xs ++ ys)) (y ∷ (xs ++ x ∷ ys)) (same-swap x y (xs ++ ys)) (same-cons y (x ∷ (xs ++ ys)) (xs ++ x ∷ ys) (moved_in x xs ys))
-
--- those that pass, and those that don't
-pub same_parts : {X : Type 0} (p : X → Bool) → (xs : List X) → SameRows xs (filter p xs ++ filter (λ x. not (p x)) xs)
-same_parts p [] = λ test. refl
-same_parts {X = X} p (x ∷ xs) =
-    let yes_part = filter p xs in
-    let no_part = filter (λ x. not (p x)) xs in
-    elim (p x) as (λ b. SameRows (x ∷ xs) (cond b (x ∷ yes_part) yes_part ++ cond (not b) (x ∷ no_part) no_part)) [
-      | true ↦ same-cons x xs (yes_part ++ no_part) (same_parts p xs)
-      | false ↦ same-trans (x ∷ xs) (x ∷ (yes_part ++ no_part)) (yes_part ++ x ∷ no_part) (same-cons x xs (yes_part ++ no_part) (same_parts p xs)) (moved_in x yes_part no_part)
-    ]
 
 -- one more handle, where it belongs
 pub same_placed : (h : FileHold) (hs : List FileHold) → SameRows (h ∷ hs) (placed hold_before h hs)

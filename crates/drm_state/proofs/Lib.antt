@@ -1,4 +1,3 @@
-pub mod Booleans
 pub mod Counting
 pub mod Members
 pub mod Represented

@@ -1,12 +1,12 @@
 -- What look-ups find in the rows, by what they find in the parts.
 use Rattle.std.proofs.Common.{◌≡◌, ℕ, find, None, Some, ◌∙◌, ap, false, ◌&&◌}
 use Rattle.std.specs.Option.{option_map, is_some}
+use Rattle.drm_lists.proofs.Found.{find-map, is_some-map}
 use Rattle.drm_files.specs.declared.rows.FileFlags.{FileFlags}
 use Rattle.drm_files.specs.declared.rows.FileClient.{FileClient}
 use Rattle.drm_files.specs.Files as files
 use Rattle.drm_model.specs.Rows.{Rows, client_row, is_client, is_open}
 use Rattle.drm_model.specs.Masters.{is_owner, standing_in}
-use Rattle.drm_model.proofs.Lists.{find-map, is_some-map}
 use Rattle.drm_state.specs.declared.state.State.{State}
 use Rattle.drm_state.specs.Parts.{member_of, client_row_by, client_row_of, masters_of}
 use Rattle.drm_state.specs.Refinement.{Represents, is_current}

@@ -1,8 +1,16 @@
 -- What a new buffer leaves of the parts.
-use Rattle.std.proofs.Common.{◌≡◌, ℕ, ◌==◌, Bool, true, false, cond, not, ◌&&◌, List, [], ◌∷◌, ◌++◌, map, filter, find, Option, Some, None, refl, sym, ap, ◌∙◌, subst, eq-eqb}
+use Rattle.std.proofs.Common.{◌≡◌, ℕ, ◌==◌, true, false, cond, not, ◌&&◌, List, [], ◌∷◌, ◌++◌, map, filter, find, Option, Some, None, refl, sym, ap, ◌∙◌, subst, eq-eqb}
 use Rattle.std.specs.Prelude.{nat_le, ⊤, unwrap_or}
 use Rattle.std.specs.List.{AllByRecursion}
 use Rattle.std.specs.Option.{is_some, option_map, option_map_or, OnSome}
+use Rattle.std.proofs.lemmas.List.{map-append}
+use Rattle.std.proofs.lemmas.Bool.{and_left}
+use Rattle.drm_lists.specs.Orders.{SameRows}
+use Rattle.drm_lists.specs.Numbers.{is_among}
+use Rattle.drm_lists.proofs.Lists.{all_weaker, list_any-map, all_each}
+use Rattle.drm_lists.proofs.Found.{is_some-find, is_among-map_filter, find_last, none_found, on_some}
+use Rattle.drm_lists.proofs.Numbers.{among-left}
+use Rattle.drm_lists.proofs.Orders.{same-map, same-trans, same-any, same-cons, last_first}
 use Rattle.drm_gem.specs.declared.object.Object.{Object}
 use Rattle.drm_gem.specs.declared.object.Dead.{Dead}
 use Rattle.drm_gem.specs.Objects as gem
@@ -12,31 +20,22 @@ use Rattle.drm_files.specs.Files as files
 use Rattle.drm_files.specs.Files.{hold_before, placed, with_hold, hold}
 use Rattle.drm_index_array.specs.Least.{least}
 use Rattle.drm_index_array.proofs.Least.{least-same}
-use Rattle.drm_model.specs.Numbers.{is_among}
-use Rattle.drm_model.specs.Orders.{SameRows}
 use Rattle.drm_model.specs.Rows.{Rows, HoldRow, hold_row, is_hold, handles_of, free_handle, birth}
 use Rattle.drm_model.specs.Buffers.{with_object}
-use Rattle.drm_model.proofs.Lists.{all_weaker, map-append, is_some-find, list_any-map, is_among-map_filter}
-use Rattle.drm_model.proofs.Orders.{same-map, same-trans, same-refl, same-any, same-sym}
 use Rattle.drm_state.specs.declared.state.State.{State}
 use Rattle.drm_state.specs.Parts.{birth_at, hold_row_by, hold_row_of, object_row_of, holds_of, keys_of, referring_keys}
 use Rattle.drm_state.specs.Ties.{Tie, HoldsRise, ObjectsCounted, is_tied, IsTied}
 use Rattle.drm_model.specs.Parts.{Part, Holds, Objects}
 use Rattle.drm_state.specs.Refinement.{stands_for, Represents, Stands}
 use Rattle.drm_state.proofs.Represented.{limits_are, holds_are, objects_are, holds_rise, objects_counted}
-use Rattle.drm_state.proofs.Booleans.{all_each}
-use Rattle.drm_state.proofs.Counting.{is_found, other_keys, among-left, same_tied, created_tied}
+use Rattle.drm_state.proofs.Counting.{is_found, same_tied, created_tied}
 use Rattle.drm_state.proofs.Naming.{same_numbers}
-use Rattle.drm_state.proofs.Holding.{same-cons, moved_in, same_placed, in_order_placed, free_is_new}
+use Rattle.drm_state.proofs.Holding.{same_placed, in_order_placed, free_is_new}
 
 abbrev pub new_object : ℕ → ℕ → ℕ → Object
 new_object key birth size = record { key = key; birth = birth; size = size; stamp = 0; holds = 1; refs = 0 }
 
 -- ---- a new object is taken back
-
-find_last : (p : Object → Bool) (y : Object) → p y ≡ true → (xs : List Object) → AllByRecursion (λ x. p x ≡ false) xs → find p (xs ++ y ∷ []) ≡ Some y
-find_last p y e [] h = ap (λ b. cond b (Some y) None) e
-find_last p y e (x ∷ xs) h = ap (λ b. cond b (Some x) (find p (xs ++ y ∷ []))) h.0 ∙ find_last p y e xs h.1
 
 drop_last : (key : ℕ) (y : Object) → (y.key == key) ≡ true → (xs : List Object) → AllByRecursion (λ (x : Object). (x.key == key) ≡ false) xs → filter (λ (x : Object). not (x.key == key)) (xs ++ y ∷ []) ≡ xs
 drop_last key y e [] h = ap (λ b. cond (not b) (y ∷ []) []) e
@@ -46,22 +45,14 @@ drop_last key y e (x ∷ xs) h =
 pub made_there : (old set : ObjectSet) (key birth size : ℕ) → object_at old key ≡ None → set ≡ gem.with_object old key birth size → passes (λ x. nat_le 1 x.holds) set key ≡ true
 made_there old set key birth size fresh e =
     ap (λ (o : ObjectSet). passes (λ x. nat_le 1 x.holds) o key) e
-    ∙ ap (λ o. option_map_or (λ (x : Object). nat_le 1 x.holds) o false) (find_last (is_key key) (new_object key birth size) (eq-eqb key key refl) old.objects (other_keys key old.objects fresh))
-
-and_no : (a b : Bool) → a ≡ false → (a && b) ≡ false
-and_no true b h = absurd (let e : true ≡ false = h in cc)
-and_no false b h = refl
-
-on_some : {X : Type 0} (o : Option X) (P : Type 0) → is_some o ≡ true → OnSome o P → P
-on_some None P h p = absurd (let e : false ≡ true = h in cc)
-on_some (Some x) P h p = p
+    ∙ ap (λ o. option_map_or (λ (x : Object). nat_le 1 x.holds) o false) (find_last (is_key key) (new_object key birth size) (eq-eqb key key refl) old.objects (none_found (is_key key) old.objects fresh))
 
 pub taken_back : (old set new : ObjectSet) (key birth size : ℕ) (left : Option Dead) → object_at old key ≡ None → set ≡ gem.with_object old key birth size → left ≡ dead_after unheld set key → OnSome left (new ≡ without_key key set) → new ≡ old
 taken_back old set new key birth size left fresh e is gone =
-    let others = other_keys key old.objects fresh in
+    let others = none_found (is_key key) old.objects fresh in
     let x = new_object key birth size in
     let test = λ (z : Object). is_key key z && is_unused (unheld z) in
-    let found : find test (old.objects ++ x ∷ []) ≡ Some x = find_last test x (ap (λ b. b && true) (eq-eqb key key refl)) old.objects (all_weaker (λ (z : Object). (z.key == key) ≡ false) (λ z. test z ≡ false) (λ z h. and_no (z.key == key) (is_unused (unheld z)) h) old.objects others) in
+    let found : find test (old.objects ++ x ∷ []) ≡ Some x = find_last test x (ap (λ b. b && true) (eq-eqb key key refl)) old.objects (all_weaker (λ (z : Object). (z.key == key) ≡ false) (λ z. test z ≡ false) (λ z h. and_left (z.key == key) (is_unused (unheld z)) h) old.objects others) in
     let some : is_some left ≡ true = ap is_some (is ∙ ap (λ (o : ObjectSet). dead_after unheld o key) e) ∙ ap (λ o. is_some (option_map dead_of o)) found in
     on_some left (new ≡ without_key key set) some gone ∙ ap (without_key key) e ∙ ap (λ os. record old { objects = os }) (drop_last key x (eq-eqb key key refl) old.objects others)
 
@@ -96,14 +87,7 @@ holds_kept : (y : Object) (objects : List Object) → (hs : List FileHold) → (
 holds_kept y objects hs f = same_numbers hold_row_by (λ (x : FileHold). x.object) objects (objects ++ y ∷ []) hs (λ n e. number_kept n y objects (f n e))
 
 new_number : (key birth size : ℕ) (objects : List Object) → find (is_key key) objects ≡ None → birth_at (objects ++ new_object key birth size ∷ []) key ≡ birth
-new_number key birth size objects fresh = ap (λ o. option_map_or (λ (x : Object). x.birth) o 0) (find_last (is_key key) (new_object key birth size) (eq-eqb key key refl) objects (other_keys key objects fresh))
-
-last_first : {X : Type 0} (xs : List X) (x : X) → SameRows (xs ++ x ∷ []) (x ∷ xs)
-last_first {X = X} xs x = same-trans (xs ++ x ∷ []) (x ∷ (xs ++ [])) (x ∷ xs) (same-sym (x ∷ (xs ++ [])) (xs ++ x ∷ []) (moved_in x xs [])) (subst (λ l. SameRows (x ∷ l) (x ∷ xs)) (sym (nothing_more xs)) (same-refl (x ∷ xs)))
-  where
-    nothing_more : (ys : List X) → ys ++ [] ≡ ys
-    nothing_more [] = refl
-    nothing_more (y ∷ ys) = ap (λ l. y ∷ l) (nothing_more ys)
+new_number key birth size objects fresh = ap (λ o. option_map_or (λ (x : Object). x.birth) o 0) (find_last (is_key key) (new_object key birth size) (eq-eqb key key refl) objects (none_found (is_key key) objects fresh))
 
 -- the state with a new object and a handle of it
 abbrev pub with_made : State → ℕ → ℕ → ℕ → ℕ → ℕ → State

@@ -1,19 +1,22 @@
 -- The rows of clients, by their files and how they stand to masters.
-use Rattle.std.proofs.Common.{◌≡◌, ℕ, ◌<◌, ◌==◌, Bool, true, false, cond, not, ◌||◌, List, [], ◌∷◌, ◌++◌, map, filter, find, Option, Some, None, refl, sym, ap, ◌∙◌, subst, arith, eq-eqb}
+use Rattle.std.proofs.Common.{◌≡◌, ℕ, ◌<◌, ◌==◌, Bool, true, false, cond, not, ◌||◌, List, [], ◌∷◌, ◌++◌, map, filter, find, Option, Some, None, refl, ap, ◌∙◌, subst, arith, eq-eqb}
 use Rattle.std.specs.Prelude.{unwrap_or}
 use Rattle.std.specs.List.{list_any, AllByRecursion}
 use Rattle.std.specs.Option.{is_some, option_map}
-use Rattle.std.proofs.lemmas.Bool.{eqb-true}
+use Rattle.std.proofs.lemmas.Bool.{eqb-true, or_left, or_right}
 use Rattle.std.proofs.lemmas.Bool.Decides.{nat_tests}
+use Rattle.std.specs.Cmp.{both_ways}
+use Rattle.std.proofs.lemmas.List.{map-append}
+use Rattle.drm_lists.specs.Orders.{InOrder}
+use Rattle.drm_lists.proofs.Lists.{all_weaker, list_any-map, list_any_gives, some_passing, all_both}
+use Rattle.drm_lists.proofs.Found.{find_none, find_last, find_others}
+use Rattle.drm_lists.proofs.Numbers.{less-differ}
 use Rattle.drm_files.specs.declared.rows.FileFlags.{FileFlags}
 use Rattle.drm_files.specs.declared.rows.FileClient.{FileClient}
 use Rattle.drm_files.specs.Files.{is_client}
 use Rattle.drm_model.specs.Rows.{ClientRow, is_option}
-use Rattle.drm_model.specs.Orders.{InOrder}
-use Rattle.drm_model.proofs.Lists.{all_weaker, map-append, list_any-map}
 use Rattle.drm_state.specs.declared.state.Member.{Member}
 use Rattle.drm_state.specs.Parts.{no_member, member_of, client_row_by, client_row_of}
-use Rattle.drm_state.proofs.Booleans.{or_left, or_right, list_any_gives, some_passing, same_truth, both_all, all_both}
 
 abbrev is_of : ℕ → Member → Bool
 is_of c m = m.client == c
@@ -49,9 +52,6 @@ found c flags fs e = something (find (is_client c) fs) e
 
 -- ---- one more client
 
-less-differ : (a b : ℕ) → a < b → (a == b) ≡ false
-less-differ a b h = grind (arith, nat_tests)
-
 more-differ : (a b : ℕ) → a < b → (b == a) ≡ false
 more-differ a b h = grind (arith, nat_tests)
 
@@ -64,14 +64,6 @@ older c b (f ∷ fs) h e =
 -- those that stand to masters are older than a new client
 pub members_older : (b : ℕ) (fs : List FileClient) (ms : List Member) → AllByRecursion (λ (f : FileClient). f.client < b) fs → AllByRecursion (IsThere fs) ms → AllByRecursion (λ (m : Member). (m.client == b) ≡ false) ms
 members_older b fs ms h k = all_weaker (IsThere fs) (λ (m : Member). (m.client == b) ≡ false) (λ m e. less-differ m.client b (older m.client b fs h e)) ms k
-
-find_none : (b : ℕ) → (ms : List Member) → AllByRecursion (λ (m : Member). (m.client == b) ≡ false) ms → find (is_of b) ms ≡ None
-find_none b [] h = refl
-find_none b (m ∷ ms) h = ap (λ t. cond t (Some m) (find (is_of b) ms)) h.0 ∙ find_none b ms h.1
-
-find_last : (m : Member) → (ms : List Member) → AllByRecursion (λ (x : Member). (x.client == m.client) ≡ false) ms → find (is_of m.client) (ms ++ m ∷ []) ≡ Some m
-find_last m [] h = ap (λ t. cond t (Some m) None) (eq-eqb m.client m.client refl)
-find_last m (x ∷ ms) h = ap (λ t. cond t (Some x) (find (is_of m.client) (ms ++ m ∷ []))) h.0 ∙ find_last m ms h.1
 
 find_before : (c : ℕ) (m : Member) → (m.client == c) ≡ false → (ms : List Member) → find (is_of c) (ms ++ m ∷ []) ≡ find (is_of c) ms
 find_before c m e [] = ap (λ t. cond t (Some m) None) e
@@ -88,14 +80,14 @@ pub client_pushed : (flags : FileFlags) (m : Member) (fs : List FileClient) (ms 
 client_pushed flags m fs ms h k =
     let f : FileClient = record { client = m.client; flags = flags } in
     map-append (client_row_of (ms ++ m ∷ [])) fs (f ∷ []) ∙ ap (λ l. l ++ client_row_of (ms ++ m ∷ []) f ∷ []) (rows_before m ms fs h)
-    ∙ ap (λ o. map (client_row_of ms) fs ++ client_row_by f (unwrap_or o (no_member m.client)) ∷ []) (find_last m ms (members_older m.client fs ms h k))
+    ∙ ap (λ o. map (client_row_of ms) fs ++ client_row_by f (unwrap_or o (no_member m.client)) ∷ []) (find_last (is_of m.client) m (eq-eqb m.client m.client refl) ms (members_older m.client fs ms h k))
 
 -- and with one that doesn't
 pub render_pushed : (f : FileClient) (fs : List FileClient) (ms : List Member) → AllByRecursion (λ (g : FileClient). g.client < f.client) fs → AllByRecursion (IsThere fs) ms →
     map (client_row_of ms) (fs ++ f ∷ []) ≡ map (client_row_of ms) fs ++ client_row_by f (no_member f.client) ∷ []
 render_pushed f fs ms h k =
     map-append (client_row_of ms) fs (f ∷ [])
-    ∙ ap (λ o. map (client_row_of ms) fs ++ client_row_by f (unwrap_or o (no_member f.client)) ∷ []) (find_none f.client ms (members_older f.client fs ms h k))
+    ∙ ap (λ o. map (client_row_of ms) fs ++ client_row_by f (unwrap_or o (no_member f.client)) ∷ []) (find_none (is_of f.client) ms (members_older f.client fs ms h k))
 
 some-append : (c : ℕ) (f : FileClient) → (fs : List FileClient) → is_some (find (is_client c) fs) ≡ true → is_some (find (is_client c) (fs ++ f ∷ [])) ≡ true
 some-append c f [] h = absurd (let e : false ≡ true = h in cc)
@@ -112,18 +104,6 @@ found_last f (g ∷ gs) = elim (g.client == f.client) as (λ b. is_some (cond b 
 
 -- ---- a client fewer
 
-other_one : (m n k : ℕ) → (m == k) ≡ true → (n == k) ≡ false → (m == n) ≡ false
-other_one m n k h e = grind (arith, nat_tests)
-
-find_others : (n c : ℕ) → (n == c) ≡ false → (ms : List Member) → find (is_of n) (filter (λ (x : Member). not (x.client == c)) ms) ≡ find (is_of n) ms
-find_others n c h [] = refl
-find_others n c h (m ∷ ms) =
-    let rest = filter (λ (x : Member). not (x.client == c)) ms in
-    elim (m.client == c) as (λ b. (m.client == c) ≡ b → find (is_of n) (cond (not b) (m ∷ rest) rest) ≡ find (is_of n) (m ∷ ms)) [
-      | true ↦ λ e. find_others n c h ms ∙ ap (λ t. cond t (Some m) (find (is_of n) ms)) (sym (other_one m.client n c e h))
-      | false ↦ λ e. ap (λ r. cond (m.client == n) (Some m) r) (find_others n c h ms)
-    ] refl
-
 pub rows_left : (c : ℕ) (ms : List Member) → (fs : List FileClient) →
     map (client_row_of (filter (λ (x : Member). not (x.client == c)) ms)) (filter (λ (f : FileClient). not (is_client c f)) fs) ≡ filter (λ (row : ClientRow). not (row.client == c)) (map (client_row_of ms) fs)
 rows_left c ms [] = refl
@@ -132,21 +112,8 @@ rows_left c ms (f ∷ fs) =
     let rest = filter (λ (f : FileClient). not (is_client c f)) fs in
     elim (f.client == c) as (λ b. (f.client == c) ≡ b → map (client_row_of left) (cond (not b) (f ∷ rest) rest) ≡ cond (not b) (client_row_of ms f ∷ filter (λ (row : ClientRow). not (row.client == c)) (map (client_row_of ms) fs)) (filter (λ (row : ClientRow). not (row.client == c)) (map (client_row_of ms) fs))) [
       | true ↦ λ e. rows_left c ms fs
-      | false ↦ λ e. ap (λ o. client_row_by f (unwrap_or o (no_member f.client)) ∷ map (client_row_of left) rest) (find_others f.client c e ms) ∙ ap (λ l. client_row_of ms f ∷ l) (rows_left c ms fs)
+      | false ↦ λ e. ap (λ o. client_row_by f (unwrap_or o (no_member f.client)) ∷ map (client_row_of left) rest) (find_others (λ (x : Member). x.client) f.client c e ms) ∙ ap (λ l. client_row_of ms f ∷ l) (rows_left c ms fs)
     ] refl
-
-find_kept : (n c : ℕ) → (n == c) ≡ false → (fs : List FileClient) → find (is_client n) (filter (λ (f : FileClient). not (is_client c f)) fs) ≡ find (is_client n) fs
-find_kept n c h [] = refl
-find_kept n c h (f ∷ fs) =
-    let rest = filter (λ (f : FileClient). not (is_client c f)) fs in
-    elim (f.client == c) as (λ b. (f.client == c) ≡ b → find (is_client n) (cond (not b) (f ∷ rest) rest) ≡ find (is_client n) (f ∷ fs)) [
-      | true ↦ λ e. find_kept n c h fs ∙ ap (λ t. cond t (Some f) (find (is_client n) fs)) (sym (other_one f.client n c e h))
-      | false ↦ λ e. ap (λ r. cond (f.client == n) (Some f) r) (find_kept n c h fs)
-    ] refl
-
-not_it : (b : Bool) → not b ≡ true → b ≡ false
-not_it false h = refl
-not_it true h = absurd (let e : false ≡ true = h in cc)
 
 -- those that are left are open
 pub members_open_left : (c : ℕ) (fs : List FileClient) (ms : List Member) → AllByRecursion (IsThere fs) ms → AllByRecursion (IsThere (filter (λ (f : FileClient). not (is_client c f)) fs)) (filter (λ (x : Member). not (x.client == c)) ms)
@@ -154,7 +121,7 @@ members_open_left c fs [] h = tt
 members_open_left c fs (m ∷ ms) h =
     let rest = filter (λ (x : Member). not (x.client == c)) ms in
     elim (m.client == c) as (λ b. (m.client == c) ≡ b → AllByRecursion (IsThere (filter (λ (f : FileClient). not (is_client c f)) fs)) (cond (not b) (m ∷ rest) rest))
-    [ true ↦ λ e. members_open_left c fs ms h.1 | false ↦ λ e. (ap is_some (find_kept m.client c e fs) ∙ h.0, members_open_left c fs ms h.1) ] refl
+    [ true ↦ λ e. members_open_left c fs ms h.1 | false ↦ λ e. (ap is_some (find_others (λ (f : FileClient). f.client) m.client c e fs) ∙ h.0, members_open_left c fs ms h.1) ] refl
 
 -- ---- the masters that clients name
 
@@ -187,7 +154,7 @@ masters_named m fs ms there differ =
     let test = λ (f : FileClient). is_option m (member_of ms f.client).master in
     let down : list_any test fs ≡ true → list_any (λ (x : Member). is_option m x.master) ms ≡ true = list_any_gives test (list_any (λ (x : Member). is_option m x.master) ms) (λ f e. named_by m f.client ms e) fs in
     let up = λ (e : list_any (λ (x : Member). is_option m x.master) ms ≡ true).
-    let it = some_passing (λ (x : Member). is_option m x.master) (λ (x : Member). IsThere fs x × (find (is_of x.client) ms ≡ Some x)) ms (both_all (IsThere fs) (λ (x : Member). find (is_of x.client) ms ≡ Some x) ms there (found_itself ms differ)) e in
+    let it = some_passing (λ (x : Member). is_option m x.master) (λ (x : Member). IsThere fs x × (find (is_of x.client) ms ≡ Some x)) ms (all_both (IsThere fs) (λ (x : Member). find (is_of x.client) ms ≡ Some x) _ (λ x t f. (t, f)) ms there (found_itself ms differ)) e in
     let some : list_any test fs ≡ true = any_of_client it.0.client test (λ f is. ap (λ n. is_option m (unwrap_or (find (is_of n) ms) (no_member n)).master) is ∙ ap (λ o. is_option m (unwrap_or o (no_member it.0.client)).master) it.2.1 ∙ it.1) fs it.2.0 in
     some in
-    list_any-map (λ (row : ClientRow). is_option m row.master) (client_row_of ms) fs ∙ same_truth (list_any test fs) (list_any (λ (x : Member). is_option m x.master) ms) down up
+    list_any-map (λ (row : ClientRow). is_option m row.master) (client_row_of ms) fs ∙ both_ways (list_any test fs) (list_any (λ (x : Member). is_option m x.master) ms) down up

@@ -4,18 +4,18 @@ use Rattle.std.specs.List.{list_any, AllByRecursion}
 use Rattle.std.specs.Prelude.{⊤}
 use Rattle.std.specs.Option.{is_some, option_map_or}
 use Rattle.std.proofs.lemmas.Bool.{eqb-true}
+use Rattle.drm_lists.specs.Orders.{SameRows, InOrder}
+use Rattle.drm_lists.specs.Numbers.{is_among, count}
+use Rattle.drm_lists.proofs.Lists.{all_weaker, map-map, list_any-map, all_both, all_each}
+use Rattle.drm_lists.proofs.Numbers.{flipped, among-more, count-none, among-first, count_of}
+use Rattle.drm_lists.proofs.Orders.{same-any}
 use Rattle.drm_gem.specs.declared.object.Object.{Object}
 use Rattle.drm_gem.specs.Objects.{is_key}
 use Rattle.drm_files.specs.declared.rows.FileHold.{FileHold}
-use Rattle.drm_model.specs.Numbers.{is_among}
-use Rattle.drm_model.specs.Orders.{SameRows, InOrder}
 use Rattle.drm_model.specs.Rows.{HoldRow}
-use Rattle.drm_model.proofs.Lists.{all_weaker, map-map, list_any-map}
-use Rattle.drm_model.proofs.Orders.{same-any}
 use Rattle.drm_state.specs.Parts.{birth_at, hold_row_by, hold_row_of, object_row_of, keys_of}
-use Rattle.drm_state.specs.Ties.{count, AreTied, AreThoseNamed, core}
-use Rattle.drm_state.proofs.Booleans.{all_both, all_each}
-use Rattle.drm_state.proofs.Counting.{is_found, flipped, among-more, count-none, among-first}
+use Rattle.drm_state.specs.Ties.{AreTied, AreThoseNamed, core}
+use Rattle.drm_state.proofs.Counting.{is_found}
 
 birth_core : (k : ℕ) → (xs : List Object) → birth_at (map core xs) k ≡ birth_at xs k
 birth_core k [] = refl
@@ -110,12 +110,6 @@ pub among_numbers : (keys refs : List ℕ) (objects : List Object) → AreTied k
 among_numbers keys refs objects h some f =
     all_weaker (λ (x : Object). count (map (birth_at objects) some) x.birth ≡ count some x.key) (λ (x : Object). is_among (map (birth_at objects) some) x.birth ≡ is_among some x.key)
     (λ x e. same_not _ _ (sym (count-none (map (birth_at objects) some) x.birth) ∙ ap (λ n. n == 0) e ∙ count-none some x.key)) objects (count_numbers keys refs objects h some f)
-
-pub count_of : {X : Type 0} (f : X → ℕ) (n : ℕ) → (xs : List X) → length (filter (λ x. f x == n) xs) ≡ count (map f xs) n
-count_of f n [] = refl
-count_of f n (x ∷ xs) =
-    elim (f x == n) as (λ b. length (cond b (x ∷ filter (λ x. f x == n) xs) (filter (λ x. f x == n) xs)) ≡ length (cond b (f x ∷ filter (λ key. key == n) (map f xs)) (filter (λ key. key == n) (map f xs))))
-    [ true ↦ ap (λ m. suc m) (count_of f n xs) | false ↦ count_of f n xs ]
 
 abbrev named_object : HoldRow → ℕ
 named_object row = row.object

@@ -5,6 +5,7 @@ use Rattle.std.specs.declared.alloc.AllocError.{AllocError}
 use Rattle.std.specs.Option.{unwrap_or}
 use Rattle.std.proofs.lemmas.Bool.{le-ltb, lt-ltb}
 use Rattle.std.proofs.lemmas.Bool.Decides.{nat_tests}
+use Rattle.std.proofs.lemmas.List.{length-map}
 use Rattle.drm_table.specs.declared.answers.Answer.{Answer}
 use Rattle.drm_table.specs.declared.answers.Answer.TheVariants.{Denied}
 use Rattle.drm_table.specs.declared.calls.Call.{Call}
@@ -23,7 +24,6 @@ use Rattle.drm_model.specs.Clients.{opening_checks}
 use Rattle.drm_model.specs.Change.{after, after_verdict, changed, swept, noted}
 use Rattle.drm_model.specs.Reply.{reply, reply_by, answer_of}
 use Rattle.drm_model.specs.Run.{Growing, IsLonger}
-use Rattle.drm_model.proofs.Lists.{length-map}
 use Rattle.drm_state.specs.declared.state.State.{State}
 use Rattle.drm_state.specs.Parts.{client_row_of, object_row_of}
 use Rattle.drm_state.specs.Ties.{IsTied}
@@ -99,7 +99,7 @@ unfolding admission_checks
 admitted_by_permit w c call row k l o = rw (k, l, o) refl
 
 client_count : (s : State) (w : Rows) → Represents s w → length w.clients ≡ length s.files.clients
-client_count s w h = ap length (clients_are s w h) ∙ length-map (client_row_of s.members.items) s.files.clients
+client_count s w h = ap length (clients_are s w h) ∙ length-map s.files.clients (client_row_of s.members.items)
 
 pub represented_count : (s : State) (w : Rows) → Represents s w → length w.clients ≡ length s.files.clients
 represented_count s w h = client_count s w h
@@ -112,7 +112,7 @@ pub client_room : (s : State) (w : Rows) → Represents s w → has_client_room 
 client_room s w h = ap (λ n. nat_lt n w.limits.clients) (client_count s w h) ∙ ap (nat_lt (length s.files.clients)) (sym (limits_are s w h).0) ∙ not_most (length s.files.clients) s.files.limit
 
 object_count : (s : State) (w : Rows) → Represents s w → length w.objects ≡ length s.objects.objects
-object_count s w h = ap length (objects_are s w h) ∙ length-map object_row_of s.objects.objects
+object_count s w h = ap length (objects_are s w h) ∙ length-map s.objects.objects object_row_of
 
 object_room_is : (s : State) (w : Rows) → Represents s w → has_object_room w ≡ nat_lt (length s.objects.objects) s.objects.limit
 object_room_is s w h = ap (λ n. nat_lt n w.limits.objects) (object_count s w h) ∙ ap (nat_lt (length s.objects.objects)) (sym (limits_are s w h).2)

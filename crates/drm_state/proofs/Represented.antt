@@ -1,10 +1,10 @@
 -- The parts of what a state stands for, and its ties, one by one.
 use Rattle.std.proofs.Common.{◌≡◌, ℕ, ◌==◌, true, false, [], List, map, ap, ◌∙◌, ◌++◌}
 use Rattle.std.specs.List.{list_any, AllByRecursion}
+use Rattle.drm_lists.specs.Orders.{SameRows, InOrder}
 use Rattle.drm_files.specs.declared.rows.FileHold.{FileHold}
 use Rattle.drm_files.specs.Files.{is_present, hold_before}
 use Rattle.drm_model.specs.Rows.{Rows, TokenRow, FramebufferRow, is_option}
-use Rattle.drm_model.specs.Orders.{SameRows, InOrder}
 use Rattle.drm_state.specs.declared.state.Member.{Member}
 use Rattle.drm_state.specs.declared.state.State.{State}
 use Rattle.drm_state.specs.Parts.{clients_of, masters_of, holds_of, objects_of, keys_of, referring_keys, birth_at}

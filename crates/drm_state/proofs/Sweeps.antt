@@ -3,20 +3,22 @@ use Rattle.std.proofs.Common.{◌≡◌, ℕ, ◌==◌, Bool, true, false, cond,
 use Rattle.std.specs.Prelude.{if◌then◌else◌}
 use Rattle.std.specs.List.{list_any, AllByRecursion}
 use Rattle.std.specs.Global.{Vec}
+use Rattle.std.proofs.Math.Bool.{or_assoc}
+use Rattle.drm_lists.specs.Orders.{SameRows, InOrder}
+use Rattle.drm_lists.specs.Numbers.{is_among}
+use Rattle.drm_lists.proofs.Lists.{list_any-map, filter-map, filter_all, all_weaker, filter-same, filter_true, all_each, all_both}
+use Rattle.drm_lists.proofs.Numbers.{among-append, among-left, among-right, fewer_among, among-more}
+use Rattle.drm_lists.proofs.Orders.{same-filter, in_order_filter}
 use Rattle.drm_gem.specs.declared.object.Object.{Object}
 use Rattle.drm_gem.specs.Objects.{ObjectSet}
 use Rattle.drm_files.specs.declared.rows.FileHold.{FileHold}
 use Rattle.drm_files.specs.Files as files
 use Rattle.drm_files.specs.Files.{without_hold, without_client}
-use Rattle.drm_model.specs.Numbers.{is_among}
-use Rattle.drm_model.specs.Orders.{SameRows, InOrder}
 use Rattle.drm_model.specs.Rows.{Rows, ClientRow, MasterRow, HoldRow, ObjectRow, TokenRow, FramebufferRow, is_hold, is_option, client_row, without}
 use Rattle.drm_model.specs.Masters.{is_under}
 use Rattle.drm_model.specs.Leases.{ended}
 use Rattle.drm_model.specs.Change.{is_referred, is_living, swept}
 use Rattle.drm_model.specs.Clients.{closed, ended_own, ended_if}
-use Rattle.drm_model.proofs.Lists.{list_any-map, filter-map, filter_all, all_weaker}
-use Rattle.drm_model.proofs.Orders.{same-filter, in_order_filter}
 use Rattle.drm_state.specs.declared.state.Member.{Member}
 use Rattle.drm_state.specs.declared.state.State.{State}
 use Rattle.drm_state.specs.Parts.{clients_of, masters_of, client_row_of, hold_row_of, object_row_of, master_row_of, birth_at, keys_of, referring_keys}
@@ -24,8 +26,7 @@ use Rattle.drm_state.specs.Ties.{Tie, MembersOpen, MembersDiffer, MastersNamed, 
 use Rattle.drm_model.specs.Parts.{Part, Bounds, Clients, Masters, Magics, Holds, Objects, Names, Tokens, Grants, Framebuffers, Shown, DeviceMaster}
 use Rattle.drm_state.specs.Refinement.{stands_for, Represents, is_same}
 use Rattle.drm_state.proofs.Represented.{references, references_are, limits_are, clients_are, masters_are, magics_none, holds_are, objects_are, names_none, tokens_none, grants_none, framebuffers_none, shown_none, device_master_is, members_open, members_differ, masters_are_named, holds_rise, objects_counted}
-use Rattle.drm_state.proofs.Booleans.{or_assoc, filter-same, filter_true, all_each, all_both}
-use Rattle.drm_state.proofs.Counting.{IsStep, among-append, among-left, among-right, fewer_among, among-more, all_named}
+use Rattle.drm_state.proofs.Counting.{IsStep, all_named}
 use Rattle.drm_state.proofs.Naming.{among_numbers, holds_naming, holds_as_before, rows_left}
 use Rattle.drm_state.proofs.Members.{masters_named, members_open_left, rows_left as clients_left}
 use Rattle.drm_state.proofs.Flat.{swept_masters}
@@ -36,7 +37,7 @@ either_way : (v : Rows) (n : ℕ) → is_referred v n ≡ (list_any (λ (row : H
 either_way v n =
     ap (λ b. list_any (λ (row : HoldRow). row.object == n) v.holds || b || list_any (λ (row : FramebufferRow). row.object == n) v.framebuffers) (sym (list_any-map (λ x. x == n) (λ (row : TokenRow). row.object) v.tokens))
     ∙ ap (λ b. list_any (λ (row : HoldRow). row.object == n) v.holds || is_among (map (λ (row : TokenRow). row.object) v.tokens) n || b) (sym (list_any-map (λ x. x == n) (λ (row : FramebufferRow). row.object) v.framebuffers))
-    ∙ sym (or_assoc (list_any (λ (row : HoldRow). row.object == n) v.holds) (is_among (map (λ (row : TokenRow). row.object) v.tokens) n) (is_among (map (λ (row : FramebufferRow). row.object) v.framebuffers) n))
+    ∙ or_assoc (list_any (λ (row : HoldRow). row.object == n) v.holds) (is_among (map (λ (row : TokenRow). row.object) v.tokens) n) (is_among (map (λ (row : FramebufferRow). row.object) v.framebuffers) n)
     ∙ ap (λ b. list_any (λ (row : HoldRow). row.object == n) v.holds || b) (sym (among-append (map (λ (row : TokenRow). row.object) v.tokens) (map (λ (row : FramebufferRow). row.object) v.framebuffers) n))
 
 -- an object is referred to where a key of a handle, a token or a framebuffer names it

@@ -1,6 +1,7 @@
 -- Which rows the state of the device stands for, and what the function of each event owes.
 use Rattle.std.specs.Prelude.{◌≡◌, ℕ, ◌+◌, ◌==◌, Bool, false, ◌&&◌, true, [], Option, None, Some, Result, Ok, Err}
 use Rattle.std.specs.declared.alloc.AllocError.{AllocError}
+use Rattle.drm_lists.specs.Orders.{SameRows}
 use Rattle.drm_table.specs.declared.answers.Answer.{Answer}
 use Rattle.drm_table.specs.declared.calls.Call.{Call}
 use Rattle.drm_table.specs.declared.events.Event.{Event}
@@ -11,7 +12,6 @@ use Rattle.drm_table.specs.Permit.{first_failing}
 use Rattle.drm_model.specs.Rows.{Rows}
 use Rattle.drm_model.specs.Parts.{Part, Bounds, Clients, Masters, Magics, Holds, Objects, Names, Tokens, Grants, Framebuffers, Shown, DeviceMaster, LastToken, LastLeaseToken}
 use Rattle.drm_model.specs.Masters.{is_owner}
-use Rattle.drm_model.specs.Orders.{SameRows}
 use Rattle.drm_model.specs.Births.{BirthsRise}
 use Rattle.drm_model.specs.Verdict.{admission_checks}
 use Rattle.drm_model.specs.Buffers.{with_object, has_buffer_room, new_handle}

@@ -1,22 +1,18 @@
 -- How the parts of the device fit together, and what the next step may rely on.
-use Rattle.std.specs.Prelude.{◌≡◌, ℕ, ◌≤◌, ◌<◌, ◌==◌, true, false, List, ◌++◌, length, map, filter, find}
+use Rattle.std.specs.Prelude.{◌≡◌, ℕ, ◌≤◌, ◌<◌, ◌==◌, true, false, List, ◌++◌, map, filter, find}
 use Rattle.std.specs.List.{list_any, AllByRecursion}
 use Rattle.std.specs.Option.{is_some}
+use Rattle.drm_lists.specs.Orders.{InOrder}
+use Rattle.drm_lists.specs.Numbers.{is_among, count}
 use Rattle.drm_gem.specs.declared.object.Object.{Object}
 use Rattle.drm_gem.specs.Objects.{is_key, IsNewBirth}
 use Rattle.drm_files.specs.declared.rows.FileClient.{FileClient}
 use Rattle.drm_files.specs.declared.rows.FileHold.{FileHold}
 use Rattle.drm_files.specs.Files.{is_present, hold_before}
-use Rattle.drm_model.specs.Numbers.{is_among}
-use Rattle.drm_model.specs.Orders.{InOrder}
 use Rattle.drm_model.specs.Rows.{is_option}
 use Rattle.drm_state.specs.declared.state.Member.{Member}
 use Rattle.drm_state.specs.declared.state.State.{State}
 use Rattle.drm_state.specs.Parts.{keys_of, referring_keys}
-
--- how often a key stands in a list
-abbrev pub count : List ℕ → ℕ → ℕ
-count keys n = length (filter (λ key. key == n) keys)
 
 -- the object counts the handles that name it, and what else refers to it
 abbrev pub Counts : List ℕ → List ℕ → Object → Type 0

@@ -1,10 +1,11 @@
 use Rattle.std.proofs.Common.{◌≡◌, ℕ, List, ◌∷◌, ◌++◌, refl, sym, ap, ◌∙◌, subst}
+use Rattle.drm_lists.proofs.Numbers.{among-more}
 use Rattle.drm_gem.specs.declared.object.Object.{Object}
 use Rattle.drm_gem.specs.Objects.{ObjectSet}
 use Rattle.drm_files.specs.Files.{FileLists, left_by, without_client}
 use Rattle.drm_state.specs.Parts.{keys_of}
 use Rattle.drm_state.specs.Ties.{AreTied, AreThoseNamed}
-use Rattle.drm_state.proofs.Counting.{IsStep, among-more, all_named, named_trans, same_tied}
+use Rattle.drm_state.proofs.Counting.{IsStep, all_named, named_trans, same_tied}
 use Rattle.drm_state.proofs.Contents.{rest_keys, first_rest, shorter_rest, no_rest, all_keys, unheld_step, has_handle, unhold_limit}
 use Rattle.drm_client_calls.proofs.closings.release_all.Goals as goal
 

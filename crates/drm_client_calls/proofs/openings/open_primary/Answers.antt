@@ -1,5 +1,6 @@
 use Rattle.std.proofs.Common.{◌≡◌, ℕ, Bool, ◌<◌, true, false, not, [], ◌∷◌, None, Some, Option, refl, sym, ap, ◌∙◌, arith, inl, length, length-append, eq-eqb}
 use Rattle.std.proofs.lemmas.Result.{err_from_is_err_and}
+use Rattle.drm_lists.proofs.Lists.{pushed}
 use Rattle.drm_table.specs.declared.answers.Answer.TheVariants.{Opened}
 use Rattle.drm_table.specs.declared.events.Event.TheVariants.{Open}
 use Rattle.drm_table.specs.declared.events.Opening.TheVariants.{Primary}
@@ -13,7 +14,6 @@ use Rattle.drm_model.specs.Reply.{answer_of}
 use Rattle.drm_state.specs.declared.state.Member.{Member}
 use Rattle.drm_state.specs.Parts.{master_row_of}
 use Rattle.drm_state.specs.Refinement.{Owes}
-use Rattle.drm_state.proofs.Booleans.{pushed}
 use Rattle.drm_state.proofs.Represented.{device_master_is}
 use Rattle.drm_client_calls.proofs.Opened as parts
 use Rattle.drm_client_calls.proofs.Opened.{unopened, unopened_represents, unopened_tied, joined_represents, founded_represents, opened_tied, named_yet, named_more}

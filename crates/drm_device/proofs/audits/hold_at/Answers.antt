@@ -1,7 +1,7 @@
 use Rattle.std.proofs.Common.{◌∙◌, sym}
+use Rattle.drm_lists.proofs.Numbers.{among-left}
 use Rattle.drm_state.specs.Parts.{keys_of, referring_keys}
 use Rattle.drm_state.proofs.Represented.{objects_counted}
-use Rattle.drm_state.proofs.Counting.{among-left}
 use Rattle.drm_device.proofs.AuditRows.{among_at, hold_there}
 use Rattle.drm_device.proofs.audits.hold_at.Goals as goal
 

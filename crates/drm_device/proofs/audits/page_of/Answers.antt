@@ -1,7 +1,7 @@
 use Rattle.std.proofs.Common.{◌≡◌, ◌+◌, [], ◌∷◌, ◌++◌, take, drop, length, length-append, ◌∙◌, ap, arith}
+use Rattle.drm_lists.proofs.Pages.{page-more, page-end}
 use Rattle.drm_model.specs.Audit.{audit_rows, rising_rows, audit_page}
 use Rattle.drm_device.specs.Audits.{IsPage, IsRowAt}
-use Rattle.drm_device.proofs.Pages.{page-more, page-end}
 use Rattle.drm_device.proofs.audits.page_of.Goals as goal
 
 pub push-requires : goal.push-requires

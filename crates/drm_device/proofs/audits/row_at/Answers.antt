@@ -1,9 +1,9 @@
 use Rattle.std.proofs.Common.{◌≡◌, ℕ, [], ◌∷◌, None, Some, Option, List, refl, sym, ◌∙◌, ap, ◌⊎◌, inl, inr}
 use Rattle.std.specs.Prelude.{slice_get}
+use Rattle.drm_lists.specs.Orders.{sorted_by}
 use Rattle.drm_table.specs.declared.audits.AuditKind.{AuditKind}
 use Rattle.drm_table.specs.declared.audits.AuditKind.TheVariants as kinds
 use Rattle.drm_model.specs.Rows.{Rows}
-use Rattle.drm_model.specs.Orders.{sorted_by}
 use Rattle.drm_model.specs.Audit.{client_audit, master_audit, audit_rows, rising_rows}
 use Rattle.drm_state.specs.declared.state.State.{State}
 use Rattle.drm_state.specs.Parts.{client_row_by, client_row_of, master_row_of}

@@ -1,9 +1,9 @@
 use Rattle.std.proofs.Common.{◌^◌, ◌<◌, length, sym, ◌∙◌, arith}
+use Rattle.drm_lists.proofs.Orders.{length-sorted}
 use Rattle.drm_model.specs.Audit.{audit_rows, is_before, rising_rows}
 use Rattle.drm_model.specs.Run.{rows_of}
 use Rattle.drm_model.proofs.Births.{births_rise}
 use Rattle.drm_model.proofs.Counts.{few_rows, few_audit_rows}
-use Rattle.drm_model.proofs.Orders.{length-sorted}
 use Rattle.drm_model.proofs.Journals.{rows_of-steps}
 use Rattle.drm_device.specs.Device.{history_of}
 use Rattle.drm_device.specs.Audits.{IsPage}

@@ -1,27 +1,27 @@
 use Rattle.std.proofs.Common.{refl, sym, ap, ◌∙◌}
+use Rattle.std.proofs.lemmas.Bool.{not-false, not-true}
 use Rattle.drm_model.specs.Run.{Step, rows_of}
 use Rattle.drm_device.specs.Device.{history_of}
 use Rattle.drm_state.specs.Refinement.{Owes}
-use Rattle.drm_state.proofs.Booleans.{not_false, not_true}
 use Rattle.drm_device.proofs.Devices.{stands, ready, has_place, next_rows, next_device, same_device, within_after}
 use Rattle.drm_device.proofs.device.Device.step.Goals as goal
 
 pub returns-then-not-has_room-clause-step : goal.returns-then-not-has_room-clause-step
 unfolding Step
-returns-then-not-has_room-clause-step c = (not_false _ (sym c.has_room.ensures ∙ c.if-not-has_room.true), refl)
+returns-then-not-has_room-clause-step c = (not-false _ (sym c.has_room.ensures ∙ c.if-not-has_room.true), refl)
 
 pub advance-requires : goal.advance-requires
 advance-requires c = ready c.self.inside c.len.result c.self.invariant c.len.ensures
 
 pub push_reserved-requires : goal.push_reserved-requires
 push_reserved-requires c =
-    let room = not_true _ (sym c.has_room.ensures ∙ c.if-not-has_room.false) in
+    let room = not-true _ (sym c.has_room.ensures ∙ c.if-not-has_room.false) in
     has_place c.self.inside c.args.event c.self.invariant (rw (ap rows_of c.self.view_is) room)
 
 pub invariant_of-self : goal.invariant_of-self
 unfolding Owes
 invariant_of-self c =
-    let room = not_true _ (sym c.has_room.ensures ∙ c.if-not-has_room.false) in
+    let room = not-true _ (sym c.has_room.ensures ∙ c.if-not-has_room.false) in
     let out = c.in-Ok.ensures.owes (rows_of (history_of c.self.inside)) (stands c.self.inside c.len.result c.self.invariant c.len.ensures) in
     next_device c.self.inside c.args.event c.push_reserved.new.self c.advance.new.state c.self.invariant (rw (ap rows_of c.self.view_is) room)
     c.push_reserved.ensures.items c.push_reserved.ensures.len c.push_reserved.ensures.capacity c.in-Ok.ensures.tied out.1
@@ -35,18 +35,18 @@ invariant_of-self-in-Err c =
 pub returns-in-Ok-clause-step : goal.returns-in-Ok-clause-step
 unfolding Step Owes
 returns-in-Ok-clause-step c =
-    let room = not_true _ (sym c.has_room.ensures ∙ c.if-not-has_room.false) in
+    let room = not-true _ (sym c.has_room.ensures ∙ c.if-not-has_room.false) in
     let out = c.in-Ok.ensures.owes (rows_of (history_of c.self.inside)) (stands c.self.inside c.len.result c.self.invariant c.len.ensures) in
     (room, rw (← ap rows_of c.self.view_is) out.0, rw (← ap rows_of c.self.view_is) (next_rows c.self.inside c.args.event c.push_reserved.new.self c.advance.new.state c.push_reserved.ensures.items))
 
 pub returns-in-Err-clause-step : goal.returns-in-Err-clause-step
 unfolding Step Owes
 returns-in-Err-clause-step c =
-    let room = not_true _ (sym c.has_room.ensures ∙ c.if-not-has_room.false) in
+    let room = not-true _ (sym c.has_room.ensures ∙ c.if-not-has_room.false) in
     let out = c.in-Err.ensures.owes (rows_of (history_of c.self.inside)) (stands c.self.inside c.len.result c.self.invariant c.len.ensures) in
     (room, rw (← ap rows_of c.self.view_is) out.0, ap rows_of c.self.view_is)
 
 pub returns-in-Ok-clause-within : goal.returns-in-Ok-clause-within
 returns-in-Ok-clause-within c =
-    let room = not_true _ (sym c.has_room.ensures ∙ c.if-not-has_room.false) in
+    let room = not-true _ (sym c.has_room.ensures ∙ c.if-not-has_room.false) in
     within_after c.self.inside c.args.event c.push_reserved.new.self c.self.invariant (rw (ap rows_of c.self.view_is) room) c.push_reserved.ensures.len

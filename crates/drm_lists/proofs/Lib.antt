@@ -1,0 +1,5 @@
+pub mod Lists
+pub mod Found
+pub mod Orders
+pub mod Numbers
+pub mod Pages

@@ -1,0 +1,10 @@
+-- Lists of numbers.
+use Rattle.std.specs.Prelude.{ℕ, ◌==◌, Bool, List, length, filter}
+use Rattle.std.specs.List.{list_any}
+
+abbrev pub is_among : List ℕ → ℕ → Bool
+is_among numbers n = list_any (λ x. x == n) numbers
+
+-- how often a number stands in a list
+abbrev pub count : List ℕ → ℕ → ℕ
+count numbers n = length (filter (λ x. x == n) numbers)
