@@ -1,10 +1,10 @@
 -- The file of a new client.
-use Rattle.std.proofs.Common.{◌≡◌, ℕ, ◌<◌, Bool, true, false, cond, not, List, [], ◌∷◌, ◌++◌, map, filter, find, Some, refl, ap, ◌∙◌, arith, eq-eqb}
-use Rattle.std.specs.Prelude.{nat_lt, if◌then◌else◌}
+use Rattle.std.proofs.Common.{◌≡◌, ℕ, ◌<◌, Bool, true, false, cond, not, List, [], ◌∷◌, ◌++◌, map, filter, find, Some, refl, ap, ◌∙◌, eq-eqb}
+use Rattle.std.specs.Prelude.{if◌then◌else◌}
 use Rattle.std.specs.List.{AllByRecursion}
 use Rattle.std.specs.Option.{is_some}
-use Rattle.std.proofs.lemmas.Bool.Decides.{nat_tests}
 use Rattle.std.proofs.lemmas.List.{map-append}
+use Rattle.std.proofs.lemmas.Bool.{lt-ltb}
 use Rattle.drm_state.proofs.Members.{found_last}
 use Rattle.drm_lists.proofs.Numbers.{less-differ}
 use Rattle.drm_files.specs.declared.rows.FileClient.{FileClient}
@@ -12,13 +12,10 @@ use Rattle.drm_files.specs.Files.{FileLists, is_client, is_present, client_befor
 
 -- ---- a new client comes last
 
-newer : (a b : ℕ) → a < b → nat_lt a b ≡ true
-newer a b h = grind (arith, nat_tests)
-
 pub placed_last : (f : FileClient) → (fs : List FileClient) → AllByRecursion (λ (g : FileClient). g.client < f.client) fs → placed client_before f fs ≡ fs ++ f ∷ []
 placed_last f [] h = refl
 placed_last f (g ∷ gs) h =
-    ap (λ b. cond b (g ∷ filter (λ (y : FileClient). client_before y f) gs) (filter (λ (y : FileClient). client_before y f) gs) ++ f ∷ cond (not b) (g ∷ filter (λ (y : FileClient). not (client_before y f)) gs) (filter (λ (y : FileClient). not (client_before y f)) gs)) (newer g.client f.client h.0)
+    ap (λ b. cond b (g ∷ filter (λ (y : FileClient). client_before y f) gs) (filter (λ (y : FileClient). client_before y f) gs) ++ f ∷ cond (not b) (g ∷ filter (λ (y : FileClient). not (client_before y f)) gs) (filter (λ (y : FileClient). not (client_before y f)) gs)) (lt-ltb g.client f.client h.0)
     ∙ ap (λ l. g ∷ l) (placed_last f gs h.1)
 
 pub authenticated_last : (f : FileClient) → (fs : List FileClient) → AllByRecursion (λ (g : FileClient). g.client < f.client) fs → map (λ (row : FileClient). if is_client f.client row then authenticated row else row) fs ≡ fs

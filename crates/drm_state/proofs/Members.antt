@@ -1,16 +1,15 @@
 -- The rows of clients, by their files and how they stand to masters.
-use Rattle.std.proofs.Common.{◌≡◌, ℕ, ◌<◌, ◌==◌, Bool, true, false, cond, not, ◌||◌, List, [], ◌∷◌, ◌++◌, map, filter, find, Option, Some, None, refl, ap, ◌∙◌, subst, arith, eq-eqb}
+use Rattle.std.proofs.Common.{◌≡◌, ℕ, ◌<◌, ◌==◌, Bool, true, false, cond, not, ◌||◌, List, [], ◌∷◌, ◌++◌, map, filter, find, Option, Some, None, refl, sym, ap, ◌∙◌, subst, eq-eqb}
 use Rattle.std.specs.Prelude.{unwrap_or}
 use Rattle.std.specs.List.{list_any, AllByRecursion}
 use Rattle.std.specs.Option.{is_some, option_map}
 use Rattle.std.proofs.lemmas.Bool.{eqb-true, or_left, or_right}
-use Rattle.std.proofs.lemmas.Bool.Decides.{nat_tests}
 use Rattle.std.specs.Cmp.{both_ways}
 use Rattle.std.proofs.lemmas.List.{map-append}
 use Rattle.drm_lists.specs.Orders.{InOrder}
-use Rattle.drm_lists.proofs.Lists.{all_weaker, list_any-map, list_any_gives, some_passing, all_both}
-use Rattle.drm_lists.proofs.Found.{find_none, find_last, find_others}
-use Rattle.drm_lists.proofs.Numbers.{less-differ}
+use Rattle.drm_lists.proofs.Lists.{all_weaker, list_any-map, list_any_left, list_any_right, list_any_gives, some_passing, all_both}
+use Rattle.drm_lists.proofs.Found.{is_some-find, find_none, find_last, find_others}
+use Rattle.drm_lists.proofs.Numbers.{flipped, less-differ}
 use Rattle.drm_files.specs.declared.rows.FileFlags.{FileFlags}
 use Rattle.drm_files.specs.declared.rows.FileClient.{FileClient}
 use Rattle.drm_files.specs.Files.{is_client}
@@ -52,9 +51,6 @@ found c flags fs e = something (find (is_client c) fs) e
 
 -- ---- one more client
 
-more-differ : (a b : ℕ) → a < b → (b == a) ≡ false
-more-differ a b h = grind (arith, nat_tests)
-
 older : (c b : ℕ) → (fs : List FileClient) → AllByRecursion (λ (f : FileClient). f.client < b) fs → is_some (find (is_client c) fs) ≡ true → c < b
 older c b [] h e = absurd (let k : false ≡ true = e in cc)
 older c b (f ∷ fs) h e =
@@ -72,7 +68,7 @@ find_before c m e (x ∷ ms) = ap (λ r. cond (x.client == c) (Some x) r) (find_
 rows_before : (m : Member) (ms : List Member) → (fs : List FileClient) → AllByRecursion (λ (f : FileClient). f.client < m.client) fs → map (client_row_of (ms ++ m ∷ [])) fs ≡ map (client_row_of ms) fs
 rows_before m ms [] h = refl
 rows_before m ms (f ∷ fs) h =
-    ap (λ o. client_row_by f (unwrap_or o (no_member f.client)) ∷ map (client_row_of (ms ++ m ∷ [])) fs) (find_before f.client m (more-differ f.client m.client h.0) ms) ∙ ap (λ l. client_row_of ms f ∷ l) (rows_before m ms fs h.1)
+    ap (λ o. client_row_by f (unwrap_or o (no_member f.client)) ∷ map (client_row_of (ms ++ m ∷ [])) fs) (find_before f.client m (flipped f.client m.client (less-differ f.client m.client h.0)) ms) ∙ ap (λ l. client_row_of ms f ∷ l) (rows_before m ms fs h.1)
 
 -- the rows with one more client, which stands to masters
 pub client_pushed : (flags : FileFlags) (m : Member) (fs : List FileClient) (ms : List Member) → AllByRecursion (λ (f : FileClient). f.client < m.client) fs → AllByRecursion (IsThere fs) ms →
@@ -89,18 +85,15 @@ render_pushed f fs ms h k =
     map-append (client_row_of ms) fs (f ∷ [])
     ∙ ap (λ o. map (client_row_of ms) fs ++ client_row_by f (unwrap_or o (no_member f.client)) ∷ []) (find_none (is_of f.client) ms (members_older f.client fs ms h k))
 
-some-append : (c : ℕ) (f : FileClient) → (fs : List FileClient) → is_some (find (is_client c) fs) ≡ true → is_some (find (is_client c) (fs ++ f ∷ [])) ≡ true
-some-append c f [] h = absurd (let e : false ≡ true = h in cc)
-some-append c f (g ∷ gs) h =
-    elim (g.client == c) as (λ b. is_some (cond b (Some g) (find (is_client c) gs)) ≡ true → is_some (cond b (Some g) (find (is_client c) (gs ++ f ∷ []))) ≡ true) [ true ↦ λ e. refl | false ↦ λ e. some-append c f gs e ] h
+some-append : (c : ℕ) (f : FileClient) (fs : List FileClient) → is_some (find (is_client c) fs) ≡ true → is_some (find (is_client c) (fs ++ f ∷ [])) ≡ true
+some-append c f fs h = is_some-find (is_client c) (fs ++ f ∷ []) ∙ list_any_left (is_client c) fs (f ∷ []) (sym (is_some-find (is_client c) fs) ∙ h)
 
 -- they are open among more clients
 pub members_open_yet : (f : FileClient) (fs : List FileClient) (ms : List Member) → AllByRecursion (IsThere fs) ms → AllByRecursion (IsThere (fs ++ f ∷ [])) ms
 members_open_yet f fs ms h = all_weaker (IsThere fs) (IsThere (fs ++ f ∷ [])) (λ m e. some-append m.client f fs e) ms h
 
-pub found_last : (f : FileClient) → (fs : List FileClient) → is_some (find (is_client f.client) (fs ++ f ∷ [])) ≡ true
-found_last f [] = ap (λ b. is_some (cond b (Some f) None)) (eq-eqb f.client f.client refl)
-found_last f (g ∷ gs) = elim (g.client == f.client) as (λ b. is_some (cond b (Some g) (find (is_client f.client) (gs ++ f ∷ []))) ≡ true) [ true ↦ refl | false ↦ found_last f gs ]
+pub found_last : (f : FileClient) (fs : List FileClient) → is_some (find (is_client f.client) (fs ++ f ∷ [])) ≡ true
+found_last f fs = is_some-find (is_client f.client) (fs ++ f ∷ []) ∙ list_any_right (is_client f.client) fs (f ∷ []) (or_left (f.client == f.client) false (eq-eqb f.client f.client refl))
 
 -- ---- a client fewer
 
