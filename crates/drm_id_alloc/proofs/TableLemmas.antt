@@ -1,5 +1,5 @@
 -- How the entries of a table stay within its range.
-use Rattle.std.proofs.Common.{◌≡◌, ℕ, ◌+◌, ◌<◌, ◌≤◌, Bool, true, false, not, eqb, Option, Some, None, is_some, IsTrue, OnSome, option_map, refl, sym, ap, inl, inr, arith}
+use Rattle.std.proofs.Common.{◌≡◌, ℕ, ◌+◌, ◌<◌, ◌≤◌, Bool, true, false, not, eqb, Option, Some, None, is_some, IsTrue, refl, sym, inl, inr, arith}
 use Rattle.std.specs.Ordering.{nat_cmp}
 use Rattle.std.specs.FinMap as map
 use Rattle.std.proofs.lemmas.Bool.{cases_eq, false≢true}
@@ -24,15 +24,6 @@ contains-remove m k q there =
     ]
 
 module _ {X : Type 0} (m : map.FinMap nat_cmp X) (first last : ℕ) (given : Option ℕ) (within : IsWithin m first last given) where
-  -- a number that is found is in the range
-  pub low_of : (id : ℕ) {Y : Type 0} (r : Option Y) (f : Y → X) → option_map f r ≡ map.get m id → OnSome r (first ≤ id)
-  low_of id None f found = tt
-  low_of id (Some x) f found = within.low id (ap is_some (sym found))
-
-  pub high_of : (id : ℕ) {Y : Type 0} (r : Option Y) (f : Y → X) → option_map f r ≡ map.get m id → OnSome r (id ≤ last)
-  high_of id None f found = tt
-  high_of id (Some x) f found = within.high id (ap is_some (sym found))
-
   pub IsWithin-insert : (k : ℕ) (v : X) → first ≤ k → k ≤ last → IsWithin (map.insert m k v) first last given
   IsWithin-insert k v low high = record {
     in_order = within.in_order;

@@ -41,9 +41,6 @@ module _ {T : Type 0} (v : Tree T) where
     free_past : (k : ℕ) → span v.height ≤ k → free k ≡ true
     free_past k le = ap (λ o. not (is_some o)) (past k le)
 
-    pub vacant_beyond : span v.height ≤ from → IsLeastFrom free from from
-    vacant_beyond le = record { at_least = omega arith; at_most = omega arith; passes = free_past from le; none_below = λ k ge lt. absurd (omega arith) }
-
     pub vacant_found : (n : ℕ) → Some n ≡ least free from (span v.height - 1) → IsLeastFrom free from n
     vacant_found n found =
         let is = least_some free from _ n (sym found) in

@@ -73,6 +73,3 @@ has_bit-not word i fits lt =
     let flipped = bit_at_not w64 word i fits lt in
     let small = bit_at-lt word i in
     grind (arith, nat_tests)
-
-pub one_bit_fits : (k : ℕ) → 1 * 2 ^ k % 2 ^ 64 < 2 ^ 64
-one_bit_fits k = omega arith
