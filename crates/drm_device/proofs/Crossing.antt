@@ -2,6 +2,7 @@
 use denote.Struct.Declared.{shape}
 use denote.Param.Send.{IsSend, sendable, view_send, recorded_send, struct_send}
 use Rattle.std.proofs.Crossing.{Vec-send}
+use Rattle.arrayvec.proofs.array_vec.ArrayVec.TheSendSync as list
 use Rattle.drm_table.proofs.events.Event.TheSendSync as event
 use Rattle.drm_table.proofs.limits.Limits.TheSendSync as limits
 use Rattle.drm_state.proofs.Crossing.{state_send}
@@ -13,17 +14,17 @@ use Rattle.drm_device.specs.contracts.topologies.Topology.TheInside as topology_
 topology_send : IsSend topology.the_row
 topology_send =
     view_send topology_inside.the_row _ _ _ _
-      (recorded_send topology_inside.the_field.row _ _ topology_inside.the_type.to_one
-        (struct_send (shape topology_inside.the_type) (search sendable depth 20, (?, (?, (?, tt))))))
+    (recorded_send topology_inside.the_field.row _ _ topology_inside.the_type.to_one
+    (struct_send (shape topology_inside.the_type) (search sendable depth 20, (search (list.the_send, sendable) depth 20, (search (list.the_send, sendable) depth 20, (search (list.the_send, sendable) depth 20, tt))))))
 
 inside_send : IsSend inside.the_row
 inside_send =
     recorded_send
-      inside.the_field.row
-      _
-      _
-      inside.the_type.to_one
-      (struct_send (shape inside.the_type) (topology_send, (limits.the_field_send, (Vec-send _ event.the_send, (state_send, tt)))))
+    inside.the_field.row
+    _
+    _
+    inside.the_type.to_one
+    (struct_send (shape inside.the_type) (topology_send, (limits.the_field_send, (Vec-send _ event.the_send, (state_send, tt)))))
 
 pub device_send : IsSend device.the_row
 device_send = view_send inside.the_row _ _ _ _ inside_send

@@ -9,11 +9,11 @@ use Rattle.drm_id_alloc.specs.contracts.table.IdTable.TheInside as inside
 inside_send : (T : RattleType) → IsSend T → IsSend (inside.the_row T)
 inside_send T s =
     recorded_send
-      (inside.the_field T).row
-      _
-      _
-      (inside.the_type T).to_one
-      (struct_send (shape (inside.the_type T)) (search (array_send, s, sendable) depth 20, (search sendable depth 20, (search sendable depth 20, (search sendable depth 20, tt)))))
+    (inside.the_field T).row
+    _
+    _
+    (inside.the_type T).to_one
+    (struct_send (shape (inside.the_type T)) (search (array_send, s, sendable) depth 20, (search sendable depth 20, (search sendable depth 20, (search sendable depth 20, tt)))))
 
 pub table_send : (T : RattleType) → IsSend T → IsSend (table.the_row T)
 table_send T s = view_send (inside.the_row T) _ _ _ _ (inside_send T s)

@@ -13,5 +13,5 @@ member_send = recorded_send member.the_field.row _ _ member.the_type.to_one (str
 pub state_send : IsSend state.the_field.row
 state_send =
     struct_send
-      (shape state.the_type)
-      (files_send, (search (Vec-send, member_send, sendable) depth 20, (search (Vec-send, sendable) depth 20, (objects_send, (search sendable depth 20, tt)))))
+    (shape state.the_type)
+    (files_send, (search (Vec-send, member_send, sendable) depth 20, (search (Vec-send, sendable) depth 20, (objects_send, (search sendable depth 20, tt)))))
