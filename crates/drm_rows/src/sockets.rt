@@ -8,7 +8,9 @@ use std::alloc::Global;
 use std::io::{Read, Write};
 use std::net::{Net, Shutdown};
 use std::os::unix::net::{UnixListener, UnixStream};
+use std::sync::Wait;
 use std::test::Fail;
+use std::thread::Threads;
 use std::{env, fs, io, process, thread};
 
 /// A hello for a node, and VERSION.
@@ -105,12 +107,49 @@ fn open_four<R: Net>(rt: &R, places: &Places) -> io::Result<()> {
     Ok(())
 }
 
+/// What a device served, and how many steps it noted and what it lists afterwards.
+#[derive(Drop)]
+struct Outcome {
+    sessions: Vec<Session>,
+    steps: usize,
+    listing: CutSink<64>,
+}
+
+/// Serves the connections on a new device. The device stays in the thread that made it.
+fn serve<R: Wait + Threads + Sync>(
+    rt: &R,
+    alloc: Global,
+    sockets: &Sockets,
+    counts: Counts,
+) -> Option<Outcome> {
+    let topology = Topology::new(2, &[1, 2], &[3, 2], &[5, 6])?;
+    let device = Device::new(alloc, topology, Limits::PROGRAM).ok()?;
+    let served = serve_all(
+        rt,
+        alloc,
+        device,
+        &sockets.card,
+        &sockets.render,
+        &sockets.root,
+        counts,
+    );
+    let (device, sessions) = served.ok()?;
+    let mut listing = CutSink::new(64);
+    if list_audit(&device, &mut listing, 1_000) != ListEnd::Done {
+        return None;
+    }
+    Some(Outcome {
+        sessions,
+        steps: device.journal().len(),
+        listing,
+    })
+}
+
 #[test]
 fn serves_one_connection(rt: HostRuntime) -> Result<(), Fail> {
     let alloc: Global = rt.alloc();
     let places = choose_places(&rt, alloc)?;
     let sockets = bind(&rt, &places)?;
-    let device = device(alloc)?;
     let counts = Counts {
         cards: 1,
         renders: 0,
@@ -119,30 +158,18 @@ fn serves_one_connection(rt: HostRuntime) -> Result<(), Fail> {
     let (answers, served) = thread::join(
         &rt,
         || ask(&rt, alloc, places.card.as_str(), &HELLO_VERSION),
-        || {
-            serve_all(
-                &rt,
-                alloc,
-                device,
-                &sockets.card,
-                &sockets.render,
-                &sockets.root,
-                counts,
-            )
-        },
+        || serve(&rt, alloc, &sockets, counts),
     );
     remove(&rt, &places)?;
     assert_eq!(&rt; answers?.as_slice(), ANSWERS.as_slice());
-    let (device, sessions) = served?;
+    let served = served.ok_or("no outcome")?;
     let session = Session {
         end: SessionEnd::Ended,
         client: 1,
         steps: 3,
     };
-    assert_eq!(&rt; sessions.as_slice(), [session].as_slice());
-    let mut listing: CutSink<64> = CutSink::new(64);
-    assert_eq!(&rt; list_audit(&device, &mut listing, 1_000), ListEnd::Done);
-    assert_eq!(&rt; listing.written(), b"device 0 0 0 3\n".as_slice());
+    assert_eq!(&rt; served.sessions.as_slice(), [session].as_slice());
+    assert_eq!(&rt; served.listing.written(), b"device 0 0 0 3\n".as_slice());
     Ok(())
 }
 
@@ -151,7 +178,6 @@ fn serves_four_connections_at_once(rt: HostRuntime) -> Result<(), Fail> {
     let alloc: Global = rt.alloc();
     let places = choose_places(&rt, alloc)?;
     let sockets = bind(&rt, &places)?;
-    let device = device(alloc)?;
     let counts = Counts {
         cards: 2,
         renders: 1,
@@ -160,29 +186,19 @@ fn serves_four_connections_at_once(rt: HostRuntime) -> Result<(), Fail> {
     let (opened, served) = thread::join(
         &rt,
         || open_four(&rt, &places),
-        || {
-            serve_all(
-                &rt,
-                alloc,
-                device,
-                &sockets.card,
-                &sockets.render,
-                &sockets.root,
-                counts,
-            )
-        },
+        || serve(&rt, alloc, &sockets, counts),
     );
     remove(&rt, &places)?;
     opened?;
-    let (device, sessions) = served?;
+    let served = served.ok_or("no outcome")?;
     let ended = |client: u32| Session {
         end: SessionEnd::Ended,
         client,
         steps: 2,
     };
     let order = [ended(3), ended(4), ended(2), ended(1)];
-    assert_eq!(&rt; sessions.as_slice(), order.as_slice());
-    assert_eq!(&rt; device.journal().len(), 8);
+    assert_eq!(&rt; served.sessions.as_slice(), order.as_slice());
+    assert_eq!(&rt; served.steps, 8);
     Ok(())
 }
 
