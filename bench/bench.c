@@ -324,6 +324,7 @@ static void load_of_handles(const char *server, const char *folder, const char *
     snprintf(root, sizeof root, "%s/root", folder);
     printf("\n%8s  %-29s  %-29s  %9s  %22s  %s\n", "", "us: make, read, close, again", "each / that among 10", "page us",
            "closing us, a handle", "slowest other us");
+    fflush(stdout);
     for (size_t i = 0; i < sizeof handles / sizeof *handles; i++) {
         pid_t child = start_server(server, folder, path, 2, 1);
         struct costs costs = measure_among(path, root, handles[i]);
