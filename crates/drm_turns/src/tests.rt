@@ -1,6 +1,6 @@
 //! One device, several seats.
 
-use crate::{Seat, SharedDevice};
+use crate::{Seat, SharedDevice, Sharing};
 use drm_device::{Device, Topology};
 use drm_table::{Answer, Apart, Call, Event, Limits, Opening};
 use std::alloc::Global;
@@ -8,6 +8,7 @@ use std::process::Abort;
 use std::sync::Wait;
 use std::test::Fail;
 use std::thread;
+use std::thread::Threads;
 
 /// A new device with two CRTCs, behind its lock, and the first seat.
 fn shared(alloc: Global) -> Result<(SharedDevice, Seat), Fail> {
@@ -79,15 +80,25 @@ fn hundred_events(rt: &(impl Wait + Abort), shared: &SharedDevice, seat: &mut Se
     }
 }
 
+/// Two threads at once, a hundred events each.
+fn two_hundred_events<R: Wait + Threads + Abort + Sync, D: Sharing + Sync>(
+    rt: &R,
+    shared: &D,
+    seat: &mut Seat,
+    other: &mut Seat,
+) {
+    thread::join(
+        rt,
+        || hundred_events(rt, shared.device(), seat),
+        || hundred_events(rt, shared.device(), other),
+    );
+}
+
 #[test]
 fn threads_at_once_leave_one_journal(rt: HostRuntime) -> Result<(), Fail> {
     let (shared, mut seat) = shared(rt.alloc())?;
     let mut other = shared.split(&mut seat);
-    thread::join(
-        &rt,
-        || hundred_events(&rt, &shared, &mut seat),
-        || hundred_events(&rt, &shared, &mut other),
-    );
+    two_hundred_events(&rt, &shared, &mut seat, &mut other);
     shared.join(&mut seat, other);
     let device = shared.close(seat).map_err(|_| "the device is out")?;
     assert_eq!(rt; device.journal().len(), 200);
