@@ -1,15 +1,16 @@
 -- The lists after each call.
-use Rattle.std.proofs.Common.{◌≡◌, ℕ, suc, List, [], ◌∷◌, find, length, slice_get, Option, Some, None, option_map, option_and_then, refl, sym, ap, ◌∙◌, nat_cmp}
+use Rattle.std.proofs.Common.{◌≡◌, ℕ, find, length, slice_get, Option, Some, None, option_map, option_and_then, refl, sym, ap, ◌∙◌, nat_cmp}
+use Rattle.std.specs.Option.{option_or}
 use Rattle.std.specs.FinMap as fin
 use Rattle.drm_files.specs.declared.files.FileRecord.{FileRecord}
 use Rattle.drm_files.specs.declared.files.Held.{Held}
 use Rattle.drm_files.specs.declared.rows.FileClient.{FileClient}
 use Rattle.drm_files.specs.declared.rows.FileHold.{FileHold}
-use Rattle.drm_files.specs.Files.{FileLists, is_client, is_hold, client, hold, authenticated, with_client, without_client, with_hold, without_hold, with_authenticated}
+use Rattle.drm_files.specs.Files.{FileLists, is_client, is_hold, client, hold, authenticated, with_client, without_client, with_hold, without_hold, with_place, with_authenticated}
 use Rattle.drm_files.specs.Records.{clients_in, holds_in, lists_of, rows_in}
 use Rattle.drm_files.proofs.Flat.{held}
 use Rattle.drm_index_array.proofs.Keyed.{row_at, rows_length}
-use Rattle.drm_files.proofs.Changes.{client_of, clients_opened, clients_closed, clients_kept, clients_authenticated, holds_kept, holds_added, holds_dropped, holds_closed, held_here, find_client, find_hold}
+use Rattle.drm_files.proofs.Changes.{client_of, clients_opened, clients_closed, clients_kept, clients_authenticated, holds_kept, holds_added, holds_placed, holds_dropped, holds_closed, held_here, find_client, find_hold}
 
 module _ (limit last : ℕ) (m : fin.FinMap nat_cmp FileRecord) (c : ℕ) where
   pub length_clients : length (clients_in (fin.entries m)) ≡ fin.len m
@@ -33,6 +34,10 @@ module _ (limit last : ℕ) (m : fin.FinMap nat_cmp FileRecord) (c : ℕ) where
 
   pub dropped : (r s : FileRecord) (h : ℕ) → fin.get m c ≡ Some r → s.flags ≡ r.flags → s.handles.slots ≡ fin.remove r.handles.slots h → lists_of limit last (fin.insert m c s) ≡ without_hold (lists_of limit last m) c h
   dropped r s h found flags slots = by_rows (fin.insert m c s) (without_hold (lists_of limit last m) c h) (clients_kept m c r s found flags) (holds_dropped m c r s h found slots)
+
+  pub given : (r s : FileRecord) (h : ℕ) (x : Held) (place : ℕ) → fin.get m c ≡ Some r → fin.get r.handles.slots h ≡ Some x → s.flags ≡ r.flags → s.handles.slots ≡ fin.insert r.handles.slots h (record { object = x.object; place = option_or x.place (Some place) }) → lists_of limit last (fin.insert m c s) ≡ with_place (lists_of limit last m) c h place
+  given r s h x place found here flags slots =
+      by_rows (fin.insert m c s) (with_place (lists_of limit last m) c h place) (clients_kept m c r s found flags) (holds_placed m c r s h x place found here slots)
 
   pub let_in : (r s : FileRecord) → fin.get m c ≡ Some r → ((k : ℕ) → client k s.flags ≡ authenticated (client k r.flags)) → s.handles.slots ≡ r.handles.slots → lists_of limit last (fin.insert m c s) ≡ with_authenticated (lists_of limit last m) c
   let_in r s found flags slots =

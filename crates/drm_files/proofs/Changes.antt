@@ -1,5 +1,6 @@
 -- What the lists are after each change of the records.
 use Rattle.std.proofs.Common.{◌≡◌, ℕ, Bool, true, false, not, ◌&&◌, ◌==◌, nat_lt, eqb, cond, if◌then◌else◌, T, map, filter, find as find_row, Option, Some, None, option_map, option_and_then, refl, sym, ap, subst, ◌∙◌, inl, inr, arith, map-id, nat_cmp, is_lt}
+use Rattle.std.specs.Option.{option_or}
 use Rattle.std.specs.Ordering.{eq_by_cmp}
 use Rattle.std.specs.Cmp.{nat_cmp_total}
 use Rattle.std.specs.FinMap as fin
@@ -11,7 +12,8 @@ use Rattle.drm_index_array.proofs.MarkedLemmas.{get-insert, get-remove}
 use Rattle.drm_files.specs.declared.files.FileRecord.{FileRecord}
 use Rattle.drm_files.specs.declared.files.Held.{Held}
 use Rattle.drm_files.specs.declared.rows.FileClient.{FileClient}
-use Rattle.drm_files.specs.Files.{client, hold, hold_before, client_before, is_client, is_hold, of_client, authenticated}
+use Rattle.drm_files.specs.declared.rows.FileHold.{FileHold}
+use Rattle.drm_files.specs.Files.{client, hold, hold_before, client_before, is_client, is_hold, of_client, authenticated, given_place}
 use Rattle.drm_index_array.specs.Rows.{placed}
 use Rattle.drm_files.specs.Records.{rows_in, holds_in, clients_in}
 use Rattle.drm_index_array.proofs.Keyed.{rows_where, find_rows, rows_put, rows_put_found, entries_removed}
@@ -104,9 +106,9 @@ module _ (m : fin.FinMap nat_cmp FileRecord) (c : ℕ) where
       ∙ sym (find_held m a b)))
       ∙ sym (rows_flat (fin.entries m))
 
-  pub holds_added : (r s : FileRecord) (h : ℕ) (x : Held) → fin.get m c ≡ Some r → fin.get r.handles.slots h ≡ None → s.handles.slots ≡ fin.insert r.handles.slots h x →
-      holds_in (fin.entries (fin.insert m c s)) ≡ placed hold_before (hold c h x.object x.place) (holds_in (fin.entries m))
-  holds_added r s h x found new slots =
+  -- a client's table that has one more entry, or another at its number
+  holds_put : (r s : FileRecord) (h : ℕ) (x : Held) → fin.get m c ≡ Some r → s.handles.slots ≡ fin.insert r.handles.slots h x → holds_in (fin.entries (fin.insert m c s)) ≡ map row_of (put place_cmp (c, h) x (flat (fin.entries m)))
+  holds_put r s h x found slots =
       let es = flat (fin.entries m) in
       let sorted = sorted_flat (fin.entries m) (fin.entries_sorted m) in
       rows_flat _
@@ -117,8 +119,34 @@ module _ (m : fin.FinMap nat_cmp FileRecord) (c : ℕ) where
       (λ apart. refl)
       ∙ (λ i. cond (sym (place_eq a b c h) i) (Some x) (sym (find_held m a b) i))
       ∙ sym (find-put place_cmp place_total (a, b) (c, h) x es)))
+
+  pub holds_added : (r s : FileRecord) (h : ℕ) (x : Held) → fin.get m c ≡ Some r → fin.get r.handles.slots h ≡ None → s.handles.slots ≡ fin.insert r.handles.slots h x →
+      holds_in (fin.entries (fin.insert m c s)) ≡ placed hold_before (hold c h x.object x.place) (holds_in (fin.entries m))
+  holds_added r s h x found new slots =
+      let es = flat (fin.entries m) in
+      let sorted = sorted_flat (fin.entries m) (fin.entries_sorted m) in
+      holds_put r s h x found slots
       ∙ rows_put place_cmp place_total row_of hold_before hold_order (c, h) x es sorted (find_held m c h ∙ held_here r found c h refl ∙ new)
       ∙ ap (placed hold_before (hold c h x.object x.place)) (sym (rows_flat (fin.entries m)))
+
+  abbrev with_own : ℕ → ℕ → FileHold → FileHold
+  with_own h place row = if is_hold c h row then given_place place row else row
+
+  pub holds_placed : (r s : FileRecord) (h : ℕ) (x : Held) (place : ℕ) → fin.get m c ≡ Some r → fin.get r.handles.slots h ≡ Some x → s.handles.slots ≡ fin.insert r.handles.slots h (record { object = x.object; place = option_or x.place (Some place) }) →
+      holds_in (fin.entries (fin.insert m c s)) ≡ map (with_own h place) (holds_in (fin.entries m))
+  holds_placed r s h x place found here slots =
+      let es = flat (fin.entries m) in
+      let sorted = sorted_flat (fin.entries m) (fin.entries_sorted m) in
+      let y : Held = record { object = x.object; place = option_or x.place (Some place) } in
+      let own : (e : Place × Held) → with_own h place (row_of e) ≡ cond (eq_by_cmp place_cmp (c, h) e.0) (given_place place (row_of e)) (row_of e) =
+      λ e. ap (λ b. cond b (given_place place (row_of e)) (row_of e)) (hold_test c h e) in
+      holds_put r s h y found slots
+      ∙ rows_put_found place_cmp place_total row_of (with_own h place) (c, h)
+      (λ e no. own e ∙ ap (λ b. cond b (given_place place (row_of e)) (row_of e)) no)
+      x y
+      (λ e at value. (λ i. hold e.0.0 e.0.1 (sym value i).object (option_or (sym value i).place (Some place))) ∙ sym (own e ∙ ap (λ b. cond b (given_place place (row_of e)) (row_of e)) at))
+      es sorted (find_held m c h ∙ held_here r found c h refl ∙ here)
+      ∙ ap (map (with_own h place)) (sym (rows_flat (fin.entries m)))
 
   pub holds_dropped : (r s : FileRecord) (h : ℕ) → fin.get m c ≡ Some r → s.handles.slots ≡ fin.remove r.handles.slots h →
       holds_in (fin.entries (fin.insert m c s)) ≡ filter (λ row. not (is_hold c h row)) (holds_in (fin.entries m))

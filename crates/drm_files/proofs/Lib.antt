@@ -4,4 +4,5 @@ mod RecordFacts
 mod Calls
 mod Walks
 mod Rests
+mod PrimeFacts
 pub mod Crossing

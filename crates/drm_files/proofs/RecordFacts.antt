@@ -1,5 +1,5 @@
 -- What is so of the lists, and how the records stay what they are.
-use Rattle.std.proofs.Common.{◌≡◌, ℕ, ◌≤◌, Bool, true, false, not, ◌||◌, ◌==◌, eqb, cond, T, List, [], ◌∷◌, map, length, is_some, IsTrue, Option, Some, None, option_map, option_and_then, unwrap_or, refl, sym, ap, subst, ◌∙◌, inl, inr, arith, nat_cmp}
+use Rattle.std.proofs.Common.{◌≡◌, ℕ, ◌≤◌, Bool, true, false, not, ◌||◌, ◌==◌, eqb, cond, T, List, [], ◌∷◌, map, find, length, is_some, IsTrue, Option, Some, None, option_map, option_and_then, unwrap_or, refl, sym, ap, subst, ◌∙◌, inl, inr, arith, nat_cmp}
 use Rattle.std.specs.List.{AllByRecursion, list_any}
 use Rattle.std.specs.Ordering.{eq_by_cmp}
 use Rattle.std.specs.Cmp.{nat_cmp_total}
@@ -14,11 +14,11 @@ use Rattle.drm_id_alloc.specs.Table.{Table, is_free, least_free, with_entry, wit
 use Rattle.drm_files.specs.declared.files.FileRecord.{FileRecord}
 use Rattle.drm_files.specs.declared.files.Held.{Held}
 use Rattle.drm_files.specs.declared.rows.FileHold.{FileHold}
-use Rattle.drm_files.specs.Files.{client, hold, hold_before, client_before, is_present, is_among, handles_of, free_handle, left_by, empty_files, AreFiles, IsHoldOf, InOrder}
+use Rattle.drm_files.specs.Files.{client, hold, hold_before, client_before, is_present, is_hold, is_among, handles_of, free_handle, left_by, empty_files, AreFiles, IsHoldOf, InOrder}
 use Rattle.drm_files.specs.Records.{rows_in, holds_in, clients_in, lists_of, pairs_of, IsTable, AreRecords}
 use Rattle.drm_index_array.proofs.Keyed.{all_rows, rows_in_order, none_some}
 use Rattle.drm_files.proofs.Flat.{place_cmp, place_total, row_of, flat, rows_flat, sorted_flat, held, find_held, eqb_other}
-use Rattle.drm_files.proofs.Changes.{client_of, before_test, hold_order, find_client, rows_of_client}
+use Rattle.drm_files.proofs.Changes.{client_of, before_test, hold_order, find_client, find_hold, held_here, rows_of_client}
 
 some_of : {X Y : Type 0} (f : X → Y) (x : Option X) → is_some (option_map f x) ≡ is_some x
 some_of f None = refl
@@ -38,6 +38,10 @@ module _ (limit last : ℕ) (m : fin.FinMap nat_cmp FileRecord) where
 
   pub nobody : (c : ℕ) → is_present (lists_of limit last m) c ≡ true → None ≡ fin.get m c → ⊥
   nobody c present none = false≢true (ap is_some none ∙ sym (present_is c) ∙ present)
+
+  -- a handle that the client has is in its table
+  pub has_none : (c h : ℕ) (r : FileRecord) → fin.get m c ≡ Some r → is_some (find (is_hold c h) (lists_of limit last m).holds) ≡ true → None ≡ fin.get r.handles.slots h → ⊥
+  has_none c h r found has none = false≢true (ap is_some none ∙ sym (ap is_some (find_hold m c h) ∙ some_of (λ x. hold c h x.object x.place) (held m c h) ∙ ap is_some (held_here m c r found c h refl)) ∙ has)
 
   -- the handles of a client are the keys of its table
   pub handles_are : (c : ℕ) (r : FileRecord) → fin.get m c ≡ Some r → handles_of (lists_of limit last m) c ≡ fin.keys r.handles.slots

@@ -1,6 +1,5 @@
 -- How the entries of a map are met one after another.
-use Rattle.std.proofs.Common.{◌≡◌, ℕ, zero, suc, ◌+◌, ◌-◌, ◌<◌, ◌≤◌, Bool, true, false, cond, eqb, nat_le, T, List, [], ◌∷◌, ◌++◌, map, slice_get, length, is_some, IsTrue, IfNone, Option, Some, None, option_map, option_and_then, unwrap_or, refl, sym, ap, ◌∙◌, inl, inr, arith, nat_cmp, is_lt}
-use Rattle.std.specs.Ordering.{eq_by_cmp}
+use Rattle.std.proofs.Common.{◌≡◌, ℕ, zero, suc, ◌+◌, ◌-◌, ◌<◌, ◌≤◌, Bool, true, false, cond, eqb, nat_le, T, List, [], ◌∷◌, ◌++◌, map, slice_get, length, is_some, IsTrue, IfNone, Option, Some, None, refl, sym, ap, ◌∙◌, inl, inr, arith, nat_cmp, is_lt}
 use Rattle.std.specs.Cmp.{nat_cmp_total}
 use Rattle.std.specs.FinMap as fin
 use Rattle.std.specs.FinMap.{nat_cmp-IsAntisymmetric}
@@ -10,7 +9,7 @@ use Rattle.std.proofs.lemmas.Bool.Decides.{nat_tests}
 use Rattle.drm_index_array.specs.Least.{least, IsLeast}
 use Rattle.drm_index_array.proofs.Least.{least_some}
 use Rattle.drm_index_array.proofs.MarkedLemmas.{get-remove, eq_by_cmp-nat_cmp}
-use Rattle.drm_index_array.proofs.Keyed.{both, none_some, skip_first, right}
+use Rattle.drm_index_array.proofs.Keyed.{both, none_some}
 use Rattle.drm_files.proofs.Flat.{eqb_same, eqb_other}
 
 -- the entries from a number on

@@ -1,7 +1,8 @@
 -- The open clients and the handles that they hold, as flat lists.
-use Rattle.std.specs.Prelude.{◌≡◌, ℕ, ◌==◌, ◌≤◌, ◌&&◌, ◌||◌, Bool, true, not, if◌then◌else◌, nat_lt, List, [], ◌∷◌, ◌++◌, map, filter, find, Option, is_some}
-use Rattle.std.specs.List.{list_any, AllByRecursion}
-use Rattle.drm_index_array.specs.Least.{least}
+use Rattle.std.specs.Prelude.{◌≡◌, ℕ, ◌==◌, ◌≤◌, ◌&&◌, ◌||◌, Bool, true, false, not, if◌then◌else◌, nat_lt, List, [], map, filter, find, Option, Some, is_some}
+use Rattle.std.specs.List.{list_any, filter_map, AllByRecursion}
+use Rattle.std.specs.Option.{option_or, option_and_then, option_map_or}
+use Rattle.drm_index_array.specs.Least.{least, least_of}
 pub use Rattle.drm_index_array.specs.Rows.{placed, InOrder}
 use Rattle.drm_files.specs.declared.rows.FileFlags.{FileFlags}
 use Rattle.drm_files.specs.declared.rows.FileClient.{FileClient}
@@ -82,6 +83,33 @@ without_hold files c h = record files { holds = filter (λ row. not (is_hold c h
 
 abbrev pub with_authenticated : FileLists → ℕ → FileLists
 with_authenticated files c = record files { clients = map (λ row. if is_client c row then authenticated row else row) files.clients }
+
+-- a handle of the client for the object
+abbrev pub is_hold_of : ℕ → ℕ → FileHold → Bool
+is_hold_of c object row = (row.client == c) && (row.object == object)
+
+-- the PRIME places of the client's handles for the object
+abbrev pub places_of : FileLists → ℕ → ℕ → List ℕ
+places_of files c object = filter_map (λ row. row.place) (filter (is_hold_of c object) files.holds)
+
+abbrev pub has_place : ℕ → FileHold → Bool
+has_place place row = option_map_or (λ p. p == place) row.place false
+
+-- the client's handles for the object that have this PRIME place
+abbrev pub handles_at : FileLists → ℕ → ℕ → ℕ → List ℕ
+handles_at files c object place = map (λ row. row.handle) (filter (has_place place) (filter (is_hold_of c object) files.holds))
+
+-- the client's handle for the object with the least PRIME place, and at a tie the least handle
+abbrev pub prime_handle : FileLists → ℕ → ℕ → Option ℕ
+prime_handle files c object = option_and_then (λ place. least_of (handles_at files c object place)) (least_of (places_of files c object))
+
+-- a place that a handle has stays
+abbrev pub given_place : ℕ → FileHold → FileHold
+given_place place row = record row { place = option_or row.place (Some place) }
+
+-- the lists where the client's handle has this PRIME place, unless it had one already
+abbrev pub with_place : FileLists → ℕ → ℕ → ℕ → FileLists
+with_place files c h place = record files { holds = map (λ row. if is_hold c h row then given_place place row else row) files.holds }
 
 -- what is so of a hold: its client is open, and its numbers are in their ranges
 pub record IsHoldOf (files : FileLists) (row : FileHold) : Type 0 where

@@ -1,3 +1,4 @@
 pub mod Files
 pub mod Records
 pub mod FileFault
+pub mod Primes

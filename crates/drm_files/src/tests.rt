@@ -61,3 +61,60 @@ fn two_clients(rt: HostRuntime) -> Result<(), Fail> {
     assert_eq!(rt; files.handles_of(4, 0).ids(), [1].as_slice());
     Ok(())
 }
+
+#[test]
+fn least_place_is_prime(rt: HostRuntime) -> Result<(), Fail> {
+    let [key, other] = [5, 6].map(ObjectKey::from_number);
+    let mut files = Files::new(rt.alloc(), 2, 9);
+    assert_eq!(rt; files.open(1, false, false), Ok(()));
+    assert_eq!(rt; files.open(2, false, false), Ok(()));
+    assert_eq!(rt; files.add_handle(1, key, None), Ok(1));
+    assert_eq!(rt; files.prime_handle(1, key), None);
+    assert_eq!(rt; files.add_handle(1, key, Some(7)), Ok(2));
+    assert_eq!(rt; files.prime_handle(1, key), Some(2));
+    assert_eq!(rt; files.add_handle(1, key, Some(4)), Ok(3));
+    assert_eq!(rt; files.add_handle(1, key, Some(4)), Ok(4));
+    assert_eq!(rt; files.add_handle(1, key, Some(5)), Ok(5));
+    assert_eq!(rt; files.prime_handle(1, key), Some(3));
+
+    // Handles for another object and of another client count for those alone.
+    assert_eq!(rt; files.add_handle(1, other, Some(1)), Ok(6));
+    assert_eq!(rt; files.add_handle(2, key, Some(2)), Ok(1));
+    assert_eq!(rt; files.prime_handle(1, key), Some(3));
+    assert_eq!(rt; files.prime_handle(1, other), Some(6));
+    assert_eq!(rt; files.prime_handle(2, key), Some(1));
+    assert_eq!(rt; files.prime_handle(2, other), None);
+
+    // A handle that is dropped gives way to the next place.
+    assert_eq!(rt; files.drop_handle(1, 3), Some(key));
+    assert_eq!(rt; files.prime_handle(1, key), Some(4));
+    assert_eq!(rt; files.drop_handle(1, 4), Some(key));
+    assert_eq!(rt; files.prime_handle(1, key), Some(5));
+    Ok(())
+}
+
+#[test]
+fn a_place_stays(rt: HostRuntime) -> Result<(), Fail> {
+    let key = ObjectKey::from_number(5);
+    let mut files = Files::new(rt.alloc(), 1, 2);
+    assert_eq!(rt; files.open(1, false, false), Ok(()));
+    assert_eq!(rt; files.add_handle(1, key, None), Ok(1));
+    assert_eq!(rt; files.add_handle(1, key, Some(3)), Ok(2));
+    files.set_prime(1, 1, 4);
+    files.set_prime(1, 2, 5);
+    let first = FileHold {
+        client: 1,
+        handle: 1,
+        object: key,
+        place: Some(4),
+    };
+    let second = FileHold {
+        handle: 2,
+        place: Some(3),
+        ..first
+    };
+    assert_eq!(rt; files.nth_hold(0), Some(first));
+    assert_eq!(rt; files.nth_hold(1), Some(second));
+    assert_eq!(rt; files.prime_handle(1, key), Some(2));
+    Ok(())
+}

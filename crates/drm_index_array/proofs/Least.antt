@@ -1,8 +1,10 @@
--- What `least` finds, and how to show what it finds.
-use Rattle.std.proofs.Common.{◌≡◌, ℕ, zero, suc, ◌+◌, ◌-◌, ◌<◌, ◌≤◌, Bool, true, false, Option, Some, None, MatchOption, refl, sym, ap, ◌∙◌, inl, inr, arith}
-use Rattle.std.proofs.lemmas.Bool.{cases_lt, false≢true}
+-- What `least` and `least_of` find, and how to show what they find.
+use Rattle.std.proofs.Common.{◌≡◌, ℕ, zero, suc, ◌+◌, ◌-◌, ◌<◌, ◌≤◌, ◌↔◌, ◌||◌, ◌==◌, nat_le, Bool, true, false, if◌then◌else◌, List, [], ◌∷◌, Option, Some, None, MatchOption, refl, sym, ap, ◌∙◌, inl, inr, arith}
+use Rattle.std.specs.List.{list_any}
+use Rattle.std.proofs.lemmas.Bool.{cases_eq, cases_lt, false≢true}
+use Rattle.std.proofs.lemmas.Bool.Decides.{nat_tests}
 use Rattle.std.proofs.lemmas.Option.{MatchOption-at_some, MatchOption-at_none}
-use Rattle.drm_index_array.specs.Least.{first_passing, least, IsLeast, NonePasses}
+use Rattle.drm_index_array.specs.Least.{first_passing, least, IsLeast, NonePasses, lesser, least_of, IsLeastOf}
 
 -- what the first of so many numbers from `from` on is
 record IsFirst (p : ℕ → Bool) (from count n : ℕ) : Type 0 where
@@ -97,3 +99,74 @@ least-same p q from to same = least_by_cases q from to _ (elim (least p from to)
     none_below = λ k ge lt. sym (same k ge (omega (arith, is.at_most))) ∙ is.none_below k ge lt;
   }
 ] (least_cases p from to))
+
+-- the least of a list
+
+abbrev among : List ℕ → ℕ → Bool
+among ns k = list_any (λ x. x == k) ns
+
+here : (n : ℕ) (rest : Bool) → ((n == n) || rest) ≡ true
+here n rest = grind (arith, nat_tests)
+
+there : (n k : ℕ) (rest : Bool) → rest ≡ true → ((n == k) || rest) ≡ true
+there n k rest is = grind (arith, nat_tests, is)
+
+-- a number of a list is the first, or among the others
+here_or_there : (n k : ℕ) (P : Type 0) (rest : Bool) → (n ≡ k → P) → (rest ≡ true → P) → ((n == k) || rest) ≡ true → P
+here_or_there n k P rest first other is = elim (cases_eq n k) [ inl same ↦ first same | inr apart ↦ other (grind (arith, nat_tests, is, apart)) ]
+
+least_of_first : (n : ℕ) (ns : List ℕ) → ns ≡ [] → IsLeastOf (n ∷ ns) n
+least_of_first n ns none = record {
+  among = here n (among ns n);
+  at_most = λ k is. here_or_there n k (n ≤ k) (among ns k) (λ same. omega (arith, same)) (λ later. absurd (false≢true (sym (ap (λ l. among l k) none) ∙ later))) is;
+}
+
+least_of_lesser : (n m : ℕ) (ns : List ℕ) → IsLeastOf ns m → (b : Bool) → nat_le n m ≡ b → IsLeastOf (n ∷ ns) (if b then n else m)
+least_of_lesser n m ns is true le = record {
+  among = here n (among ns n);
+  at_most = λ k among_it. here_or_there n k (n ≤ k) (among ns k) (λ same. omega (arith, same)) (λ later. grind (arith, nat_tests, le, is.at_most k later)) among_it;
+}
+least_of_lesser n m ns is false le = record {
+  among = there n m (among ns m) is.among;
+  at_most = λ k among_it. here_or_there n k (m ≤ k) (among ns k) (λ same. grind (arith, nat_tests, le, same)) (is.at_most k) among_it;
+}
+
+-- by cases: the list is empty, or the number found is its least
+pub least_of_cases : (ns : List ℕ) → MatchOption (least_of ns) (ns ≡ []) (IsLeastOf ns)
+least_of_cases [] = refl
+least_of_cases (n ∷ ns) = first (least_of ns) (least_of_cases ns)
+  where
+    first : (r : Option ℕ) → MatchOption r (ns ≡ []) (IsLeastOf ns) → IsLeastOf (n ∷ ns) (lesser n r)
+    first None none = least_of_first n ns none
+    first (Some m) is = least_of_lesser n m ns is (nat_le n m) refl
+
+-- it is among the list, and at most each number of it
+pub least_of_some : (ns : List ℕ) (n : ℕ) → least_of ns ≡ Some n → IsLeastOf ns n
+least_of_some ns n e = MatchOption-at_some _ (IsLeastOf ns) n e (least_of_cases ns)
+
+-- there is none exactly where the list is empty
+pub least_of_none : (ns : List ℕ) → (least_of ns ≡ None) ↔ (ns ≡ [])
+least_of_none ns = ((λ e. MatchOption-at_none (ns ≡ []) (IsLeastOf ns) e (least_of_cases ns)), ap least_of)
+
+pub IsLeastOf-unique : (ns : List ℕ) (m n : ℕ) → IsLeastOf ns m → IsLeastOf ns n → m ≡ n
+IsLeastOf-unique ns m n a b = omega (arith, a.at_most n b.among, b.at_most m a.among)
+
+-- to show what `least_of` is, show that it is the least
+pub least_of_is : (ns : List ℕ) (n : ℕ) → IsLeastOf ns n → least_of ns ≡ Some n
+least_of_is ns n is =
+    elim (least_of ns) as (λ r. MatchOption r (ns ≡ []) (IsLeastOf ns) → r ≡ Some n) [
+      | None ↦ λ none. absurd (false≢true (sym (ap (λ l. among l n) none) ∙ is.among))
+      | Some m ↦ λ found. ap Some (IsLeastOf-unique ns m n found is)
+    ] (least_of_cases ns)
+
+-- two lists among which the same numbers are have the same least
+pub least_of-same : (xs ys : List ℕ) → ((n : ℕ) → list_any (λ x. x == n) xs ≡ list_any (λ x. x == n) ys) → least_of xs ≡ least_of ys
+least_of-same xs ys same =
+    elim (least_of xs) as (λ r. MatchOption r (xs ≡ []) (IsLeastOf xs) → r ≡ least_of ys) [
+      | None ↦ λ none. sym ((least_of_none ys).1 (no_member ys (λ n. sym (same n) ∙ ap (λ l. among l n) none)))
+      | Some n ↦ λ is. sym (least_of_is ys n (record { among = sym (same n) ∙ is.among; at_most = λ k later. is.at_most k (same k ∙ later) }))
+    ] (least_of_cases xs)
+  where
+    no_member : (ns : List ℕ) → ((n : ℕ) → among ns n ≡ false) → ns ≡ []
+    no_member [] none = refl
+    no_member (n ∷ ns) none = absurd (false≢true (sym (none n) ∙ here n (among ns n)))

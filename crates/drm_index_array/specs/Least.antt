@@ -1,5 +1,6 @@
--- The least number of a range that passes a test. A range has both its ends.
-use Rattle.std.specs.Prelude.{◌≡◌, ℕ, zero, suc, ◌+◌, ◌-◌, ◌<◌, ◌≤◌, Bool, true, false, Option, Some, None}
+-- The least number of a range that passes a test, and of a list. A range has both its ends.
+use Rattle.std.specs.Prelude.{◌≡◌, ℕ, zero, suc, ◌+◌, ◌-◌, ◌<◌, ◌≤◌, ◌==◌, nat_le, Bool, true, false, if◌then◌else◌, List, [], ◌∷◌, Option, Some, None}
+use Rattle.std.specs.List.{list_any}
 
 -- the first of so many numbers from `from` on that passes
 unfoldable pub first_passing : (ℕ → Bool) → ℕ → ℕ → Option ℕ
@@ -24,3 +25,17 @@ NonePasses p from to = (k : ℕ) → from ≤ k → k ≤ to → p k ≡ false
 -- n is the least number from `from` on that passes
 abbrev pub IsLeastFrom : (ℕ → Bool) → ℕ → ℕ → Type 0
 IsLeastFrom p from n = IsLeast p from n n
+
+abbrev pub lesser : ℕ → Option ℕ → ℕ
+lesser n None = n
+lesser n (Some m) = if nat_le n m then n else m
+
+-- the least number of a list, None where it is empty
+abbrev pub least_of : List ℕ → Option ℕ
+least_of [] = None
+least_of (n ∷ ns) = Some (lesser n (least_of ns))
+
+-- n is the least number of the list
+pub record IsLeastOf (ns : List ℕ) (n : ℕ) : Type 0 where
+  pub among : list_any (λ x. x == n) ns ≡ true
+  pub at_most : (k : ℕ) → list_any (λ x. x == k) ns ≡ true → n ≤ k

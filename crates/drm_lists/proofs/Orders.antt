@@ -5,7 +5,7 @@ use Rattle.std.proofs.lemmas.Bool.{eqb-true, lt-ltb}
 use Rattle.std.proofs.lemmas.Bool.Decides.{nat_tests}
 use Rattle.std.proofs.lemmas.List.{append-nil, length-map}
 use Rattle.drm_lists.specs.Orders.{SameRows, InOrder, inserted_by, sorted_by}
-use Rattle.drm_lists.proofs.Lists.{filter-map, filter-both, all_weaker, all_append, all_filter, all_mapped}
+use Rattle.drm_lists.proofs.Lists.{filter-map, filter-both, filter_all, all_each, all_weaker, all_append, all_filter, all_mapped}
 
 -- ---- the same rows
 
@@ -39,6 +39,9 @@ any-count test (x ∷ xs) =
 -- a test that some row passes
 pub same-any : {X : Type 0} (test : X → Bool) → (xs ys : List X) → SameRows xs ys → list_any test xs ≡ list_any test ys
 same-any test xs ys h = any-count test xs ∙ ap (nat_lt 0) (h test) ∙ sym (any-count test ys)
+
+pub same-length : {X : Type 0} (xs ys : List X) → SameRows xs ys → length xs ≡ length ys
+same-length {X} xs ys h = let all = λ (zs : List X). let e : filter (λ x. true) zs ≡ zs = filter_all (λ x. true) zs (all_each (λ x. true ≡ true) (λ x. refl) zs) in e in ap length (sym (all xs)) ∙ h (λ x. true) ∙ ap length (all ys)
 
 pub same-cons : {X : Type 0} (x : X) (xs ys : List X) → SameRows xs ys → SameRows (x ∷ xs) (x ∷ ys)
 same-cons x xs ys h = λ test. elim (test x) as (λ b. length (cond b (x ∷ filter test xs) (filter test xs)) ≡ length (cond b (x ∷ filter test ys) (filter test ys))) [ true ↦ ap (λ n. suc n) (h test) | false ↦ h test ]

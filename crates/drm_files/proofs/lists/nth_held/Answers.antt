@@ -1,4 +1,4 @@
-use Rattle.std.proofs.Common.{◌-◌, ◌++◌, ap, sym, ◌∙◌, slice_get, option_map}
+use Rattle.std.proofs.Common.{◌-◌, ap, sym, ◌∙◌, slice_get, option_map}
 use Rattle.std.specs.FinMap as fin
 use Rattle.drm_files.specs.declared.files.Held.{Held}
 use Rattle.drm_files.specs.Files.{hold}

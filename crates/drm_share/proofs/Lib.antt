@@ -1,0 +1,4 @@
+mod Numbered
+mod NameFacts
+mod TokenFacts
+pub mod Crossing

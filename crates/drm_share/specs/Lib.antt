@@ -1,0 +1,4 @@
+pub mod Names
+pub mod Tokens
+pub mod Tables
+pub mod ShareFault

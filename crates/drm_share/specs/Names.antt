@@ -1,0 +1,58 @@
+-- The global names of objects (drm-gem(7), flink), as a flat list.
+use Rattle.std.specs.Prelude.{ℕ, ◌==◌, ◌≤◌, Bool, not, nat_lt, List, [], map, filter, find, Option}
+use Rattle.std.specs.List.{AllByRecursion}
+use Rattle.std.specs.Option.{option_map}
+use Rattle.drm_lists.specs.Numbers.{is_among}
+use Rattle.drm_index_array.specs.Least.{least}
+use Rattle.drm_index_array.specs.Rows.{placed, InOrder}
+use Rattle.drm_share.specs.declared.rows.SharedName.{SharedName}
+
+-- the names from 1 to `last` may be given; those that are given rise
+pub record NameList : Type 0 where
+  pub last : ℕ
+  pub names : List SharedName
+
+abbrev pub empty_names : ℕ → NameList
+empty_names last = record { last = last; names = [] }
+
+abbrev pub is_name : ℕ → SharedName → Bool
+is_name n row = row.name == n
+
+-- the row is a name of the object
+abbrev pub names_object : ℕ → SharedName → Bool
+names_object k row = row.object == k
+
+abbrev pub name_before : SharedName → SharedName → Bool
+name_before x y = nat_lt x.name y.name
+
+abbrev pub have_other_objects : SharedName → SharedName → Bool
+have_other_objects x y = not (x.object == y.object)
+
+abbrev pub shared_name : ℕ → ℕ → SharedName
+shared_name n k = record { name = n; object = k }
+
+-- the name of an object, if it has one
+abbrev pub name_of : NameList → ℕ → Option ℕ
+name_of list k = option_map (λ (row : SharedName). row.name) (find (names_object k) list.names)
+
+-- the least number that is no name (the kernel's IDR gives the least; the limit is own)
+abbrev pub free_name : NameList → Option ℕ
+free_name list = least (λ n. not (is_among (map (λ row. row.name) list.names) n)) 1 list.last
+
+abbrev pub with_name : NameList → ℕ → ℕ → NameList
+with_name list n k = record list { names = placed name_before (shared_name n k) list.names }
+
+abbrev pub without_name_of : NameList → ℕ → NameList
+without_name_of list k = record list { names = filter (λ row. not (names_object k row)) list.names }
+
+pub record IsNameUpTo (last : ℕ) (row : SharedName) : Type 0 where
+  pub low : 1 ≤ row.name
+  pub high : row.name ≤ last
+
+-- what is so of the list: no name stands twice, since the rows rise, and no object has two names
+pub record AreNames (list : NameList) : Type 0 where
+  pub last_low : 1 ≤ list.last
+  pub last_high : list.last ≤ 4294967295
+  pub names_rise : InOrder name_before list.names
+  pub names_are : AllByRecursion (IsNameUpTo list.last) list.names
+  pub objects_differ : InOrder have_other_objects list.names

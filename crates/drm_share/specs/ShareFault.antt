@@ -1,0 +1,7 @@
+-- Why nothing was given.
+use Rattle.drm_share.specs.declared.faults.ShareFault.{ShareFault}
+use Rattle.drm_share.specs.declared.faults.ShareFault.TheVariants.{Full, NoMemory}
+
+abbrev pub IsFull : ShareFault → Type 0
+IsFull Full = Unit {0}
+IsFull NoMemory = ⊥

@@ -1,0 +1,39 @@
+-- The flat lists that the tables stand for.
+use Rattle.std.specs.Prelude.{◌≡◌, ℕ, List, map as list_map, Some}
+use Rattle.std.specs.Ordering.{nat_cmp}
+use Rattle.std.specs.FinMap as map
+use Rattle.drm_id_alloc.specs.Table.{Table, IsWithin}
+use Rattle.drm_share.specs.declared.rows.SharedName.{SharedName}
+use Rattle.drm_share.specs.declared.rows.SharedToken.{SharedToken}
+use Rattle.drm_share.specs.declared.tokens.Export.{Export}
+use Rattle.drm_share.specs.Names.{NameList, shared_name}
+use Rattle.drm_share.specs.Tokens.{TokenList, token}
+
+abbrev pub name_row : ℕ × ℕ → SharedName
+name_row entry = shared_name entry.0 entry.1
+
+abbrev pub names_in : map.FinMap nat_cmp ℕ → List SharedName
+names_in slots = list_map name_row (map.entries slots)
+
+abbrev pub name_list : Table ℕ → NameList
+name_list table = record { last = table.last; names = names_in table.slots }
+
+abbrev pub token_row : ℕ × Export → SharedToken
+token_row entry = token entry.0 entry.1.client entry.1.object
+
+abbrev pub tokens_in : map.FinMap nat_cmp Export → List SharedToken
+tokens_in slots = list_map token_row (map.entries slots)
+
+abbrev pub token_list : Table Export → TokenList
+token_list table = record { last = table.last; last_given = table.last_given; tokens = tokens_in table.slots }
+
+-- a table of the numbers from 1 on, which keeps to its range
+pub record IsNumbered {X : Type 0} (table : Table X) : Type 0 where
+  pub first_is : table.first ≡ 1
+  pub within : IsWithin table.slots table.first table.last table.last_given
+
+-- such a table of names, and the name of each object that has one
+pub record HasNames (table : Table ℕ) (names : map.FinMap nat_cmp ℕ) : Type 0 where
+  pub numbered : IsNumbered table
+  pub named : (n k : ℕ) → map.get table.slots n ≡ Some k → map.get names k ≡ Some n
+  pub given : (k n : ℕ) → map.get names k ≡ Some n → map.get table.slots n ≡ Some k

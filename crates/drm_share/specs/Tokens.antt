@@ -1,0 +1,58 @@
+-- The open tokens of exported objects (drm-mm, PRIME; tokens are own), as a flat list.
+use Rattle.std.specs.Prelude.{ℕ, ◌+◌, ◌==◌, ◌≤◌, ◌&&◌, Bool, not, nat_lt, List, [], map, filter, Option, Some, None, unwrap_or, IfSome}
+use Rattle.std.specs.List.{AllByRecursion}
+use Rattle.drm_lists.specs.Numbers.{is_among}
+use Rattle.drm_index_array.specs.Least.{least}
+use Rattle.drm_index_array.specs.Rows.{placed, InOrder}
+pub use Rattle.drm_id_alloc.specs.Table.{or_else}
+use Rattle.drm_share.specs.declared.rows.SharedToken.{SharedToken}
+
+-- the tokens from 1 to `last` may be given; those that are open rise. `last_given` is the last one given, if any was
+pub record TokenList : Type 0 where
+  pub last : ℕ
+  pub last_given : Option ℕ
+  pub tokens : List SharedToken
+
+abbrev pub empty_tokens : ℕ → TokenList
+empty_tokens last = record { last = last; last_given = None; tokens = [] }
+
+abbrev pub is_token : ℕ → SharedToken → Bool
+is_token t row = row.token == t
+
+abbrev pub is_exported_by : ℕ → SharedToken → Bool
+is_exported_by c row = row.client == c
+
+abbrev pub is_token_of : ℕ → ℕ → SharedToken → Bool
+is_token_of c t row = (row.token == t) && (row.client == c)
+
+abbrev pub token_before : SharedToken → SharedToken → Bool
+token_before x y = nat_lt x.token y.token
+
+abbrev pub token : ℕ → ℕ → ℕ → SharedToken
+token t c k = record { token = t; client = c; object = k }
+
+abbrev pub is_free : TokenList → ℕ → Bool
+is_free list t = not (is_among (map (λ row. row.token) list.tokens) t)
+
+-- the least free token above the last one given or, where there is none, the least free one (the kernel's cyclic IDR;
+-- that tokens are given so is own)
+abbrev pub next_token : TokenList → Option ℕ
+next_token list = or_else (least (is_free list) (unwrap_or list.last_given 0 + 1) list.last) (least (is_free list) 1 list.last)
+
+abbrev pub with_token : TokenList → SharedToken → TokenList
+with_token list row = record list { last_given = Some row.token; tokens = placed token_before row list.tokens }
+
+abbrev pub without_token : TokenList → ℕ → TokenList
+without_token list t = record list { tokens = filter (λ row. not (is_token t row)) list.tokens }
+
+pub record IsTokenUpTo (last : ℕ) (row : SharedToken) : Type 0 where
+  pub low : 1 ≤ row.token
+  pub high : row.token ≤ last
+
+-- what is so of the list: no token stands twice, since the rows rise
+pub record AreTokens (list : TokenList) : Type 0 where
+  pub last_low : 1 ≤ list.last
+  pub last_high : list.last ≤ 4294967295
+  pub given_high : IfSome list.last_given (λ t. t ≤ list.last)
+  pub tokens_rise : InOrder token_before list.tokens
+  pub tokens_are : AllByRecursion (IsTokenUpTo list.last) list.tokens

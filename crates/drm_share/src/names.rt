@@ -1,0 +1,111 @@
+//! The global names of objects.
+
+ghost use Rattle.std.specs.Prelude.{◌≡◌, ◌≤◌, ◌↔◌, Some, None, find, slice_get, OnErr, IfOk, IfErr, IsTrue, option_map};
+ghost use Rattle.drm_share.specs.Names.{AreNames, empty_names, is_name, name_of, free_name, with_name, without_name_of};
+ghost use Rattle.drm_share.specs.ShareFault.{IsFull};
+
+use crate::faults::ShareFault;
+use crate::rows::SharedName;
+use drm_gem::ObjectKey;
+use drm_id_alloc::{AddFault, IdTable};
+use drm_index_array::IndexArray;
+use std::alloc::Global;
+use std::marker::Model;
+
+/// The global names of objects (drm-gem(7): flink), each a number from 1 on. An object has one name at most. Contracts
+/// see a flat list, rising by the names.
+#[derive(Drop)]
+pub struct Names {
+    objects: IdTable<ObjectKey>,
+    // The names, by the numbers of their objects' keys.
+    names: IndexArray<u32>,
+}
+
+impl Model for Names {
+    ghost use Rattle.drm_share.specs.Names.{NameList};
+    ghost use Rattle.drm_share.specs.Tables.{name_list, HasNames};
+
+    ghost Value = { NameList };
+
+    ghost view = { λ names. name_list names.objects };
+
+    ghost invariant = { λ names. HasNames names.objects names.names.items };
+}
+
+impl Names {
+    /// No name. Those from 1 to `last` may be given. It takes no memory.
+    pub fn new(alloc: Global, last: u32) -> Names
+        requires { 1 ≤ last }
+        ensures { result ≡ empty_names last }
+    {
+        Names {
+            objects: IdTable::new(alloc, 1, last),
+            names: IndexArray::new(alloc),
+        }
+    }
+
+    /// The name of an object, if it has one. It takes no memory.
+    pub fn name_of(&self, object: ObjectKey) -> Option<u32>
+        ensures name { result ≡ name_of self.now object }
+        ensures names { AreNames self.now }
+    {
+        self.names.get(object.number()).copied()
+    }
+
+    /// Gives an object that has no name the least free one (drm-gem(7): flink; the kernel's IDR gives the least). It is
+    /// refused as full where no name is free, and then, as without memory, nothing changes.
+    pub fn give(&mut self, object: ObjectKey) -> Result<u32, ShareFault>
+        requires unnamed { name_of self.old object ≡ None }
+        ensures given { IfOk result (λ name. free_name self.old ≡ Some name) }
+        ensures low { IfOk result (λ name. 1 ≤ name) }
+        ensures high { IfOk result (λ name. name ≤ self.old.last) }
+        ensures ok { IfOk result (λ name. self.new ≡ with_name self.old name object) }
+        ensures err { OnErr result (self.new ≡ self.old) }
+        ensures full { IfErr result (λ fault. IsFull fault ↔ (free_name self.old ≡ None)) }
+    {
+        let name = match self.objects.add(object) {
+            Ok(name) => name,
+            Err(AddFault::Full(_)) => return Err(ShareFault::Full),
+            Err(AddFault::NoMemory(_)) => return Err(ShareFault::NoMemory),
+        };
+        if let Err(_fault) = self.names.insert(object.number(), name) {
+            let _returned = self.objects.remove(name);
+            return Err(ShareFault::NoMemory);
+        }
+        Ok(name)
+    }
+
+    /// Whether no name is free. It takes no memory.
+    pub fn is_full(&self) -> bool
+        ensures { IsTrue result ↔ (free_name self.now ≡ None) }
+    {
+        self.objects.is_full()
+    }
+
+    /// The object that has a name, if one has it (drm-gem(7): opening by name). It takes no memory.
+    pub fn lookup(&self, name: u32) -> Option<ObjectKey>
+        ensures object { result ≡ option_map (λ row. row.object) (find (is_name name) self.now.names) }
+        ensures names { AreNames self.now }
+    {
+        self.objects.get(name).copied()
+    }
+
+    /// Takes the name of an object, if it has one. It takes no memory.
+    pub fn forget(&mut self, object: ObjectKey)
+        ensures { self.new ≡ without_name_of self.old object }
+    {
+        if let Some(name) = self.names.remove(object.number()) {
+            let _object = self.objects.remove(name);
+        }
+    }
+
+    /// The name at a place of the list of names, where 0 is the first, with its object. It takes no memory.
+    pub fn nth(&self, place: usize) -> Option<SharedName>
+        ensures row { result ≡ slice_get self.now.names place }
+        ensures names { AreNames self.now }
+    {
+        let name = self.objects.nth(place)?;
+        let object = *self.objects.get(name)?;
+        Some(SharedName { name, object })
+    }
+}

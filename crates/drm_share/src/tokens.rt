@@ -1,0 +1,157 @@
+//! The open tokens.
+
+ghost use Rattle.std.specs.Prelude.{◌≡◌, ◌≤◌, ◌↔◌, Some, None, find, slice_get, OnSome, OnErr, IfOk, IfErr, IfSome, IfNone, IsTrue, option_map};
+ghost use Rattle.drm_share.specs.Tokens.{AreTokens, empty_tokens, is_token, is_token_of, is_exported_by, next_token, with_token, without_token, token};
+ghost use Rattle.drm_share.specs.ShareFault.{IsFull};
+ghost use Rattle.drm_share.specs.Tables.{tokens_in};
+
+use crate::faults::ShareFault;
+use crate::rows::SharedToken;
+use drm_gem::ObjectKey;
+use drm_id_alloc::{AddFault, IdTable};
+use std::alloc::Global;
+use std::marker::Model;
+
+// What an open token stands for.
+#[derive(Clone, Copy)]
+pub(crate) struct Export {
+    pub(crate) client: u32,
+    pub(crate) object: ObjectKey,
+}
+
+/// The open tokens, which stand for the file descriptors of exported objects (drm-mm: PRIME; tokens are own), each a
+/// number from 1 on. An object may have several. Contracts see a flat list, rising by the tokens, and the last token
+/// given.
+#[derive(Drop)]
+pub struct Tokens {
+    exports: IdTable<Export>,
+}
+
+impl Model for Tokens {
+    ghost use Rattle.drm_share.specs.Tokens.{TokenList};
+    ghost use Rattle.drm_share.specs.Tables.{token_list, IsNumbered};
+
+    ghost Value = { TokenList };
+
+    ghost view = { λ tokens. token_list tokens.exports };
+
+    ghost invariant = { λ tokens. IsNumbered tokens.exports };
+}
+
+impl Tokens {
+    /// No open token. Those from 1 to `last` may be given. It takes no memory.
+    pub fn new(alloc: Global, last: u32) -> Tokens
+        requires { 1 ≤ last }
+        ensures { result ≡ empty_tokens last }
+    {
+        Tokens {
+            exports: IdTable::new(alloc, 1, last),
+        }
+    }
+
+    /// Exports an object of a client: opens the least free token above the last one given or, where there is none, the
+    /// least free one (own). It is refused as full where no token is free, and then, as without memory, nothing changes.
+    pub fn export(&mut self, client: u32, object: ObjectKey) -> Result<u32, ShareFault>
+        ensures given { IfOk result (λ given. next_token self.old ≡ Some given) }
+        ensures low { IfOk result (λ given. 1 ≤ given) }
+        ensures high { IfOk result (λ given. given ≤ self.old.last) }
+        ensures ok { IfOk result (λ given. self.new ≡ with_token self.old (token given client object)) }
+        ensures err { OnErr result (self.new ≡ self.old) }
+        ensures full { IfErr result (λ fault. IsFull fault ↔ (next_token self.old ≡ None)) }
+    {
+        let token = match self.exports.add_cyclic(Export { client, object }) {
+            Ok(token) => token,
+            Err(AddFault::Full(_)) => return Err(ShareFault::Full),
+            Err(AddFault::NoMemory(_)) => return Err(ShareFault::NoMemory),
+        };
+        Ok(token)
+    }
+
+    /// Whether no token is free. It takes no memory.
+    pub fn is_full(&self) -> bool
+        ensures { IsTrue result ↔ (next_token self.now ≡ None) }
+    {
+        self.exports.is_full()
+    }
+
+    /// The object behind a token, if the token is open. It takes no memory.
+    pub fn lookup(&self, token: u32) -> Option<ObjectKey>
+        ensures object { result ≡ option_map (λ row. row.object) (find (is_token token) self.now.tokens) }
+        ensures tokens { AreTokens self.now }
+    {
+        let found = self.exports.get(token)?;
+        Some(found.object)
+    }
+
+    /// Closes an open token of a client, and gives the object behind it. Where the token isn't open, or another client
+    /// exported it, nothing changes (own). It takes no memory.
+    pub fn close(&mut self, client: u32, token: u32) -> Option<ObjectKey>
+        ensures object { result ≡ option_map (λ row. row.object) (find (is_token_of client token) self.old.tokens) }
+        ensures closed { OnSome result (self.new ≡ without_token self.old token) }
+        ensures none { IfNone result (self.new ≡ self.old) }
+        ensures tokens { AreTokens self.old }
+    {
+        let export = *self.exports.get(token)?;
+        if export.client != client {
+            return None;
+        }
+        let _export = self.exports.remove(token);
+        Some(export.object)
+    }
+
+    /// Closes the least open token of a client, and gives it with the object behind it. There is none exactly where the
+    /// client has no open token. It takes no memory, and goes through the tokens.
+    pub fn take_first_of(&mut self, client: u32) -> Option<(u32, ObjectKey)>
+        ensures first { result ≡ option_map (λ row. (row.token, row.object)) (find (is_exported_by client) self.old.tokens) }
+        ensures closed { IfSome result (λ taken. self.new ≡ without_token self.old taken.0) }
+        ensures none { IfNone result (self.new ≡ self.old) }
+        ensures tokens { AreTokens self.old }
+    {
+        let first = first_of(&self.exports, client)?;
+        let _export = self.exports.remove(first.token);
+        Some((first.token, first.object))
+    }
+
+    /// The last token given; none before the first. A token that is closed stays the last one given.
+    pub fn last_given(&self) -> Option<u32>
+        ensures last_given { result ≡ self.now.last_given }
+        ensures tokens { AreTokens self.now }
+    {
+        self.exports.last_given()
+    }
+
+    /// The token at a place of the list of open tokens, where 0 is the first. It takes no memory.
+    pub fn nth(&self, place: usize) -> Option<SharedToken>
+        ensures row { result ≡ slice_get self.now.tokens place }
+        ensures tokens { AreTokens self.now }
+    {
+        let token = self.exports.nth(place)?;
+        let export = self.exports.get(token)?;
+        Some(SharedToken {
+            token,
+            client: export.client,
+            object: export.object,
+        })
+    }
+}
+
+// The least token of a client.
+fn first_of(exports: &IdTable<Export>, client: u32) -> Option<SharedToken>
+    ensures { result ≡ find (is_exported_by client) (tokens_in exports.now.slots) }
+{
+    let mut from = 0;
+    while let Some(token) = exports.next(from) {
+        let Some(export) = exports.get(token) else {
+            unreachable!();
+        };
+        if export.client == client {
+            return Some(SharedToken {
+                token,
+                client,
+                object: export.object,
+            });
+        }
+        from = token.checked_add(1)?;
+    }
+    None
+}
