@@ -8,7 +8,7 @@ ghost use Rattle.drm_state.specs.Ties.{IsTied, IsReady};
 ghost use Rattle.drm_state.specs.Refinement.{OwesCall, OwesReply, MakesBuffer};
 
 use drm_gem::CreateFault;
-use drm_state::State;
+use drm_state::{State, release};
 use drm_table::{Answer, Rule};
 use std::alloc::AllocError;
 
@@ -148,8 +148,8 @@ fn buffer_size(size: u64) -> u64
     (size + 4095) / 4096 * 4096
 }
 
-/// GEM_CLOSE and MODE_DESTROY_DUMB: the handle goes, and the object with its last handle. It takes no memory and asks for
-/// no limit.
+/// GEM_CLOSE and MODE_DESTROY_DUMB: the handle goes, the object's name with its last handle, and the object with the last
+/// that refers to it. It takes no memory and asks for no limit.
 pub fn gem_close(state: &mut State, client: u32, handle: u32) -> Answer
     requires tied { IsTied state.old }
     requires present { is_present state.old.files client ≡ true }
@@ -161,6 +161,6 @@ pub fn gem_close(state: &mut State, client: u32, handle: u32) -> Answer
         return Answer::Denied(Rule::NoHandleToClose);
     };
     let _object = state.files.drop_handle(client, handle);
-    let _dead = state.objects.unhold(object);
+    release(&mut state.names, &mut state.objects, object);
     Answer::Done
 }

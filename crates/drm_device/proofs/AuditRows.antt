@@ -1,11 +1,16 @@
 -- The rows of an audit, by the parts that stand for them.
-use Rattle.std.proofs.Common.{◌≡◌, ℕ, zero, suc, ◌+◌, ◌==◌, ◌<◌, true, List, ◌++◌, filter, length, [], ◌∷◌, map, find, Option, Some, None, refl, sym, ◌∙◌, ap, subst, arith, eq-eqb}
+use Rattle.std.proofs.Common.{◌≡◌, ℕ, zero, suc, ◌+◌, ◌==◌, ◌<◌, Bool, true, List, ◌++◌, filter, length, [], ◌∷◌, map, find, Option, Some, None, refl, sym, ◌∙◌, ap, subst, arith, eq-eqb}
 use Rattle.std.specs.Prelude.{slice_get}
 use Rattle.std.specs.Option.{option_map, option_map_or}
 use Rattle.std.proofs.lemmas.Bool.Decides.{nat_tests}
 use Rattle.std.proofs.lemmas.Option.{slice_get-map}
 use Rattle.std.proofs.lemmas.Bool.{or_left}
-use Rattle.drm_lists.specs.Orders.{InOrder, sorted_by}
+use Rattle.drm_lists.specs.Orders.{InOrder, SameRows, sorted_by}
+use Rattle.drm_index_array.specs.Rows as rows
+use Rattle.drm_share.specs.declared.rows.SharedName.{SharedName}
+use Rattle.drm_share.specs.declared.rows.SharedToken.{SharedToken}
+use Rattle.drm_share.specs.Names.{AreNames, name_before}
+use Rattle.drm_share.specs.Tokens.{AreTokens, token_before}
 use Rattle.drm_lists.specs.Numbers.{is_among, count}
 use Rattle.drm_lists.proofs.Lists.{map-map}
 use Rattle.drm_lists.proofs.Found.{all_at}
@@ -19,14 +24,14 @@ use Rattle.drm_files.specs.declared.rows.FileHold.{FileHold}
 use Rattle.drm_files.specs.Files.{hold_before}
 use Rattle.drm_model.specs.Rows.{Rows, TokenRow, FramebufferRow}
 use Rattle.drm_model.specs.Births.{MadeInTurn}
-use Rattle.drm_model.specs.Audit.{audit_row, or_zero, is_before, client_audit, master_audit, object_audit, hold_audit, hold_count, reference_count, audit_rows, rising_rows}
+use Rattle.drm_model.specs.Audit.{audit_row, or_zero, is_before, client_audit, master_audit, object_audit, hold_audit, name_audit, token_audit, hold_count, reference_count, audit_rows, rising_rows}
 use Rattle.drm_model.proofs.Orders.{is_row, order_of_rows}
 use Rattle.drm_state.specs.declared.state.State.{State}
-use Rattle.drm_state.specs.Parts.{client_row_of, master_row_of, object_row_of, hold_row_of, holds_of, birth_at, keys_of, referring_keys}
+use Rattle.drm_state.specs.Parts.{client_row_of, master_row_of, object_row_of, hold_row_of, holds_of, name_row_of, names_of, token_row_of, tokens_of, birth_at, keys_of, referring_keys}
 use Rattle.drm_state.specs.Ties.{IsTied, Counts}
 use Rattle.drm_device.specs.Audits.{StandsAfter}
-use Rattle.drm_state.proofs.Represented.{references, references_are, clients_are, masters_are, holds_are, objects_are, device_master_is, last_token_none, last_lease_token_none, holds_rise, objects_counted}
-use Rattle.drm_state.proofs.Naming.{holds_counted, count_numbers}
+use Rattle.drm_state.proofs.Represented.{clients_are, masters_are, holds_are, objects_are, names_are, tokens_are, framebuffers_none, device_master_is, last_token_is, last_lease_token_none, holds_rise, objects_counted}
+use Rattle.drm_state.proofs.Naming.{references, references_by, holds_counted, count_numbers}
 
 before-less : (x y : AuditRow) → x.a < y.a → is_before x y ≡ true
 before-less x y h = grind (arith, nat_tests)
@@ -67,7 +72,7 @@ object_is s w place x steps t h e =
     let numbers = λ (some : List ℕ) (sub : (n : ℕ) → is_among some n ≡ true → is_among (keys ++ refs) n ≡ true).
     all_at (λ (x : Object). count (map (birth_at s.objects.objects) some) x.birth ≡ count some x.key) s.objects.objects place x (count_numbers keys refs s.objects.objects tied some sub) e in
     let holds : hold_count w x.birth ≡ x.holds = holds_counted w.holds s.objects.objects s.files.holds x.birth (holds_are s w h.rows) ∙ numbers keys (λ n k. among-left keys refs n k) ∙ sym counts.0 in
-    let others : reference_count w x.birth ≡ x.refs = references_counted w x.birth ∙ ap (λ l. count l x.birth) (references_are s w h.rows) ∙ numbers refs (λ n k. among-right keys refs n k) ∙ sym counts.1 in
+    let others : reference_count w x.birth ≡ x.refs = references_counted w x.birth ∙ references_by w s.objects.objects s.tokens.tokens (tokens_are s w h.rows) (framebuffers_none s w h.rows) (λ n. n == x.birth) ∙ numbers refs (λ n k. among-right keys refs n k) ∙ sym counts.1 in
     ap (λ m. audit_row x.birth x.size m x.refs) (sym holds) ∙ ap (audit_row x.birth x.size (hold_count w x.birth)) (sym others)
 
 -- the row of the object at a place
@@ -75,6 +80,17 @@ pub object_row_at : (s : State) (w : Rows) (place : ℕ) (found : Option Object)
     option_map (λ (x : Object). audit_row x.birth x.size x.holds x.refs) found ≡ slice_get (rising_rows (audit_rows w kinds.Object)) place
 object_row_at s w place None steps t h e = row_of_item (λ (x : Object). object_audit w (object_row_of x)) s.objects.objects _ place None (object_rows s steps w h) e
 object_row_at s w place (Some x) steps t h e = ap Some (object_is s w place x steps t h (sym e)) ∙ row_of_item (λ (x : Object). object_audit w (object_row_of x)) s.objects.objects _ place (Some x) (object_rows s steps w h) e
+
+-- rows told by items in their order
+rising_by : {X R : Type 0} (audit : R → AuditRow) (row : X → R) (before : X → X → Type 0) → ((x y : X) → before x y → RisesTo is_before (audit (row x)) (audit (row y))) → (rows : List R) (xs : List X) → InOrder before xs → SameRows rows (map row xs) → rising_rows (map audit rows) ≡ map audit (map row xs)
+rising_by audit row before rises rows xs order same =
+    sorted-same is_before is_row order_of_rows (map audit rows) (map audit (map row xs))
+    (subst (InOrder (RisesTo is_before)) (sym (map-map audit row xs)) (in_order_map (RisesTo is_before) (λ x. audit (row x)) xs (in_order_weaker _ _ rises xs order)))
+    (same-map audit rows (map row xs) same)
+
+as_order : {X : Type 0} (before : X → X → Bool) → (xs : List X) → rows.InOrder before xs → InOrder (λ x y. before x y ≡ true) xs
+as_order before [] h = tt
+as_order before (x ∷ xs) h = (h.0, as_order before xs h.1)
 
 abbrev audit_of : State → FileHold → AuditRow
 audit_of s x = hold_audit (hold_row_of s.objects.objects x)
@@ -85,14 +101,27 @@ hold-rises s x y h = (grind (arith, nat_tests), grind (arith, nat_tests))
 pub hold_rows : (s : State) (steps : ℕ) (w : Rows) → IsTied s → StandsAfter s steps w → rising_rows (audit_rows w kinds.Hold) ≡ map hold_audit (holds_of s)
 unfolding audit_rows
 hold_rows s steps w t h =
-    sorted-same is_before is_row order_of_rows (map hold_audit w.holds) (map hold_audit (holds_of s))
-    (subst (InOrder (RisesTo is_before)) (sym (map-map hold_audit (hold_row_of s.objects.objects) s.files.holds))
-    (in_order_map (RisesTo is_before) (audit_of s) s.files.holds (in_order_weaker _ _ (hold-rises s) s.files.holds (holds_rise s t))))
-    (same-map hold_audit w.holds (holds_of s) (holds_are s w h.rows))
+    rising_by hold_audit (hold_row_of s.objects.objects) (λ x y. hold_before x y ≡ true) (hold-rises s) w.holds s.files.holds (holds_rise s t) (holds_are s w h.rows)
 
-pub device_rows : (s : State) (steps : ℕ) (w : Rows) → StandsAfter s steps w → rising_rows (audit_rows w kinds.Device) ≡ audit_row (or_zero s.device_master) 0 0 steps ∷ []
+name-rises : (s : State) (x y : SharedName) → name_before x y ≡ true → RisesTo is_before (name_audit (name_row_of s.objects.objects x)) (name_audit (name_row_of s.objects.objects y))
+name-rises s x y h = (grind (arith, nat_tests), grind (arith, nat_tests))
+
+pub name_rows : (s : State) (steps : ℕ) (w : Rows) → AreNames s.names → StandsAfter s steps w → rising_rows (audit_rows w kinds.Name) ≡ map name_audit (names_of s)
+unfolding audit_rows
+name_rows s steps w are h =
+    rising_by name_audit (name_row_of s.objects.objects) (λ x y. name_before x y ≡ true) (name-rises s) w.names s.names.names (as_order name_before s.names.names are.names_rise) (names_are s w h.rows)
+
+token-rises : (s : State) (x y : SharedToken) → token_before x y ≡ true → RisesTo is_before (token_audit (token_row_of s.objects.objects x)) (token_audit (token_row_of s.objects.objects y))
+token-rises s x y h = (grind (arith, nat_tests), grind (arith, nat_tests))
+
+pub token_rows : (s : State) (steps : ℕ) (w : Rows) → AreTokens s.tokens → StandsAfter s steps w → rising_rows (audit_rows w kinds.Token) ≡ map token_audit (tokens_of s)
+unfolding audit_rows
+token_rows s steps w are h =
+    rising_by token_audit (token_row_of s.objects.objects) (λ x y. token_before x y ≡ true) (token-rises s) w.tokens s.tokens.tokens (as_order token_before s.tokens.tokens are.tokens_rise) (tokens_are s w h.rows)
+
+pub device_rows : (s : State) (steps : ℕ) (w : Rows) → StandsAfter s steps w → rising_rows (audit_rows w kinds.Device) ≡ audit_row (or_zero s.device_master) (or_zero s.tokens.last_given) 0 steps ∷ []
 unfolding audit_rows sorted_by
-device_rows s steps w h = rw (device_master_is s w h.rows, last_token_none s w h.rows, last_lease_token_none s w h.rows, h.steps_are) refl
+device_rows s steps w h = rw (device_master_is s w h.rows, last_token_is s w h.rows, last_lease_token_none s w h.rows, h.steps_are) refl
 
 -- ---- of a handle at a place
 
@@ -110,3 +139,17 @@ pub hold_there : (objects : List Object) (hs : List FileHold) (i : ℕ) (x : Fil
 hold_there objects hs i x n place e k p =
     ap (λ m. Some (audit_row x.client x.handle m place)) (sym (birth_of (find (is_key x.object) objects) n k)) ∙ ap (λ d. Some (audit_row x.client x.handle (birth_at objects x.object) d)) p
     ∙ sym (slice_get-map hold_audit (map (hold_row_of objects) hs) i ∙ ap (option_map hold_audit) (slice_get-map (hold_row_of objects) hs i ∙ ap (option_map (hold_row_of objects)) e))
+
+-- ---- of a name or a token at a place
+
+pub name_there : (objects : List Object) (ns : List SharedName) (i : ℕ) (x : SharedName) (n : ℕ) → slice_get ns i ≡ Some x → option_map (λ (x : Object). x.birth) (find (is_key x.object) objects) ≡ Some n →
+    Some (audit_row x.name n 0 0) ≡ slice_get (map name_audit (map (name_row_of objects) ns)) i
+name_there objects ns i x n e k =
+    ap (λ m. Some (audit_row x.name m 0 0)) (sym (birth_of (find (is_key x.object) objects) n k))
+    ∙ sym (slice_get-map name_audit (map (name_row_of objects) ns) i ∙ ap (option_map name_audit) (slice_get-map (name_row_of objects) ns i ∙ ap (option_map (name_row_of objects)) e))
+
+pub token_there : (objects : List Object) (ts : List SharedToken) (i : ℕ) (x : SharedToken) (n : ℕ) → slice_get ts i ≡ Some x → option_map (λ (x : Object). x.birth) (find (is_key x.object) objects) ≡ Some n →
+    Some (audit_row x.token x.client n 0) ≡ slice_get (map token_audit (map (token_row_of objects) ts)) i
+token_there objects ts i x n e k =
+    ap (λ m. Some (audit_row x.token x.client m 0)) (sym (birth_of (find (is_key x.object) objects) n k))
+    ∙ sym (slice_get-map token_audit (map (token_row_of objects) ts) i ∙ ap (option_map token_audit) (slice_get-map (token_row_of objects) ts i ∙ ap (option_map (token_row_of objects)) e))

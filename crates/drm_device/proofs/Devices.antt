@@ -1,11 +1,14 @@
 -- What is true of a device's fields, and of the fields after a step.
-use Rattle.std.proofs.Common.{◌≡◌, ℕ, ◌+◌, ◌-◌, ◌<◌, ◌≤◌, ◌==◌, true, false, not, refl, sym, ap, ◌∙◌, arith, subst, length, map, [], ◌∷◌, ◌++◌, nat_le, nat_lt, None, filter}
+use Rattle.std.proofs.Common.{◌≡◌, ℕ, ◌+◌, ◌-◌, ◌<◌, ◌≤◌, ◌==◌, ◌&&◌, true, false, not, refl, sym, ap, ◌∙◌, arith, subst, length, map, [], ◌∷◌, ◌++◌, nat_le, nat_lt, None, filter}
 use Rattle.std.specs.List.{list_any, AllByRecursion}
 use Rattle.std.specs.Vec.{vec_len, vec_capacity}
 use Rattle.std.specs.Global.{Vec}
 use Rattle.std.proofs.lemmas.Bool.{leb-true, and_parts}
 use Rattle.std.proofs.lemmas.Bool.Decides.{nat_tests}
 use Rattle.drm_lists.specs.Orders.{InOrder}
+use Rattle.std.specs.Prelude.{unwrap_or}
+use Rattle.std.proofs.lemmas.List.{length-map}
+use Rattle.drm_lists.proofs.Orders.{same-length}
 use Rattle.drm_lists.proofs.Lists.{all_weaker, all_of_map}
 use Rattle.drm_gem.specs.declared.object.Object.{Object}
 use Rattle.drm_gem.specs.Objects.{ObjectSet}
@@ -18,21 +21,24 @@ use Rattle.drm_table.specs.declared.events.Event.TheVariants.{Open, Ask, Close}
 use Rattle.drm_table.specs.declared.events.Opening.{Opening}
 use Rattle.drm_table.specs.declared.limits.Limits.{Limits}
 use Rattle.drm_table.specs.Limits.{are_in_range, is_between}
-use Rattle.drm_model.specs.Rows.{ClientRow, ObjectRow, empty_rows, is_option}
+use Rattle.drm_share.specs.Names.{NameList, empty_names}
+use Rattle.drm_share.specs.Tokens.{TokenList, empty_tokens}
+use Rattle.drm_model.specs.Rows.{Rows, ClientRow, ObjectRow, empty_rows, is_option}
 use Rattle.drm_model.specs.Topology.{Topology}
 use Rattle.drm_model.specs.Change.{after}
 use Rattle.drm_model.specs.Run.{FoundRoom, places_left, run, rows_of, no_room, start_of}
 use Rattle.drm_model.proofs.Births.{births_rise}
+use Rattle.drm_model.proofs.Counts.{few_rows}
 use Rattle.drm_model.proofs.Journals.{found_room_push, rows_noted, after-steps, rows_of-limits, rows_of-steps, room_after}
 use Rattle.drm_device.specs.declared.device.Device.TheInside.{Inside}
 use Rattle.drm_state.specs.declared.state.Member.{Member}
 use Rattle.drm_state.specs.declared.state.State.{State}
 use Rattle.drm_device.specs.Device.{history_of, IsDevice}
-use Rattle.drm_state.specs.Parts.{client_row_of, master_row_of, object_row_of, hold_row_of, keys_of, referring_keys}
-use Rattle.drm_state.specs.Ties.{Tie, MembersOpen, MembersDiffer, MastersNamed, HoldsRise, ObjectsCounted, is_tied, IsTied, IsLater, IsReady, AreTied}
-use Rattle.drm_model.specs.Parts.{Part, Bounds, Masters, Holds, Clients, Objects, DeviceMaster}
+use Rattle.drm_state.specs.Parts.{client_row_of, master_row_of, object_row_of, hold_row_of, holds_of, name_row_of, token_row_of, tokens_of, keys_of, token_keys, referring_keys}
+use Rattle.drm_state.specs.Ties.{Tie, MembersOpen, MembersDiffer, MastersNamed, HoldsRise, ObjectsCounted, NamesHeld, is_tied, IsTied, IsLater, IsReady, AreTied, AreNamed}
+use Rattle.drm_model.specs.Parts.{Part, Bounds, Masters, Holds, Clients, Objects, Names, Tokens, DeviceMaster, LastToken, count_in}
 use Rattle.drm_state.specs.Refinement.{stands_for, Represents, Stands}
-use Rattle.drm_state.proofs.Represented.{clients_are, objects_are}
+use Rattle.drm_state.proofs.Represented.{clients_are, holds_are, objects_are, tokens_are}
 use Rattle.drm_state.proofs.Outcomes.{represented_count}
 use Rattle.drm_state.proofs.Lookups.{is_open_is}
 
@@ -112,17 +118,23 @@ journal_fits limits h = at_most 2 100000 limits.journal (and_parts _ (is_between
 at_least : (low high n : ℕ) → is_between low high n ≡ true → low ≤ n
 at_least low high n h = leb-true low n (and_parts (nat_le low n) (nat_le n high) h).0
 
--- `&&` groups to the left: six parts stand behind the limit of handles
-pub some_handles : (limits : Limits) → are_in_range limits ≡ true → 1 ≤ limits.handles
+-- `&&` groups to the left: so many parts stand behind each limit
+before_objects : (limits : Limits) → are_in_range limits ≡ true → (is_between 1 1024 limits.clients && is_between 1 65535 limits.handles && is_between 1 65535 limits.names && is_between 1 65535 limits.tokens) ≡ true
 unfolding are_in_range
-some_handles limits h =
+before_objects limits h =
     let before_journal = (and_parts _ _ h).0 in
     let before_lessees = (and_parts _ _ before_journal).0 in
     let before_framebuffers = (and_parts _ _ before_lessees).0 in
-    let before_objects = (and_parts _ _ before_framebuffers).0 in
-    let before_tokens = (and_parts _ _ before_objects).0 in
-    let before_names = (and_parts _ _ before_tokens).0 in
-    at_least 1 65535 limits.handles (and_parts _ (is_between 1 65535 limits.handles) before_names).1
+    (and_parts _ _ before_framebuffers).0
+
+pub some_tokens : (limits : Limits) → are_in_range limits ≡ true → 1 ≤ limits.tokens
+some_tokens limits h = at_least 1 65535 limits.tokens (and_parts _ (is_between 1 65535 limits.tokens) (before_objects limits h)).1
+
+pub some_names : (limits : Limits) → are_in_range limits ≡ true → 1 ≤ limits.names
+some_names limits h = at_least 1 65535 limits.names (and_parts _ (is_between 1 65535 limits.names) (and_parts _ _ (before_objects limits h)).0).1
+
+pub some_handles : (limits : Limits) → are_in_range limits ≡ true → 1 ≤ limits.handles
+some_handles limits h = at_least 1 65535 limits.handles (and_parts _ (is_between 1 65535 limits.handles) (and_parts _ _ (and_parts _ _ (before_objects limits h)).0).0).1
 
 -- ---- a device without rows
 
@@ -132,15 +144,20 @@ pub record IsStart (s : State) (limits : Limits) : Type 0 where
   pub members : s.members.items ≡ []
   pub masters : s.masters.items ≡ []
   pub objects : s.objects ≡ record { limit = limits.objects; objects = [] }
+  pub names : s.names ≡ empty_names limits.names
+  pub tokens : s.tokens ≡ empty_tokens limits.tokens
   pub device_master : s.device_master ≡ None
 
 start_represents : (t : Topology) (limits : Limits) (s : State) → IsStart s limits → (part : Part) → stands_for part s (empty_rows t limits)
 unfolding stands_for
-start_represents t limits s is Bounds = (ap (λ (f : FileLists). f.limit) is.files, ap (λ (f : FileLists). f.last_handle) is.files, ap (λ (o : ObjectSet). o.limit) is.objects)
+start_represents t limits s is Bounds = (ap (λ (f : FileLists). f.limit) is.files, ap (λ (f : FileLists). f.last_handle) is.files, ap (λ (o : ObjectSet). o.limit) is.objects, ap (λ (l : NameList). l.last) is.names, ap (λ (l : TokenList). l.last) is.tokens)
 start_represents t limits s is Clients = sym (ap (λ (f : FileLists). map (client_row_of s.members.items) f.clients) is.files)
 start_represents t limits s is Masters = sym (ap (map master_row_of) is.masters)
 start_represents t limits s is Holds = λ test. sym (ap (λ (f : FileLists). length (filter test (map (hold_row_of s.objects.objects) f.holds))) is.files)
 start_represents t limits s is Objects = sym (ap (λ (o : ObjectSet). map object_row_of o.objects) is.objects)
+start_represents t limits s is Names = λ test. sym (ap (λ (l : NameList). length (filter test (map (name_row_of s.objects.objects) l.names))) is.names)
+start_represents t limits s is Tokens = λ test. sym (ap (λ (l : TokenList). length (filter test (map (token_row_of s.objects.objects) l.tokens))) is.tokens)
+start_represents t limits s is LastToken = sym (ap (λ (l : TokenList). unwrap_or l.last_given 0) is.tokens)
 start_represents t limits s is DeviceMaster = sym is.device_master
 start_represents t limits s is part = refl
 
@@ -152,7 +169,9 @@ start_tied limits s is MastersNamed = subst (AllByRecursion (λ n. list_any (λ 
 start_tied limits s is HoldsRise = subst (λ (f : FileLists). InOrder (λ (x y : FileHold). hold_before x y ≡ true) f.holds) (sym is.files) tt
 start_tied limits s is ObjectsCounted =
     subst (λ (f : FileLists). AreTied (keys_of f.holds) (referring_keys s) s.objects.objects) (sym is.files)
-    (subst (λ (o : ObjectSet). AreTied [] (referring_keys s) o.objects) (sym is.objects) (record { there = λ n h. absurd (let k : false ≡ true = h in cc); counted = tt; used = tt; keys_differ = tt; births_differ = tt }))
+    (subst (λ (l : TokenList). AreTied [] (token_keys l.tokens) s.objects.objects) (sym is.tokens)
+    (subst (λ (o : ObjectSet). AreTied [] [] o.objects) (sym is.objects) (record { there = λ n h. absurd (let k : false ≡ true = h in cc); counted = tt; used = tt; keys_differ = tt; births_differ = tt })))
+start_tied limits s is NamesHeld = subst (λ (l : NameList). AreNamed (keys_of s.files.holds) l.names) (sym is.names) tt
 
 pub new_device : (d : Inside) → are_in_range d.limits ≡ true → d.journal.items ≡ [] → d.limits.journal ≤ vec_capacity d.journal → IsStart d.state d.limits → IsDevice d
 unfolding rows_of run FoundRoom
@@ -174,6 +193,21 @@ new_device d good e room is =
 not_later : (n last : ℕ) → n ≤ last → n < last + 1
 not_later n last h = omega (arith, h)
 
+-- a step makes one handle and one token at most
+few_holds : (d : Inside) → length (rows_of (history_of d)).holds ≤ (rows_of (history_of d)).steps
+unfolding count_in
+few_holds d = few_rows (history_of d) Holds
+
+few_tokens : (d : Inside) → length (rows_of (history_of d)).tokens ≤ (rows_of (history_of d)).steps
+unfolding count_in
+few_tokens d = few_rows (history_of d) Tokens
+
+holds_many : (s : State) (w : Rows) → Represents s w → length w.holds ≡ length s.files.holds
+holds_many s w h = same-length w.holds (holds_of s) (holds_are s w h) ∙ length-map s.files.holds (hold_row_of s.objects.objects)
+
+tokens_many : (s : State) (w : Rows) → Represents s w → length w.tokens ≡ length s.tokens.tokens
+tokens_many s w h = same-length w.tokens (tokens_of s) (tokens_are s w h) ∙ length-map s.tokens.tokens (token_row_of s.objects.objects)
+
 -- it is later than all that is there
 pub ready : (d : Inside) (n : ℕ) → IsDevice d → n ≡ vec_len d.journal → IsReady d.state (n + 1)
 ready d n h e =
@@ -183,8 +217,10 @@ ready d n h e =
     let later : IsLater d.state (w.steps + 1) = record {
       clients = all_weaker (λ (f : FileClient). f.client ≤ w.steps) (λ (f : FileClient). f.client < w.steps + 1) (λ f k. not_later f.client w.steps k) d.state.files.clients (all_of_map (λ (row : ClientRow). row.client ≤ w.steps) (client_row_of d.state.members.items) d.state.files.clients (subst (AllByRecursion (λ (row : ClientRow). row.client ≤ w.steps)) (clients_are d.state w h.rows) births.0.1));
       objects = all_weaker (λ (x : Object). x.birth ≤ w.steps) (λ (x : Object). x.birth < w.steps + 1) (λ x k. not_later x.birth w.steps k) d.state.objects.objects (all_of_map (λ (row : ObjectRow). row.object ≤ w.steps) object_row_of d.state.objects.objects (subst (AllByRecursion (λ (row : ObjectRow). row.object ≤ w.steps)) (objects_are d.state w h.rows) births.2.1));
+      holds = not_later (length d.state.files.holds) w.steps (subst (λ n. n ≤ w.steps) (holds_many d.state w h.rows) (few_holds d));
+      tokens = not_later (length d.state.tokens.tokens) w.steps (subst (λ n. n ≤ w.steps) (tokens_many d.state w h.rows) (few_tokens d));
     } in
-    record { tied = h.tied; later = subst (λ last. IsLater d.state (last + 1)) steps later; first = omega arith }
+    record { tied = h.tied; later = subst (λ last. IsLater d.state (last + 1)) steps later; first = omega arith; fits = let places = h.places in let journal = h.journal_fits in omega (arith, e, places, journal) }
 
 -- ---- room in the journal
 

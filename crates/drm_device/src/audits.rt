@@ -4,8 +4,10 @@ ghost use Rattle.std.specs.Prelude.{◌≡◌, ◌≤◌, ℕ, Ok, [], map, slic
 ghost use Rattle.drm_table.specs.declared.calls.Call.TheVariants.{Audit};
 ghost use Rattle.drm_model.specs.Rows.{Rows};
 ghost use Rattle.drm_model.specs.Audit as model;
-ghost use Rattle.drm_model.specs.Audit.{audit_row, client_audit, hold_audit, master_audit};
-ghost use Rattle.drm_state.specs.Parts.{client_row_by, master_row_of, holds_of};
+ghost use Rattle.drm_model.specs.Audit.{audit_row, client_audit, hold_audit, master_audit, name_audit, token_audit};
+ghost use Rattle.drm_share.specs.Names.{AreNames};
+ghost use Rattle.drm_share.specs.Tokens.{AreTokens};
+ghost use Rattle.drm_state.specs.Parts.{client_row_by, master_row_of, holds_of, names_of, tokens_of};
 ghost use Rattle.drm_state.specs.Ties.{IsTied};
 ghost use Rattle.drm_state.specs.Refinement.{OwesCall};
 ghost use Rattle.drm_device.specs.Audits.{IsPage, IsRowAt};
@@ -56,14 +58,15 @@ fn row_at(state: &State, steps: u32, kind: AuditKind, place: usize) -> Option<Au
         }
         AuditKind::Master => Some(master_row(item_at(&state.masters, place)?)),
         AuditKind::Object => Some(object_row(state.objects.nth(place)?)),
+        AuditKind::Name => name_at(state, place),
+        AuditKind::Token => token_at(state, place),
         AuditKind::Hold => hold_at(state, place),
-        AuditKind::Device => item_at(&[device_row(state.device_master, steps)], place),
+        AuditKind::Device => {
+            let last_token = state.tokens.last_given();
+            item_at(&[device_row(state.device_master, last_token, steps)], place)
+        }
         // no call makes these yet
-        AuditKind::Name
-        | AuditKind::Token
-        | AuditKind::Grant
-        | AuditKind::Framebuffer
-        | AuditKind::Shown => None,
+        AuditKind::Grant | AuditKind::Framebuffer | AuditKind::Shown => None,
     }
 }
 
@@ -125,13 +128,43 @@ fn hold_at(state: &State, place: usize) -> Option<AuditRow>
     })
 }
 
-/// What is told of the device: no token was given yet.
-fn device_row(device_master: Option<u32>, steps: u32) -> AuditRow
-    ensures { result ≡ audit_row (model.or_zero device_master) 0 0 steps }
+/// What is told of the name at a place, from 0, in the order of names; none past the last.
+fn name_at(state: &State, place: usize) -> Option<AuditRow>
+    requires { IsTied state.now }
+    ensures row { result ≡ slice_get (map name_audit (names_of state.now)) place }
+    ensures names { AreNames state.now.names }
+{
+    let shared = state.names.nth(place)?;
+    Some(AuditRow {
+        a: shared.name as u64,
+        b: state.objects.birth(shared.object) as u64,
+        c: 0,
+        d: 0,
+    })
+}
+
+/// What is told of the token at a place, from 0, in the order of tokens; none past the last.
+fn token_at(state: &State, place: usize) -> Option<AuditRow>
+    requires { IsTied state.now }
+    ensures row { result ≡ slice_get (map token_audit (tokens_of state.now)) place }
+    ensures tokens { AreTokens state.now.tokens }
+{
+    let shared = state.tokens.nth(place)?;
+    Some(AuditRow {
+        a: shared.token as u64,
+        b: shared.client as u64,
+        c: state.objects.birth(shared.object) as u64,
+        d: 0,
+    })
+}
+
+/// What is told of the device.
+fn device_row(device_master: Option<u32>, last_token: Option<u32>, steps: u32) -> AuditRow
+    ensures { result ≡ audit_row (model.or_zero device_master) (model.or_zero last_token) 0 steps }
 {
     AuditRow {
         a: or_zero(device_master),
-        b: 0,
+        b: or_zero(last_token),
         c: 0,
         d: steps as u64,
     }

@@ -5,11 +5,11 @@ use drm_table::{Answer, Apart, Call, Event, Limits, Rule, ShownList};
 use std::process::Abort;
 use std::test::Fail;
 
-const fn buf_create(client: u32, size: u64) -> Event {
+pub(crate) const fn buf_create(client: u32, size: u64) -> Event {
     Event::Ask(client, Call::BufCreate { size })
 }
 
-const fn gem_close(client: u32, handle: u32) -> Event {
+pub(crate) const fn gem_close(client: u32, handle: u32) -> Event {
     Event::Ask(client, Call::GemClose { handle })
 }
 
@@ -17,11 +17,11 @@ const fn destroy_dumb(client: u32, handle: u32) -> Event {
     Event::Ask(client, Call::DestroyDumb { handle })
 }
 
-const fn stamp_write(client: u32, handle: u32, stamp: u64) -> Event {
+pub(crate) const fn stamp_write(client: u32, handle: u32, stamp: u64) -> Event {
     Event::Ask(client, Call::StampWrite { handle, stamp })
 }
 
-const fn stamp_read(client: u32, handle: u32) -> Event {
+pub(crate) const fn stamp_read(client: u32, handle: u32) -> Event {
     Event::Ask(client, Call::StampRead { handle })
 }
 
@@ -33,11 +33,11 @@ const fn get_cap(client: u32, cap: u64) -> Event {
     Event::Ask(client, Call::GetCap { cap })
 }
 
-const fn buffer(handle: u32, size: u64) -> Result<Answer, Apart> {
+pub(crate) const fn buffer(handle: u32, size: u64) -> Result<Answer, Apart> {
     Ok(Answer::Buffer { handle, size })
 }
 
-const fn number(value: u64) -> Result<Answer, Apart> {
+pub(crate) const fn number(value: u64) -> Result<Answer, Apart> {
     Ok(Answer::Number { value })
 }
 

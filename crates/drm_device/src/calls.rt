@@ -12,6 +12,7 @@ use crate::capabilities::{get_cap, set_client_cap, version};
 use drm_buffer_calls::{
     Pixels, buf_create, create_dumb, gem_close, list_handles, stamp_read, stamp_write,
 };
+use drm_share_calls::{gem_flink, gem_open, prime_export, prime_import, token_close};
 use drm_state::{State, is_current};
 use drm_table::{Answer, Call, Rule, Standing, permit};
 use std::alloc::AllocError;
@@ -81,11 +82,16 @@ fn carry_out(state: &mut State, birth: u32, client: u32, call: &Call) -> Result<
         Call::BadLayout(_) => Ok(Answer::Denied(Rule::Layout)),
         Call::Version => Ok(version()),
         Call::GemClose { handle } => Ok(gem_close(state, client, *handle)),
+        Call::GemFlink { handle } => gem_flink(state, birth, client, *handle),
+        Call::GemOpen { name } => gem_open(state, birth, client, *name),
         Call::GetCap { cap } => Ok(get_cap(state, client, *cap)),
         Call::SetClientCap { cap, value } => Ok(set_client_cap(state, client, *cap, *value)),
+        Call::PrimeHandleToFd { handle } => prime_export(state, birth, client, *handle),
+        Call::PrimeFdToHandle { token } => prime_import(state, birth, client, *token),
         Call::BufCreate { size } => buf_create(state, birth, client, *size),
         Call::StampWrite { handle, stamp } => Ok(stamp_write(state, client, *handle, *stamp)),
         Call::StampRead { handle } => Ok(stamp_read(state, client, *handle)),
+        Call::TokenClose { token } => Ok(token_close(state, client, *token)),
         Call::ListHandles { from } => Ok(list_handles(state, client, *from)),
         Call::Audit { kind, from } => Ok(audit(state, birth, *kind, *from)),
         Call::CreateDumb { width, height, bpp } => {

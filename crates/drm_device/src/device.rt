@@ -10,6 +10,7 @@ use crate::events::advance;
 use crate::topologies::Topology;
 use drm_files::Files;
 use drm_gem::Objects;
+use drm_share::{Names, Tokens};
 use drm_state::State;
 use drm_table::{Answer, Apart, AuditKind, AuditPage, Event, Limits, are_in_range};
 use std::alloc::Global;
@@ -68,6 +69,8 @@ impl Device {
                 members: Vec::new(alloc),
                 masters: Vec::new(alloc),
                 objects: Objects::new(alloc, limits.objects),
+                names: Names::new(alloc, limits.names),
+                tokens: Tokens::new(alloc, limits.tokens),
                 device_master: None,
             },
         })

@@ -17,4 +17,6 @@ pub use topologies::Topology;
 #[cfg(test)]
 mod buffer_tests;
 #[cfg(test)]
+mod share_tests;
+#[cfg(test)]
 mod tests;

@@ -9,6 +9,8 @@ pub(crate) const CARD: Event = Event::Open(Opening::Primary { root: false });
 
 pub(crate) const RENDER: Event = Event::Open(Opening::Render);
 
+pub(crate) const ROOT: Event = Event::Open(Opening::Primary { root: true });
+
 const VERSION: Answer = Answer::Version {
     major: 1,
     minor: 0,
@@ -31,7 +33,7 @@ const fn audit(client: u32, kind: AuditKind, from: u32) -> Event {
     Event::Ask(client, Call::Audit { kind, from })
 }
 
-const fn audit_row(a: u64, b: u64, c: u64, d: u64) -> AuditRow {
+pub(crate) const fn audit_row(a: u64, b: u64, c: u64, d: u64) -> AuditRow {
     AuditRow { a, b, c, d }
 }
 
@@ -247,7 +249,7 @@ fn topologies(rt: HostRuntime) {
     }
 }
 
-fn check_rows(rt: &impl Abort, device: &Device, kind: AuditKind, rows: &[AuditRow]) {
+pub(crate) fn check_rows(rt: &impl Abort, device: &Device, kind: AuditKind, rows: &[AuditRow]) {
     assert_eq!(rt; device.audit(kind, 0).rows(), rows);
 }
 
@@ -261,10 +263,7 @@ fn audit_is_for_root(rt: HostRuntime) -> Result<(), Fail> {
         (version(2), Ok(VERSION)),
         (version(2), Ok(VERSION)),
         (audit(2, AuditKind::Client, 0), denied(Rule::RootOnly)),
-        (
-            Event::Open(Opening::Primary { root: true }),
-            Ok(Answer::Opened { client: 7 }),
-        ),
+        (ROOT, Ok(Answer::Opened { client: 7 })),
     ];
     answers(&rt, &mut device, rows);
     let clients = [

@@ -64,13 +64,49 @@ fn stamps_and_handles_have_their_bytes(rt: HostRuntime) {
 }
 
 #[test]
+fn names_and_tokens_have_their_bytes(rt: HostRuntime) {
+    check_call(
+        &rt,
+        &[6, 0, 0, 0, 0x0A, 0, 1, 0, 0, 0],
+        Call::GemFlink { handle: 1 },
+    );
+    check_call(
+        &rt,
+        &[6, 0, 0, 0, 0x0B, 0, 255, 255, 255, 255],
+        Call::GemOpen {
+            name: 4_294_967_295,
+        },
+    );
+    check_call(
+        &rt,
+        &[6, 0, 0, 0, 0x2D, 0, 2, 1, 0, 0],
+        Call::PrimeHandleToFd { handle: 258 },
+    );
+    check_call(
+        &rt,
+        &[6, 0, 0, 0, 0x2E, 0, 0, 0, 1, 0],
+        Call::PrimeFdToHandle { token: 65_536 },
+    );
+    check_call(
+        &rt,
+        &[6, 0, 0, 0, 0x43, 0, 0, 0, 0, 1],
+        Call::TokenClose { token: 16_777_216 },
+    );
+}
+
+#[test]
 fn other_sizes_have_another_layout(rt: HostRuntime) {
     let rows = [
+        (0x0A, [3, 5]),
+        (0x0B, [3, 5]),
         (0x0C, [7, 9]),
         (0x0D, [15, 17]),
+        (0x2D, [3, 5]),
+        (0x2E, [3, 5]),
         (0x40, [7, 9]),
         (0x41, [11, 13]),
         (0x42, [3, 5]),
+        (0x43, [3, 5]),
         (0x44, [3, 5]),
         (0xB4, [3, 5]),
     ];

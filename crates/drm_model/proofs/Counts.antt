@@ -1,11 +1,12 @@
 -- A step adds one row at most to each list.
 use Rattle.std.proofs.Common.{ℕ, ◌+◌, ◌≤◌, Bool, true, false, List, [], ◌∷◌, ◌++◌, map, filter, length, length-append, Option, None, Some, sym, subst, arith}
+use Rattle.std.specs.Prelude.{unwrap_or}
 use Rattle.std.proofs.lemmas.List.{length-map}
 use Rattle.drm_lists.proofs.Lists.{filter-shorter}
 use Rattle.drm_table.specs.declared.audits.AuditKind.{AuditKind}
 use Rattle.drm_table.specs.declared.audits.AuditKind.TheVariants as kinds
 use Rattle.drm_table.specs.declared.calls.Call.{Call}
-use Rattle.drm_table.specs.declared.calls.Call.TheVariants.{GemClose, BufCreate, StampWrite, CreateDumb, DestroyDumb}
+use Rattle.drm_table.specs.declared.calls.Call.TheVariants.{GemClose, GemFlink, GemOpen, PrimeHandleToFd, PrimeFdToHandle, BufCreate, StampWrite, TokenClose, CreateDumb, DestroyDumb}
 use Rattle.drm_table.specs.declared.events.Event.{Event}
 use Rattle.drm_table.specs.declared.events.Event.TheVariants.{Open, Ask, Close}
 use Rattle.drm_table.specs.declared.events.Opening.TheVariants.{Primary, Render, Lease}
@@ -13,9 +14,10 @@ use Rattle.drm_table.specs.declared.rules.Rule.{Rule}
 use Rattle.drm_model.specs.Parts.{Part, Clients, Masters, Magics, Holds, Objects, Names, Tokens, Grants, Framebuffers, Shown, count_in}
 use Rattle.drm_model.specs.Births.{FewRows}
 use Rattle.drm_model.specs.Audit.{audit_rows}
-use Rattle.drm_model.specs.Rows.{Rows, ClientRow, birth, empty_rows, client_row}
+use Rattle.drm_model.specs.Rows.{Rows, ClientRow, birth, empty_rows, client_row, object_of}
 use Rattle.drm_model.specs.Leases.{ended}
 use Rattle.drm_model.specs.Buffers.{with_object, with_stamp}
+use Rattle.drm_model.specs.Sharing.{name_of, named, exported_object, prime_handle, imported, with_place}
 use Rattle.drm_model.specs.Clients.{opened, opened_primary, opened_lease, closed, ended_own, ended_if}
 use Rattle.drm_model.specs.Calls.{meaning}
 use Rattle.drm_model.specs.Verdict.{verdict}
@@ -72,11 +74,25 @@ opened_primary-few w root None h Masters = few-push w.masters _ w.steps (h Maste
 opened_primary-few w root None h part = later w w.steps h part
 opened_primary-few w root (Some m) h part = with_client-few w w.steps _ h part
 
+named-few : (w : Rows) (o : ℕ) (name : Option ℕ) → length w.names ≤ w.steps → length (named w o name) ≤ birth w
+named-few w o (Some name) h = more _ w.steps h
+named-few w o None h = few-push w.names _ w.steps h
+
+imported-few : (w : Rows) (c o : ℕ) (handle : Option ℕ) → length w.holds ≤ w.steps → length (imported w c o handle) ≤ birth w
+imported-few w c o (Some handle) h = more _ w.steps h
+imported-few w c o None h = few-push w.holds _ w.steps h
+
 -- a call that is not told here makes no list longer or shorter
 asked-few : (w : Rows) (c : ℕ) (call : Call) → FewRows w.steps w → (part : Part) → count_in part (meaning w c call).rows ≤ birth w
-unfolding meaning with_object with_stamp count_in
+unfolding meaning with_object with_stamp with_place count_in
 asked-few w c (GemClose handle) h Holds = more _ w.steps (few-filter _ w.holds w.steps (h Holds))
 asked-few w c (DestroyDumb handle) h Holds = more _ w.steps (few-filter _ w.holds w.steps (h Holds))
+asked-few w c (GemFlink handle) h Names = named-few w (object_of w c handle) (name_of w (object_of w c handle)) (h Names)
+asked-few w c (GemOpen name) h Holds = few-push w.holds _ w.steps (h Holds)
+asked-few w c (PrimeHandleToFd handle) h Tokens = few-push w.tokens _ w.steps (h Tokens)
+asked-few w c (PrimeHandleToFd handle) h Holds = more _ w.steps (few-map _ w.holds w.steps (h Holds))
+asked-few w c (PrimeFdToHandle token) h Holds = let o = unwrap_or (exported_object w token) 0 in imported-few w c o (prime_handle w c o) (h Holds)
+asked-few w c (TokenClose token) h Tokens = more _ w.steps (few-filter _ w.tokens w.steps (h Tokens))
 asked-few w c (BufCreate size) h Holds = few-push w.holds _ w.steps (h Holds)
 asked-few w c (BufCreate size) h Objects = few-push w.objects _ w.steps (h Objects)
 asked-few w c (CreateDumb width height bpp) h Holds = few-push w.holds _ w.steps (h Holds)

@@ -17,3 +17,10 @@ pub mod WorkedHandlesAreLimited
 pub mod WorkedClosingsThatAreDeniedAreNoted
 pub mod WorkedAuditIsForRoot
 pub mod WorkedAuditPages
+pub mod WorkedNamesAreForAuthenticatedClients
+pub mod WorkedNamesGoWithTheLastHandle
+pub mod WorkedTokensKeepObjectsAndGoWithTheirClient
+pub mod WorkedTokensAreGivenInTurn
+pub mod WorkedNamesAndHandlesAreLimited
+pub mod WorkedImportsBesideHandlesWithoutAPlace
+pub mod WorkedAuditsOfNamesAndTokens

@@ -46,13 +46,19 @@ object_audit w row = audit_row row.object row.size (hold_count w row.object) (re
 abbrev pub hold_audit : HoldRow → AuditRow
 hold_audit row = audit_row row.client row.handle row.object (or_zero row.place)
 
+abbrev pub name_audit : NameRow → AuditRow
+name_audit row = audit_row row.name row.object 0 0
+
+abbrev pub token_audit : TokenRow → AuditRow
+token_audit row = audit_row row.token row.client row.object 0
+
 -- the rows of a kind
 unfoldable pub audit_rows : Rows → AuditKind → List AuditRow
 audit_rows w Client = map (client_audit w) w.clients
 audit_rows w Master = map master_audit w.masters
 audit_rows w Object = map (object_audit w) w.objects
-audit_rows w Name = map (λ (row : NameRow). audit_row row.name row.object 0 0) w.names
-audit_rows w Token = map (λ (row : TokenRow). audit_row row.token row.client row.object 0) w.tokens
+audit_rows w Name = map name_audit w.names
+audit_rows w Token = map token_audit w.tokens
 audit_rows w Hold = map hold_audit w.holds
 audit_rows w Grant = map (λ (row : GrantRow). audit_row row.master row.mode_object 0 0) w.grants
 audit_rows w Framebuffer = map (λ (row : FramebufferRow). audit_row row.framebuffer row.client row.object 0) w.framebuffers

@@ -9,6 +9,7 @@ pub mod Meaning
 pub mod Capabilities
 pub mod Audit
 pub mod Buffers
+pub mod Sharing
 pub mod Calls
 pub mod Clients
 pub mod Verdict

@@ -54,6 +54,72 @@ fn calls_of_two_numbers_are_read(rt: HostRuntime) -> Result<(), Fail> {
 }
 
 #[test]
+fn calls_of_names_and_tokens_are_read(rt: HostRuntime) -> Result<(), Fail> {
+    let a = Label::from_letter(b'a').ok_or("a letter")?;
+    asks(&rt, b"a gem_flink 1", a, Call::GemFlink { handle: 1 });
+    asks(
+        &rt,
+        b"a gem_open 4294967295",
+        a,
+        Call::GemOpen { name: u32::MAX },
+    );
+    asks(
+        &rt,
+        b"a prime_export 1",
+        a,
+        Call::PrimeHandleToFd { handle: 1 },
+    );
+    asks(
+        &rt,
+        b"a prime_import 1",
+        a,
+        Call::PrimeFdToHandle { token: 1 },
+    );
+    asks(&rt, b"a token_close 1", a, Call::TokenClose { token: 1 });
+    asks(&rt, b"a token_close 0", a, Call::TokenClose { token: 0 });
+    Ok(())
+}
+
+#[test]
+fn bare_numbers_of_names_and_tokens_are_read(rt: HostRuntime) -> Result<(), Fail> {
+    let a = Label::from_letter(b'a').ok_or("a letter")?;
+    asks(&rt, b"a raw 10", a, Call::BadLayout(10));
+    asks(&rt, b"a raw 11", a, Call::BadLayout(11));
+    asks(&rt, b"a raw 45", a, Call::BadLayout(45));
+    asks(&rt, b"a raw 46", a, Call::BadLayout(46));
+    asks(&rt, b"a raw 67", a, Call::BadLayout(67));
+    asks(&rt, b"a raw 47", a, Call::Unknown(47));
+    Ok(())
+}
+
+#[test]
+fn names_and_tokens_with_other_fields_are_malformed(rt: HostRuntime) {
+    let lines: [&[u8]; 18] = [
+        b"a gem_flink",
+        b"a gem_flink 1 1",
+        b"a gem_flink 4294967296",
+        b"a gem_flin 1",
+        b"a gem_open",
+        b"a gem_open 1 1",
+        b"a gem_open 4294967296",
+        b"a prime_export",
+        b"a prime_export 1 0",
+        b"a prime_export 4294967296",
+        b"a prime_import",
+        b"a prime_import 1 0",
+        b"a prime_import 4294967296",
+        b"a prime_handle_to_fd 1",
+        b"a prime_fd_to_handle 1",
+        b"a token_close",
+        b"a token_close 1 1",
+        b"a token_close 4294967296",
+    ];
+    for line in lines {
+        assert_eq!(rt; read_line(line), Reading::Malformed);
+    }
+}
+
+#[test]
 fn other_fields_are_malformed(rt: HostRuntime) {
     let lines: [&[u8]; 14] = [
         b"a get_cap",

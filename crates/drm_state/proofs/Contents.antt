@@ -10,24 +10,29 @@ use Rattle.drm_lists.specs.Orders.{SameRows}
 use Rattle.drm_lists.specs.Numbers.{is_among}
 use Rattle.drm_lists.proofs.Lists.{all_weaker, filter-map, map-map, list_any-map}
 use Rattle.drm_lists.proofs.Found.{find-map, found-number, is_some-map, find-same}
-use Rattle.drm_lists.proofs.Numbers.{among-more, among-first, among-left}
+use Rattle.drm_lists.proofs.Numbers.{among-more, among-first, among-left, among-right}
 use Rattle.drm_lists.proofs.Orders.{in_order_filter, same-any, same-map, same-filter, sorted-same, order_of_numbers, same_parts}
 use Rattle.drm_gem.specs.declared.object.Object.{Object}
 use Rattle.drm_gem.specs.declared.object.Dead.{Dead}
-use Rattle.drm_gem.specs.Objects.{ObjectSet, is_key, passes, changed_at, without_key, unheld, stamped, dead_after}
+use Rattle.drm_gem.specs.Objects.{ObjectSet, is_key, passes, changed_at, without_key, unheld, unreferred, stamped, dead_after}
 use Rattle.drm_files.specs.declared.rows.FileHold.{FileHold}
 use Rattle.drm_files.specs.Files as files
 use Rattle.drm_files.specs.Files.{FileLists, of_client, left_by, without_hold, without_client}
+use Rattle.drm_share.specs.Names.{NameList}
 use Rattle.drm_model.specs.Rows.{Rows, HoldRow, ObjectRow, is_hold, hold_row, object_of, object_row, handles_of}
 use Rattle.drm_model.specs.Numbers.{rising}
 use Rattle.drm_model.specs.Buffers.{with_stamp}
+use Rattle.drm_model.specs.Sharing.{size_of}
 use Rattle.drm_state.specs.declared.state.State.{State}
-use Rattle.drm_state.specs.Parts.{birth_at, hold_row_by, hold_row_of, object_row_of, holds_of, keys_of, referring_keys}
-use Rattle.drm_state.specs.Ties.{Tie, ObjectsCounted, is_tied, IsTied, AreTied, Counts, HoldsRise}
-use Rattle.drm_model.specs.Parts.{Part, Holds, Objects}
+use Rattle.drm_share.specs.declared.rows.SharedName.{SharedName}
+use Rattle.drm_share.specs.declared.rows.SharedToken.{SharedToken}
+use Rattle.drm_state.specs.Parts.{birth_at, hold_row_by, hold_row_of, name_row_by, name_row_of, token_row_by, token_row_of, object_row_of, holds_of, keys_of, referring_keys}
+use Rattle.drm_state.specs.Ties.{Tie, HoldsRise, ObjectsCounted, NamesHeld, is_tied, IsTied, AreTied, AreNamed, Counts, Leaves}
+use Rattle.drm_model.specs.Parts.{Part, Holds, Objects, Names, Tokens}
 use Rattle.drm_state.specs.Refinement.{stands_for, Represents}
-use Rattle.drm_state.proofs.Represented.{holds_are, objects_are, holds_rise, objects_counted}
-use Rattle.drm_state.proofs.Counting.{IsStep, at_key, is_found, changed_tied, same_tied, fewer_step, handle_fewer}
+use Rattle.drm_state.proofs.Represented.{holds_are, objects_are, names_are, tokens_are, holds_rise, objects_counted, names_held}
+use Rattle.drm_state.proofs.Counting.{IsStep, at_key, is_found, changed_tied, same_tied, fewer_step, handle_fewer, reference_fewer}
+use Rattle.drm_state.proofs.Sweeps.{without_handle, named_left}
 use Rattle.drm_state.proofs.Naming.{same_numbers, key_by_number}
 use Rattle.drm_state.proofs.Holding.{one_object, handles_rise, one_goes}
 use Rattle.drm_state.proofs.Made.{hold_row_is}
@@ -91,6 +96,12 @@ number_stamped n key stamp (x ∷ xs) =
 holds_stamped : (key stamp : ℕ) (objects : List Object) → (hs : List FileHold) → map (hold_row_of (at_key key (stamped stamp) objects)) hs ≡ map (hold_row_of objects) hs
 holds_stamped key stamp objects hs = same_numbers hold_row_by (λ (x : FileHold). x.object) objects (at_key key (stamped stamp) objects) hs (λ n e. number_stamped n key stamp objects)
 
+tokens_stamped : (key stamp : ℕ) (objects : List Object) → (ts : List SharedToken) → map (token_row_of (at_key key (stamped stamp) objects)) ts ≡ map (token_row_of objects) ts
+tokens_stamped key stamp objects ts = same_numbers token_row_by (λ (x : SharedToken). x.object) objects (at_key key (stamped stamp) objects) ts (λ n e. number_stamped n key stamp objects)
+
+names_stamped : (key stamp : ℕ) (objects : List Object) → (ns : List SharedName) → map (name_row_of (at_key key (stamped stamp) objects)) ns ≡ map (name_row_of objects) ns
+names_stamped key stamp objects ns = same_numbers name_row_by (λ (x : SharedName). x.object) objects (at_key key (stamped stamp) objects) ns (λ n e. number_stamped n key stamp objects)
+
 eqb-flip : (a b c d : ℕ) → (a == b) ≡ (c == d) → (b == a) ≡ (d == c)
 eqb-flip a b c d h = grind (arith, nat_tests)
 
@@ -113,6 +124,8 @@ stamped_represents s w key stamp t e h Holds = subst (SameRows w.holds) (sym (ho
 stamped_represents s w key stamp t e h Objects =
     let number = birth_at s.objects.objects key in
     ap (with_stamp number stamp) (objects_are s w h) ∙ rows_stamped key stamp number s.objects.objects (key_by_number (keys_of s.files.holds) (referring_keys s) s.objects.objects key (objects_counted s t) (among-left (keys_of s.files.holds) (referring_keys s) key e))
+stamped_represents s w key stamp t e h Tokens = subst (SameRows w.tokens) (sym (tokens_stamped key stamp s.objects.objects s.tokens.tokens)) (tokens_are s w h)
+stamped_represents s w key stamp t e h Names = subst (SameRows w.names) (sym (names_stamped key stamp s.objects.objects s.names.names)) (names_are s w h)
 stamped_represents s w key stamp t e h part = h part
 
 pub stamped_tied : (s : State) (key stamp : ℕ) → IsTied s → (tie : Tie) → is_tied tie (with_stamped s key stamp)
@@ -122,21 +135,30 @@ stamped_tied s key stamp t ObjectsCounted =
     changed_tied keys (referring_keys s) keys (referring_keys s) key (stamped stamp) (record { key = λ x. refl; birth = λ x. refl }) (λ n. refl) (λ x e c. c) (λ x e c. c) s.objects.objects (objects_counted s t)
 stamped_tied s key stamp t tie = t tie
 
-read_stamp : (o : Option Object) (n : ℕ) → option_map (λ (x : Object). x.stamp) o ≡ Some n → unwrap_or (option_map (λ (row : ObjectRow). row.stamp) (option_map object_row_of o)) 0 ≡ n
-read_stamp None n h = absurd (let e : None ≡ Some n = h in cc)
-read_stamp (Some x) n h = let e : Some x.stamp ≡ Some n = h in cc
+read_field : (f : Object → ℕ) (g : ObjectRow → ℕ) → ((x : Object) → g (object_row_of x) ≡ f x) → (o : Option Object) (n : ℕ) → option_map f o ≡ Some n → unwrap_or (option_map g (option_map object_row_of o)) 0 ≡ n
+read_field f g is None n h = absurd (let e : None ≡ Some n = h in cc)
+read_field f g is (Some x) n h = let e : Some (f x) ≡ Some n = h in let k : f x ≡ n = cc in is x ∙ k
 
--- the stamp of the object of a key
-pub stamp_found : (s : State) (w : Rows) (key n : ℕ) → IsTied s → is_among (keys_of s.files.holds) key ≡ true → Represents s w → option_map (λ (x : Object). x.stamp) (find (is_key key) s.objects.objects) ≡ Some n →
-    n ≡ unwrap_or (option_map (λ (row : ObjectRow). row.stamp) (object_row w (birth_at s.objects.objects key))) 0
-stamp_found s w key n t e h k =
+-- what the row of a key's object tells
+field_found : (f : Object → ℕ) (g : ObjectRow → ℕ) → ((x : Object) → g (object_row_of x) ≡ f x) → (s : State) (w : Rows) (key n : ℕ) → IsTied s → is_among (keys_of s.files.holds ++ referring_keys s) key ≡ true → Represents s w → option_map f (find (is_key key) s.objects.objects) ≡ Some n →
+    n ≡ unwrap_or (option_map g (object_row w (birth_at s.objects.objects key))) 0
+field_found f g is s w key n t e h k =
     let number = birth_at s.objects.objects key in
     let same : find (λ (x : Object). x.birth == number) s.objects.objects ≡ find (is_key key) s.objects.objects =
     find-same (λ (x : Object). x.birth == number) (is_key key) s.objects.objects
     (all_weaker (λ (x : Object). (number == x.birth) ≡ (key == x.key)) (λ (x : Object). (x.birth == number) ≡ (x.key == key)) (λ x r. eqb-flip number x.birth key x.key r) s.objects.objects
-    (key_by_number (keys_of s.files.holds) (referring_keys s) s.objects.objects key (objects_counted s t) (among-left (keys_of s.files.holds) (referring_keys s) key e))) in
-    sym (ap (λ rows. unwrap_or (option_map (λ (row : ObjectRow). row.stamp) (find (λ (row : ObjectRow). row.object == number) rows)) 0) (objects_are s w h)
-    ∙ ap (λ o. unwrap_or (option_map (λ (row : ObjectRow). row.stamp) o) 0) (find-map (λ (row : ObjectRow). row.object == number) object_row_of s.objects.objects ∙ ap (option_map object_row_of) same) ∙ read_stamp (find (is_key key) s.objects.objects) n k)
+    (key_by_number (keys_of s.files.holds) (referring_keys s) s.objects.objects key (objects_counted s t) e)) in
+    sym (ap (λ rows. unwrap_or (option_map g (find (λ (row : ObjectRow). row.object == number) rows)) 0) (objects_are s w h)
+    ∙ ap (λ o. unwrap_or (option_map g o) 0) (find-map (λ (row : ObjectRow). row.object == number) object_row_of s.objects.objects ∙ ap (option_map object_row_of) same) ∙ read_field f g is (find (is_key key) s.objects.objects) n k)
+
+-- the stamp of the object of a key
+pub stamp_found : (s : State) (w : Rows) (key n : ℕ) → IsTied s → is_among (keys_of s.files.holds) key ≡ true → Represents s w → option_map (λ (x : Object). x.stamp) (find (is_key key) s.objects.objects) ≡ Some n →
+    n ≡ unwrap_or (option_map (λ (row : ObjectRow). row.stamp) (object_row w (birth_at s.objects.objects key))) 0
+stamp_found s w key n t e h k = field_found (λ (x : Object). x.stamp) (λ (row : ObjectRow). row.stamp) (λ x. refl) s w key n t (among-left (keys_of s.files.holds) (referring_keys s) key e) h k
+
+-- its size
+pub size_found : (s : State) (w : Rows) (key n : ℕ) → IsTied s → is_among (keys_of s.files.holds ++ referring_keys s) key ≡ true → Represents s w → option_map (λ (x : Object). x.size) (find (is_key key) s.objects.objects) ≡ Some n → n ≡ size_of w (birth_at s.objects.objects key)
+size_found s w key n t e h k = field_found (λ (x : Object). x.size) (λ (row : ObjectRow). row.size) (λ x. refl) s w key n t e h k
 
 -- ---- a handle fewer
 
@@ -157,11 +179,31 @@ first_tied s c n key r t e g = same_tied (keys_of s.files.holds) (key ∷ keys_o
 pub unheld_step : (set new : ObjectSet) (k : ℕ) (keys refs : List ℕ) (left : Option Dead) → AreTied (k ∷ keys) refs set.objects → left ≡ dead_after unheld set k → OnSome left (new ≡ without_key k set) → IfNone left (new ≡ changed_at k unheld set) → IsStep set.objects keys refs new
 unheld_step set new k keys refs left h e gone same = fewer_step k unheld (k ∷ keys) refs keys refs set new left (handle_fewer k keys refs) h e gone same
 
-pub handle_gone_tied : (s : State) (c n : ℕ) (set : ObjectSet) → IsTied s → AreTied (keys_of (without_hold s.files c n).holds) (referring_keys s) set.objects → (tie : Tie) → is_tied tie (record s { files = without_hold s.files c n; objects = set })
+-- the same of a token or a framebuffer
+pub has_reference : (set : ObjectSet) (k : ℕ) (keys refs : List ℕ) → AreTied keys (k ∷ refs) set.objects → passes (λ x. nat_le 1 x.refs) set k ≡ true
+has_reference set k keys refs h =
+    let it = is_found k set.objects (h.there k (among-right keys (k ∷ refs) k (among-first refs k))) (Counts keys (k ∷ refs)) h.counted in
+    let some : 1 ≤ it.0.refs = at_least it.0.refs _ (it.3.1 ∙ ap (λ b. length (cond b (k ∷ filter (λ key. key == it.0.key) refs) (filter (λ key. key == it.0.key) refs))) (eq-eqb k it.0.key (sym it.2))) in
+    ap (λ o. option_map_or (λ (x : Object). nat_le 1 x.refs) o false) it.1 ∙ le-leb 1 it.0.refs some
+  where
+    at_least : (n m : ℕ) → n ≡ suc m → 1 ≤ n
+    at_least n m e = omega (arith, e)
+
+pub unreferred_step : (set new : ObjectSet) (k : ℕ) (keys refs : List ℕ) (left : Option Dead) → AreTied keys (k ∷ refs) set.objects → left ≡ dead_after unreferred set k → OnSome left (new ≡ without_key k set) → IfNone left (new ≡ changed_at k unreferred set) → IsStep set.objects keys refs new
+unreferred_step set new k keys refs left h e gone same = fewer_step k unreferred keys (k ∷ refs) keys refs set new left (reference_fewer k keys refs) h e gone same
+
+pub handle_gone_tied : (s : State) (c n : ℕ) (names : NameList) (set : ObjectSet) → IsTied s → Leaves s.names s.objects (keys_of (without_hold s.files c n).holds) (referring_keys s) names set → (tie : Tie) → is_tied tie (without_handle s c n names set)
 unfolding is_tied
-handle_gone_tied s c n set t h HoldsRise = in_order_filter (λ (x y : FileHold). files.hold_before x y ≡ true) _ s.files.holds (holds_rise s t)
-handle_gone_tied s c n set t h ObjectsCounted = h
-handle_gone_tied s c n set t h tie = t tie
+handle_gone_tied s c n names set t left HoldsRise = in_order_filter (λ (x y : FileHold). files.hold_before x y ≡ true) _ s.files.holds (holds_rise s t)
+handle_gone_tied s c n names set t left ObjectsCounted = left.tied
+handle_gone_tied s c n names set t left NamesHeld = named_left s.names names s.objects set (keys_of (without_hold s.files c n).holds) (referring_keys s) left
+handle_gone_tied s c n names set t left tie = t tie
+
+-- the names are of the key's object, and of those that the other handles name
+pub first_named : (s : State) (c n key : ℕ) (r : Option ℕ) → IsTied s → r ≡ option_map object_behind (find (files.is_hold c n) s.files.holds) → r ≡ Some key → AreNamed (key ∷ keys_of (without_hold s.files c n).holds) s.names.names
+first_named s c n key r t e g =
+    all_weaker (λ (x : SharedName). is_among (keys_of s.files.holds) x.object ≡ true) (λ (x : SharedName). is_among (key ∷ keys_of (without_hold s.files c n).holds) x.object ≡ true)
+    (λ x named. sym (same-any (λ k. k == x.object) (keys_of s.files.holds) (key ∷ keys_of (without_hold s.files c n).holds) (one_goes c n key s.files.holds (holds_rise s t) (sym g ∙ e))) ∙ named) s.names.names (names_held s t)
 
 limit_kept : (old set : ObjectSet) (key : ℕ) (f : Object → Object) → (left : Option Dead) → OnSome left (set ≡ without_key key old) → IfNone left (set ≡ changed_at key f old) → set.limit ≡ old.limit
 limit_kept old set key f None gone stays = ap (λ (o : ObjectSet). o.limit) stays
@@ -169,6 +211,9 @@ limit_kept old set key f (Some x) gone stays = ap (λ (o : ObjectSet). o.limit) 
 
 pub unhold_limit : (old set : ObjectSet) (key : ℕ) (left : Option Dead) → OnSome left (set ≡ without_key key old) → IfNone left (set ≡ changed_at key unheld old) → set.limit ≡ old.limit
 unhold_limit old set key left gone stays = limit_kept old set key unheld left gone stays
+
+pub unrefer_limit : (old set : ObjectSet) (key : ℕ) (left : Option Dead) → OnSome left (set ≡ without_key key old) → IfNone left (set ≡ changed_at key unreferred old) → set.limit ≡ old.limit
+unrefer_limit old set key left gone stays = limit_kept old set key unreferred left gone stays
 
 -- ---- all handles of a client
 

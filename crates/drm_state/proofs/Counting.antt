@@ -1,5 +1,5 @@
 -- Objects, and how often keys name them.
-use Rattle.std.proofs.Common.{◌≡◌, ℕ, suc, ◌-◌, ◌<◌, ◌==◌, Bool, true, false, cond, not, ◌&&◌, ◌||◌, List, [], ◌∷◌, ◌++◌, map, filter, find, Option, Some, None, refl, sym, ap, ◌∙◌, subst, arith, eq-eqb}
+use Rattle.std.proofs.Common.{◌≡◌, ℕ, suc, ◌+◌, ◌-◌, ◌<◌, ◌==◌, Bool, true, false, cond, not, ◌&&◌, ◌||◌, List, [], ◌∷◌, ◌++◌, map, filter, find, Option, Some, None, refl, sym, ap, ◌∙◌, subst, arith, eq-eqb}
 use Rattle.std.specs.Prelude.{if◌then◌else◌}
 use Rattle.std.specs.List.{AllByRecursion}
 use Rattle.std.specs.Option.{is_some, option_map, OnSome, IfNone}
@@ -12,7 +12,7 @@ use Rattle.drm_lists.proofs.Numbers.{flipped, less-differ, among-more, among-fir
 use Rattle.drm_lists.proofs.Orders.{in_order_filter, in_order_append, same-any}
 use Rattle.drm_gem.specs.declared.object.Object.{Object}
 use Rattle.drm_gem.specs.declared.object.Dead.{Dead}
-use Rattle.drm_gem.specs.Objects.{ObjectSet, is_key, changed_at, without_key, unheld, is_unused, dead_of, dead_after}
+use Rattle.drm_gem.specs.Objects.{ObjectSet, is_key, object_at, changed_at, without_key, held, unheld, referred, unreferred, is_unused, dead_of, dead_after}
 use Rattle.drm_state.specs.Ties.{Counts, AreTied, AreThoseNamed, core}
 
 not_or : (a b : Bool) → (not a && not b) ≡ not (a || b)
@@ -119,7 +119,7 @@ core-named keys (x ∷ xs) =
     elim (is_among keys x.key) as (λ b. map core (cond b (x ∷ filter (λ (x : Object). is_among keys x.key) xs) (filter (λ (x : Object). is_among keys x.key) xs)) ≡ cond b (core x ∷ filter (λ (x : Object). is_among keys x.key) (map core xs)) (filter (λ (x : Object). is_among keys x.key) (map core xs)))
     [ true ↦ ap (λ l. core x ∷ l) (core-named keys xs) | false ↦ core-named keys xs ]
 
-and_weaker : (a b : Bool) → (b ≡ true → a ≡ true) → (a && b) ≡ b
+pub and_weaker : (a b : Bool) → (b ≡ true → a ≡ true) → (a && b) ≡ b
 and_weaker true b f = refl
 and_weaker false true f = f refl
 and_weaker false false f = refl
@@ -165,7 +165,7 @@ all_without P Q k f (x ∷ xs) h =
     [ true ↦ λ e. all_without P Q k f xs h.1 | false ↦ λ e. (f x e h.0, all_without P Q k f xs h.1) ] refl
 
 -- of the objects, which are all named, the others are those that the fewer keys name
-left_alone : (rest : List ℕ) (k n : ℕ) → is_among rest k ≡ false → (k == n || is_among rest n) ≡ true → not (n == k) ≡ is_among rest n
+pub left_alone : (rest : List ℕ) (k n : ℕ) → is_among rest k ≡ false → (k == n || is_among rest n) ≡ true → not (n == k) ≡ is_among rest n
 left_alone rest k n h e =
     elim (n == k) as (λ b. (n == k) ≡ b → not b ≡ is_among rest n) [
       | true ↦ λ is. sym (ap (is_among rest) (eqb-true n k is) ∙ h)
@@ -236,6 +236,75 @@ handle_fewer k keys refs = record {
   own = λ x e c. (one_less x.holds _ (c.0 ∙ count-it keys k x.key e), c.1);
   others = λ x e c. (c.0 ∙ count-other keys k x.key e, c.1);
 }
+
+-- a key that stands between others
+pub among-between : (keys refs : List ℕ) (k n : ℕ) → is_among (keys ++ k ∷ refs) n ≡ (k == n || is_among (keys ++ refs) n)
+among-between [] refs k n = refl
+among-between (x ∷ keys) refs k n = ap (λ b. x == n || b) (among-between keys refs k n) ∙ elim (x == n) as (λ b. (b || (k == n || is_among (keys ++ refs) n)) ≡ (k == n || (b || is_among (keys ++ refs) n)))
+    [ true ↦ sym (or_right (k == n) true refl) | false ↦ refl ]
+
+-- a token or a framebuffer fewer
+pub reference_fewer : (k : ℕ) (keys refs : List ℕ) → IsFewer k unreferred keys (k ∷ refs) keys refs
+reference_fewer k keys refs = record {
+  change = record { key = λ x. refl; birth = λ x. refl };
+  bare = λ x. refl;
+  one = among-between keys refs k;
+  own = λ x e c. (c.0, one_less x.refs _ (c.1 ∙ count-it refs k x.key e));
+  others = λ x e c. (c.0, c.1 ∙ count-other refs k x.key e);
+}
+
+-- ---- one that names an object more
+
+-- a key that is among them changes nothing as to which are among them
+among_already : (b d : Bool) → (b ≡ true → d ≡ true) → (b || d) ≡ d
+among_already true d f = sym (f refl)
+among_already false d f = refl
+
+one_more : (n m : ℕ) → n ≡ m → n + 1 ≡ suc m
+one_more n m h = omega (arith, h)
+
+pub already : (keys : List ℕ) (k n : ℕ) → is_among keys k ≡ true → (k == n) ≡ true → is_among keys n ≡ true
+already keys k n h e = ap (is_among keys) (sym (eqb-true k n e)) ∙ h
+
+-- a handle more
+pub handle_more : (k : ℕ) (keys refs : List ℕ) (objects : List Object) → is_among (keys ++ refs) k ≡ true → AreTied keys refs objects → AreTied (k ∷ keys) refs (at_key k held objects)
+handle_more k keys refs objects e h =
+    changed_tied keys refs (k ∷ keys) refs k held (record { key = λ x. refl; birth = λ x. refl }) (λ n. among_already (k == n) (is_among (keys ++ refs) n) (already (keys ++ refs) k n e))
+    (λ x is c. (one_more x.holds _ c.0 ∙ sym (count-it keys k x.key (flip x.key k is)), c.1)) (λ x is c. (c.0 ∙ sym (count-other keys k x.key is), c.1)) objects h
+  where
+    flip : (a b : ℕ) → (a == b) ≡ true → (a == b) ≡ true
+    flip a b h = h
+
+-- a token or a framebuffer more
+pub reference_more : (k : ℕ) (keys refs : List ℕ) (objects : List Object) → is_among (keys ++ refs) k ≡ true → AreTied keys refs objects → AreTied keys (k ∷ refs) (at_key k referred objects)
+reference_more k keys refs objects e h =
+    changed_tied keys refs keys (k ∷ refs) k referred (record { key = λ x. refl; birth = λ x. refl }) (λ n. among-between keys refs k n ∙ among_already (k == n) (is_among (keys ++ refs) n) (already (keys ++ refs) k n e))
+    (λ x is c. (c.0, one_more x.refs _ c.1 ∙ sym (count-it refs k x.key is))) (λ x is c. (c.0, c.1 ∙ sym (count-other refs k x.key is))) objects h
+
+-- other references in another order
+pub same_references : (keys refs others : List ℕ) (objects : List Object) → SameRows refs others → AreTied keys refs objects → AreTied keys others objects
+same_references keys refs others objects same h =
+    let agree = λ (n : ℕ). let a : is_among (keys ++ refs) n ≡ is_among (keys ++ others) n = among-append keys refs n ∙ ap (λ b. is_among keys n || b) (same-any (λ k. k == n) refs others same) ∙ sym (among-append keys others n) in a in
+    record {
+      there = λ n e. h.there n (agree n ∙ e);
+      counted = all_weaker (Counts keys refs) (Counts keys others) (λ x e. (e.0, e.1 ∙ same (λ key. key == x.key))) objects h.counted;
+      used = all_weaker (λ (x : Object). is_among (keys ++ refs) x.key ≡ true) (λ (x : Object). is_among (keys ++ others) x.key ≡ true) (λ x e. sym (agree x.key) ∙ e) objects h.used;
+      keys_differ = h.keys_differ;
+      births_differ = h.births_differ;
+    }
+
+-- the objects whose counts alone changed are those that more keys name
+pub more_named : (k : ℕ) (f : Object → Object) (keys refs more : List ℕ) (objects : List Object) → ((x : Object) → core (f x) ≡ core x) → ((n : ℕ) → is_among (keys ++ refs) n ≡ true → is_among more n ≡ true) → AreTied keys refs objects → AreThoseNamed objects more (at_key k f objects)
+more_named k f keys refs more objects bare sub h =
+    core-changed k f bare objects ∙ ap (map core) (sym (filter_all (λ (x : Object). is_among more x.key) objects (all_weaker (λ (x : Object). is_among (keys ++ refs) x.key ≡ true) (λ (x : Object). is_among more x.key ≡ true) (λ x u. sub x.key u) objects h.used)))
+
+-- how many handles name the object of the first key
+pub hold_count : (set : ObjectSet) (k : ℕ) (keys refs : List ℕ) (n : ℕ) → AreTied (k ∷ keys) refs set.objects → option_map (λ (x : Object). x.holds) (object_at set k) ≡ Some n → n ≡ suc (count keys k)
+hold_count set k keys refs n h e =
+    let it = is_found k set.objects (h.there k (among-first (keys ++ refs) k)) (Counts (k ∷ keys) refs) h.counted in
+    let same : Some it.0.holds ≡ Some n = sym (ap (option_map (λ (x : Object). x.holds)) it.1) ∙ e in
+    let number : it.0.holds ≡ n = cc in
+    sym number ∙ it.3.0 ∙ ap (count (k ∷ keys)) it.2 ∙ count-it keys k k (eq-eqb k k refl)
 
 -- ---- a new object, which one handle names
 

@@ -4,6 +4,7 @@ use denote.Param.Send.{IsSend, sendable, recorded_send, struct_send}
 use Rattle.std.proofs.Crossing.{Vec-send}
 use Rattle.drm_files.proofs.Crossing.{files_send}
 use Rattle.drm_gem.proofs.Crossing.{objects_send}
+use Rattle.drm_share.proofs.Crossing.{names_send, tokens_send}
 use Rattle.drm_state.specs.contracts.state.Member as member
 use Rattle.drm_state.specs.contracts.state.State as state
 
@@ -14,4 +15,4 @@ pub state_send : IsSend state.the_field.row
 state_send =
     struct_send
     (shape state.the_type)
-    (files_send, (search (Vec-send, member_send, sendable) depth 20, (search (Vec-send, sendable) depth 20, (objects_send, (search sendable depth 20, tt)))))
+    (files_send, (search (Vec-send, member_send, sendable) depth 20, (search (Vec-send, sendable) depth 20, (objects_send, (names_send, (tokens_send, (search sendable depth 20, tt)))))))

@@ -16,12 +16,20 @@ use Rattle.drm_state.specs.Parts.{keys_of}
 abbrev AreInOrder : List FileHold → Type 0
 AreInOrder holds = InOrder (λ x y. hold_before x y ≡ true) holds
 
--- one more handle, where it belongs
+-- one more row, where it belongs
+pub placed_same : {X : Type 0} (before : X → X → Bool) (x : X) (xs : List X) → SameRows (x ∷ xs) (placed before x xs)
+placed_same before x xs =
+    let front = filter (λ y. before y x) xs in
+    let behind = filter (λ y. not (before y x)) xs in
+    same-trans (x ∷ xs) (x ∷ (front ++ behind)) (front ++ x ∷ behind) (same-cons x xs (front ++ behind) (same_parts (λ y. before y x) xs)) (moved_in x front behind)
+
 pub same_placed : (h : FileHold) (hs : List FileHold) → SameRows (h ∷ hs) (placed hold_before h hs)
-same_placed h hs =
-    let before = filter (λ y. hold_before y h) hs in
-    let behind = filter (λ y. not (hold_before y h)) hs in
-    same-trans (h ∷ hs) (h ∷ (before ++ behind)) (before ++ h ∷ behind) (same-cons h hs (before ++ behind) (same_parts (λ y. hold_before y h) hs)) (moved_in h before behind)
+same_placed h hs = placed_same hold_before h hs
+
+-- what is so of a row and of all others is so of all
+pub all_placed : {X : Type 0} (before : X → X → Bool) (P : X → Type 0) (x : X) (xs : List X) → P x → AllByRecursion P xs → AllByRecursion P (placed before x xs)
+all_placed before P x xs h k =
+    all_append P (filter (λ y. before y x) xs) (x ∷ filter (λ y. not (before y x)) xs) (all_filter P (λ y. before y x) xs k) (h, all_filter P (λ y. not (before y x)) xs k)
 
 before-trans : (x y z : FileHold) → hold_before x y ≡ true → hold_before y z ≡ true → hold_before x z ≡ true
 before-trans x y z h k = grind (arith, nat_tests)

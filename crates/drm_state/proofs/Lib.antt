@@ -9,4 +9,9 @@ pub mod Outcomes
 pub mod Lookups
 pub mod Contents
 pub mod Made
+pub mod LastHandles
+pub mod SharedLookups
+pub mod SharedChanges
 pub mod Crossing
+pub mod Leaving
+pub mod Taken

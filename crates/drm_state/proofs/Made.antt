@@ -1,15 +1,15 @@
 -- What a new buffer leaves of the parts.
-use Rattle.std.proofs.Common.{◌≡◌, ℕ, ◌==◌, true, false, cond, not, ◌&&◌, List, [], ◌∷◌, ◌++◌, map, filter, find, Option, Some, None, refl, sym, ap, ◌∙◌, subst, eq-eqb}
+use Rattle.std.proofs.Common.{◌≡◌, ℕ, ◌==◌, true, false, cond, not, ◌&&◌, ◌||◌, List, [], ◌∷◌, ◌++◌, map, filter, find, Option, Some, None, refl, sym, ap, ◌∙◌, subst, eq-eqb}
 use Rattle.std.specs.Prelude.{nat_le, ⊤, unwrap_or}
 use Rattle.std.specs.List.{AllByRecursion}
 use Rattle.std.specs.Option.{is_some, option_map, option_map_or, OnSome}
 use Rattle.std.proofs.lemmas.List.{map-append}
-use Rattle.std.proofs.lemmas.Bool.{and_left}
+use Rattle.std.proofs.lemmas.Bool.{and_left, eqb-true}
 use Rattle.drm_lists.specs.Orders.{SameRows}
 use Rattle.drm_lists.specs.Numbers.{is_among}
 use Rattle.drm_lists.proofs.Lists.{all_weaker, list_any-map, all_each}
 use Rattle.drm_lists.proofs.Found.{is_some-find, is_among-map_filter, find_last, none_found, on_some}
-use Rattle.drm_lists.proofs.Numbers.{among-left}
+use Rattle.drm_lists.proofs.Numbers.{among-left, among-right, among-more}
 use Rattle.drm_lists.proofs.Orders.{same-map, same-trans, same-any, same-cons, last_first}
 use Rattle.drm_gem.specs.declared.object.Object.{Object}
 use Rattle.drm_gem.specs.declared.object.Dead.{Dead}
@@ -23,11 +23,13 @@ use Rattle.drm_index_array.proofs.Least.{least-same}
 use Rattle.drm_model.specs.Rows.{Rows, HoldRow, hold_row, is_hold, handles_of, free_handle, birth}
 use Rattle.drm_model.specs.Buffers.{with_object}
 use Rattle.drm_state.specs.declared.state.State.{State}
-use Rattle.drm_state.specs.Parts.{birth_at, hold_row_by, hold_row_of, object_row_of, holds_of, keys_of, referring_keys}
-use Rattle.drm_state.specs.Ties.{Tie, HoldsRise, ObjectsCounted, is_tied, IsTied}
-use Rattle.drm_model.specs.Parts.{Part, Holds, Objects}
+use Rattle.drm_share.specs.declared.rows.SharedName.{SharedName}
+use Rattle.drm_share.specs.declared.rows.SharedToken.{SharedToken}
+use Rattle.drm_state.specs.Parts.{birth_at, hold_row_by, hold_row_of, name_row_by, name_row_of, token_row_by, token_row_of, object_row_of, holds_of, keys_of, token_keys, referring_keys}
+use Rattle.drm_state.specs.Ties.{Tie, HoldsRise, ObjectsCounted, NamesHeld, is_tied, IsTied, AreNamed}
+use Rattle.drm_model.specs.Parts.{Part, Holds, Objects, Names, Tokens}
 use Rattle.drm_state.specs.Refinement.{stands_for, Represents, Stands}
-use Rattle.drm_state.proofs.Represented.{limits_are, holds_are, objects_are, holds_rise, objects_counted}
+use Rattle.drm_state.proofs.Represented.{limits_are, holds_are, objects_are, names_are, tokens_are, holds_rise, objects_counted, names_held}
 use Rattle.drm_state.proofs.Counting.{is_found, same_tied, created_tied}
 use Rattle.drm_state.proofs.Naming.{same_numbers}
 use Rattle.drm_state.proofs.Holding.{same_placed, in_order_placed, free_is_new}
@@ -86,6 +88,19 @@ number_kept k y xs h =
 holds_kept : (y : Object) (objects : List Object) → (hs : List FileHold) → ((n : ℕ) → is_among (keys_of hs) n ≡ true → is_some (find (is_key n) objects) ≡ true) → map (hold_row_of (objects ++ y ∷ [])) hs ≡ map (hold_row_of objects) hs
 holds_kept y objects hs f = same_numbers hold_row_by (λ (x : FileHold). x.object) objects (objects ++ y ∷ []) hs (λ n e. number_kept n y objects (f n e))
 
+-- names and tokens name what they named
+tokens_kept : (y : Object) (objects : List Object) → (ts : List SharedToken) → ((n : ℕ) → is_among (token_keys ts) n ≡ true → is_some (find (is_key n) objects) ≡ true) → map (token_row_of (objects ++ y ∷ [])) ts ≡ map (token_row_of objects) ts
+tokens_kept y objects ts f = same_numbers token_row_by (λ (x : SharedToken). x.object) objects (objects ++ y ∷ []) ts (λ n e. number_kept n y objects (f n e))
+
+held_names : (keys : List ℕ) → (ns : List SharedName) (n : ℕ) → AreNamed keys ns → is_among (map (λ (x : SharedName). x.object) ns) n ≡ true → is_among keys n ≡ true
+held_names keys [] n h e = absurd (let k : false ≡ true = e in cc)
+held_names keys (x ∷ xs) n h e =
+    elim (x.object == n) as (λ b. (x.object == n) ≡ b → (b || is_among (map (λ (x : SharedName). x.object) xs) n) ≡ true → is_among keys n ≡ true)
+    [ true ↦ λ is k. ap (is_among keys) (sym (eqb-true x.object n is)) ∙ h.0 | false ↦ λ is k. held_names keys xs n h.1 k ] refl e
+
+names_kept : (y : Object) (objects : List Object) (keys : List ℕ) → (ns : List SharedName) → AreNamed keys ns → ((n : ℕ) → is_among keys n ≡ true → is_some (find (is_key n) objects) ≡ true) → map (name_row_of (objects ++ y ∷ [])) ns ≡ map (name_row_of objects) ns
+names_kept y objects keys ns h f = same_numbers name_row_by (λ (x : SharedName). x.object) objects (objects ++ y ∷ []) ns (λ n e. number_kept n y objects (f n (held_names keys ns n h e)))
+
 new_number : (key birth size : ℕ) (objects : List Object) → find (is_key key) objects ≡ None → birth_at (objects ++ new_object key birth size ∷ []) key ≡ birth
 new_number key birth size objects fresh = ap (λ o. option_map_or (λ (x : Object). x.birth) o 0) (find_last (is_key key) (new_object key birth size) (eq-eqb key key refl) objects (none_found (is_key key) objects fresh))
 
@@ -115,7 +130,17 @@ made s w c handle key b size t h fresh free Holds =
     let new : numbered ≡ record { client = c; handle = unwrap_or (free_handle w c) 0; object = birth w; place = None } = ap (λ n. record { client = c; handle = unwrap_or (free_handle w c) 0; object = n; place = None }) (sym h.birth_is) in
     let longer = ap (λ (r : HoldRow). w.holds ++ r ∷ []) (first ∙ new) in
     subst (λ rows. SameRows rows (map (hold_row_of objects) (placed hold_before y s.files.holds))) longer more
+made s w c handle key b size t h fresh free Tokens = subst (SameRows w.tokens) (sym (tokens_kept (new_object key b size) s.objects.objects s.tokens.tokens (λ n e. (objects_counted s t).there n (among-right (keys_of s.files.holds) (referring_keys s) n e)))) (tokens_are s w h.rows)
+made s w c handle key b size t h fresh free Names =
+    subst (SameRows w.names) (sym (names_kept (new_object key b size) s.objects.objects (keys_of s.files.holds) s.names.names (names_held s t) (λ n e. (objects_counted s t).there n (among-left (keys_of s.files.holds) (referring_keys s) n e)))) (names_are s w h.rows)
 made s w c handle key b size t h fresh free part = h.rows part
+
+-- names are of objects that handles name yet
+pub named_yet : (c handle key : ℕ) (place : Option ℕ) (hs : List FileHold) (ns : List SharedName) → AreNamed (keys_of hs) ns → AreNamed (keys_of (placed hold_before (hold c handle key place) hs)) ns
+named_yet c handle key place hs ns h =
+    let y : FileHold = hold c handle key place in
+    all_weaker (λ (x : SharedName). is_among (keys_of hs) x.object ≡ true) (λ (x : SharedName). is_among (keys_of (placed hold_before y hs)) x.object ≡ true)
+    (λ x e. sym (same-any (λ n. n == x.object) (key ∷ keys_of hs) (keys_of (placed hold_before y hs)) (same-map (λ (z : FileHold). z.object) (y ∷ hs) (placed hold_before y hs) (same_placed y hs))) ∙ among-more (keys_of hs) key x.object e) ns h
 
 pub made_tied : (s : State) (c handle key b size : ℕ) → IsTied s → IsNewBirth s.objects b → object_at s.objects key ≡ None → files.free_handle s.files c ≡ Some handle → (tie : Tie) → is_tied tie (with_made s c handle key b size)
 unfolding is_tied
@@ -125,4 +150,5 @@ made_tied s c handle key b size t newest fresh free ObjectsCounted =
     same_tied (key ∷ keys_of s.files.holds) (keys_of (placed hold_before y s.files.holds)) (referring_keys s) (s.objects.objects ++ new_object key b size ∷ [])
     (same-map (λ (x : FileHold). x.object) (y ∷ s.files.holds) (placed hold_before y s.files.holds) (same_placed y s.files.holds))
     (created_tied (keys_of s.files.holds) (referring_keys s) s.objects.objects (new_object key b size) (objects_counted s t) fresh newest refl refl)
+made_tied s c handle key b size t newest fresh free NamesHeld = named_yet c handle key None s.files.holds s.names.names (names_held s t)
 made_tied s c handle key b size t newest fresh free tie = t tie

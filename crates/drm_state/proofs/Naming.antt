@@ -8,12 +8,14 @@ use Rattle.drm_lists.specs.Orders.{SameRows, InOrder}
 use Rattle.drm_lists.specs.Numbers.{is_among, count}
 use Rattle.drm_lists.proofs.Lists.{all_weaker, map-map, list_any-map, all_both, all_each}
 use Rattle.drm_lists.proofs.Numbers.{flipped, among-more, count-none, among-first, count_of}
-use Rattle.drm_lists.proofs.Orders.{same-any}
+use Rattle.drm_lists.proofs.Orders.{same-any, same-map}
 use Rattle.drm_gem.specs.declared.object.Object.{Object}
 use Rattle.drm_gem.specs.Objects.{is_key}
 use Rattle.drm_files.specs.declared.rows.FileHold.{FileHold}
-use Rattle.drm_model.specs.Rows.{HoldRow}
-use Rattle.drm_state.specs.Parts.{birth_at, hold_row_by, hold_row_of, object_row_of, keys_of}
+use Rattle.drm_share.specs.declared.rows.SharedName.{SharedName}
+use Rattle.drm_share.specs.declared.rows.SharedToken.{SharedToken}
+use Rattle.drm_model.specs.Rows.{Rows, HoldRow, TokenRow, FramebufferRow}
+use Rattle.drm_state.specs.Parts.{birth_at, hold_row_by, hold_row_of, name_row_by, name_row_of, token_row_by, token_row_of, object_row_of, keys_of, token_keys}
 use Rattle.drm_state.specs.Ties.{AreTied, AreThoseNamed, core}
 use Rattle.drm_state.proofs.Counting.{is_found}
 
@@ -47,6 +49,13 @@ same_numbers row key objects now (x ∷ xs) f =
 -- handles name the numbers that they named
 pub holds_as_before : (objects now : List Object) (keys : List ℕ) (hs : List FileHold) → AreThoseNamed objects keys now → ((n : ℕ) → is_among (keys_of hs) n ≡ true → is_among keys n ≡ true) → map (hold_row_of now) hs ≡ map (hold_row_of objects) hs
 holds_as_before objects now keys hs h f = same_numbers hold_row_by (λ (x : FileHold). x.object) objects now hs (λ n e. birth_kept objects keys now n h (f n e))
+
+-- and so do tokens and names
+pub tokens_as_before : (objects now : List Object) (keys : List ℕ) (ts : List SharedToken) → AreThoseNamed objects keys now → ((n : ℕ) → is_among (token_keys ts) n ≡ true → is_among keys n ≡ true) → map (token_row_of now) ts ≡ map (token_row_of objects) ts
+tokens_as_before objects now keys ts h f = same_numbers token_row_by (λ (x : SharedToken). x.object) objects now ts (λ n e. birth_kept objects keys now n h (f n e))
+
+pub names_as_before : (objects now : List Object) (keys : List ℕ) (ns : List SharedName) → AreThoseNamed objects keys now → ((n : ℕ) → is_among (map (λ (x : SharedName). x.object) ns) n ≡ true → is_among keys n ≡ true) → map (name_row_of now) ns ≡ map (name_row_of objects) ns
+names_as_before objects now keys ns h f = same_numbers name_row_by (λ (x : SharedName). x.object) objects now ns (λ n e. birth_kept objects keys now n h (f n e))
 
 pub rows_left : (objects now : List Object) (keys : List ℕ) → AreThoseNamed objects keys now → map object_row_of now ≡ map object_row_of (filter (λ (x : Object). is_among keys x.key) objects)
 rows_left objects now keys h = sym (map-map object_row_of core now) ∙ ap (map object_row_of) h ∙ map-map object_row_of core (filter (λ (x : Object). is_among keys x.key) objects)
@@ -124,3 +133,32 @@ holds_counted rows objects hs n h = h (λ (row : HoldRow). row.object == n) ∙ 
 pub holds_naming : (rows : List HoldRow) (objects : List Object) (hs : List FileHold) (n : ℕ) → SameRows rows (map (hold_row_of objects) hs) → list_any (λ (row : HoldRow). row.object == n) rows ≡ is_among (map (birth_at objects) (keys_of hs)) n
 holds_naming rows objects hs n h =
     same-any (λ (row : HoldRow). row.object == n) rows (map (hold_row_of objects) hs) h ∙ sym (list_any-map (λ x. x == n) named_object (map (hold_row_of objects) hs)) ∙ ap (λ l. is_among l n) (numbers_of objects hs)
+
+-- a key's number stands among the numbers of keys exactly where the key does
+pub among_key : (keys refs : List ℕ) (objects : List Object) → AreTied keys refs objects → (some : List ℕ) → ((n : ℕ) → is_among some n ≡ true → is_among (keys ++ refs) n ≡ true) →
+    (k : ℕ) → is_among (keys ++ refs) k ≡ true → is_among (map (birth_at objects) some) (birth_at objects k) ≡ is_among some k
+among_key keys refs objects h some f k e =
+    let it = is_found k objects (h.there k e) (λ (x : Object). is_among (map (birth_at objects) some) x.birth ≡ is_among some x.key) (among_numbers keys refs objects h some f) in
+    ap (is_among (map (birth_at objects) some)) (birth_there k objects it.0 it.1) ∙ it.3 ∙ ap (is_among some) it.2
+
+-- two keys have one number exactly where they are the same
+pub one_key : (keys refs : List ℕ) (objects : List Object) (k m : ℕ) → AreTied keys refs objects → is_among (keys ++ refs) k ≡ true → is_among (keys ++ refs) m ≡ true → (birth_at objects k == birth_at objects m) ≡ (k == m)
+one_key keys refs objects k m h e f =
+    let it = is_found m objects (h.there m f) (λ (x : Object). (birth_at objects k == x.birth) ≡ (k == x.key)) (key_by_number keys refs objects k h e) in
+    ap (λ n. birth_at objects k == n) (birth_there m objects it.0 it.1) ∙ it.3 ∙ ap (λ n. k == n) it.2
+
+-- the objects that tokens and framebuffers name
+abbrev pub references : Rows → List ℕ
+references w = map (λ (row : TokenRow). row.object) w.tokens ++ map (λ (row : FramebufferRow). row.object) w.framebuffers
+
+append_none : (xs : List ℕ) → xs ++ [] ≡ xs
+append_none [] = refl
+append_none (x ∷ xs) = ap (λ l. x ∷ l) (append_none xs)
+
+-- told by keys
+pub references_by : (v : Rows) (objects : List Object) (ts : List SharedToken) → SameRows v.tokens (map (token_row_of objects) ts) → v.framebuffers ≡ [] → SameRows (references v) (map (birth_at objects) (token_keys ts))
+references_by v objects ts h none =
+    let named = λ (row : TokenRow). row.object in
+    let left : map named v.tokens ≡ references v = sym (ap (λ rows. map named v.tokens ++ map (λ (row : FramebufferRow). row.object) rows) none ∙ append_none (map named v.tokens)) in
+    let right : map named (map (token_row_of objects) ts) ≡ map (birth_at objects) (token_keys ts) = map-map named (token_row_of objects) ts ∙ sym (map-map (birth_at objects) (λ (x : SharedToken). x.object) ts) in
+    subst (λ l. SameRows l (map (birth_at objects) (token_keys ts))) left (subst (SameRows (map named v.tokens)) right (same-map named v.tokens (map (token_row_of objects) ts) h))

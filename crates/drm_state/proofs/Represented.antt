@@ -1,20 +1,16 @@
 -- The parts of what a state stands for, and its ties, one by one.
-use Rattle.std.proofs.Common.{◌≡◌, ℕ, ◌==◌, true, false, [], List, map, ap, ◌∙◌, ◌++◌}
+use Rattle.std.proofs.Common.{◌≡◌, ◌==◌, true, false, []}
 use Rattle.std.specs.List.{list_any, AllByRecursion}
 use Rattle.drm_lists.specs.Orders.{SameRows, InOrder}
 use Rattle.drm_files.specs.declared.rows.FileHold.{FileHold}
 use Rattle.drm_files.specs.Files.{is_present, hold_before}
-use Rattle.drm_model.specs.Rows.{Rows, TokenRow, FramebufferRow, is_option}
+use Rattle.drm_model.specs.Rows.{Rows, is_option}
 use Rattle.drm_state.specs.declared.state.Member.{Member}
 use Rattle.drm_state.specs.declared.state.State.{State}
-use Rattle.drm_state.specs.Parts.{clients_of, masters_of, holds_of, objects_of, keys_of, referring_keys, birth_at}
-use Rattle.drm_state.specs.Ties.{MembersOpen, MembersDiffer, MastersNamed, HoldsRise, ObjectsCounted, is_tied, IsTied, AreTied}
+use Rattle.drm_state.specs.Parts.{clients_of, masters_of, holds_of, objects_of, names_of, tokens_of, last_token_of, keys_of, referring_keys}
+use Rattle.drm_state.specs.Ties.{MembersOpen, MembersDiffer, MastersNamed, HoldsRise, ObjectsCounted, NamesHeld, is_tied, IsTied, AreTied, AreNamed}
 use Rattle.drm_model.specs.Parts.{Bounds, Clients, Masters, Magics, Holds, Objects, Names, Tokens, Grants, Framebuffers, Shown, DeviceMaster, LastToken, LastLeaseToken}
 use Rattle.drm_state.specs.Refinement.{stands_for, Represents, HaveLimits}
-
--- the objects that tokens and framebuffers name
-abbrev pub references : Rows → List ℕ
-references w = map (λ (row : TokenRow). row.object) w.tokens ++ map (λ (row : FramebufferRow). row.object) w.framebuffers
 
 module _ (s : State) (w : Rows) (h : Represents s w) where
   pub limits_are : HaveLimits s w.limits
@@ -41,13 +37,13 @@ module _ (s : State) (w : Rows) (h : Represents s w) where
   unfolding stands_for
   objects_are = h Objects
 
-  pub names_none : w.names ≡ []
+  pub names_are : SameRows w.names (names_of s)
   unfolding stands_for
-  names_none = h Names
+  names_are = h Names
 
-  pub tokens_none : w.tokens ≡ []
+  pub tokens_are : SameRows w.tokens (tokens_of s)
   unfolding stands_for
-  tokens_none = h Tokens
+  tokens_are = h Tokens
 
   pub grants_none : w.grants ≡ []
   unfolding stands_for
@@ -57,11 +53,6 @@ module _ (s : State) (w : Rows) (h : Represents s w) where
   unfolding stands_for
   framebuffers_none = h Framebuffers
 
-  -- what tokens and framebuffers name, by the numbers of objects
-  pub references_are : references w ≡ map (birth_at s.objects.objects) (referring_keys s)
-  unfolding stands_for
-  references_are = ap (λ rows. map (λ (row : TokenRow). row.object) rows ++ map (λ (row : FramebufferRow). row.object) w.framebuffers) (h Tokens) ∙ ap (λ rows. map (λ (row : FramebufferRow). row.object) rows) (h Framebuffers)
-
   pub shown_none : w.shown ≡ []
   unfolding stands_for
   shown_none = h Shown
@@ -70,9 +61,9 @@ module _ (s : State) (w : Rows) (h : Represents s w) where
   unfolding stands_for
   device_master_is = h DeviceMaster
 
-  pub last_token_none : w.last_token ≡ 0
+  pub last_token_is : w.last_token ≡ last_token_of s
   unfolding stands_for
-  last_token_none = h LastToken
+  last_token_is = h LastToken
 
   pub last_lease_token_none : w.last_lease_token ≡ 0
   unfolding stands_for
@@ -98,3 +89,7 @@ module _ (s : State) (t : IsTied s) where
   pub objects_counted : AreTied (keys_of s.files.holds) (referring_keys s) s.objects.objects
   unfolding is_tied
   objects_counted = t ObjectsCounted
+
+  pub names_held : AreNamed (keys_of s.files.holds) s.names.names
+  unfolding is_tied
+  names_held = t NamesHeld

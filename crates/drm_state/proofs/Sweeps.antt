@@ -1,33 +1,38 @@
 -- What a sweep leaves.
 use Rattle.std.proofs.Common.{◌≡◌, ℕ, ◌==◌, Bool, true, false, cond, not, ◌&&◌, ◌||◌, List, [], ◌∷◌, ◌++◌, map, filter, Option, Some, None, refl, sym, ◌∙◌, ap, subst}
-use Rattle.std.specs.Prelude.{if◌then◌else◌}
+use Rattle.std.specs.Prelude.{if◌then◌else◌, unwrap_or}
 use Rattle.std.specs.List.{list_any, AllByRecursion}
 use Rattle.std.specs.Global.{Vec}
 use Rattle.std.proofs.Math.Bool.{or_assoc}
+use Rattle.std.proofs.lemmas.Bool.{eqb-true, or_left, or_right}
 use Rattle.drm_lists.specs.Orders.{SameRows, InOrder}
 use Rattle.drm_lists.specs.Numbers.{is_among}
 use Rattle.drm_lists.proofs.Lists.{list_any-map, filter-map, filter_all, all_weaker, filter-same, filter_true, all_each, all_both}
 use Rattle.drm_lists.proofs.Numbers.{among-append, among-left, among-right, fewer_among, among-more}
-use Rattle.drm_lists.proofs.Orders.{same-filter, in_order_filter}
+use Rattle.drm_lists.proofs.Orders.{same-any, same-filter, in_order_filter}
 use Rattle.drm_gem.specs.declared.object.Object.{Object}
 use Rattle.drm_gem.specs.Objects.{ObjectSet}
 use Rattle.drm_files.specs.declared.rows.FileHold.{FileHold}
+use Rattle.drm_share.specs.declared.rows.SharedName.{SharedName}
+use Rattle.drm_share.specs.declared.rows.SharedToken.{SharedToken}
+use Rattle.drm_share.specs.Names.{NameList}
+use Rattle.drm_share.specs.Tokens.{is_exported_by}
 use Rattle.drm_files.specs.Files as files
 use Rattle.drm_files.specs.Files.{without_hold, without_client}
-use Rattle.drm_model.specs.Rows.{Rows, ClientRow, MasterRow, HoldRow, ObjectRow, TokenRow, FramebufferRow, is_hold, is_option, client_row, without}
+use Rattle.drm_model.specs.Rows.{Rows, ClientRow, MasterRow, HoldRow, ObjectRow, NameRow, TokenRow, FramebufferRow, is_hold, is_option, client_row, without}
 use Rattle.drm_model.specs.Masters.{is_under}
 use Rattle.drm_model.specs.Leases.{ended}
 use Rattle.drm_model.specs.Change.{is_referred, is_living, swept}
 use Rattle.drm_model.specs.Clients.{closed, ended_own, ended_if}
 use Rattle.drm_state.specs.declared.state.Member.{Member}
 use Rattle.drm_state.specs.declared.state.State.{State}
-use Rattle.drm_state.specs.Parts.{clients_of, masters_of, client_row_of, hold_row_of, object_row_of, master_row_of, birth_at, keys_of, referring_keys}
-use Rattle.drm_state.specs.Ties.{Tie, MembersOpen, MembersDiffer, MastersNamed, HoldsRise, ObjectsCounted, is_tied, IsTied, AreTied, AreThoseNamed}
-use Rattle.drm_model.specs.Parts.{Part, Bounds, Clients, Masters, Magics, Holds, Objects, Names, Tokens, Grants, Framebuffers, Shown, DeviceMaster}
+use Rattle.drm_state.specs.Parts.{clients_of, masters_of, names_of, objects_of, client_row_of, hold_row_of, name_row_of, token_row_of, object_row_of, master_row_of, birth_at, keys_of, token_keys, referring_keys, without_tokens_of}
+use Rattle.drm_state.specs.Ties.{Tie, MembersOpen, MembersDiffer, MastersNamed, HoldsRise, ObjectsCounted, NamesHeld, is_tied, IsTied, AreTied, AreNamed, AreThoseNamed, Leaves, names_among}
+use Rattle.drm_model.specs.Parts.{Part, Bounds, Clients, Masters, Magics, Holds, Objects, Names, Tokens, Grants, Framebuffers, Shown, DeviceMaster, LastToken}
 use Rattle.drm_state.specs.Refinement.{stands_for, Represents, is_same}
-use Rattle.drm_state.proofs.Represented.{references, references_are, limits_are, clients_are, masters_are, magics_none, holds_are, objects_are, names_none, tokens_none, grants_none, framebuffers_none, shown_none, device_master_is, members_open, members_differ, masters_are_named, holds_rise, objects_counted}
-use Rattle.drm_state.proofs.Counting.{IsStep, all_named}
-use Rattle.drm_state.proofs.Naming.{among_numbers, holds_naming, holds_as_before, rows_left}
+use Rattle.drm_state.proofs.Represented.{limits_are, clients_are, masters_are, magics_none, holds_are, objects_are, names_are, tokens_are, grants_none, framebuffers_none, shown_none, device_master_is, last_token_is, members_open, members_differ, masters_are_named, holds_rise, objects_counted, names_held}
+use Rattle.drm_state.proofs.Counting.{all_named}
+use Rattle.drm_state.proofs.Naming.{references, references_by, among_numbers, among_key, holds_naming, holds_as_before, tokens_as_before, names_as_before, rows_left}
 use Rattle.drm_state.proofs.Members.{masters_named, members_open_left, rows_left as clients_left}
 use Rattle.drm_state.proofs.Flat.{swept_masters}
 
@@ -41,18 +46,18 @@ either_way v n =
     ∙ ap (λ b. list_any (λ (row : HoldRow). row.object == n) v.holds || b) (sym (among-append (map (λ (row : TokenRow). row.object) v.tokens) (map (λ (row : FramebufferRow). row.object) v.framebuffers) n))
 
 -- an object is referred to where a key of a handle, a token or a framebuffer names it
-referred_is : (v : Rows) (objects : List Object) (keys refs : List ℕ) (hs : List FileHold) (now : List ℕ) → AreTied keys refs objects → SameRows v.holds (map (hold_row_of objects) hs) → references v ≡ map (birth_at objects) now → ((n : ℕ) → is_among (keys_of hs ++ now) n ≡ true → is_among (keys ++ refs) n ≡ true) →
+referred_is : (v : Rows) (objects : List Object) (keys refs : List ℕ) (hs : List FileHold) (now : List ℕ) → AreTied keys refs objects → SameRows v.holds (map (hold_row_of objects) hs) → SameRows (references v) (map (birth_at objects) now) → ((n : ℕ) → is_among (keys_of hs ++ now) n ≡ true → is_among (keys ++ refs) n ≡ true) →
     AllByRecursion (λ (x : Object). is_referred v x.birth ≡ is_among (keys_of hs ++ now) x.key) objects
 referred_is v objects keys refs hs now tied h r sub =
     all_both (λ (x : Object). is_among (map (birth_at objects) (keys_of hs)) x.birth ≡ is_among (keys_of hs) x.key) (λ (x : Object). is_among (map (birth_at objects) now) x.birth ≡ is_among now x.key) (λ (x : Object). is_referred v x.birth ≡ is_among (keys_of hs ++ now) x.key)
     (λ x e f.
     either_way v x.birth ∙ ap (λ b. b || is_among (references v) x.birth) (holds_naming v.holds objects hs x.birth h ∙ e)
-    ∙ ap (λ b. is_among (keys_of hs) x.key || b) (ap (λ l. is_among l x.birth) r ∙ f) ∙ sym (among-append (keys_of hs) now x.key)) objects
+    ∙ ap (λ b. is_among (keys_of hs) x.key || b) (same-any (λ n. n == x.birth) (references v) (map (birth_at objects) now) r ∙ f) ∙ sym (among-append (keys_of hs) now x.key)) objects
     (among_numbers keys refs objects tied (keys_of hs) (λ n e. sub n (among-left (keys_of hs) now n e)))
     (among_numbers keys refs objects tied now (λ n e. sub n (among-right (keys_of hs) now n e)))
 
 -- of objects that were all named those stay that are named yet
-pub swept_objects : (v : Rows) (objects left : List Object) (keys refs : List ℕ) (hs : List FileHold) (now : List ℕ) → AreTied keys refs objects → SameRows v.holds (map (hold_row_of objects) hs) → references v ≡ map (birth_at objects) now → ((n : ℕ) → is_among (keys_of hs ++ now) n ≡ true → is_among (keys ++ refs) n ≡ true) →
+swept_objects : (v : Rows) (objects left : List Object) (keys refs : List ℕ) (hs : List FileHold) (now : List ℕ) → AreTied keys refs objects → SameRows v.holds (map (hold_row_of objects) hs) → SameRows (references v) (map (birth_at objects) now) → ((n : ℕ) → is_among (keys_of hs ++ now) n ≡ true → is_among (keys ++ refs) n ≡ true) →
     v.objects ≡ map object_row_of objects → AreThoseNamed objects (keys_of hs ++ now) left → filter (λ (row : ObjectRow). is_referred v row.object) v.objects ≡ map object_row_of left
 swept_objects v objects left keys refs hs now tied h r sub o named =
     ap (filter (λ (row : ObjectRow). is_referred v row.object)) o ∙ filter-map (λ (row : ObjectRow). is_referred v row.object) object_row_of objects
@@ -63,13 +68,17 @@ swept_objects v objects left keys refs hs now tied h r sub o named =
 held_left : (rows : List HoldRow) (p : HoldRow → Bool) (objects : List Object) (hs : List FileHold) → SameRows rows (map (hold_row_of objects) hs) → SameRows (filter p rows) (map (hold_row_of objects) (filter (λ x. p (hold_row_of objects x)) hs))
 held_left rows p objects hs h = subst (SameRows (filter p rows)) (filter-map p (hold_row_of objects) hs) (same-filter p rows (map (hold_row_of objects) hs) h)
 
-some_pass : (p : FileHold → Bool) → (hs : List FileHold) (n : ℕ) → is_among (keys_of (filter p hs)) n ≡ true → is_among (keys_of hs) n ≡ true
+pub some_pass : (p : FileHold → Bool) → (hs : List FileHold) (n : ℕ) → is_among (keys_of (filter p hs)) n ≡ true → is_among (keys_of hs) n ≡ true
 some_pass p [] n h = h
 some_pass p (x ∷ xs) n h =
     elim (p x) as (λ b. is_among (keys_of (cond b (x ∷ filter p xs) (filter p xs))) n ≡ true → is_among (keys_of (x ∷ xs)) n ≡ true) [
       | true ↦ λ e. elim (x.object == n) as (λ d. (d || is_among (keys_of (filter p xs)) n) ≡ true → (d || is_among (keys_of xs) n) ≡ true) [ true ↦ λ k. refl | false ↦ λ k. some_pass p xs n k ] e
       | false ↦ λ e. among-more (keys_of xs) x.object n (some_pass p xs n e)
     ] h
+
+-- names are of objects that are named
+pub names_known : (s : State) → IsTied s → AreNamed (keys_of s.files.holds ++ referring_keys s) s.names.names
+names_known s t = all_weaker (λ (x : SharedName). is_among (keys_of s.files.holds) x.object ≡ true) (λ (x : SharedName). is_among (keys_of s.files.holds ++ referring_keys s) x.object ≡ true) (λ x e. among-left (keys_of s.files.holds) (referring_keys s) x.object e) s.names.names (names_held s t)
 
 -- ---- masters
 
@@ -81,38 +90,150 @@ masters_left v s t e f =
     (all_weaker (λ m. list_any (λ (x : Member). is_option m x.master) s.members.items ≡ true) (λ m. list_any (λ (row : ClientRow). is_option m row.master) v.clients ≡ true)
     (λ m k. ap (list_any (λ (row : ClientRow). is_option m row.master)) e ∙ masters_named m s.files.clients s.members.items (members_open s t) (members_differ s t) ∙ k) s.masters.items (masters_are_named s t)))
 
+-- ---- names
+
+-- of names those stay whose objects a handle names
+swept_names : (v : Rows) (objects : List Object) (keys refs : List ℕ) (hs : List FileHold) (ns : List SharedName) → AreTied keys refs objects → SameRows v.holds (map (hold_row_of objects) hs) → SameRows v.names (map (name_row_of objects) ns) →
+    ((n : ℕ) → is_among (keys_of hs) n ≡ true → is_among (keys ++ refs) n ≡ true) → AreNamed (keys ++ refs) ns → SameRows (filter (λ (row : NameRow). list_any (λ (hold : HoldRow). hold.object == row.object) v.holds) v.names) (map (name_row_of objects) (filter (λ (x : SharedName). is_among (keys_of hs) x.object) ns))
+swept_names v objects keys refs hs ns tied h m sub known =
+    let stays = λ (row : NameRow). list_any (λ (hold : HoldRow). hold.object == row.object) v.holds in
+    let same : filter stays (map (name_row_of objects) ns) ≡ map (name_row_of objects) (filter (λ (x : SharedName). is_among (keys_of hs) x.object) ns) =
+    filter-map stays (name_row_of objects) ns
+    ∙ ap (map (name_row_of objects)) (filter-same (λ (x : SharedName). stays (name_row_of objects x)) (λ (x : SharedName). is_among (keys_of hs) x.object) ns
+    (all_weaker (λ (x : SharedName). is_among (keys ++ refs) x.object ≡ true) (λ (x : SharedName). stays (name_row_of objects x) ≡ is_among (keys_of hs) x.object)
+    (λ x e. holds_naming v.holds objects hs (birth_at objects x.object) h ∙ among_key keys refs objects tied (keys_of hs) sub x.object e) ns known)) in
+    subst (SameRows (filter stays v.names)) same (same-filter stays v.names (map (name_row_of objects) ns) m)
+
+-- ---- what a sweep leaves of handles, tokens, names and objects
+
+-- rows before a sweep, told by the objects that were there: handles, tokens and names; of the names those are left whose objects
+-- a handle names, and of the objects those that handles and tokens name
+pub record Moves (s : State) (v : Rows) (hs : List FileHold) (ts : List SharedToken) (ns left : List SharedName) (set : ObjectSet) : Type 0 where
+  pub holds : SameRows v.holds (map (hold_row_of s.objects.objects) hs)
+  pub tokens : SameRows v.tokens (map (token_row_of s.objects.objects) ts)
+  pub names : SameRows v.names (map (name_row_of s.objects.objects) ns)
+  pub known : (n : ℕ) → is_among (keys_of hs ++ token_keys ts) n ≡ true → is_among (keys_of s.files.holds ++ referring_keys s) n ≡ true
+  pub known_names : AreNamed (keys_of s.files.holds ++ referring_keys s) ns
+  pub left_names : left ≡ filter (λ (x : SharedName). is_among (keys_of hs) x.object) ns
+  pub those : AreThoseNamed s.objects.objects (keys_of hs ++ token_keys ts) set.objects
+
+name_keys : (keys : List ℕ) → (ns : List SharedName) (n : ℕ) → is_among (map (λ (x : SharedName). x.object) (filter (λ (x : SharedName). is_among keys x.object) ns)) n ≡ true → is_among keys n ≡ true
+name_keys keys [] n h = absurd (let e : false ≡ true = h in cc)
+name_keys keys (x ∷ xs) n h =
+    let rest = filter (λ (x : SharedName). is_among keys x.object) xs in
+    elim (is_among keys x.object) as (λ b. is_among keys x.object ≡ b → is_among (map (λ (x : SharedName). x.object) (cond b (x ∷ rest) rest)) n ≡ true → is_among keys n ≡ true) [
+      | true ↦ λ is k. elim (x.object == n) as (λ b. (x.object == n) ≡ b → (b || is_among (map (λ (x : SharedName). x.object) rest) n) ≡ true → is_among keys n ≡ true)
+          [ true ↦ λ e j. ap (is_among keys) (sym (eqb-true x.object n e)) ∙ is | false ↦ λ e j. name_keys keys xs n j ] refl k
+      | false ↦ λ is k. name_keys keys xs n k
+    ] refl h
+
+module _ (s : State) (v : Rows) (hs : List FileHold) (ts : List SharedToken) (ns left : List SharedName) (set : ObjectSet) (t : IsTied s) (m : Moves s v hs ts ns left set) where
+  pub holds_moved : SameRows v.holds (map (hold_row_of set.objects) hs)
+  holds_moved = subst (SameRows v.holds) (sym (holds_as_before s.objects.objects set.objects _ hs m.those (λ n e. among-left (keys_of hs) (token_keys ts) n e))) m.holds
+
+  pub tokens_moved : SameRows v.tokens (map (token_row_of set.objects) ts)
+  tokens_moved = subst (SameRows v.tokens) (sym (tokens_as_before s.objects.objects set.objects _ ts m.those (λ n e. among-right (keys_of hs) (token_keys ts) n e))) m.tokens
+
+  pub names_moved : SameRows (filter (λ (row : NameRow). list_any (λ (hold : HoldRow). hold.object == row.object) v.holds) v.names) (map (name_row_of set.objects) left)
+  names_moved =
+      let kept = filter (λ (x : SharedName). is_among (keys_of hs) x.object) ns in
+      let swept_rows = filter (λ (row : NameRow). list_any (λ (hold : HoldRow). hold.object == row.object) v.holds) v.names in
+      subst (λ l. SameRows swept_rows (map (name_row_of set.objects) l)) (sym m.left_names)
+      (subst (SameRows swept_rows) (sym (names_as_before s.objects.objects set.objects _ kept m.those (λ n e. among-left (keys_of hs) (token_keys ts) n (name_keys (keys_of hs) ns n e))))
+      (swept_names v s.objects.objects (keys_of s.files.holds) (referring_keys s) hs ns (objects_counted s t) m.holds m.names (λ n e. m.known n (among-left (keys_of hs) (token_keys ts) n e)) m.known_names))
+
+  pub objects_moved : v.framebuffers ≡ [] → v.objects ≡ objects_of s → filter (λ (row : ObjectRow). is_referred v row.object) v.objects ≡ map object_row_of set.objects
+  objects_moved none o =
+      swept_objects v s.objects.objects set.objects (keys_of s.files.holds) (referring_keys s) hs (token_keys ts) (objects_counted s t) m.holds (references_by v s.objects.objects ts m.tokens none) m.known o m.those
+
+-- the state with other handles, tokens, names and objects
+abbrev pub moved_to : State → List FileHold → List SharedToken → Option ℕ → List SharedName → ObjectSet → State
+moved_to s hs ts given left set = record s {
+  files = record s.files { holds = hs };
+  tokens = record s.tokens { tokens = ts; last_given = given };
+  names = record s.names { names = left };
+  objects = set;
+}
+
+-- the rows with other handles, tokens and names
+abbrev pub shared_rows : Rows → List HoldRow → List TokenRow → ℕ → List NameRow → Rows
+shared_rows w holds tokens last names = record w { holds = holds; tokens = tokens; last_token = last; names = names }
+
+-- the state stands for them when they are swept
+pub moved : (s : State) (w : Rows) (holds : List HoldRow) (tokens : List TokenRow) (last : ℕ) (names : List NameRow) (hs : List FileHold) (ts : List SharedToken) (given : Option ℕ) (ns left : List SharedName) (set : ObjectSet) →
+    IsTied s → Represents s w → Moves s (shared_rows w holds tokens last names) hs ts ns left set → set.limit ≡ s.objects.limit → last ≡ unwrap_or given 0 → (part : Part) → stands_for part (moved_to s hs ts given left set) (swept (shared_rows w holds tokens last names))
+unfolding stands_for swept
+moved s w holds tokens last names hs ts given ns left set t h m l e Bounds = let k = limits_are s w h in (k.0, k.1, l ∙ k.2, k.3, k.4)
+moved s w holds tokens last names hs ts given ns left set t h m l e Masters = masters_left (shared_rows w holds tokens last names) s t (clients_are s w h) (masters_are s w h)
+moved s w holds tokens last names hs ts given ns left set t h m l e Holds = holds_moved s (shared_rows w holds tokens last names) hs ts ns left set t m
+moved s w holds tokens last names hs ts given ns left set t h m l e Objects = objects_moved s (shared_rows w holds tokens last names) hs ts ns left set t m (framebuffers_none s w h) (objects_are s w h)
+moved s w holds tokens last names hs ts given ns left set t h m l e Names = names_moved s (shared_rows w holds tokens last names) hs ts ns left set t m
+moved s w holds tokens last names hs ts given ns left set t h m l e Tokens = tokens_moved s (shared_rows w holds tokens last names) hs ts ns left set t m
+moved s w holds tokens last names hs ts given ns left set t h m l e Shown = ap (filter _) (shown_none s w h)
+moved s w holds tokens last names hs ts given ns left set t h m l e LastToken = e
+moved s w holds tokens last names hs ts given ns left set t h m l e part = h part
+
+-- and its parts are tied
+pub moved_tied : (s : State) (hs : List FileHold) (ts : List SharedToken) (given : Option ℕ) (left : List SharedName) (set : ObjectSet) → IsTied s → InOrder (λ (x y : FileHold). files.hold_before x y ≡ true) hs → AreTied (keys_of hs) (token_keys ts) set.objects → AreNamed (keys_of hs) left →
+    (tie : Tie) → is_tied tie (moved_to s hs ts given left set)
+unfolding is_tied
+moved_tied s hs ts given left set t o tied named HoldsRise = o
+moved_tied s hs ts given left set t o tied named ObjectsCounted = tied
+moved_tied s hs ts given left set t o tied named NamesHeld = named
+moved_tied s hs ts given left set t o tied named tie = t tie
+
 -- ---- nothing goes
+
+nothing_moves : (s : State) (v : Rows) → IsTied s → Represents s v → Moves s v s.files.holds s.tokens.tokens s.names.names s.names.names s.objects
+nothing_moves s v t h = record {
+  holds = holds_are s v h;
+  tokens = tokens_are s v h;
+  names = names_are s v h;
+  known = λ n e. e;
+  known_names = names_known s t;
+  left_names = sym (filter_all (λ (x : SharedName). is_among (keys_of s.files.holds) x.object) s.names.names (names_held s t));
+  those = all_named (keys_of s.files.holds) (referring_keys s) s.objects.objects (objects_counted s t);
+}
 
 -- a sweep takes nothing of rows that a state stands for whose parts are tied
 pub unswept : (s : State) (v : Rows) → IsTied s → Represents s v → (part : Part) → stands_for part s (swept v)
 unfolding stands_for swept
 unswept s v t h Masters = masters_left v s t (clients_are s v h) (masters_are s v h)
-unswept s v t h Objects =
-    let tied = objects_counted s t in
-    swept_objects v s.objects.objects s.objects.objects (keys_of s.files.holds) (referring_keys s) s.files.holds (referring_keys s) tied (holds_are s v h) (references_are s v h) (λ n e. e) (objects_are s v h) (all_named (keys_of s.files.holds) (referring_keys s) s.objects.objects tied)
-unswept s v t h Names = ap (filter _) (names_none s v h)
+unswept s v t h Objects = objects_moved s v s.files.holds s.tokens.tokens s.names.names s.names.names s.objects t (nothing_moves s v t h) (framebuffers_none s v h) (objects_are s v h)
+unswept s v t h Names = names_moved s v s.files.holds s.tokens.tokens s.names.names s.names.names s.objects t (nothing_moves s v t h)
 unswept s v t h Shown = ap (filter _) (shown_none s v h)
 unswept s v t h part = h part
 
--- ---- a handle goes, and with it what it alone named
+-- ---- fewer handles or tokens, and what they alone named
 
-pub handle_gone : (s : State) (w : Rows) (c n : ℕ) (set : ObjectSet) → IsTied s → IsStep s.objects.objects (keys_of (without_hold s.files c n).holds) (referring_keys s) set → set.limit ≡ s.objects.limit → Represents s w →
-    (part : Part) → stands_for part (record s { files = without_hold s.files c n; objects = set }) (swept (record w { holds = without (is_hold c n) w.holds }))
-unfolding stands_for swept
-handle_gone s w c n set t step l h Bounds = let k = limits_are s w h in (k.0, k.1, l ∙ k.2)
-handle_gone s w c n set t step l h Masters = masters_left (record w { holds = without (is_hold c n) w.holds }) s t (clients_are s w h) (masters_are s w h)
-handle_gone s w c n set t step l h Holds =
+-- what is left by fewer keys
+pub leaving : (s : State) (w v : Rows) (hs : List FileHold) (ts : List SharedToken) (names : NameList) (set : ObjectSet) → IsTied s → Represents s w → v.names ≡ w.names → SameRows v.holds (map (hold_row_of s.objects.objects) hs) → SameRows v.tokens (map (token_row_of s.objects.objects) ts) →
+    ((n : ℕ) → is_among (keys_of hs ++ token_keys ts) n ≡ true → is_among (keys_of s.files.holds ++ referring_keys s) n ≡ true) → Leaves s.names s.objects (keys_of hs) (token_keys ts) names set → Moves s v hs ts s.names.names names.names set
+leaving s w v hs ts names set t h e held opened known left = record {
+  holds = held;
+  tokens = opened;
+  names = subst (λ l. SameRows l (names_of s)) (sym e) (names_are s w h);
+  known = known;
+  known_names = names_known s t;
+  left_names = ap (λ (l : NameList). l.names) left.names;
+  those = left.those;
+}
+
+-- the state without a handle, and without what it alone named
+abbrev pub without_handle : State → ℕ → ℕ → NameList → ObjectSet → State
+without_handle s c n names set = record s { files = without_hold s.files c n; names = names; objects = set }
+
+pub handle_gone : (s : State) (w : Rows) (c n : ℕ) (names : NameList) (set : ObjectSet) → IsTied s → Leaves s.names s.objects (keys_of (without_hold s.files c n).holds) (referring_keys s) names set → Represents s w →
+    Represents (without_handle s c n names set) (swept (record w { holds = without (is_hold c n) w.holds }))
+handle_gone s w c n names set t left h =
     let q = λ (x : FileHold). not (files.is_hold c n x) in
-    subst (SameRows (without (is_hold c n) w.holds)) (sym (holds_as_before s.objects.objects set.objects _ (filter q s.files.holds) step.named (λ m e. among-left (keys_of (filter q s.files.holds)) (referring_keys s) m e)))
-    (held_left w.holds (λ row. not (is_hold c n row)) s.objects.objects s.files.holds (holds_are s w h))
-handle_gone s w c n set t step l h Objects =
-    let q = λ (x : FileHold). not (files.is_hold c n x) in
-    swept_objects (record w { holds = without (is_hold c n) w.holds }) s.objects.objects set.objects (keys_of s.files.holds) (referring_keys s) (filter q s.files.holds) (referring_keys s) (objects_counted s t)
-    (held_left w.holds (λ row. not (is_hold c n row)) s.objects.objects s.files.holds (holds_are s w h)) (references_are s w h)
-    (λ m e. fewer_among (keys_of (filter q s.files.holds)) (keys_of s.files.holds) (referring_keys s) m (some_pass q s.files.holds m) e) (objects_are s w h) step.named
-handle_gone s w c n set t step l h Names = ap (filter _) (names_none s w h)
-handle_gone s w c n set t step l h Shown = ap (filter _) (shown_none s w h)
-handle_gone s w c n set t step l h part = h part
+    let kept = names_among (keys_of (filter q s.files.holds)) s.names in
+    let leaves : Leaves s.names s.objects (keys_of (filter q s.files.holds)) (referring_keys s) kept set = record { tied = left.tied; those = left.those; limit = left.limit; names = refl } in
+    subst (λ ns. Represents (without_handle s c n ns set) (swept (record w { holds = without (is_hold c n) w.holds }))) (sym left.names)
+    (moved s w (without (is_hold c n) w.holds) w.tokens w.last_token w.names (filter q s.files.holds) s.tokens.tokens s.tokens.last_given s.names.names kept.names set t h
+    (leaving s w (record w { holds = without (is_hold c n) w.holds }) (filter q s.files.holds) s.tokens.tokens kept set t h refl
+    (held_left w.holds (λ row. not (is_hold c n row)) s.objects.objects s.files.holds (holds_are s w h)) (tokens_are s w h)
+    (λ m e. fewer_among (keys_of (filter q s.files.holds)) (keys_of s.files.holds) (referring_keys s) m (some_pass q s.files.holds m) e) leaves) left.limit (last_token_is s w h))
 
 -- ---- a client goes
 
@@ -145,22 +266,69 @@ ended_if_represents s w false m h Clients = h Clients
 ended_if_represents s w false m h part = h part
 
 -- the state without a client
-abbrev pub without_its : State → ℕ → ObjectSet → Vec Member → Vec ℕ → Option ℕ → State
-without_its s c set members masters device = record s { files = without_client s.files c; members = members; masters = masters; objects = set; device_master = device }
+abbrev pub without_its : State → ℕ → NameList → ObjectSet → Vec Member → Vec ℕ → Option ℕ → State
+without_its s c names set members masters device = record s {
+  files = without_client s.files c;
+  tokens = without_tokens_of c s.tokens;
+  names = names;
+  members = members;
+  masters = masters;
+  objects = set;
+  device_master = device;
+}
+
+-- the handles and the objects of tokens without a client
+abbrev pub keys_without : State → ℕ → List ℕ
+keys_without s c = keys_of (without_client s.files c).holds
+
+abbrev pub references_without : State → ℕ → List ℕ
+references_without s c = token_keys (without_tokens_of c s.tokens).tokens
+
+all_among : (keys : List ℕ) → (ns : List SharedName) → AreNamed keys (filter (λ (x : SharedName). is_among keys x.object) ns)
+all_among keys ns = filter_true (λ (x : SharedName). is_among keys x.object) ns
+
+-- the names that are left are of objects that handles name
+pub named_left : (names now : NameList) (objects set : ObjectSet) (keys refs : List ℕ) → Leaves names objects keys refs now set → AreNamed keys now.names
+named_left names now objects set keys refs left = subst (λ (l : NameList). AreNamed keys l.names) (sym left.names) (all_among keys names.names)
 
 -- the ties without a client
-pub client_gone_tied : (s : State) (c : ℕ) (set : ObjectSet) (members : Vec Member) (masters : Vec ℕ) (device : Option ℕ) → IsTied s → members.items ≡ filter (λ (x : Member). not (x.client == c)) s.members.items →
-    masters.items ≡ filter (λ m. list_any (λ (x : Member). is_option m x.master) members.items) s.masters.items → AreTied (keys_of (without_client s.files c).holds) (referring_keys s) set.objects → (tie : Tie) → is_tied tie (without_its s c set members masters device)
+pub client_gone_tied : (s : State) (c : ℕ) (names : NameList) (set : ObjectSet) (members : Vec Member) (masters : Vec ℕ) (device : Option ℕ) → IsTied s → members.items ≡ filter (λ (x : Member). not (x.client == c)) s.members.items →
+    masters.items ≡ filter (λ m. list_any (λ (x : Member). is_option m x.master) members.items) s.masters.items → Leaves s.names s.objects (keys_without s c) (references_without s c) names set → (tie : Tie) → is_tied tie (without_its s c names set members masters device)
 unfolding is_tied
-client_gone_tied s c set members masters device t e f tied MembersOpen = subst (λ ms. AllByRecursion (λ (m : Member). files.is_present (without_client s.files c) m.client ≡ true) ms) (sym e) (members_open_left c s.files.clients s.members.items (members_open s t))
-client_gone_tied s c set members masters device t e f tied MembersDiffer = subst (InOrder (λ (x y : Member). (x.client == y.client) ≡ false)) (sym e) (in_order_filter (λ (x y : Member). (x.client == y.client) ≡ false) _ s.members.items (members_differ s t))
-client_gone_tied s c set members masters device t e f tied MastersNamed = subst (AllByRecursion (λ m. list_any (λ (x : Member). is_option m x.master) members.items ≡ true)) (sym f) (filter_true (λ m. list_any (λ (x : Member). is_option m x.master) members.items) s.masters.items)
-client_gone_tied s c set members masters device t e f tied HoldsRise = in_order_filter (λ (x y : FileHold). files.hold_before x y ≡ true) _ s.files.holds (holds_rise s t)
-client_gone_tied s c set members masters device t e f tied ObjectsCounted = tied
+client_gone_tied s c names set members masters device t e f left MembersOpen = subst (λ ms. AllByRecursion (λ (m : Member). files.is_present (without_client s.files c) m.client ≡ true) ms) (sym e) (members_open_left c s.files.clients s.members.items (members_open s t))
+client_gone_tied s c names set members masters device t e f left MembersDiffer = subst (InOrder (λ (x y : Member). (x.client == y.client) ≡ false)) (sym e) (in_order_filter (λ (x y : Member). (x.client == y.client) ≡ false) _ s.members.items (members_differ s t))
+client_gone_tied s c names set members masters device t e f left MastersNamed = subst (AllByRecursion (λ m. list_any (λ (x : Member). is_option m x.master) members.items ≡ true)) (sym f) (filter_true (λ m. list_any (λ (x : Member). is_option m x.master) members.items) s.masters.items)
+client_gone_tied s c names set members masters device t e f left HoldsRise = in_order_filter (λ (x y : FileHold). files.hold_before x y ≡ true) _ s.files.holds (holds_rise s t)
+client_gone_tied s c names set members masters device t e f left ObjectsCounted = left.tied
+client_gone_tied s c names set members masters device t e f left NamesHeld = named_left s.names names s.objects set (keys_without s c) (references_without s c) left
 
-module _ (s : State) (w : Rows) (c : ℕ) (row : ClientRow) (set : ObjectSet) (members : Vec Member) (masters : Vec ℕ) (device : Option ℕ)
-    (t : IsTied s) (now : IsTied (without_its s c set members masters device)) (of : client_row w c ≡ Some row)
-    (named : AreThoseNamed s.objects.objects (keys_of (without_client s.files c).holds ++ referring_keys s) set.objects) (l : set.limit ≡ s.objects.limit)
+pub some_opened : (p : SharedToken → Bool) → (ts : List SharedToken) (n : ℕ) → is_among (token_keys (filter p ts)) n ≡ true → is_among (token_keys ts) n ≡ true
+some_opened p [] n h = h
+some_opened p (x ∷ xs) n h =
+    elim (p x) as (λ b. is_among (token_keys (cond b (x ∷ filter p xs) (filter p xs))) n ≡ true → is_among (token_keys (x ∷ xs)) n ≡ true) [
+      | true ↦ λ e. elim (x.object == n) as (λ d. (d || is_among (token_keys (filter p xs)) n) ≡ true → (d || is_among (token_keys xs) n) ≡ true) [ true ↦ λ k. refl | false ↦ λ k. some_opened p xs n k ] e
+      | false ↦ λ e. among-more (token_keys xs) x.object n (some_opened p xs n e)
+    ] h
+
+-- the tokens that pass a test
+pub opened_left : (rows : List TokenRow) (p : TokenRow → Bool) (objects : List Object) (ts : List SharedToken) → SameRows rows (map (token_row_of objects) ts) → SameRows (filter p rows) (map (token_row_of objects) (filter (λ x. p (token_row_of objects x)) ts))
+opened_left rows p objects ts h = subst (SameRows (filter p rows)) (filter-map p (token_row_of objects) ts) (same-filter p rows (map (token_row_of objects) ts) h)
+
+-- fewer handles and tokens name fewer keys
+pub fewer_known : (s : State) (p : FileHold → Bool) (q : SharedToken → Bool) (n : ℕ) → is_among (keys_of (filter p s.files.holds) ++ token_keys (filter q s.tokens.tokens)) n ≡ true → is_among (keys_of s.files.holds ++ referring_keys s) n ≡ true
+fewer_known s p q n e =
+    let fewer = keys_of (filter p s.files.holds) in
+    let other = token_keys (filter q s.tokens.tokens) in
+    let split : (is_among fewer n || is_among other n) ≡ true = sym (among-append fewer other n) ∙ e in
+    among-append (keys_of s.files.holds) (referring_keys s) n
+    ∙ elim (is_among fewer n) as (λ b. is_among fewer n ≡ b → (b || is_among other n) ≡ true → (is_among (keys_of s.files.holds) n || is_among (referring_keys s) n) ≡ true) [
+      | true ↦ λ is k. or_left (is_among (keys_of s.files.holds) n) _ (some_pass p s.files.holds n is)
+      | false ↦ λ is k. or_right (is_among (keys_of s.files.holds) n) _ (some_opened q s.tokens.tokens n k)
+    ] refl split
+
+module _ (s : State) (w : Rows) (c : ℕ) (row : ClientRow) (names : NameList) (set : ObjectSet) (members : Vec Member) (masters : Vec ℕ) (device : Option ℕ)
+    (t : IsTied s) (now : IsTied (without_its s c names set members masters device)) (of : client_row w c ≡ Some row)
+    (gone : Leaves s.names s.objects (keys_without s c) (references_without s c) names set)
     (left : members.items ≡ filter (λ (x : Member). not (x.client == c)) s.members.items) (stay : masters.items ≡ filter (λ m. list_any (λ (x : Member). is_option m x.master) members.items) s.masters.items)
     (d : device ≡ (if row.is_master && is_same s.device_master row.master then None else s.device_master)) (h : Represents s w) where
   -- when what its own master gave is gone
@@ -170,42 +338,49 @@ module _ (s : State) (w : Rows) (c : ℕ) (row : ClientRow) (set : ObjectSet) (m
       (subst (λ m. Represents (record s { device_master = m }) (ended_own w (Some row))) (sym d) (ended_if_represents s w row.is_master row.master h))
 
   -- its row goes
-  clients_now : without (λ (x : ClientRow). x.client == c) w.clients ≡ clients_of (without_its s c set members masters device)
+  clients_now : without (λ (x : ClientRow). x.client == c) w.clients ≡ clients_of (without_its s c names set members masters device)
   clients_now =
       ap (without (λ (x : ClientRow). x.client == c)) (clients_are s w h) ∙ sym (clients_left c s.members.items s.files.clients)
       ∙ ap (λ ms. map (client_row_of ms) (without_client s.files c).clients) (sym left)
 
-  masters_now : (v : Rows) → v.clients ≡ clients_of (without_its s c set members masters device) → v.masters ≡ masters_of s → filter (λ (x : MasterRow). is_living v x.master) v.masters ≡ map master_row_of masters.items
+  masters_now : (v : Rows) → v.clients ≡ clients_of (without_its s c names set members masters device) → v.masters ≡ masters_of s → filter (λ (x : MasterRow). is_living v x.master) v.masters ≡ map master_row_of masters.items
   masters_now v e f =
       swept_masters v s.masters.items f ∙ ap (map master_row_of) (filter-same (λ m. list_any (λ (x : ClientRow). is_option m x.master) v.clients) (λ m. list_any (λ (x : Member). is_option m x.master) members.items) s.masters.items
       (all_each _ (λ m. ap (list_any (λ (x : ClientRow). is_option m x.master)) e
-      ∙ masters_named m (without_client s.files c).clients members.items (members_open (without_its s c set members masters device) now) (members_differ (without_its s c set members masters device) now)) s.masters.items) ∙ sym stay)
+      ∙ masters_named m (without_client s.files c).clients members.items (members_open (without_its s c names set members masters device) now) (members_differ (without_its s c names set members masters device) now)) s.masters.items) ∙ sym stay)
 
-  -- there are no tokens and framebuffers to go
-  references_now : (u : Rows) → u.tokens ≡ [] → u.framebuffers ≡ [] → references (closed u c) ≡ map (birth_at s.objects.objects) (referring_keys s)
+  -- its handles and tokens go, and what they alone named
+  moves : Moves s (closed w c) (without_client s.files c).holds (without_tokens_of c s.tokens).tokens s.names.names names.names set
   unfolding closed
-  references_now u e f =
-      ap (λ rows. map (λ (x : TokenRow). x.object) (without (λ (x : TokenRow). x.client == c) rows) ++ map (λ (x : FramebufferRow). x.object) (without (λ (x : FramebufferRow). x.client == c) u.framebuffers)) e
-      ∙ ap (λ rows. map (λ (x : FramebufferRow). x.object) (without (λ (x : FramebufferRow). x.client == c) rows)) f
+  moves = record {
+    holds = held_left w.holds (λ x. not (x.client == c)) s.objects.objects s.files.holds (holds_are s w h);
+    tokens = opened_left w.tokens (λ x. not (x.client == c)) s.objects.objects s.tokens.tokens (tokens_are s w h);
+    names = names_are _ _ ended_represents;
+    known = fewer_known s (λ x. not (files.of_client c x)) (λ x. not (is_exported_by c x));
+    known_names = names_known s t;
+    left_names = ap (λ (l : NameList). l.names) gone.names;
+    those = gone.those;
+  }
 
-  -- its handles go, with what they alone named, and the masters that no client names any more
-  pub client_gone : (part : Part) → stands_for part (without_its s c set members masters device) (swept (closed w c))
+  none_framed : (closed w c).framebuffers ≡ []
+  unfolding closed
+  none_framed = ap (without _) (framebuffers_none s w h)
+
+  objects_yet : (closed w c).objects ≡ objects_of s
+  unfolding closed
+  objects_yet = objects_are _ _ ended_represents
+
+  -- and the masters that no client names any more
+  pub client_gone : (part : Part) → stands_for part (without_its s c names set members masters device) (swept (closed w c))
   unfolding stands_for swept closed
-  client_gone Bounds = let k = limits_are _ _ ended_represents in (k.0, k.1, l ∙ k.2)
+  client_gone Bounds = let k = limits_are _ _ ended_represents in (k.0, k.1, gone.limit ∙ k.2, ap (λ (l : NameList). l.last) gone.names ∙ k.3, k.4)
   client_gone Clients = clients_now
   client_gone Masters = masters_now (closed w c) clients_now (masters_are _ _ ended_represents)
   client_gone Magics = ap (without _) (magics_none s w h)
-  client_gone Holds =
-      let held = (without_client s.files c).holds in
-      subst (SameRows (without (λ (x : HoldRow). x.client == c) w.holds)) (sym (holds_as_before s.objects.objects set.objects _ held named (λ m e. among-left (keys_of held) (referring_keys s) m e)))
-      (held_left w.holds (λ x. not (x.client == c)) s.objects.objects s.files.holds (holds_are s w h))
-  client_gone Objects =
-      let held = (without_client s.files c).holds in
-      swept_objects (closed w c) s.objects.objects set.objects (keys_of s.files.holds) (referring_keys s) held (referring_keys s) (objects_counted s t)
-      (held_left w.holds (λ x. not (x.client == c)) s.objects.objects s.files.holds (holds_are s w h)) (references_now w (tokens_none s w h) (framebuffers_none s w h))
-      (λ m e. fewer_among (keys_of held) (keys_of s.files.holds) (referring_keys s) m (some_pass (λ x. not (files.of_client c x)) s.files.holds m) e) (objects_are _ _ ended_represents) named
-  client_gone Names = ap (filter _) (names_none _ _ ended_represents)
-  client_gone Tokens = ap (without _) (tokens_none s w h)
-  client_gone Framebuffers = ap (without _) (framebuffers_none s w h)
+  client_gone Holds = holds_moved s (closed w c) _ _ s.names.names names.names set t moves
+  client_gone Objects = objects_moved s (closed w c) _ _ s.names.names names.names set t moves none_framed objects_yet
+  client_gone Names = names_moved s (closed w c) _ _ s.names.names names.names set t moves
+  client_gone Tokens = tokens_moved s (closed w c) _ _ s.names.names names.names set t moves
+  client_gone Framebuffers = none_framed
   client_gone Shown = ap (filter _) (shown_none _ _ ended_represents)
   client_gone part = ended_represents part

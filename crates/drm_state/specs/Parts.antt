@@ -1,11 +1,14 @@
 -- The rows that the parts of the device stand for.
-use Rattle.std.specs.Prelude.{ℕ, ◌==◌, false, List, None, find, map, unwrap_or, []}
+use Rattle.std.specs.Prelude.{ℕ, ◌==◌, false, not, List, None, find, filter, map, unwrap_or}
 use Rattle.std.specs.Option.{option_map_or}
 use Rattle.drm_gem.specs.declared.object.Object.{Object}
 use Rattle.drm_gem.specs.Objects.{is_key}
 use Rattle.drm_files.specs.declared.rows.FileClient.{FileClient}
 use Rattle.drm_files.specs.declared.rows.FileHold.{FileHold}
-use Rattle.drm_model.specs.Rows.{ClientRow, MasterRow, HoldRow, ObjectRow}
+use Rattle.drm_share.specs.declared.rows.SharedName.{SharedName}
+use Rattle.drm_share.specs.declared.rows.SharedToken.{SharedToken}
+use Rattle.drm_share.specs.Tokens.{TokenList, is_exported_by}
+use Rattle.drm_model.specs.Rows.{ClientRow, MasterRow, HoldRow, ObjectRow, NameRow, TokenRow}
 use Rattle.drm_state.specs.declared.state.Member.{Member}
 use Rattle.drm_state.specs.declared.state.State.{State}
 
@@ -48,6 +51,19 @@ hold_row_of objects x = hold_row_by x (birth_at objects x.object)
 abbrev pub object_row_of : Object → ObjectRow
 object_row_of x = record { object = x.birth; size = x.size; stamp = x.stamp }
 
+abbrev pub name_row_by : SharedName → ℕ → NameRow
+name_row_by x number = record { name = x.name; object = number }
+
+-- so do a name and a token
+abbrev pub name_row_of : List Object → SharedName → NameRow
+name_row_of objects x = name_row_by x (birth_at objects x.object)
+
+abbrev pub token_row_by : SharedToken → ℕ → TokenRow
+token_row_by x number = record { token = x.token; client = x.client; object = number }
+
+abbrev pub token_row_of : List Object → SharedToken → TokenRow
+token_row_of objects x = token_row_by x (birth_at objects x.object)
+
 abbrev pub clients_of : State → List ClientRow
 clients_of s = map (client_row_of s.members.items) s.files.clients
 
@@ -60,9 +76,27 @@ holds_of s = map (hold_row_of s.objects.objects) s.files.holds
 abbrev pub objects_of : State → List ObjectRow
 objects_of s = map object_row_of s.objects.objects
 
--- the keys that tokens and framebuffers name: there are none yet
+abbrev pub names_of : State → List NameRow
+names_of s = map (name_row_of s.objects.objects) s.names.names
+
+abbrev pub tokens_of : State → List TokenRow
+tokens_of s = map (token_row_of s.objects.objects) s.tokens.tokens
+
+-- the last token given; 0 before the first
+abbrev pub last_token_of : State → ℕ
+last_token_of s = unwrap_or s.tokens.last_given 0
+
+-- the keys that tokens name
+abbrev pub token_keys : List SharedToken → List ℕ
+token_keys tokens = map (λ (x : SharedToken). x.object) tokens
+
+-- the tokens that the client did not export
+abbrev pub without_tokens_of : ℕ → TokenList → TokenList
+without_tokens_of c list = record list { tokens = filter (λ (x : SharedToken). not (is_exported_by c x)) list.tokens }
+
+-- the keys that tokens and framebuffers name; there are no framebuffers yet
 abbrev pub referring_keys : State → List ℕ
-referring_keys s = []
+referring_keys s = token_keys s.tokens.tokens
 
 -- the keys that handles name
 abbrev pub keys_of : List FileHold → List ℕ

@@ -9,7 +9,8 @@ use Rattle.drm_table.specs.declared.events.Event.TheVariants.{Ask}
 use Rattle.drm_table.specs.declared.limits.Limits.{Limits}
 use Rattle.drm_table.specs.declared.rules.Rule.{Rule}
 use Rattle.drm_table.specs.Permit.{first_failing}
-use Rattle.drm_model.specs.Rows.{Rows}
+use Rattle.std.specs.Option.{is_some}
+use Rattle.drm_model.specs.Rows.{Rows, free_handle, with_hold}
 use Rattle.drm_model.specs.Parts.{Part, Bounds, Clients, Masters, Magics, Holds, Objects, Names, Tokens, Grants, Framebuffers, Shown, DeviceMaster, LastToken, LastLeaseToken}
 use Rattle.drm_model.specs.Masters.{is_owner}
 use Rattle.drm_model.specs.Births.{BirthsRise}
@@ -19,14 +20,15 @@ use Rattle.drm_model.specs.Change.{after, swept}
 use Rattle.drm_model.specs.Reply.{reply}
 use Rattle.drm_model.specs.Run.{Growing}
 use Rattle.drm_state.specs.declared.state.State.{State}
-use Rattle.drm_state.specs.Parts.{clients_of, masters_of, holds_of, objects_of, member_of}
+use Rattle.drm_state.specs.Parts.{birth_at, clients_of, masters_of, holds_of, objects_of, names_of, tokens_of, last_token_of, member_of}
 
 -- the limits that the parts keep
 abbrev pub HaveLimits : State → Limits → Type 0
-HaveLimits s limits = (s.files.limit ≡ limits.clients) × (s.files.last_handle ≡ limits.handles) × (s.objects.limit ≡ limits.objects)
+HaveLimits s limits =
+    (s.files.limit ≡ limits.clients) × (s.files.last_handle ≡ limits.handles) × (s.objects.limit ≡ limits.objects) × (s.names.last ≡ limits.names) × (s.tokens.last ≡ limits.tokens)
 
--- what the state stands for in a part of the rows. Handles have their own order; no event makes the lists longer yet that
--- are empty here
+-- what the state stands for in a part of the rows. Handles, names and tokens have their own order; no event makes the lists longer
+-- yet that are empty here
 unfoldable pub stands_for : Part → State → Rows → Type 0
 stands_for Bounds s w = HaveLimits s w.limits
 stands_for Clients s w = w.clients ≡ clients_of s
@@ -34,13 +36,13 @@ stands_for Masters s w = w.masters ≡ masters_of s
 stands_for Magics s w = w.magics ≡ []
 stands_for Holds s w = SameRows w.holds (holds_of s)
 stands_for Objects s w = w.objects ≡ objects_of s
-stands_for Names s w = w.names ≡ []
-stands_for Tokens s w = w.tokens ≡ []
+stands_for Names s w = SameRows w.names (names_of s)
+stands_for Tokens s w = SameRows w.tokens (tokens_of s)
 stands_for Grants s w = w.grants ≡ []
 stands_for Framebuffers s w = w.framebuffers ≡ []
 stands_for Shown s w = w.shown ≡ []
 stands_for DeviceMaster s w = w.device_master ≡ s.device_master
-stands_for LastToken s w = w.last_token ≡ 0
+stands_for LastToken s w = w.last_token ≡ last_token_of s
 stands_for LastLeaseToken s w = w.last_lease_token ≡ 0
 
 -- the state stands for the rows
@@ -85,6 +87,17 @@ MadeBuffer w c size (Err e) s = (has_buffer_room w c ≡ true) × Represents s w
 
 unfoldable pub MakesBuffer : State → ℕ → ℕ → ℕ → Result (Option ℕ) AllocError → State → Type 0
 MakesBuffer old birth c size result new = (w : Rows) → Stands old birth w → MadeBuffer w c size result new
+
+-- what a fresh handle of an object that is there comes to: none where the client has every handle, or the handle; or memory was
+-- refused, and the state stands for the rows before
+abbrev pub AddedHandle : Rows → ℕ → ℕ → Option ℕ → Result (Option ℕ) AllocError → State → Type 0
+AddedHandle w c o place (Ok None) s = (free_handle w c ≡ None) × Represents s w
+AddedHandle w c o place (Ok (Some handle)) s = (free_handle w c ≡ Some handle) × Represents s (swept (record w { holds = with_hold w c o place }))
+AddedHandle w c o place (Err e) s = (is_some (free_handle w c) ≡ true) × Represents s w
+
+-- the object is that of a key
+unfoldable pub AddsHandle : State → ℕ → ℕ → Option ℕ → Result (Option ℕ) AllocError → State → Type 0
+AddsHandle old c key place result new = (w : Rows) → Represents old w → AddedHandle w c (birth_at old.objects.objects key) place result new
 
 -- the first rule of admission that fails, whichever rows the state stands for
 unfoldable pub IsAdmission : State → ℕ → Call → Option Rule → Type 0

@@ -1,14 +1,16 @@
 -- How the parts of the device fit together, and what the next step may rely on.
-use Rattle.std.specs.Prelude.{◌≡◌, ℕ, ◌≤◌, ◌<◌, ◌==◌, true, false, List, ◌++◌, map, filter, find}
+use Rattle.std.specs.Prelude.{◌≡◌, ℕ, ◌≤◌, ◌<◌, ◌==◌, true, false, List, ◌++◌, length, map, filter, find}
 use Rattle.std.specs.List.{list_any, AllByRecursion}
 use Rattle.std.specs.Option.{is_some}
 use Rattle.drm_lists.specs.Orders.{InOrder}
 use Rattle.drm_lists.specs.Numbers.{is_among, count}
 use Rattle.drm_gem.specs.declared.object.Object.{Object}
-use Rattle.drm_gem.specs.Objects.{is_key, IsNewBirth}
+use Rattle.drm_gem.specs.Objects.{ObjectSet, is_key, IsNewBirth}
 use Rattle.drm_files.specs.declared.rows.FileClient.{FileClient}
 use Rattle.drm_files.specs.declared.rows.FileHold.{FileHold}
 use Rattle.drm_files.specs.Files.{is_present, hold_before}
+use Rattle.drm_share.specs.declared.rows.SharedName.{SharedName}
+use Rattle.drm_share.specs.Names.{NameList}
 use Rattle.drm_model.specs.Rows.{is_option}
 use Rattle.drm_state.specs.declared.state.Member.{Member}
 use Rattle.drm_state.specs.declared.state.State.{State}
@@ -35,14 +37,32 @@ core x = record x { holds = 0; refs = 0 }
 abbrev pub AreThoseNamed : List Object → List ℕ → List Object → Type 0
 AreThoseNamed objects keys now = map core now ≡ map core (filter (λ (x : Object). is_among keys x.key) objects)
 
+-- each name is that of an object that a handle names
+abbrev pub AreNamed : List ℕ → List SharedName → Type 0
+AreNamed keys names = AllByRecursion (λ (x : SharedName). is_among keys x.object ≡ true) names
+
+-- the names of the objects that handles name
+abbrev pub names_among : List ℕ → NameList → NameList
+names_among keys list = record list { names = filter (λ (x : SharedName). is_among keys x.object) list.names }
+
+-- now handles name `keys`, and what else refers to objects `refs`: of the objects and the names there are those that they
+-- leave, and the objects count them
+pub record Leaves (all_names : NameList) (all_objects : ObjectSet) (keys refs : List ℕ) (now_names : NameList) (now_objects : ObjectSet) : Type 0 where
+  pub tied : AreTied keys refs now_objects.objects
+  pub those : AreThoseNamed all_objects.objects (keys ++ refs) now_objects.objects
+  pub limit : now_objects.limit ≡ all_objects.limit
+  pub names : now_names ≡ names_among keys all_names
+
 -- what ties the parts: who stands to masters is open, once each; a client names each master; handles stand in the order of
--- their clients and numbers; objects are those that handles name, which they count
+-- their clients and numbers; objects are those that handles and tokens name, which they count; names are of objects that handles
+-- name
 pub data Tie : Type 0 where
   MembersOpen : Tie
   MembersDiffer : Tie
   MastersNamed : Tie
   HoldsRise : Tie
   ObjectsCounted : Tie
+  NamesHeld : Tie
 
 unfoldable pub is_tied : Tie → State → Type 0
 is_tied MembersOpen s = AllByRecursion (λ (m : Member). is_present s.files m.client ≡ true) s.members.items
@@ -50,17 +70,21 @@ is_tied MembersDiffer s = InOrder (λ (x y : Member). (x.client == y.client) ≡
 is_tied MastersNamed s = AllByRecursion (λ m. list_any (λ (x : Member). is_option m x.master) s.members.items ≡ true) s.masters.items
 is_tied HoldsRise s = InOrder (λ (x y : FileHold). hold_before x y ≡ true) s.files.holds
 is_tied ObjectsCounted s = AreTied (keys_of s.files.holds) (referring_keys s) s.objects.objects
+is_tied NamesHeld s = AreNamed (keys_of s.files.holds) s.names.names
 
 abbrev pub IsTied : State → Type 0
 IsTied s = (tie : Tie) → is_tied tie s
 
--- the step of this number is later than those that made what is there
+-- the step of this number is later than those that made what is there, and a step makes one handle and one token at most
 pub record IsLater (s : State) (birth : ℕ) : Type 0 where
   pub clients : AllByRecursion (λ (f : FileClient). f.client < birth) s.files.clients
   pub objects : IsNewBirth s.objects birth
+  pub holds : length s.files.holds < birth
+  pub tokens : length s.tokens.tokens < birth
 
 -- the state is ready for the step of this number
 pub record IsReady (s : State) (birth : ℕ) : Type 0 where
   pub tied : IsTied s
   pub later : IsLater s birth
   pub first : 1 ≤ birth
+  pub fits : birth ≤ 4294967295

@@ -2,7 +2,9 @@
 #![tactic(auto)]
 
 mod clients;
+mod releases;
 mod state;
 
 pub use clients::{is_current, is_device_master, member_of};
+pub use releases::release;
 pub use state::{Member, State};

@@ -2,6 +2,7 @@
 
 use drm_files::Files;
 use drm_gem::Objects;
+use drm_share::{Names, Tokens};
 
 /// How an open client stands to masters. A render client does not, and is not listed.
 #[derive(Clone, Copy)]
@@ -21,5 +22,9 @@ pub struct State {
     pub members: Vec<Member>,
     pub masters: Vec<u32>,
     pub objects: Objects,
+    /// The global names of objects.
+    pub names: Names,
+    /// The open tokens of exported objects.
+    pub tokens: Tokens,
     pub device_master: Option<u32>,
 }

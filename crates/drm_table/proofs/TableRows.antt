@@ -85,11 +85,16 @@ pub fields-of : (kind : CallKind) (fs : List Field) → AreFieldsOf kind fs (cal
 unfolding call_row call_with
 fields-of kinds.Version [] = refl
 fields-of kinds.GemClose (U32 handle ∷ []) = refl
+fields-of kinds.GemFlink (U32 handle ∷ []) = refl
+fields-of kinds.GemOpen (U32 name ∷ []) = refl
 fields-of kinds.GetCap (U64 cap ∷ []) = refl
 fields-of kinds.SetClientCap (U64 cap ∷ U64 value ∷ []) = refl
+fields-of kinds.PrimeHandleToFd (U32 handle ∷ []) = refl
+fields-of kinds.PrimeFdToHandle (U32 token ∷ []) = refl
 fields-of kinds.BufCreate (U64 size ∷ []) = refl
 fields-of kinds.StampWrite (U32 handle ∷ U64 stamp ∷ []) = refl
 fields-of kinds.StampRead (U32 handle ∷ []) = refl
+fields-of kinds.TokenClose (U32 token ∷ []) = refl
 fields-of kinds.ListHandles (U32 from ∷ []) = refl
 fields-of kinds.Audit (U32 number ∷ U32 from ∷ []) = audit-by number from (audits.kind_of number) refl
 fields-of kinds.CreateDumb (U32 width ∷ U32 height ∷ U32 bpp ∷ []) = refl

@@ -6,4 +6,5 @@ pub mod Fields
 pub mod Limits
 pub mod Permit
 pub mod Rules
+pub mod ShareCalls
 pub mod Table

@@ -21,16 +21,26 @@ pub enum Call {
     Version,
     /// Give a handle back (drm-gem(7)).
     GemClose { handle: u32 },
+    /// Give the object of a handle a global name, or tell the one that it has (drm-gem(7), flink).
+    GemFlink { handle: u32 },
+    /// A fresh handle of the object that has a global name (drm-gem(7), flink).
+    GemOpen { name: u32 },
     /// What a capability of the device is (drm-uapi, `DRM_IOCTL_GET_CAP`).
     GetCap { cap: u64 },
     /// Set a capability of the caller (drm-uapi, `DRM_IOCTL_SET_CLIENT_CAP`).
     SetClientCap { cap: u64, value: u64 },
+    /// Export the object of a handle: a new token for it (drm-mm, PRIME; tokens for file descriptors are own).
+    PrimeHandleToFd { handle: u32 },
+    /// Import the object of a token: a handle of it, the same each time (drm-mm, PRIME).
+    PrimeFdToHandle { token: u32 },
     /// A buffer of so many bytes (own; a driver has such a call of its own, drm-mm).
     BufCreate { size: u64 },
     /// Set the stamp of an object, which stands for its contents (own).
     StampWrite { handle: u32, stamp: u64 },
     /// What the stamp of an object is (own).
     StampRead { handle: u32 },
+    /// Close a token that the caller exported (own; a file descriptor is closed).
+    TokenClose { token: u32 },
     /// The caller's handles from a number on, 64 at most (own).
     ListHandles { from: u32 },
     /// Up to 16 rows of a kind, after the first `from` (own).
@@ -67,7 +77,9 @@ impl Call {
     pub fn row(&self) -> Option<(CallKind, Fields)>
         ensures { result ≡ call_row self.now }
     {
-        self.buffer_row().or_else(|| self.device_row())
+        self.buffer_row()
+            .or_else(|| self.share_row())
+            .or_else(|| self.device_row())
     }
 
     /// The call of the row and the fields, which is the same call.

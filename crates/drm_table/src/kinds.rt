@@ -16,11 +16,16 @@ use crate::rows::Row;
 pub enum CallKind {
     Version,
     GemClose,
+    GemFlink,
+    GemOpen,
     GetCap,
     SetClientCap,
+    PrimeHandleToFd,
+    PrimeFdToHandle,
     BufCreate,
     StampWrite,
     StampRead,
+    TokenClose,
     ListHandles,
     Audit,
     CreateDumb,
@@ -42,19 +47,26 @@ macro_rules! row {
 
 const NONE: RowFlags = RowFlags::NONE;
 
+const AUTH: RowFlags = RowFlags::AUTH;
+
 const RENDER: RowFlags = RowFlags::RENDER_ALLOW;
 
 const ROOT: RowFlags = RowFlags::ROOT_ONLY;
 
 /// The table: a line for each call, in the order of the kinds (drm-uapi; 0x40 to 0x45 are own, as are the words).
-static ROWS: [Row; 11] = [
+static ROWS: [Row; 16] = [
     row!(0x00 => "VERSION", b"version", RENDER, Numbers(&[])),
     row!(0x09 => "GEM_CLOSE", b"gem_close", RENDER, Numbers(&[U32])),
+    row!(0x0A => "GEM_FLINK", b"gem_flink", AUTH, Numbers(&[U32])),
+    row!(0x0B => "GEM_OPEN", b"gem_open", AUTH, Numbers(&[U32])),
     row!(0x0C => "GET_CAP", b"get_cap", RENDER, Numbers(&[U64])),
     row!(0x0D => "SET_CLIENT_CAP", b"set_client_cap", NONE, Numbers(&[U64, U64])),
+    row!(0x2D => "PRIME_HANDLE_TO_FD", b"prime_export", RENDER, Numbers(&[U32])),
+    row!(0x2E => "PRIME_FD_TO_HANDLE", b"prime_import", RENDER, Numbers(&[U32])),
     row!(0x40 => "BUF_CREATE", b"buf_create", RENDER, Numbers(&[U64])),
     row!(0x41 => "STAMP_WRITE", b"stamp_write", RENDER, Numbers(&[U32, U64])),
     row!(0x42 => "STAMP_READ", b"stamp_read", RENDER, Numbers(&[U32])),
+    row!(0x43 => "TOKEN_CLOSE", b"token_close", RENDER, Numbers(&[U32])),
     row!(0x44 => "LIST_HANDLES", b"list_handles", RENDER, Numbers(&[U32])),
     row!(0x45 => "AUDIT", b"audit", ROOT, Numbers(&[U32, U32])),
     row!(0xB2 => "MODE_CREATE_DUMB", b"create_dumb", NONE, Numbers(&[U32, U32, U32])),
@@ -72,14 +84,19 @@ fn rows() -> &'static [Row]
 
 impl CallKind {
     /// All rows, rising by number.
-    pub const ALL: [CallKind; 11] = [
+    pub const ALL: [CallKind; 16] = [
         CallKind::Version,
         CallKind::GemClose,
+        CallKind::GemFlink,
+        CallKind::GemOpen,
         CallKind::GetCap,
         CallKind::SetClientCap,
+        CallKind::PrimeHandleToFd,
+        CallKind::PrimeFdToHandle,
         CallKind::BufCreate,
         CallKind::StampWrite,
         CallKind::StampRead,
+        CallKind::TokenClose,
         CallKind::ListHandles,
         CallKind::Audit,
         CallKind::CreateDumb,
@@ -148,6 +165,7 @@ impl CallKind {
         ensures { result ≡ call_with self fields.now }
     {
         self.buffer_call(fields)
+            .or_else(|| self.share_call(fields))
             .or_else(|| self.device_call(fields))
     }
 }

@@ -21,6 +21,7 @@ mod permits;
 mod refusal_rows;
 mod rows;
 mod rules;
+mod share_calls;
 
 pub use answer_kinds::{AnswerKind, Told};
 pub use answers::Answer;

@@ -4,13 +4,13 @@ use Rattle.drm_lists.specs.Orders.{sorted_by}
 use Rattle.drm_table.specs.declared.audits.AuditKind.{AuditKind}
 use Rattle.drm_table.specs.declared.audits.AuditKind.TheVariants as kinds
 use Rattle.drm_model.specs.Rows.{Rows}
-use Rattle.drm_model.specs.Audit.{client_audit, master_audit, audit_rows, rising_rows}
+use Rattle.drm_model.specs.Audit.{audit_row, or_zero, client_audit, master_audit, audit_rows, rising_rows}
 use Rattle.drm_state.specs.declared.state.State.{State}
 use Rattle.drm_state.specs.Parts.{client_row_by, client_row_of, master_row_of}
 use Rattle.drm_state.specs.Refinement.{Represents}
 use Rattle.drm_device.specs.Audits.{IsRowAt}
-use Rattle.drm_state.proofs.Represented.{magics_none, names_none, tokens_none, grants_none, framebuffers_none, shown_none}
-use Rattle.drm_device.proofs.AuditRows.{object_row_at, client_rows, master_rows, hold_rows, device_rows, row_of_item}
+use Rattle.drm_state.proofs.Represented.{magics_none, grants_none, framebuffers_none, shown_none}
+use Rattle.drm_device.proofs.AuditRows.{object_row_at, client_rows, master_rows, hold_rows, name_rows, token_rows, device_rows, row_of_item}
 use Rattle.drm_device.proofs.audits.row_at.Goals as goal
 
 -- what the look-up found, of the list itself
@@ -48,19 +48,26 @@ pub returns-in-Hold : goal.returns-in-Hold
 unfolding IsRowAt
 returns-in-Hold c = rw c.in-Hold.is (λ w h. c.hold_at.ensures ∙ ap (λ rows. slice_get rows c.args.place) (sym (hold_rows c.args.state.now c.args.steps w c.requires h)))
 
-pub returns-in-Device : goal.returns-in-Device
-unfolding IsRowAt
-returns-in-Device c = rw c.in-Device.is (λ w h. c.item_at-in-Device.ensures ∙ ap (λ row. slice_get (row ∷ []) c.args.place) c.device_row.ensures ∙ sym (ap (λ rows. slice_get rows c.args.place) (device_rows c.args.state.now c.args.steps w h)))
-
--- the kinds whose rows no call makes yet
-without_rows : (s : State) (w : Rows) → Represents s w → (kind : AuditKind) → (kind ≡ kinds.Name) ⊎ (kind ≡ kinds.Token) ⊎ (kind ≡ kinds.Grant) ⊎ (kind ≡ kinds.Framebuffer) ⊎ (kind ≡ kinds.Shown) → rising_rows (audit_rows w kind) ≡ []
-unfolding audit_rows sorted_by
-without_rows s w h kind (inl e) = rw (e, names_none s w h) refl
-without_rows s w h kind (inr (inl e)) = rw (e, tokens_none s w h) refl
-without_rows s w h kind (inr (inr (inl e))) = rw (e, grants_none s w h) refl
-without_rows s w h kind (inr (inr (inr (inl e)))) = rw (e, framebuffers_none s w h) refl
-without_rows s w h kind (inr (inr (inr (inr e)))) = rw (e, shown_none s w h) refl
-
 pub returns-in-Name : goal.returns-in-Name
 unfolding IsRowAt
-returns-in-Name c = λ w h. sym (ap (λ rows. slice_get rows c.args.place) (without_rows c.args.state.now w h.rows c.args.kind c.in-Name.is))
+returns-in-Name c = rw c.in-Name.is (λ w h. c.name_at.ensures.row ∙ ap (λ rows. slice_get rows c.args.place) (sym (name_rows c.args.state.now c.args.steps w c.name_at.ensures.names h)))
+
+pub returns-in-Token : goal.returns-in-Token
+unfolding IsRowAt
+returns-in-Token c = rw c.in-Token.is (λ w h. c.token_at.ensures.row ∙ ap (λ rows. slice_get rows c.args.place) (sym (token_rows c.args.state.now c.args.steps w c.token_at.ensures.tokens h)))
+
+pub returns-in-Device : goal.returns-in-Device
+unfolding IsRowAt
+returns-in-Device c = rw c.in-Device.is (λ w h. c.item_at-in-Device.ensures ∙ ap (λ row. slice_get (row ∷ []) c.args.place) (c.device_row.ensures ∙ ap (λ last. audit_row (or_zero c.args.state.now.device_master) (or_zero last) 0 c.args.steps) c.last_given-last_token.ensures.last_given)
+    ∙ sym (ap (λ rows. slice_get rows c.args.place) (device_rows c.args.state.now c.args.steps w h)))
+
+-- the kinds whose rows no call makes yet
+without_rows : (s : State) (w : Rows) → Represents s w → (kind : AuditKind) → (kind ≡ kinds.Grant) ⊎ (kind ≡ kinds.Framebuffer) ⊎ (kind ≡ kinds.Shown) → rising_rows (audit_rows w kind) ≡ []
+unfolding audit_rows sorted_by
+without_rows s w h kind (inl e) = rw (e, grants_none s w h) refl
+without_rows s w h kind (inr (inl e)) = rw (e, framebuffers_none s w h) refl
+without_rows s w h kind (inr (inr e)) = rw (e, shown_none s w h) refl
+
+pub returns-in-Grant : goal.returns-in-Grant
+unfolding IsRowAt
+returns-in-Grant c = λ w h. sym (ap (λ rows. slice_get rows c.args.place) (without_rows c.args.state.now w h.rows c.args.kind c.in-Grant.is))

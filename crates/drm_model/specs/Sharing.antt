@@ -1,0 +1,140 @@
+-- GEM_FLINK and GEM_OPEN (drm-gem(7), drm-mm), PRIME_HANDLE_TO_FD and PRIME_FD_TO_HANDLE (drm-mm, PRIME), and TOKEN_CLOSE. Tokens,
+-- which stand for file descriptors, their order, and PRIME places are this project's own.
+use Rattle.std.specs.Prelude.{ℕ, ◌+◌, ◌==◌, Bool, not, ◌&&◌, List, [], ◌∷◌, ◌++◌, Option, None, Some, unwrap_or, find, map, filter, if◌then◌else◌}
+use Rattle.std.specs.List.{filter_map}
+use Rattle.std.specs.Option.{is_some, option_map, option_and_then, option_or}
+use Rattle.drm_lists.specs.Numbers.{is_among}
+use Rattle.drm_table.specs.declared.answers.Answer.TheVariants.{Number, Buffer}
+use Rattle.drm_table.specs.declared.rules.Rule.TheVariants.{NoHandle, NoName, NoToken, Full}
+use Rattle.drm_table.specs.Permit.{check}
+use Rattle.drm_index_array.specs.Least.{least, least_of}
+use Rattle.drm_model.specs.Rows.{Rows, HoldRow, ObjectRow, NameRow, TokenRow, birth, without, is_option, is_hold, has_handle, object_of, object_row, free_handle, with_hold}
+use Rattle.drm_model.specs.Meaning.{Meaning, nothing}
+use Rattle.drm_model.specs.Buffers.{new_handle}
+
+-- the size of an object in bytes; 0 where it is not there
+abbrev pub size_of : Rows → ℕ → ℕ
+size_of w o = unwrap_or (option_map (λ (row : ObjectRow). row.size) (object_row w o)) 0
+
+-- ---- names
+
+-- the name of an object, if it has one
+abbrev pub name_of : Rows → ℕ → Option ℕ
+name_of w o = option_map (λ (row : NameRow). row.name) (find (λ row. row.object == o) w.names)
+
+-- the object that has a name
+abbrev pub named_object : Rows → ℕ → Option ℕ
+named_object w name = option_map (λ (row : NameRow). row.object) (find (λ row. row.name == name) w.names)
+
+-- the lowest free name, from 1 (the kernel's IDR gives the lowest; the limit is own)
+abbrev pub free_name : Rows → Option ℕ
+free_name w = least (λ name. not (is_among (map (λ row. row.name) w.names) name)) 1 w.limits.names
+
+-- the name that the object has, or else the one that it would get
+abbrev pub flink_name : Rows → ℕ → Option ℕ
+flink_name w o = option_or (name_of w o) (free_name w)
+
+-- the names, with one for the object if it had none
+abbrev pub named : Rows → ℕ → Option ℕ → List NameRow
+named w o (Some name) = w.names
+named w o None = w.names ++ record { name = unwrap_or (free_name w) 0; object = o } ∷ []
+
+abbrev pub flink_of : Rows → Bool → ℕ → Meaning
+flink_of w holds o = record {
+  checks = check NoHandle holds ∷ check Full (is_some (flink_name w o)) ∷ [];
+  rows = record w { names = named w o (name_of w o) };
+  answer = Number (unwrap_or (flink_name w o) 0);
+}
+
+-- GEM_FLINK: the name that the object has, or else the lowest free one
+abbrev pub gem_flink : Rows → ℕ → ℕ → Meaning
+gem_flink w c handle = flink_of w (has_handle w c handle) (object_of w c handle)
+
+abbrev pub open_of : Rows → ℕ → Option ℕ → ℕ → Meaning
+open_of w c named o = record {
+  checks = check NoName (is_some named) ∷ check Full (is_some (free_handle w c)) ∷ [];
+  rows = record w { holds = with_hold w c o None };
+  answer = Buffer (new_handle w c) (size_of w o);
+}
+
+-- GEM_OPEN: a fresh handle each time
+abbrev pub gem_open : Rows → ℕ → ℕ → Meaning
+gem_open w c name = open_of w c (named_object w name) (unwrap_or (named_object w name) 0)
+
+-- ---- tokens
+
+abbrev pub is_free_token : Rows → ℕ → Bool
+is_free_token w token = not (is_among (map (λ row. row.token) w.tokens) token)
+
+-- the next token in turn: the lowest free one above the last that was given or, where there is none, the lowest free one
+-- (the kernel's cyclic IDR)
+abbrev pub next_token : Rows → Option ℕ
+next_token w = option_or (least (is_free_token w) (w.last_token + 1) w.limits.tokens) (least (is_free_token w) 1 w.limits.tokens)
+
+abbrev pub new_token : Rows → ℕ
+new_token w = unwrap_or (next_token w) 0
+
+-- the handles, of which the client's has this PRIME place, unless it has one already
+unfoldable pub with_place : ℕ → ℕ → ℕ → List HoldRow → List HoldRow
+with_place c handle place holds = map (λ (row : HoldRow). if is_hold c handle row then record row { place = Some (unwrap_or row.place place) } else row) holds
+
+-- PRIME_HANDLE_TO_FD: a new token, and a PRIME place for the handle
+abbrev pub prime_export : Rows → ℕ → ℕ → Meaning
+prime_export w c handle = record {
+  checks = check NoHandle (has_handle w c handle) ∷ check Full (is_some (next_token w)) ∷ [];
+  rows = record w {
+    tokens = w.tokens ++ record { token = new_token w; client = c; object = object_of w c handle } ∷ [];
+    last_token = new_token w;
+    holds = with_place c handle (birth w) w.holds;
+  };
+  answer = Number (new_token w);
+}
+
+-- the object of an open token
+abbrev pub exported_object : Rows → ℕ → Option ℕ
+exported_object w token = option_map (λ (row : TokenRow). row.object) (find (λ row. row.token == token) w.tokens)
+
+-- a handle of the client for the object
+abbrev pub is_hold_of : ℕ → ℕ → HoldRow → Bool
+is_hold_of c o row = (row.client == c) && (row.object == o)
+
+-- the PRIME places of the client's handles of the object
+abbrev pub places_of : Rows → ℕ → ℕ → List ℕ
+places_of w c o = filter_map (λ (row : HoldRow). row.place) (filter (is_hold_of c o) w.holds)
+
+-- the client's handles of the object that have this place
+abbrev pub handles_at : Rows → ℕ → ℕ → ℕ → List ℕ
+handles_at w c o place = map (λ (row : HoldRow). row.handle) (filter (λ row. is_option place row.place) (filter (is_hold_of c o) w.holds))
+
+-- the client's handle of the object with the least PRIME place, at a tie the least handle
+unfoldable pub prime_handle : Rows → ℕ → ℕ → Option ℕ
+prime_handle w c o = option_and_then (λ place. least_of (handles_at w c o place)) (least_of (places_of w c o))
+
+-- the handles, with one of the client for the object if it had none with a PRIME place
+abbrev pub imported : Rows → ℕ → ℕ → Option ℕ → List HoldRow
+imported w c o (Some handle) = w.holds
+imported w c o None = with_hold w c o (Some (birth w))
+
+abbrev pub import_handle : Rows → ℕ → ℕ → Option ℕ
+import_handle w c o = option_or (prime_handle w c o) (free_handle w c)
+
+abbrev pub import_of : Rows → ℕ → Option ℕ → ℕ → Meaning
+import_of w c exported o = record {
+  checks = check NoToken (is_some exported) ∷ check Full (is_some (import_handle w c o)) ∷ [];
+  rows = record w { holds = imported w c o (prime_handle w c o) };
+  answer = Buffer (unwrap_or (import_handle w c o) 0) (size_of w o);
+}
+
+-- PRIME_FD_TO_HANDLE: the client's handle of the object with the least PRIME place, or else a fresh one
+abbrev pub prime_import : Rows → ℕ → ℕ → Meaning
+prime_import w c token = import_of w c (exported_object w token) (unwrap_or (exported_object w token) 0)
+
+abbrev pub is_token_of : ℕ → ℕ → TokenRow → Bool
+is_token_of c token row = (row.token == token) && (row.client == c)
+
+-- TOKEN_CLOSE: by its exporter alone
+abbrev pub token_close : Rows → ℕ → ℕ → Meaning
+token_close w c token = record (nothing w) {
+  checks = check NoToken (is_some (find (is_token_of c token) w.tokens)) ∷ [];
+  rows = record w { tokens = without (is_token_of c token) w.tokens };
+}

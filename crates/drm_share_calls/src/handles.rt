@@ -1,0 +1,37 @@
+//! Handles of objects that are there.
+
+ghost use Rattle.std.specs.Prelude.{◌≡◌, true, ◌++◌};
+ghost use Rattle.drm_lists.specs.Numbers.{is_among};
+ghost use Rattle.drm_files.specs.Files.{is_present};
+ghost use Rattle.drm_state.specs.Parts.{keys_of, referring_keys};
+ghost use Rattle.drm_state.specs.Ties.{IsTied, IsReady};
+ghost use Rattle.drm_state.specs.Refinement.{AddsHandle};
+
+use drm_files::FileFault;
+use drm_gem::ObjectKey;
+use drm_state::State;
+use std::alloc::AllocError;
+
+/// Gives a client a fresh handle of an object, and answers it; none where the client has every handle. Where memory is
+/// refused nothing changes.
+pub(crate) fn new_handle(
+    state: &mut State,
+    birth: u32,
+    client: u32,
+    object: ObjectKey,
+    place: Option<u32>,
+) -> Result<Option<u32>, AllocError>
+    requires ready { IsReady state.old birth }
+    requires present { is_present state.old.files client ≡ true }
+    requires known { is_among (keys_of state.old.files.holds ++ referring_keys state.old) object ≡ true }
+    ensures adds { AddsHandle state.old client object place result state.new }
+    ensures tied { IsTied state.new }
+{
+    let handle = match state.files.add_handle(client, object, place) {
+        Ok(handle) => handle,
+        Err(FileFault::Full) => return Ok(None),
+        Err(FileFault::NoMemory) => return Err(AllocError),
+    };
+    state.objects.hold(object);
+    Ok(Some(handle))
+}

@@ -1,0 +1,85 @@
+//! PRIME tokens, which stand for file descriptors (own).
+
+ghost use Rattle.std.specs.Prelude.{◌≡◌, true};
+ghost use Rattle.drm_files.specs.Files.{is_present};
+ghost use Rattle.drm_table.specs.declared.calls.Call.TheVariants.{PrimeHandleToFd, PrimeFdToHandle, TokenClose};
+ghost use Rattle.drm_state.specs.Ties.{IsTied, IsReady};
+ghost use Rattle.drm_state.specs.Refinement.{OwesCall, OwesReply};
+
+use crate::handles::new_handle;
+use drm_share::ShareFault;
+use drm_state::State;
+use drm_table::{Answer, Rule};
+use std::alloc::AllocError;
+
+/// PRIME_HANDLE_TO_FD: a new token for the object of a handle, and a PRIME place for the handle if it has none. Where memory
+/// is refused nothing changes.
+pub fn prime_export(
+    state: &mut State,
+    birth: u32,
+    client: u32,
+    handle: u32,
+) -> Result<Answer, AllocError>
+    requires ready { IsReady state.old birth }
+    requires present { is_present state.old.files client ≡ true }
+    ensures owes { OwesCall state.old birth client (PrimeHandleToFd handle) result state.new }
+    ensures tied { IsTied state.new }
+{
+    let Some(object) = state.files.object_of(client, handle) else {
+        return Ok(Answer::Denied(Rule::NoHandle));
+    };
+    let token = match state.tokens.export(client, object) {
+        Ok(token) => token,
+        Err(ShareFault::Full) => return Ok(Answer::Denied(Rule::Full)),
+        Err(ShareFault::NoMemory) => return Err(AllocError),
+    };
+    state.objects.refer(object);
+    state.files.set_prime(client, handle, birth);
+    Ok(Answer::Number {
+        value: token as u64,
+    })
+}
+
+/// PRIME_FD_TO_HANDLE: the caller's handle of a token's object, which is the one with the least PRIME place, or else a fresh
+/// one with a place. Where memory is refused nothing changes.
+pub fn prime_import(
+    state: &mut State,
+    birth: u32,
+    client: u32,
+    token: u32,
+) -> Result<Answer, AllocError>
+    requires ready { IsReady state.old birth }
+    requires present { is_present state.old.files client ≡ true }
+    ensures owes { OwesCall state.old birth client (PrimeFdToHandle token) result state.new }
+    ensures tied { IsTied state.new }
+{
+    let Some(object) = state.tokens.lookup(token) else {
+        return Ok(Answer::Denied(Rule::NoToken));
+    };
+    let size = state.objects.size(object);
+    if let Some(handle) = state.files.prime_handle(client, object) {
+        return Ok(Answer::Buffer { handle, size });
+    }
+    let Some(fresh) = new_handle(state, birth, client, object, Some(birth))? else {
+        return Ok(Answer::Denied(Rule::Full));
+    };
+    Ok(Answer::Buffer {
+        handle: fresh,
+        size,
+    })
+}
+
+/// TOKEN_CLOSE: the token goes, if the caller exported it, and the object with the last that refers to it (own). It takes no
+/// memory and asks for no limit.
+pub fn token_close(state: &mut State, client: u32, token: u32) -> Answer
+    requires tied { IsTied state.old }
+    requires present { is_present state.old.files client ≡ true }
+    ensures owes { OwesReply state.old client (TokenClose token) result state.new }
+    ensures tied { IsTied state.new }
+{
+    let Some(object) = state.tokens.close(client, token) else {
+        return Answer::Denied(Rule::NoToken);
+    };
+    let _dead = state.objects.unrefer(object);
+    Answer::Done
+}
