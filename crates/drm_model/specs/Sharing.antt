@@ -39,6 +39,7 @@ abbrev pub named : Rows → ℕ → Option ℕ → List NameRow
 named w o (Some name) = w.names
 named w o None = w.names ++ record { name = unwrap_or (free_name w) 0; object = o } ∷ []
 
+-- what it means where the caller holds a handle of the object, or not
 abbrev pub flink_of : Rows → Bool → ℕ → Meaning
 flink_of w holds o = record {
   checks = check NoHandle holds ∷ check Full (is_some (flink_name w o)) ∷ [];
@@ -50,6 +51,7 @@ flink_of w holds o = record {
 abbrev pub gem_flink : Rows → ℕ → ℕ → Meaning
 gem_flink w c handle = flink_of w (has_handle w c handle) (object_of w c handle)
 
+-- what it means where the name is an object's, or none's
 abbrev pub open_of : Rows → ℕ → Option ℕ → ℕ → Meaning
 open_of w c named o = record {
   checks = check NoName (is_some named) ∷ check Full (is_some (free_handle w c)) ∷ [];
@@ -63,6 +65,7 @@ gem_open w c name = open_of w c (named_object w name) (unwrap_or (named_object w
 
 -- ---- tokens
 
+-- whether no open token has the number
 abbrev pub is_free_token : Rows → ℕ → Bool
 is_free_token w token = not (is_among (map (λ row. row.token) w.tokens) token)
 
@@ -71,6 +74,7 @@ is_free_token w token = not (is_among (map (λ row. row.token) w.tokens) token)
 abbrev pub next_token : Rows → Option ℕ
 next_token w = option_or (least (is_free_token w) (w.last_token + 1) w.limits.tokens) (least (is_free_token w) 1 w.limits.tokens)
 
+-- the token of an export; 0 where none is free
 abbrev pub new_token : Rows → ℕ
 new_token w = unwrap_or (next_token w) 0
 
@@ -115,9 +119,11 @@ abbrev pub imported : Rows → ℕ → ℕ → Option ℕ → List HoldRow
 imported w c o (Some handle) = w.holds
 imported w c o None = with_hold w c o (Some (birth w))
 
+-- the handle that the import answers, if there is one
 abbrev pub import_handle : Rows → ℕ → ℕ → Option ℕ
 import_handle w c o = option_or (prime_handle w c o) (free_handle w c)
 
+-- what it means where the token is an object's, or none's
 abbrev pub import_of : Rows → ℕ → Option ℕ → ℕ → Meaning
 import_of w c exported o = record {
   checks = check NoToken (is_some exported) ∷ check Full (is_some (import_handle w c o)) ∷ [];
@@ -129,6 +135,7 @@ import_of w c exported o = record {
 abbrev pub prime_import : Rows → ℕ → ℕ → Meaning
 prime_import w c token = import_of w c (exported_object w token) (unwrap_or (exported_object w token) 0)
 
+-- an open token of the client
 abbrev pub is_token_of : ℕ → ℕ → TokenRow → Bool
 is_token_of c token row = (row.token == token) && (row.client == c)
 
