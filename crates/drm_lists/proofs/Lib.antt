@@ -3,3 +3,5 @@ pub mod Found
 pub mod Orders
 pub mod Numbers
 pub mod Pages
+pub mod Chains
+pub mod Rising

@@ -1,0 +1,109 @@
+-- What stands in a chain.
+use Rattle.std.proofs.Common.{◌≡◌, ℕ, zero, suc, ◌<◌, ◌≤◌, ◌==◌, Bool, true, false, ◌||◌, ◌⊎◌, inl, inr, List, [], ◌∷◌, Option, None, Some, refl, sym, ap, ◌∙◌, arith, eq-eqb}
+use Rattle.std.proofs.lemmas.Bool.{eqb-true}
+use Rattle.drm_lists.specs.Numbers.{is_among}
+use Rattle.drm_lists.specs.Chains.{chain_within, chain_of, last_of, top_of}
+use Rattle.drm_lists.proofs.Numbers.{among-first, among-more}
+
+-- what stands above a number is less
+abbrev pub IsFalling : (ℕ → Option ℕ) → Type 0
+IsFalling above = (n m : ℕ) → above n ≡ Some m → m < n
+
+-- the rest of a chain, by what stands above
+abbrev rest : ℕ → (ℕ → Option ℕ) → Option ℕ → List ℕ
+rest s above o = elim o [ None ↦ [] | Some m ↦ chain_within s above m ]
+
+pub itself : (above : ℕ → Option ℕ) (s n : ℕ) → is_among (chain_within s above n) n ≡ true
+unfolding chain_within
+itself above zero n = among-first [] n
+itself above (suc s) n = among-first (rest s above (above n)) n
+
+only : (n top : ℕ) → (n == top || false) ≡ true → n ≡ top
+only n top h = (elim (n == top) as (λ b. (n == top) ≡ b → (b || false) ≡ true → n ≡ top) [ true ↦ λ e k. eqb-true n top e | false ↦ λ e k. absurd (let j : false ≡ true = k in cc) ]) refl h
+
+-- a number that stands in a chain is its first, or above another that stands there
+pub child : (above : ℕ → Option ℕ) (s top n : ℕ) → is_among (chain_within s above n) top ≡ true → (top ≡ n) ⊎ ((y : ℕ) × (above y ≡ Some top) × (is_among (chain_within s above n) y ≡ true))
+unfolding chain_within
+child above zero top n h = inl (sym (only n top h))
+child above (suc s) top n h =
+    (elim (n == top) as (λ b. (n == top) ≡ b → (b || is_among (rest s above (above n)) top) ≡ true → (top ≡ n) ⊎ ((y : ℕ) × (above y ≡ Some top) × (is_among (n ∷ rest s above (above n)) y ≡ true))) [
+      | true ↦ λ e k. inl (sym (eqb-true n top e))
+      | false ↦ λ e k. higher (λ m. child above s top m) (above n) refl k
+    ]) refl h
+  where
+    of_rest : (m : ℕ) → above n ≡ Some m → (top ≡ m) ⊎ ((y : ℕ) × (above y ≡ Some top) × (is_among (chain_within s above m) y ≡ true)) → (top ≡ n) ⊎ ((y : ℕ) × (above y ≡ Some top) × (is_among (n ∷ chain_within s above m) y ≡ true))
+    of_rest m e (inl same) = inr (n, e ∙ ap Some (sym same), among-first (chain_within s above m) n)
+    of_rest m e (inr found) = inr (found.0, found.1, among-more (chain_within s above m) n found.0 found.2)
+
+    higher : ((m : ℕ) → is_among (chain_within s above m) top ≡ true → (top ≡ m) ⊎ ((y : ℕ) × (above y ≡ Some top) × (is_among (chain_within s above m) y ≡ true))) → (o : Option ℕ) → above n ≡ o → is_among (rest s above o) top ≡ true → (top ≡ n) ⊎ ((y : ℕ) × (above y ≡ Some top) × (is_among (n ∷ rest s above o) y ≡ true))
+    higher from None e k = absurd (let j : false ≡ true = k in cc)
+    higher from (Some m) e k = of_rest m e (from m k)
+
+-- with a number that stands in a chain stands the one above it
+pub above_too : (above : ℕ → Option ℕ) → IsFalling above → (s y n top : ℕ) → n ≤ s → above y ≡ Some top → is_among (chain_within s above n) y ≡ true → is_among (chain_within s above n) top ≡ true
+unfolding chain_within
+above_too above falls zero y n top few e h =
+    let is = only n y h in
+    let lt = falls y top e in
+    absurd (omega (arith, is, lt, few))
+above_too above falls (suc s) y n top few e h =
+    (elim (n == y) as (λ b. (n == y) ≡ b → (b || is_among (rest s above (above n)) y) ≡ true → is_among (n ∷ rest s above (above n)) top ≡ true) [
+      | true ↦ λ is k. here (ap above (eqb-true n y is) ∙ e)
+      | false ↦ λ is k. higher (λ m lt j. above_too above falls s y m top lt e j) (above n) refl k
+    ]) refl h
+  where
+    here : above n ≡ Some top → is_among (n ∷ rest s above (above n)) top ≡ true
+    here is = ap (λ o. is_among (n ∷ rest s above o) top) is ∙ among-more (chain_within s above top) n top (itself above s top)
+
+    higher : ((m : ℕ) → m ≤ s → is_among (chain_within s above m) y ≡ true → is_among (chain_within s above m) top ≡ true) → (o : Option ℕ) → above n ≡ o → is_among (rest s above o) y ≡ true → is_among (n ∷ rest s above o) top ≡ true
+    higher from None is k = absurd (let j : false ≡ true = k in cc)
+    higher from (Some m) is k = let lt = falls n m is in among-more (chain_within s above m) n top (from m (omega (arith, lt, few)) k)
+
+-- steps beyond those that are enough change nothing
+pub enough : (above : ℕ → Option ℕ) → IsFalling above → (s t n : ℕ) → n ≤ s → n ≤ t → chain_within s above n ≡ chain_within t above n
+unfolding chain_within
+enough above falls zero zero n h k = refl
+enough above falls zero (suc t) n h k = last (above n) refl
+  where
+    last : (o : Option ℕ) → above n ≡ o → n ∷ [] ≡ n ∷ rest t above o
+    last None e = refl
+    last (Some m) e = let lt = falls n m e in absurd (omega (arith, lt, h))
+enough above falls (suc s) zero n h k = last (above n) refl
+  where
+    last : (o : Option ℕ) → above n ≡ o → n ∷ rest s above o ≡ n ∷ []
+    last None e = refl
+    last (Some m) e = let lt = falls n m e in absurd (omega (arith, lt, k))
+enough above falls (suc s) (suc t) n h k = higher (λ m i j. enough above falls s t m i j) (above n) refl
+  where
+    higher : ((m : ℕ) → m ≤ s → m ≤ t → chain_within s above m ≡ chain_within t above m) → (o : Option ℕ) → above n ≡ o → n ∷ rest s above o ≡ n ∷ rest t above o
+    higher from None e = refl
+    higher from (Some m) e = let lt = falls n m e in ap (λ l. n ∷ l) (from m (omega (arith, lt, h)) (omega (arith, lt, k)))
+
+-- a chain stays where what is above its numbers stays
+pub same_chain : (P : ℕ → Type 0) (above other : ℕ → Option ℕ) → ((n : ℕ) → P n → other n ≡ above n) → ((n m : ℕ) → P n → above n ≡ Some m → P m) → (s n : ℕ) → P n → chain_within s other n ≡ chain_within s above n
+unfolding chain_within
+same_chain P above other is higher zero n p = refl
+same_chain P above other is higher (suc s) n p = ap (λ o. n ∷ rest s other o) (is n p) ∙ later (λ m q. same_chain P above other is higher s m q) (above n) refl
+  where
+    later : ((m : ℕ) → P m → chain_within s other m ≡ chain_within s above m) → (o : Option ℕ) → above n ≡ o → n ∷ rest s other o ≡ n ∷ rest s above o
+    later from None e = refl
+    later from (Some m) e = ap (λ l. n ∷ l) (from m (higher n m p e))
+
+last_of_chain : (above : ℕ → Option ℕ) (s a b m : ℕ) → last_of a (chain_within s above m) ≡ last_of b (chain_within s above m)
+unfolding chain_within
+last_of_chain above zero a b m = refl
+last_of_chain above (suc s) a b m = refl
+
+-- the top of what has nothing above
+pub top_none : (above : ℕ → Option ℕ) (n : ℕ) → above n ≡ None → n ≡ top_of above n
+unfolding chain_within
+top_none above zero e = refl
+top_none above (suc n) e = ap (λ o. last_of (suc n) (rest n above o)) (sym e)
+
+-- the top of anything else
+pub top_some : (above : ℕ → Option ℕ) → IsFalling above → (n m : ℕ) → above n ≡ Some m → top_of above m ≡ top_of above n
+unfolding chain_within
+top_some above falls zero m e = let lt = falls 0 m e in absurd (omega (arith, lt))
+top_some above falls (suc n) m e =
+    let lt = falls (suc n) m e in
+    last_of_chain above m m (suc n) m ∙ ap (last_of (suc n)) (enough above falls m n m (omega arith) (omega (arith, lt))) ∙ ap (λ o. last_of (suc n) (rest n above o)) (sym e)

@@ -1,0 +1,24 @@
+-- Chains of numbers, where each may have one above it.
+use Rattle.std.specs.Prelude.{ℕ, zero, suc, Bool, List, [], ◌∷◌, Option, None, Some}
+use Rattle.drm_lists.specs.Numbers.{is_among}
+
+-- a number, the one above it, the one above that and so on, in so many steps at most
+unfoldable pub chain_within : ℕ → (ℕ → Option ℕ) → ℕ → List ℕ
+chain_within zero above n = n ∷ []
+chain_within (suc steps) above n = n ∷ elim (above n) [ None ↦ [] | Some m ↦ chain_within steps above m ]
+
+-- where what is above is less, as many steps as the number are enough
+abbrev pub chain_of : (ℕ → Option ℕ) → ℕ → List ℕ
+chain_of above n = chain_within n above n
+
+abbrev pub last_of : ℕ → List ℕ → ℕ
+last_of n [] = n
+last_of n (x ∷ xs) = last_of x xs
+
+-- the top of the chain
+abbrev pub top_of : (ℕ → Option ℕ) → ℕ → ℕ
+top_of above n = last_of n (chain_of above n)
+
+-- whether n is the number named top, or below it
+abbrev pub is_under : (ℕ → Option ℕ) → ℕ → ℕ → Bool
+is_under above top n = is_among (chain_of above n) top

@@ -1,0 +1,7 @@
+mod Living
+mod Rewritten
+mod Settled
+mod Pushed
+mod Swept
+mod Numbered
+mod Sound

@@ -1,0 +1,388 @@
+-- What is so of the masters at all times is so after each change.
+use Rattle.std.proofs.Common.{◌≡◌, ℕ, suc, ◌+◌, ◌<◌, ◌≤◌, ◌==◌, Bool, true, false, not, cond, ◌&&◌, ◌||◌, List, [], ◌∷◌, ◌++◌, map, filter, find, length, Option, None, Some, refl, sym, ap, subst, ◌∙◌, eq-eqb, arith, length-append}
+use Rattle.std.specs.Prelude.{if◌then◌else◌}
+use Rattle.std.specs.List.{list_any, AllByRecursion}
+use Rattle.std.specs.Option.{is_some, option_map_or}
+use Rattle.std.proofs.Math.Bool.{and-false}
+use Rattle.std.proofs.lemmas.List.{length-map}
+use Rattle.std.proofs.lemmas.Bool.{eqb-true, or_left, or_right}
+use Rattle.drm_lists.specs.Orders.{InOrder}
+use Rattle.drm_lists.proofs.Lists.{all_weaker, all_both, all_each, all_append, all_filter, all_mapped, filter-shorter, list_any-map, list_any_left, list_any_right, some_passing}
+use Rattle.drm_lists.proofs.Found.{is_some-find, find_none}
+use Rattle.drm_lists.proofs.Numbers.{less-differ}
+use Rattle.drm_lists.proofs.Orders.{in_order_append, in_order_filter}
+use Rattle.drm_lists.proofs.Rising.{found, any_found, any_more, any_left, all_found, in_order_kept, in_order_mapped, in_order_both, each_is_there}
+use Rattle.drm_masters.specs.declared.rows.Magic.{Magic}
+use Rattle.drm_masters.specs.declared.rows.Member.{Member}
+use Rattle.drm_masters.specs.declared.rows.Master.{Master}
+use Rattle.drm_masters.specs.Masters.{MasterSet, AreMasters, HaveOtherMagics, HasOlderLessor, is_client, is_birth, is_key, is_option, birth_at, member_of, master_at, lessor_of, is_held, is_living, has_magic, has_open_magic, swept}
+use Rattle.drm_masters.specs.declared.masters.Masters.TheInside.{Inside}
+use Rattle.drm_masters.specs.Fields.{set_of, IsSound}
+use Rattle.drm_masters.specs.Calls.{IsNewClient, IsNewBirth, own_master, lessee, owner, guest, redeemer, with_member, with_master, with_device, without_member, changed_member, with_kept, with_magic, closed_own, redeemed}
+use Rattle.drm_masters.proofs.Living.{Rise, Older, both_true, and_true}
+use Rattle.drm_masters.proofs.Pushed.{kept_at, kept_there, kept_rise, kept_older, kept_used, same_used, there_too, new_there, pushed_older, pushed_used}
+use Rattle.drm_masters.proofs.Swept.{swept_older, swept_used, named_there}
+use Rattle.drm_masters.proofs.Numbered.{no_magic, other_none, given_before, given_behind, spent_same}
+
+abbrev pub Keyed : List Master → Type 0
+Keyed ms = AllByRecursion (λ (x : Master). x.key ≡ x.birth) ms
+
+abbrev MembersRise : List Member → Type 0
+MembersRise xs = InOrder (λ (x y : Member). x.client < y.client) xs
+
+-- all of it but that each master is used
+pub record AreTied (v : MasterSet) : Type 0 where
+  pub members_rise : InOrder (λ (x y : Member). x.client < y.client) v.members
+  pub masters_rise : InOrder (λ (x y : Master). x.birth < y.birth) v.masters
+  pub lessors_older : AllByRecursion (HasOlderLessor v.masters) v.masters
+  pub masters_there : AllByRecursion (λ (x : Member). is_some (master_at v.masters x.master) ≡ true) v.members
+  pub device_own : (m : ℕ) → v.device_master ≡ Some m → list_any (λ (x : Member). x.is_master && (x.master == m)) v.members ≡ true
+  pub magics_differ : InOrder HaveOtherMagics v.members
+  pub few : length v.members ≤ v.last_magic
+
+-- a sweep makes each used
+pub swept_are : (v : MasterSet) → AreTied v → AreMasters (swept v)
+swept_are v t = record {
+  members_rise = t.members_rise;
+  masters_rise = in_order_filter (λ (x y : Master). x.birth < y.birth) (λ (x : Master). is_living v.members v.masters x.birth) v.masters t.masters_rise;
+  lessors_older = swept_older v.members v.masters t.masters_rise t.lessors_older;
+  masters_there =
+      all_both (λ (x : Member). is_some (master_at v.masters x.master) ≡ true) (λ (x : Member). list_any (λ (y : Member). y.master == x.master) v.members ≡ true) (λ (x : Member). is_some (master_at (swept v).masters x.master) ≡ true)
+      (λ x there named. named_there v.members v.masters t.masters_rise t.lessors_older x there named) v.members t.masters_there (each_is_there (λ (x : Member). x.master) v.members);
+  device_own = t.device_own;
+  used = swept_used v.members v.masters t.masters_rise t.lessors_older;
+  magics_differ = t.magics_differ;
+  few = t.few;
+}
+
+-- ---- who is held
+
+or_more : (a b c : Bool) → (b ≡ true → c ≡ true) → (a || b) ≡ true → (a || c) ≡ true
+or_more true b c f h = refl
+or_more false b c f h = f h
+
+held_more : (members : List Member) (y : Member) (x : Master) → is_held members x ≡ true → is_held (members ++ y ∷ []) x ≡ true
+held_more members y x h = or_more x.kept (list_any (λ (z : Member). z.master == x.birth) members) (list_any (λ (z : Member). z.master == x.birth) (members ++ y ∷ [])) (λ e. list_any_left (λ (z : Member). z.master == x.birth) members (y ∷ []) e) h
+
+few_more : (xs : List Member) (y : Member) (last : ℕ) → length xs < last → length (xs ++ y ∷ []) ≤ last
+few_more xs y last lt = let e = length-append xs (y ∷ []) in omega (arith, e, lt)
+
+-- a client that is listed last names its master
+names_last : (xs : List Member) (y : Member) (m : ℕ) → y.master ≡ m → list_any (λ (z : Member). z.master == m) (xs ++ y ∷ []) ≡ true
+names_last xs y m e = list_any_right (λ (z : Member). z.master == m) xs (y ∷ []) (or_left (y.master == m) false (eq-eqb y.master m e))
+
+module _ (v : MasterSet) (a : AreMasters v) where
+  pub ties : AreTied v
+  ties = record { members_rise = a.members_rise; masters_rise = a.masters_rise; lessors_older = a.lessors_older; masters_there = a.masters_there; device_own = a.device_own; magics_differ = a.magics_differ; few = a.few }
+
+  -- the device's master is there
+  pub device_there : (m : ℕ) → v.device_master ≡ Some m → is_some (master_at v.masters m) ≡ true
+  device_there m e =
+      let w = some_passing (λ (x : Member). x.is_master && (x.master == m)) (λ (x : Member). is_some (master_at v.masters x.master) ≡ true) v.members a.masters_there (a.device_own m e) in
+      subst (λ n. is_some (master_at v.masters n) ≡ true) (eqb-true w.0.master m (both_true w.0.is_master (w.0.master == m) w.1).1) w.2
+
+  -- a client comes that has no number
+  module _ (y : Member) (new : AllByRecursion (λ (x : Member). x.client < y.client) v.members) (room : length v.members < v.last_magic) (none : y.magic ≡ None) where
+    come_rise : MembersRise (v.members ++ y ∷ [])
+    come_rise = in_order_append (λ (x z : Member). x.client < z.client) v.members y a.members_rise new
+
+    come_differ : InOrder HaveOtherMagics (v.members ++ y ∷ [])
+    come_differ = in_order_append HaveOtherMagics v.members y a.magics_differ (all_each (λ x. HaveOtherMagics x y) (λ x. other_none y none x) v.members)
+
+    pub guest_are : is_some (master_at v.masters y.master) ≡ true → AreMasters (with_member y v)
+    guest_are there = record {
+      members_rise = come_rise;
+      masters_rise = a.masters_rise;
+      lessors_older = a.lessors_older;
+      masters_there = all_append (λ (x : Member). is_some (master_at v.masters x.master) ≡ true) v.members (y ∷ []) a.masters_there (there, tt);
+      device_own = λ m e. list_any_left (λ (x : Member). x.is_master && (x.master == m)) v.members (y ∷ []) (a.device_own m e);
+      used = same_used v.members (v.members ++ y ∷ []) v.masters (held_more v.members y) a.used;
+      magics_differ = come_differ;
+      few = few_more v.members y v.last_magic room;
+    }
+
+    pub founder_are : (z : Master) → z.lessor ≡ None → y.master ≡ z.birth → y.is_master ≡ true → AllByRecursion (λ (x : Master). x.birth < z.birth) v.masters → AreMasters (with_device (Some z.birth) (with_member y (with_master z v)))
+    founder_are z top own is_own newest = record {
+      members_rise = come_rise;
+      masters_rise = in_order_append (λ (x u : Master). x.birth < u.birth) v.masters z a.masters_rise newest;
+      lessors_older = pushed_older v.masters z newest (λ l e. absurd (let n : None ≡ Some l = sym top ∙ e in cc)) a.lessors_older;
+      masters_there =
+          all_append (λ (x : Member). is_some (master_at (v.masters ++ z ∷ []) x.master) ≡ true) v.members (y ∷ [])
+          (all_weaker (λ (x : Member). is_some (master_at v.masters x.master) ≡ true) (λ (x : Member). is_some (master_at (v.masters ++ z ∷ []) x.master) ≡ true) (λ x e. there_too v.masters z newest x.master e) v.members a.masters_there)
+          (ap (λ n. is_some (master_at (v.masters ++ z ∷ []) n)) own ∙ new_there v.masters z newest, tt);
+      device_own = λ m e. list_any_right (λ (x : Member). x.is_master && (x.master == m)) v.members (y ∷ []) (or_left (y.is_master && (y.master == m)) false (and_true y.is_master (y.master == m) is_own (eq-eqb y.master m (own ∙ (let s : Some z.birth ≡ Some m = e in cc)))));
+      used = pushed_used v.masters z newest v.members (v.members ++ y ∷ []) a.lessors_older (held_more v.members y) (or_right z.kept (list_any (λ (x : Member). x.master == z.birth) (v.members ++ y ∷ [])) (names_last v.members y z.birth own)) a.used;
+      magics_differ = come_differ;
+      few = few_more v.members y v.last_magic room;
+    }
+
+    pub redeemed_are : is_some (master_at v.masters y.master) ≡ true → AreMasters (with_kept y.master false (with_member y v))
+    redeemed_are there = record {
+      members_rise = come_rise;
+      masters_rise = kept_rise y.master false v.masters a.masters_rise;
+      lessors_older = kept_older y.master false v.masters a.lessors_older;
+      masters_there =
+          all_append (λ (x : Member). is_some (master_at (map (kept_at y.master false) v.masters) x.master) ≡ true) v.members (y ∷ [])
+          (all_weaker (λ (x : Member). is_some (master_at v.masters x.master) ≡ true) (λ (x : Member). is_some (master_at (map (kept_at y.master false) v.masters) x.master) ≡ true) (λ x e. kept_there y.master false v.masters x.master ∙ e) v.members a.masters_there)
+          (kept_there y.master false v.masters y.master ∙ there, tt);
+      device_own = λ m e. list_any_left (λ (x : Member). x.is_master && (x.master == m)) v.members (y ∷ []) (a.device_own m e);
+      used = kept_used y.master false v.masters v.members (v.members ++ y ∷ []) held a.used;
+      magics_differ = come_differ;
+      few = few_more v.members y v.last_magic room;
+    }
+      where
+        held : (x : Master) → is_held v.members x ≡ true → is_held (v.members ++ y ∷ []) (kept_at y.master false x) ≡ true
+        held x h =
+            (elim (x.birth == y.master) as (λ b. (x.birth == y.master) ≡ b → is_held (v.members ++ y ∷ []) (if b then record x { kept = false } else x) ≡ true) [
+              | true ↦ λ e. names_last v.members y x.birth (sym (eqb-true x.birth y.master e))
+              | false ↦ λ e. held_more v.members y x h
+            ]) refl
+
+  pub device_are : (d : Option ℕ) → ((m : ℕ) → d ≡ Some m → list_any (λ (x : Member). x.is_master && (x.master == m)) v.members ≡ true) → AreMasters (with_device d v)
+  device_are d own = record { members_rise = a.members_rise; masters_rise = a.masters_rise; lessors_older = a.lessors_older; masters_there = a.masters_there; device_own = own; used = a.used; magics_differ = a.magics_differ; few = a.few }
+
+  -- a new master that is kept
+  pub lessee_are : (z : Master) → z.kept ≡ true → ((l : ℕ) → z.lessor ≡ Some l → is_some (master_at v.masters l) ≡ true) → AllByRecursion (λ (x : Master). x.birth < z.birth) v.masters → AreMasters (with_master z v)
+  lessee_are z kept there newest = record {
+    members_rise = a.members_rise;
+    masters_rise = in_order_append (λ (x u : Master). x.birth < u.birth) v.masters z a.masters_rise newest;
+    lessors_older = pushed_older v.masters z newest there a.lessors_older;
+    masters_there = all_weaker (λ (x : Member). is_some (master_at v.masters x.master) ≡ true) (λ (x : Member). is_some (master_at (v.masters ++ z ∷ []) x.master) ≡ true) (λ x e. there_too v.masters z newest x.master e) v.members a.masters_there;
+    device_own = a.device_own;
+    used = pushed_used v.masters z newest v.members v.members a.lessors_older (λ x h. h) (or_left z.kept (list_any (λ (x : Member). x.master == z.birth) v.members) kept) a.used;
+    magics_differ = a.magics_differ;
+    few = a.few;
+  }
+
+  -- a master is kept, or not
+  pub kept_ties : (m : ℕ) (kept : Bool) → AreTied (with_kept m kept v)
+  kept_ties m kept = record {
+    members_rise = a.members_rise;
+    masters_rise = kept_rise m kept v.masters a.masters_rise;
+    lessors_older = kept_older m kept v.masters a.lessors_older;
+    masters_there = all_weaker (λ (x : Member). is_some (master_at v.masters x.master) ≡ true) (λ (x : Member). is_some (master_at (map (kept_at m kept) v.masters) x.master) ≡ true) (λ x e. kept_there m kept v.masters x.master ∙ e) v.members a.masters_there;
+    device_own = a.device_own;
+    magics_differ = a.magics_differ;
+    few = a.few;
+  }
+
+  -- each client is found by its number
+  clients_found : AllByRecursion (λ (x : Member). member_of v.members x.client ≡ Some x) v.members
+  clients_found = all_found (λ (x : Member). x.client) v.members a.members_rise
+
+  -- what a search finds
+  pub open_found : (p : Member → Bool) (x : Member) → find p v.members ≡ Some x → (p x ≡ true) × (member_of v.members x.client ≡ Some x)
+  open_found p x e = found p (λ (y : Member). member_of v.members y.client ≡ Some y) x v.members clients_found e
+
+  -- a client's master is there
+  pub master_there : (c : ℕ) (x : Member) → member_of v.members c ≡ Some x → is_some (master_at v.masters x.master) ≡ true
+  master_there c x e = (found (is_client c) (λ (y : Member). is_some (master_at v.masters y.master) ≡ true) x v.members a.masters_there e).1
+
+  -- a client goes
+  module _ (x : Member) (here : member_of v.members x.client ≡ Some x) where
+    is_it : (y : Member) → member_of v.members y.client ≡ Some y → is_client x.client y ≡ true → y ≡ x
+    is_it y e is = let s : Some y ≡ Some x = sym e ∙ ap (member_of v.members) (eqb-true y.client x.client is) ∙ here in cc
+
+    still_there : (q : Member → Bool) → q x ≡ false → list_any q v.members ≡ true → list_any q (filter (λ (y : Member). not (is_client x.client y)) v.members) ≡ true
+    still_there q fails h = any_left (λ (y : Member). member_of v.members y.client ≡ Some y) (is_client x.client) q (λ y e is. ap q (is_it y e is) ∙ fails) v.members clients_found h
+
+    gone_rise : MembersRise (filter (λ (y : Member). not (is_client x.client y)) v.members)
+    gone_rise = in_order_filter (λ (y z : Member). y.client < z.client) (λ (y : Member). not (is_client x.client y)) v.members a.members_rise
+
+    gone_differ : InOrder HaveOtherMagics (filter (λ (y : Member). not (is_client x.client y)) v.members)
+    gone_differ = in_order_filter HaveOtherMagics (λ (y : Member). not (is_client x.client y)) v.members a.magics_differ
+
+    gone_few : length (filter (λ (y : Member). not (is_client x.client y)) v.members) ≤ v.last_magic
+    gone_few = let s = filter-shorter (λ (y : Member). not (is_client x.client y)) v.members in let few = a.few in omega (arith, s, few)
+
+    -- that is no master
+    pub gone_ties : x.is_master ≡ false → AreTied (without_member x.client v)
+    gone_ties not_own = record {
+      members_rise = gone_rise;
+      masters_rise = a.masters_rise;
+      lessors_older = a.lessors_older;
+      masters_there = all_filter (λ (y : Member). is_some (master_at v.masters y.master) ≡ true) (λ (y : Member). not (is_client x.client y)) v.members a.masters_there;
+      device_own = λ m e. still_there (λ (y : Member). y.is_master && (y.master == m)) (ap (λ b. b && (x.master == m)) not_own) (a.device_own m e);
+      magics_differ = gone_differ;
+      few = gone_few;
+    }
+
+    -- whose own master stays
+    pub own_are : AreMasters (closed_own x.client x.master v)
+    own_are = record {
+      members_rise = gone_rise;
+      masters_rise = kept_rise x.master true v.masters a.masters_rise;
+      lessors_older = kept_older x.master true v.masters a.lessors_older;
+      masters_there =
+          all_filter (λ (y : Member). is_some (master_at (map (kept_at x.master true) v.masters) y.master) ≡ true) (λ (y : Member). not (is_client x.client y)) v.members
+          (all_weaker (λ (y : Member). is_some (master_at v.masters y.master) ≡ true) (λ (y : Member). is_some (master_at (map (kept_at x.master true) v.masters) y.master) ≡ true) (λ y e. kept_there x.master true v.masters y.master ∙ e) v.members a.masters_there);
+      device_own = λ m e. of_device m v.device_master refl e;
+      used = kept_used x.master true v.masters v.members (filter (λ (y : Member). not (is_client x.client y)) v.members) held a.used;
+      magics_differ = gone_differ;
+      few = gone_few;
+    }
+      where
+        others : (m : ℕ) → (m == x.master) ≡ false → (x.master == m) ≡ false
+        others m e = (elim (x.master == m) as (λ b. (x.master == m) ≡ b → b ≡ false) [ true ↦ λ k. absurd (let j : false ≡ true = sym e ∙ eq-eqb m x.master (sym (eqb-true x.master m k)) in cc) | false ↦ λ k. refl ]) refl
+
+        of_device : (m : ℕ) (d : Option ℕ) → v.device_master ≡ d → (if is_option x.master d then None else d) ≡ Some m → list_any (λ (y : Member). y.is_master && (y.master == m)) (filter (λ (y : Member). not (is_client x.client y)) v.members) ≡ true
+        of_device m None is e = absurd (let n : None ≡ Some m = e in cc)
+        of_device m (Some d) is e =
+            (elim (d == x.master) as (λ b. (d == x.master) ≡ b → (if b then None else Some d) ≡ Some m → list_any (λ (y : Member). y.is_master && (y.master == m)) (filter (λ (y : Member). not (is_client x.client y)) v.members) ≡ true) [
+              | true ↦ λ k n. absurd (let j : None ≡ Some m = n in cc)
+              | false ↦ λ k n.
+                  let same : d ≡ m = cc in
+                  still_there (λ (y : Member). y.is_master && (y.master == m)) (ap (λ b. x.is_master && b) (others m (sym (ap (λ j. j == x.master) same) ∙ k)) ∙ and-false x.is_master) (a.device_own m (is ∙ n))
+            ]) refl e
+
+        held : (z : Master) → is_held v.members z ≡ true → is_held (filter (λ (y : Member). not (is_client x.client y)) v.members) (kept_at x.master true z) ≡ true
+        held z h =
+            (elim (z.birth == x.master) as (λ b. (z.birth == x.master) ≡ b → is_held (filter (λ (y : Member). not (is_client x.client y)) v.members) (if b then record z { kept = true } else z) ≡ true) [
+              | true ↦ λ e. refl
+              | false ↦ λ e. or_more z.kept (list_any (λ (y : Member). y.master == z.birth) v.members) (list_any (λ (y : Member). y.master == z.birth) (filter (λ (y : Member). not (is_client x.client y)) v.members)) (still_there (λ (y : Member). y.master == z.birth) (others z.birth e)) h
+            ]) refl
+
+  -- a client's row is another now
+  module _ (x y : Member) (here : member_of v.members x.client ≡ Some x) (same : y.client ≡ x.client) where
+    abbrev put : Member → Member
+    put z = if is_client y.client z then y else z
+
+    put_client : (z : Member) → (put z).client ≡ z.client
+    put_client z = (elim (z.client == y.client) as (λ b. (z.client == y.client) ≡ b → (if b then y else z).client ≡ z.client) [ true ↦ λ e. sym (eqb-true z.client y.client e) | false ↦ λ e. refl ]) refl
+
+    pub put_rise : MembersRise (map put v.members)
+    put_rise = in_order_kept (λ (z u : Member). z.client < u.client) put (λ z u lt. omega (arith, lt, put_client z, put_client u)) v.members a.members_rise
+
+    -- it is this row, or the row is as it was
+    by_row : (P : Member → Type 0) (z : Member) → member_of v.members z.client ≡ Some z → (z ≡ x → P y) → P z → P (put z)
+    by_row P z e it other =
+        (elim (z.client == y.client) as (λ b. (z.client == y.client) ≡ b → P (if b then y else z)) [
+          | true ↦ λ k. it (is_it x here z e (ap (λ n. z.client == n) (sym same) ∙ k))
+          | false ↦ λ k. other
+        ]) refl
+
+    -- a test that passes with the old row passes with the new one
+    put_any : (q : Member → Bool) → q y ≡ q x → list_any q v.members ≡ true → list_any q (map put v.members) ≡ true
+    put_any q e h =
+        list_any-map q put v.members
+        ∙ any_more (λ (z : Member). member_of v.members z.client ≡ Some z) q (λ z. q (put z)) (λ z at t. by_row (λ u. q u ≡ true) z at (λ zx. e ∙ ap q (sym zx) ∙ t) t) v.members clients_found h
+
+    few_put : length (map put v.members) ≤ v.last_magic
+    few_put = let e = length-map v.members put in let few = a.few in omega (arith, e, few)
+
+    -- of the same master
+    pub changed_are : y.master ≡ x.master → y.is_master ≡ x.is_master → InOrder HaveOtherMagics (map put v.members) → AreMasters (changed_member y v)
+    changed_are of_one is differ = record {
+      members_rise = put_rise;
+      masters_rise = a.masters_rise;
+      lessors_older = a.lessors_older;
+      masters_there =
+          all_mapped (λ (z : Member). is_some (master_at v.masters z.master) ≡ true) put v.members
+          (all_both (λ (z : Member). member_of v.members z.client ≡ Some z) (λ (z : Member). is_some (master_at v.masters z.master) ≡ true) (λ z. is_some (master_at v.masters (put z).master) ≡ true)
+          (λ z at there. by_row (λ u. is_some (master_at v.masters u.master) ≡ true) z at (λ zx. ap (λ n. is_some (master_at v.masters n)) (of_one ∙ ap (λ (u : Member). u.master) (sym zx)) ∙ there) there) v.members clients_found a.masters_there);
+      device_own = λ m e. put_any (λ (z : Member). z.is_master && (z.master == m)) (ap (λ b. b && (y.master == m)) is ∙ ap (λ n. x.is_master && (n == m)) of_one) (a.device_own m e);
+      used = same_used v.members (map put v.members) v.masters (λ z h. or_more z.kept (list_any (λ (u : Member). u.master == z.birth) v.members) (list_any (λ (u : Member). u.master == z.birth) (map put v.members)) (put_any (λ (u : Member). u.master == z.birth) (ap (λ n. n == z.birth) of_one)) h) a.used;
+      magics_differ = differ;
+      few = few_put;
+    }
+
+    -- of a new master of its own
+    pub remade_ties : (z : Master) → z.lessor ≡ None → y.master ≡ z.birth → y.is_master ≡ true → y.magic ≡ None → AllByRecursion (λ (u : Master). u.birth < z.birth) v.masters → AreTied (with_device (Some z.birth) (changed_member y (with_master z v)))
+    remade_ties z top own is_own none newest = record {
+      members_rise = put_rise;
+      masters_rise = in_order_append (λ (u w : Master). u.birth < w.birth) v.masters z a.masters_rise newest;
+      lessors_older = pushed_older v.masters z newest (λ l e. absurd (let n : None ≡ Some l = sym top ∙ e in cc)) a.lessors_older;
+      masters_there =
+          all_mapped (λ (u : Member). is_some (master_at (v.masters ++ z ∷ []) u.master) ≡ true) put v.members
+          (all_both (λ (u : Member). member_of v.members u.client ≡ Some u) (λ (u : Member). is_some (master_at v.masters u.master) ≡ true) (λ u. is_some (master_at (v.masters ++ z ∷ []) (put u).master) ≡ true)
+          (λ u at there. by_row (λ w. is_some (master_at (v.masters ++ z ∷ []) w.master) ≡ true) u at (λ ux. ap (λ n. is_some (master_at (v.masters ++ z ∷ []) n)) own ∙ new_there v.masters z newest) (there_too v.masters z newest u.master there)) v.members clients_found a.masters_there);
+      device_own = λ m e. is_device m (let s : Some z.birth ≡ Some m = e in cc);
+      magics_differ = in_order_mapped (λ (u : Member). member_of v.members u.client ≡ Some u) HaveOtherMagics HaveOtherMagics put (λ u w at au h. differ u w at au h) v.members clients_found a.magics_differ;
+      few = few_put;
+    }
+      where
+        is_device : (m : ℕ) → z.birth ≡ m → list_any (λ (u : Member). u.is_master && (u.master == m)) (map put v.members) ≡ true
+        is_device m e =
+            let q = λ (u : Member). u.is_master && (u.master == m) in
+            list_any-map q put v.members
+            ∙ any_found (is_client x.client) (λ u. q (put u)) x v.members here (ap (λ b. q (if b then y else x)) (eq-eqb x.client y.client (sym same)) ∙ and_true y.is_master (y.master == m) is_own (eq-eqb y.master m (own ∙ e)))
+
+        differ : (u w : Member) → member_of v.members u.client ≡ Some u → member_of v.members w.client ≡ Some w → HaveOtherMagics u w → HaveOtherMagics (put u) (put w)
+        differ u w at aw h =
+            by_row (λ b. HaveOtherMagics b (put w)) u at (λ ux n k. absurd (let j : false ≡ true = sym (no_magic y.master n y none) ∙ k in cc))
+            (by_row (λ b. HaveOtherMagics u b) w aw (λ wx. other_none y none u) h)
+
+  -- a client's number
+  module _ (x : Member) (here : member_of v.members x.client ≡ Some x) (n : ℕ) where
+    -- that no client has
+    pub given_are : list_any (has_magic x.master n) v.members ≡ false → AreMasters (changed_member (with_magic n false x) v)
+    given_are free =
+        changed_are x (with_magic n false x) here refl refl refl
+        (in_order_mapped Free (λ u w. (u.client < w.client) × HaveOtherMagics u w) HaveOtherMagics (put x (with_magic n false x) here refl) (λ u w fu fw h. differ u w fu fw h.0 h.1) v.members
+        (all_both (λ (z : Member). member_of v.members z.client ≡ Some z) (λ z. has_magic x.master n z ≡ false) Free (λ z e f. (e, f)) v.members clients_found (none_has v.members free)) (in_order_both (λ (u w : Member). u.client < w.client) HaveOtherMagics v.members a.members_rise a.magics_differ))
+      where
+        Free : Member → Type 0
+        Free z = (member_of v.members z.client ≡ Some z) × (has_magic x.master n z ≡ false)
+
+        none_has : (zs : List Member) → list_any (has_magic x.master n) zs ≡ false → AllByRecursion (λ z. has_magic x.master n z ≡ false) zs
+        none_has [] h = tt
+        none_has (z ∷ zs) h =
+            (elim (has_magic x.master n z) as (λ b. has_magic x.master n z ≡ b → (b || list_any (has_magic x.master n) zs) ≡ false → AllByRecursion (λ z. has_magic x.master n z ≡ false) (z ∷ zs)) [
+              | true ↦ λ e k. absurd (let j : true ≡ false = k in cc)
+              | false ↦ λ e k. (e, none_has zs k)
+            ]) refl h
+
+        differ : (u w : Member) → Free u → Free w → u.client < w.client → HaveOtherMagics u w → HaveOtherMagics (put x (with_magic n false x) here refl u) (put x (with_magic n false x) here refl w)
+        differ u w fu fw lt h =
+            let new = with_magic n false x in
+            by_row x new here refl (λ b. HaveOtherMagics b (put x new here refl w)) u fu.0
+            (λ ux. by_row x new here refl (HaveOtherMagics new) w fw.0 (λ wx. absurd (let one : u.client ≡ w.client = ap (λ (b : Member). b.client) (ux ∙ sym wx) in omega (arith, lt, one))) (given_before x n false w fw.1))
+            (by_row x new here refl (HaveOtherMagics u) w fw.0 (λ wx. given_behind x n false u fu.1) h)
+
+    -- that it has, unspent
+    pub spent_are : (m : ℕ) → has_open_magic m n x ≡ true → AreMasters (changed_member (with_magic n true x) v)
+    spent_are m unspent =
+        changed_are x (with_magic n true x) here refl refl refl
+        (in_order_mapped (λ (z : Member). member_of v.members z.client ≡ Some z) (λ u w. (u.client < w.client) × HaveOtherMagics u w) HaveOtherMagics (put x (with_magic n true x) here refl) (λ u w at aw h. differ u w at aw h.0 h.1) v.members clients_found
+        (in_order_both (λ (u w : Member). u.client < w.client) HaveOtherMagics v.members a.members_rise a.magics_differ))
+      where
+        number : (b : Bool) (g : Option Magic) → (b && option_map_or (λ (d : Magic). (d.number == n) && not d.spent) g false) ≡ true → option_map_or (λ (d : Magic). d.number == n) g false ≡ true
+        number b None h = absurd (let j : false ≡ true = sym (and-false b) ∙ h in cc)
+        number b (Some d) h = (both_true (d.number == n) (not d.spent) (both_true b ((d.number == n) && not d.spent) h).1).0
+
+        as_it : (k j : ℕ) → has_magic k j (with_magic n true x) ≡ has_magic k j x
+        as_it k j = spent_same k j n true x (number (x.master == m) x.magic unspent)
+
+        differ : (u w : Member) → member_of v.members u.client ≡ Some u → member_of v.members w.client ≡ Some w → u.client < w.client → HaveOtherMagics u w → HaveOtherMagics (put x (with_magic n true x) here refl u) (put x (with_magic n true x) here refl w)
+        differ u w at aw lt h =
+            let new = with_magic n true x in
+            by_row x new here refl (λ b. HaveOtherMagics b (put x new here refl w)) u at
+            (λ ux. by_row x new here refl (HaveOtherMagics new) w aw (λ wx. absurd (let one : u.client ≡ w.client = ap (λ (b : Member). b.client) (ux ∙ sym wx) in omega (arith, lt, one))) (λ k e. subst (λ (b : Member). HaveOtherMagics b w) ux h k (sym (as_it x.master k) ∙ e)))
+            (by_row x new here refl (HaveOtherMagics u) w aw (λ wx k e. as_it u.master k ∙ ap (has_magic u.master k) (sym wx) ∙ h k e) h)
+
+-- ---- the fields
+
+-- the fields stand for a set of which all of it is so
+pub sound : (a : Inside) (v : MasterSet) → set_of a ≡ v → AreMasters v → Keyed v.masters → IsSound a
+sound a v e are keyed = record { are = subst AreMasters (sym e) are; keyed = subst (λ (w : MasterSet). Keyed w.masters) (sym e) keyed }
+
+-- what is found has the number, and is found by it
+pub client_found : (xs : List Member) (c : ℕ) (x : Member) → member_of xs c ≡ Some x → (x.client ≡ c) × (member_of xs x.client ≡ Some x)
+client_found xs c x e =
+    let num : x.client ≡ c = eqb-true x.client c (found (is_client c) (λ _. Unit {0}) x xs (all_each (λ _. Unit {0}) (λ _. tt) xs) e).0 in
+    (num, ap (member_of xs) num ∙ e)
+
+-- what is there
+pub some_is : {X : Type 0} (o : Option X) → is_some o ≡ true → (x : X) × (o ≡ Some x)
+some_is {X = X} None h = absurd (let e : false ≡ true = h in cc)
+some_is (Some x) h = (x, refl)
+
+-- a new birth is a new key
+pub free_key : (ms : List Master) (b : ℕ) → Keyed ms → AllByRecursion (λ (x : Master). x.birth < b) ms → find (is_key b) ms ≡ None
+free_key ms b keyed newest = find_none (is_key b) ms (all_both (λ (x : Master). x.key ≡ x.birth) (λ (x : Master). x.birth < b) (λ x. is_key b x ≡ false) (λ x e lt. ap (λ k. k == b) e ∙ less-differ x.birth b lt) ms keyed newest)
+
+-- the master of a key, which is its birth
+pub of_key : (ms : List Master) (key : ℕ) (x : Master) → Keyed ms → find (is_key key) ms ≡ Some x → (x.key ≡ x.birth) × (birth_at ms key ≡ x.birth) × (is_some (master_at ms x.birth) ≡ true)
+of_key ms key x keyed e =
+    let w = found (is_key key) (λ (y : Master). y.key ≡ y.birth) x ms keyed e in
+    (w.1, ap (λ o. option_map_or (λ (y : Master). y.birth) o 0) e, is_some-find (is_birth x.birth) ms ∙ any_found (is_key key) (is_birth x.birth) x ms e (eq-eqb x.birth x.birth refl))

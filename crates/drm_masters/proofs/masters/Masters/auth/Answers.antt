@@ -1,0 +1,32 @@
+use Rattle.std.proofs.Common.{◌≡◌, ℕ, ◌<◌, ◌==◌, Bool, true, false, not, ◌&&◌, List, [], ◌∷◌, ◌++◌, Option, None, Some, find, map, filter, refl, sym, ap, subst, ◌∙◌, arith, eq-eqb}
+use Rattle.std.specs.Prelude.{if◌then◌else◌, IfSome}
+use Rattle.std.specs.List.{list_any, AllByRecursion}
+use Rattle.std.specs.Option.{is_some, option_map, option_and_then}
+use Rattle.drm_index_array.specs.Least.{least}
+use Rattle.drm_index_array.proofs.Least.{least_some}
+use Rattle.drm_lists.specs.Orders.{InOrder}
+use Rattle.drm_lists.proofs.Lists.{all_append, all_filter}
+use Rattle.drm_lists.proofs.Rising.{any_found}
+use Rattle.drm_masters.specs.declared.rows.Magic.{Magic}
+use Rattle.drm_masters.specs.declared.rows.Master.{Master}
+use Rattle.drm_masters.specs.declared.rows.Member.{Member}
+use Rattle.drm_masters.specs.Fields.{set_of}
+use Rattle.drm_masters.specs.Masters.{MasterSet, AreMasters, HasOlderLessor, member_of, master_at, key_of, lessor_of, birth_at, is_client, is_birth, is_key, is_option, is_living, has_magic, has_open_magic, is_lessee_of, free_lessee, free_magic, swept}
+use Rattle.drm_masters.specs.Calls as calls
+use Rattle.drm_masters.proofs.Living.{and_true}
+use Rattle.drm_masters.proofs.Pushed.{kept_keyed}
+use Rattle.drm_masters.proofs.Numbered.{number_free}
+use Rattle.drm_masters.proofs.Sound.{Keyed, AreTied, sound, swept_are, ties, device_there, guest_are, founder_are, redeemed_are, device_are, lessee_are, kept_ties, gone_ties, own_are, changed_are, remade_ties, given_are, spent_are, client_found, open_found, master_there, some_is, free_key, of_key}
+use Rattle.drm_masters.proofs.masters.Masters.auth.Goals as goal
+
+pub invariant_of-self : goal.invariant_of-self
+invariant_of-self c =
+    let are : AreMasters c.args.self.now = subst AreMasters c.self.view_is c.self.invariant.are in
+    let keyed : Keyed c.args.self.now.masters = subst (λ (w : MasterSet). Keyed w.masters) c.self.view_is c.self.invariant.keyed in
+    let x = c.in-Some-find_open_magic.found in
+    let m = c.in-Some.member.master in
+    let y = calls.with_magic c.args.number true x in
+    let items : c.set_member.new.members.items ≡ map (λ (x : Member). if is_client y.client x then y else x) c.self.inside.members.items = c.set_member.ensures ∙ ap (λ (z : Member). map (λ (x : Member). if is_client z.client x then z else x) c.self.inside.members.items) c.with_magic.ensures in
+    let found : find (has_open_magic m c.args.number) c.args.self.now.members ≡ Some x = sym (ap (λ (w : MasterSet). find (has_open_magic m c.args.number) w.members) c.self.view_is) ∙ ap (find (has_open_magic m c.args.number)) (sym c.deref-2.ensures.value) ∙ sym c.find_open_magic.ensures ∙ c.in-Some-find_open_magic.is in
+    let is = open_found c.args.self.now are (has_open_magic m c.args.number) x found in
+    sound _ (calls.changed_member y c.args.self.now) ((λ i. record (set_of c.self.inside) { members = items i }) ∙ ap (calls.changed_member y) c.self.view_is) (spent_are c.args.self.now are x is.1 c.args.number m is.0) keyed

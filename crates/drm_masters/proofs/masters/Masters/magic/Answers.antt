@@ -1,0 +1,62 @@
+use Rattle.std.proofs.Common.{◌≡◌, ℕ, ◌<◌, ◌==◌, Bool, true, false, not, ◌&&◌, List, [], ◌∷◌, ◌++◌, Option, None, Some, find, map, filter, refl, sym, ap, subst, ◌∙◌, arith, eq-eqb}
+use Rattle.std.specs.Prelude.{if◌then◌else◌, IfSome}
+use Rattle.std.specs.List.{list_any, AllByRecursion}
+use Rattle.std.specs.Option.{is_some, option_map, option_and_then}
+use Rattle.drm_index_array.specs.Least.{least}
+use Rattle.drm_index_array.proofs.Least.{least_some}
+use Rattle.drm_lists.specs.Orders.{InOrder}
+use Rattle.drm_lists.proofs.Lists.{all_append, all_filter}
+use Rattle.drm_lists.proofs.Rising.{any_found}
+use Rattle.drm_masters.specs.declared.rows.Magic.{Magic}
+use Rattle.drm_masters.specs.declared.rows.Master.{Master}
+use Rattle.drm_masters.specs.declared.rows.Member.{Member}
+use Rattle.drm_masters.specs.Fields.{set_of}
+use Rattle.drm_masters.specs.Masters.{MasterSet, AreMasters, HasOlderLessor, member_of, master_at, key_of, lessor_of, birth_at, is_client, is_birth, is_key, is_option, is_living, has_magic, has_open_magic, is_lessee_of, free_lessee, free_magic, swept}
+use Rattle.drm_masters.specs.Calls as calls
+use Rattle.drm_masters.proofs.Living.{and_true}
+use Rattle.drm_masters.proofs.Pushed.{kept_keyed}
+use Rattle.drm_masters.proofs.Numbered.{number_free}
+use Rattle.drm_masters.proofs.Sound.{Keyed, AreTied, sound, swept_are, ties, device_there, guest_are, founder_are, redeemed_are, device_are, lessee_are, kept_ties, gone_ties, own_are, changed_are, remade_ties, given_are, spent_are, client_found, open_found, master_there, some_is, free_key, of_key}
+use Rattle.drm_masters.proofs.masters.Masters.magic.Goals as goal
+
+pub unreachable-requires-in_default-free_magic : goal.unreachable-requires-in_default-free_magic
+unreachable-requires-in_default-free_magic c =
+    let are : AreMasters c.args.self.now = subst AreMasters c.self.view_is c.self.invariant.are in
+    let keyed : Keyed c.args.self.now.masters = subst (λ (w : MasterSet). Keyed w.masters) c.self.view_is c.self.invariant.keyed in
+    let look : member_of c.args.self.now.members c.args.client ≡ Some c.in-Some.member = sym (ap (λ (w : MasterSet). member_of w.members c.args.client) c.self.view_is) ∙ ap (λ l. member_of l c.args.client) (sym c.deref.ensures.value) ∙ sym c.member_of.ensures ∙ c.in-Some.is in
+    let x = c.in-Some.member in
+    let none : x.magic ≡ None = c.in_default-magic.is in
+    let taken : least (λ n. not (list_any (has_magic x.master n) c.args.self.now.members)) 1 c.self.inside.last_magic ≡ None = sym (ap (λ (w : MasterSet). least (λ n. not (list_any (has_magic x.master n) w.members)) 1 c.self.inside.last_magic) c.self.view_is) ∙ ap (λ l. least (λ n. not (list_any (has_magic x.master n) l)) 1 c.self.inside.last_magic) (sym c.deref-2.ensures.value) ∙ sym c.free_magic.ensures ∙ c.in_default-free_magic.is in
+    let few = are.few in
+    let last : c.self.inside.last_magic ≡ c.args.self.now.last_magic = ap (λ (w : MasterSet). w.last_magic) c.self.view_is in
+    number_free x.master c.self.inside.last_magic x c.args.self.now.members (client_found c.args.self.now.members c.args.client x look).1 none (omega (arith, few, last)) taken
+
+pub invariant_of-self : goal.invariant_of-self
+invariant_of-self c =
+    let are : AreMasters c.args.self.now = subst AreMasters c.self.view_is c.self.invariant.are in
+    let keyed : Keyed c.args.self.now.masters = subst (λ (w : MasterSet). Keyed w.masters) c.self.view_is c.self.invariant.keyed in
+    let look : member_of c.args.self.now.members c.args.client ≡ Some c.in-Some.member = sym (ap (λ (w : MasterSet). member_of w.members c.args.client) c.self.view_is) ∙ ap (λ l. member_of l c.args.client) (sym c.deref.ensures.value) ∙ sym c.member_of.ensures ∙ c.in-Some.is in
+    let x = c.in-Some.member in
+    let n = c.in-Some-free_magic.number in
+    let y = calls.with_magic n false x in
+    let items : c.set_member.new.members.items ≡ map (λ (x : Member). if is_client y.client x then y else x) c.self.inside.members.items = c.set_member.ensures ∙ ap (λ (z : Member). map (λ (x : Member). if is_client z.client x then z else x) c.self.inside.members.items) c.with_magic.ensures in
+    let least_is : least (λ k. not (list_any (has_magic x.master k) c.args.self.now.members)) 1 c.self.inside.last_magic ≡ Some n = sym (ap (λ (w : MasterSet). least (λ k. not (list_any (has_magic x.master k) w.members)) 1 c.self.inside.last_magic) c.self.view_is) ∙ ap (λ l. least (λ k. not (list_any (has_magic x.master k) l)) 1 c.self.inside.last_magic) (sym c.deref-2.ensures.value) ∙ sym c.free_magic.ensures ∙ c.in-Some-free_magic.is in
+    let free = (least_some (λ k. not (list_any (has_magic x.master k) c.args.self.now.members)) 1 c.self.inside.last_magic n least_is).passes in
+    sound _ (calls.changed_member y c.args.self.now) ((λ i. record (set_of c.self.inside) { members = items i }) ∙ ap (calls.changed_member y) c.self.view_is)
+    (given_are c.args.self.now are x (client_found c.args.self.now.members c.args.client x look).1 n (is_free _ free)) keyed
+  where
+    is_free : (b : Bool) → not b ≡ true → b ≡ false
+    is_free true h = absurd (let e : false ≡ true = h in cc)
+    is_free false h = refl
+
+pub returns-clause-given : goal.returns-clause-given
+returns-clause-given c =
+    let look : member_of c.args.self.now.members c.args.client ≡ Some c.in-Some.member = sym (ap (λ (w : MasterSet). member_of w.members c.args.client) c.self.view_is) ∙ ap (λ l. member_of l c.args.client) (sym c.deref.ensures.value) ∙ sym c.member_of.ensures ∙ c.in-Some.is in
+    let x = c.in-Some.member in
+    let n = c.in-Some-free_magic.number in
+    let y = calls.with_magic n false x in
+    let new : MasterSet = record { members = c.set_member.new.members.items; masters = c.self.inside.masters.items; device_master = c.self.inside.device_master; last_magic = c.self.inside.last_magic; last_lessee = c.self.inside.last_lessee } in
+    let items : c.set_member.new.members.items ≡ map (λ (x : Member). if is_client y.client x then y else x) c.self.inside.members.items = c.set_member.ensures ∙ ap (λ (z : Member). map (λ (x : Member). if is_client z.client x then z else x) c.self.inside.members.items) c.with_magic.ensures in
+    let least_is : least (λ k. not (list_any (has_magic x.master k) c.args.self.now.members)) 1 c.args.self.now.last_magic ≡ Some n = sym (ap (λ (w : MasterSet). least (λ k. not (list_any (has_magic x.master k) w.members)) 1 w.last_magic) c.self.view_is) ∙ ap (λ l. least (λ k. not (list_any (has_magic x.master k) l)) 1 c.self.inside.last_magic) (sym c.deref-2.ensures.value) ∙ sym c.free_magic.ensures ∙ c.in-Some-free_magic.is in
+    let given : calls.GaveMagic c.args.self.now x x.magic n new = subst (λ (g : Option Magic). calls.GaveMagic c.args.self.now x g n new) (sym c.in_default-magic.is) (least_is, (λ i. record (set_of c.self.inside) { members = items i }) ∙ ap (calls.changed_member y) c.self.view_is) in
+    subst (λ o. IfSome o (λ (z : Member). calls.GaveMagic c.args.self.now z z.magic n new)) (sym look) given

@@ -1,0 +1,52 @@
+use Rattle.std.proofs.Common.{◌≡◌, ℕ, ◌<◌, ◌==◌, Bool, true, false, not, ◌&&◌, List, [], ◌∷◌, ◌++◌, Option, None, Some, find, map, filter, refl, sym, ap, subst, ◌∙◌, arith, eq-eqb}
+use Rattle.std.specs.Prelude.{if◌then◌else◌, IfSome}
+use Rattle.std.specs.List.{list_any, AllByRecursion}
+use Rattle.std.specs.Option.{is_some, option_map, option_and_then}
+use Rattle.drm_index_array.specs.Least.{least}
+use Rattle.drm_index_array.proofs.Least.{least_some}
+use Rattle.drm_lists.specs.Orders.{InOrder}
+use Rattle.drm_lists.proofs.Lists.{all_append, all_filter}
+use Rattle.drm_lists.proofs.Rising.{any_found}
+use Rattle.drm_masters.specs.declared.rows.Magic.{Magic}
+use Rattle.drm_masters.specs.declared.rows.Master.{Master}
+use Rattle.drm_masters.specs.declared.rows.Member.{Member}
+use Rattle.drm_masters.specs.Fields.{set_of}
+use Rattle.drm_masters.specs.Masters.{MasterSet, AreMasters, HasOlderLessor, member_of, master_at, key_of, lessor_of, birth_at, is_client, is_birth, is_key, is_option, is_living, has_magic, has_open_magic, is_lessee_of, free_lessee, free_magic, swept}
+use Rattle.drm_masters.specs.Calls as calls
+use Rattle.drm_masters.proofs.Living.{and_true}
+use Rattle.drm_masters.proofs.Pushed.{kept_keyed}
+use Rattle.drm_masters.proofs.Numbered.{number_free}
+use Rattle.drm_masters.proofs.Sound.{Keyed, AreTied, sound, swept_are, ties, device_there, guest_are, founder_are, redeemed_are, device_are, lessee_are, kept_ties, gone_ties, own_are, changed_are, remade_ties, given_are, spent_are, client_found, open_found, master_there, some_is, free_key, of_key}
+use Rattle.drm_masters.proofs.masters.Masters.make_lessee.Goals as goal
+
+lessor_none : (o : Option ℕ) → o ≡ None → (l : ℕ) → o ≡ Some l → ⊥
+lessor_none o e l k = let n : None ≡ Some l = sym e ∙ k in cc
+
+pub invariant_of-self-2 : goal.invariant_of-self-2
+invariant_of-self-2 c =
+    let are : AreMasters c.args.self.now = subst AreMasters c.self.view_is c.self.invariant.are in
+    let keyed : Keyed c.args.self.now.masters = subst (λ (w : MasterSet). Keyed w.masters) c.self.view_is c.self.invariant.keyed in
+    let m = c.in-Some.lessor.birth in
+    let z = calls.lessee c.args.birth c.args.birth m c.in-Some-free_lessee.id in
+    let found : find (is_key c.args.master) c.args.self.now.masters ≡ Some c.in-Some.lessor = sym (ap (λ (w : MasterSet). find (is_key c.args.master) w.masters) c.self.view_is) ∙ ap (find (is_key c.args.master)) (sym c.deref.ensures.value) ∙ sym c.master_of_key.ensures ∙ c.in-Some.is in
+    let masters : c.push_reserved.new.self.items ≡ c.self.inside.masters.items ++ z ∷ [] = c.push_reserved.ensures.items ∙ (λ i. c.reserve.ensures.items i ++ c.lessee.ensures i ∷ []) in
+    let there = (of_key c.args.self.now.masters c.args.master c.in-Some.lessor keyed found).2 in
+    sound _ (calls.with_master z c.args.self.now) ((λ i. record (set_of c.self.inside) { masters = masters i }) ∙ ap (calls.with_master z) c.self.view_is)
+    (lessee_are c.args.self.now are z refl (λ l e. subst (λ n. is_some (master_at c.args.self.now.masters n) ≡ true) (let s : Some m ≡ Some l = e in let t : m ≡ l = cc in t) there) c.requires.new_birth)
+    (all_append (λ (x : Master). x.key ≡ x.birth) c.args.self.now.masters (z ∷ []) keyed (refl, tt))
+
+pub returns : goal.returns
+returns c =
+    let are : AreMasters c.args.self.now = subst AreMasters c.self.view_is c.self.invariant.are in
+    let keyed : Keyed c.args.self.now.masters = subst (λ (w : MasterSet). Keyed w.masters) c.self.view_is c.self.invariant.keyed in
+    let m = c.in-Some.lessor.birth in
+    let id = c.in-Some-free_lessee.id in
+    let found : find (is_key c.args.master) c.args.self.now.masters ≡ Some c.in-Some.lessor = sym (ap (λ (w : MasterSet). find (is_key c.args.master) w.masters) c.self.view_is) ∙ ap (find (is_key c.args.master)) (sym c.deref.ensures.value) ∙ sym c.master_of_key.ensures ∙ c.in-Some.is in
+    let at : birth_at c.args.self.now.masters c.args.master ≡ m = (of_key c.args.self.now.masters c.args.master c.in-Some.lessor keyed found).1 in
+    let z = calls.lessee c.args.birth c.args.birth m id in
+    let masters : c.push_reserved.new.self.items ≡ c.self.inside.masters.items ++ z ∷ [] = c.push_reserved.ensures.items ∙ (λ i. c.reserve.ensures.items i ++ c.lessee.ensures i ∷ []) in
+    let free : free_lessee c.args.self.now m ≡ Some id = sym (ap (λ (w : MasterSet). free_lessee w m) c.self.view_is) ∙ ap (λ l. least (λ n. not (list_any (is_lessee_of l m n) l)) 1 c.self.inside.last_lessee) (sym c.deref-2.ensures.value) ∙ sym c.free_lessee.ensures ∙ c.in-Some-free_lessee.is in (
+      ap (λ k. find (is_key k) c.args.self.now.masters) c.from_number.ensures ∙ free_key c.args.self.now.masters c.args.birth keyed c.requires.new_birth,
+      ap (free_lessee c.args.self.now) at ∙ free,
+      (λ i. record (set_of c.self.inside) { masters = masters i }) ∙ ap (calls.with_master z) c.self.view_is ∙ (λ i. calls.with_master (calls.lessee (sym c.from_number.ensures i) c.args.birth (sym at i) id) c.args.self.now),
+    )

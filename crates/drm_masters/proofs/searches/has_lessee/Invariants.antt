@@ -1,0 +1,7 @@
+use Rattle.std.proofs.Common.{◌≡◌, drop}
+use Rattle.std.specs.List.{list_any}
+use Rattle.drm_masters.specs.Masters.{is_option}
+use Rattle.drm_masters.proofs.searches.has_lessee.Given as goal
+
+abbrev pub invariant-loop-master : goal.invariant-loop-master
+invariant-loop-master l = list_any (λ x. is_option l.lessor x.lessor) l.masters ≡ list_any (λ x. is_option l.lessor x.lessor) (drop l.master-index l.masters)

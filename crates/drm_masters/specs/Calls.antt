@@ -1,0 +1,157 @@
+-- What each call does.
+use Rattle.std.specs.Prelude.{◌≡◌, ℕ, ◌==◌, ◌<◌, Bool, true, false, not, ◌&&◌, ◌||◌, List, [], ◌∷◌, ◌++◌, Option, None, Some, Result, Ok, Err, find, map, filter, if◌then◌else◌, ⊤}
+use Rattle.std.specs.List.{AllByRecursion}
+use Rattle.std.specs.Option.{is_some, option_map}
+use Rattle.drm_table.specs.declared.rules.Rule.{Rule}
+use Rattle.drm_table.specs.declared.rules.Rule.TheVariants.{MasterPerm, MasterBusy, IsLessee, NotCurrent, NoMagic}
+use Rattle.drm_table.specs.Permit.{Check, check, first_failing}
+use Rattle.drm_masters.specs.declared.faults.SetDone.{SetDone}
+use Rattle.drm_masters.specs.declared.faults.SetDone.TheVariants.{Already, Again, Made}
+use Rattle.drm_masters.specs.declared.faults.SetFault.{SetFault}
+use Rattle.drm_masters.specs.declared.faults.SetFault.TheVariants.{Denied, NoMemory as SetNoMemory}
+use Rattle.drm_masters.specs.declared.faults.LesseeFault.{LesseeFault}
+use Rattle.drm_masters.specs.declared.faults.LesseeFault.TheVariants.{Full, NoMemory as LesseeNoMemory}
+use Rattle.drm_masters.specs.declared.rows.Magic.{Magic}
+use Rattle.drm_masters.specs.declared.rows.Master.{Master}
+use Rattle.drm_masters.specs.declared.rows.Member.{Member}
+use Rattle.drm_masters.specs.Masters.{MasterSet, is_client, is_birth, is_key, is_option, key_of, is_lessee, is_current_member, has_open_magic, free_magic, free_lessee, swept}
+
+-- each client that is there is older
+abbrev pub IsNewClient : MasterSet → ℕ → Type 0
+IsNewClient v c = AllByRecursion (λ (x : Member). x.client < c) v.members
+
+-- each master that is there is older
+abbrev pub IsNewBirth : MasterSet → ℕ → Type 0
+IsNewBirth v birth = AllByRecursion (λ (x : Master). x.birth < birth) v.masters
+
+-- a key that no master has
+abbrev pub IsFreeKey : MasterSet → ℕ → Type 0
+IsFreeKey v key = find (is_key key) v.masters ≡ None
+
+-- rows as they are made
+
+abbrev pub own_master : ℕ → ℕ → Master
+own_master key birth = record { key = key; birth = birth; lessor = None; lessee_id = 0; kept = false }
+
+abbrev pub lessee : ℕ → ℕ → ℕ → ℕ → Master
+lessee key birth lessor id = record { key = key; birth = birth; lessor = Some lessor; lessee_id = id; kept = true }
+
+-- a client of a master of its own
+abbrev pub owner : ℕ → ℕ → Member
+owner c m = record { client = c; once_master = true; is_master = true; master = m; magic = None }
+
+-- a client of another's master
+abbrev pub guest : ℕ → ℕ → Member
+guest c m = record { client = c; once_master = false; is_master = false; master = m; magic = None }
+
+-- a client that redeemed a lessee: a master, but not once a master by that (own)
+abbrev pub redeemer : ℕ → ℕ → Member
+redeemer c m = record { client = c; once_master = false; is_master = true; master = m; magic = None }
+
+-- changes
+
+abbrev pub with_member : Member → MasterSet → MasterSet
+with_member x v = record v { members = v.members ++ x ∷ [] }
+
+abbrev pub with_master : Master → MasterSet → MasterSet
+with_master x v = record v { masters = v.masters ++ x ∷ [] }
+
+abbrev pub with_device : Option ℕ → MasterSet → MasterSet
+with_device m v = record v { device_master = m }
+
+abbrev pub without_member : ℕ → MasterSet → MasterSet
+without_member c v = record v { members = filter (λ (x : Member). not (is_client c x)) v.members }
+
+-- the client stands to masters as told now
+abbrev pub changed_member : Member → MasterSet → MasterSet
+changed_member y v = record v { members = map (λ (x : Member). if is_client y.client x then y else x) v.members }
+
+abbrev pub kept_as : Bool → Master → Master
+kept_as kept x = record x { kept = kept }
+
+-- the master is kept, or not any more
+abbrev pub with_kept : ℕ → Bool → MasterSet → MasterSet
+with_kept m kept v = record v { masters = map (λ (x : Master). if is_birth m x then kept_as kept x else x) v.masters }
+
+abbrev pub with_magic : ℕ → Bool → Member → Member
+with_magic n spent x = record x { magic = Some (record { number = n; spent = spent }) }
+
+-- openings
+
+-- without a device's master the client founds one, else it is a guest of the device's
+abbrev pub Opened : MasterSet → ℕ → ℕ → Option ℕ → MasterSet → Type 0
+Opened v c birth None new = (key : ℕ) × IsFreeKey v key × (new ≡ with_device (Some birth) (with_member (owner c birth) (with_master (own_master key birth) v)))
+Opened v c birth (Some m) new = new ≡ with_member (guest c m) v
+
+abbrev pub redeemed : ℕ → ℕ → MasterSet → MasterSet
+redeemed c m v = with_kept m false (with_member (redeemer c m) v)
+
+-- SET_MASTER and DROP_MASTER
+
+-- the rules of SET_MASTER, in order; who is current is done after the first
+unfoldable pub set_checks : MasterSet → Member → Bool → List Check
+set_checks v x root =
+    check MasterPerm (x.once_master || root)
+    ∷ check MasterBusy (is_current_member v x || not (is_some v.device_master))
+    ∷ check IsLessee (is_current_member v x || not (x.is_master && is_lessee v.masters x.master))
+    ∷ []
+
+unfoldable pub drop_checks : MasterSet → Member → Bool → List Check
+drop_checks v x root =
+    check MasterPerm (x.once_master || root)
+    ∷ check NotCurrent (is_current_member v x)
+    ∷ check IsLessee (not (is_lessee v.masters x.master))
+    ∷ []
+
+-- a new master of a client, which becomes the device's; a master that nobody holds any more goes
+abbrev pub remade : ℕ → ℕ → ℕ → MasterSet → MasterSet
+remade c key birth v = swept (with_device (Some birth) (changed_member (owner c birth) (with_master (own_master key birth) v)))
+
+-- who is current is done, who is no master gets a new one, and any other has its own set again
+abbrev pub SetBy : MasterSet → Member → ℕ → SetDone → MasterSet → Type 0
+SetBy v x birth Already new = (is_current_member v x ≡ true) × (new ≡ v)
+SetBy v x birth Again new = (is_current_member v x ≡ false) × (x.is_master ≡ true) × (new ≡ with_device (Some x.master) v)
+SetBy v x birth Made new = (is_current_member v x ≡ false) × (x.is_master ≡ false) × ((key : ℕ) × IsFreeKey v key × (new ≡ remade x.client key birth v))
+
+-- memory is refused only where a new master is made
+abbrev pub SetOf : MasterSet → Member → Bool → ℕ → Result SetDone SetFault → MasterSet → Type 0
+SetOf v x root birth (Ok done) new = (first_failing (set_checks v x root) ≡ None) × SetBy v x birth done new
+SetOf v x root birth (Err (Denied rule)) new = (first_failing (set_checks v x root) ≡ Some rule) × (new ≡ v)
+SetOf v x root birth (Err SetNoMemory) new = (first_failing (set_checks v x root) ≡ None) × (is_current_member v x ≡ false) × (x.is_master ≡ false) × (new ≡ v)
+
+abbrev pub DroppedBy : MasterSet → Member → Bool → Result (Unit {0}) Rule → MasterSet → Type 0
+DroppedBy v x root (Ok u) new = (first_failing (drop_checks v x root) ≡ None) × (new ≡ with_device None v)
+DroppedBy v x root (Err rule) new = (first_failing (drop_checks v x root) ≡ Some rule) × (new ≡ v)
+
+-- magics
+
+-- the number that the client has, or else the least free one
+abbrev pub GaveMagic : MasterSet → Member → Option Magic → ℕ → MasterSet → Type 0
+GaveMagic v x (Some g) n new = (n ≡ g.number) × (new ≡ v)
+GaveMagic v x None n new = (free_magic v x.master ≡ Some n) × (new ≡ changed_member (with_magic n false x) v)
+
+-- the client under the caller's master that has the number unspent; it is spent then
+abbrev pub AuthenticatedBy : MasterSet → ℕ → ℕ → Result ℕ Rule → MasterSet → Type 0
+AuthenticatedBy v m n (Ok d) new = (y : Member) × (find (has_open_magic m n) v.members ≡ Some y) × (d ≡ y.client) × (new ≡ changed_member (with_magic n true y) v)
+AuthenticatedBy v m n (Err rule) new = (find (has_open_magic m n) v.members ≡ None) × (rule ≡ NoMagic) × (new ≡ v)
+
+-- closings
+
+-- the closing client's own master is kept, and is no longer the device's
+abbrev pub closed_own : ℕ → ℕ → MasterSet → MasterSet
+closed_own c m v = with_device (if is_option m v.device_master then None else v.device_master) (with_kept m true (without_member c v))
+
+abbrev pub ClosedOf : MasterSet → Member → Bool → Option ℕ → MasterSet → Type 0
+ClosedOf v x true own new = (own ≡ key_of v.masters x.master) × (new ≡ closed_own x.client x.master v)
+ClosedOf v x false own new = (own ≡ None) × (new ≡ swept (without_member x.client v))
+
+abbrev pub ClosedBy : MasterSet → Option Member → Option ℕ → MasterSet → Type 0
+ClosedBy v None own new = (own ≡ None) × (new ≡ v)
+ClosedBy v (Some x) own new = ClosedOf v x x.is_master own new
+
+-- lessees
+
+abbrev pub MadeLessee : MasterSet → ℕ → ℕ → Result (ℕ × ℕ) LesseeFault → MasterSet → Type 0
+MadeLessee v m birth (Ok made) new = IsFreeKey v made.0 × (free_lessee v m ≡ Some made.1) × (new ≡ with_master (lessee made.0 birth m made.1) v)
+MadeLessee v m birth (Err Full) new = (free_lessee v m ≡ None) × (new ≡ v)
+MadeLessee v m birth (Err LesseeNoMemory) new = (is_some (free_lessee v m) ≡ true) × (new ≡ v)

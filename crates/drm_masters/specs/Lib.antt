@@ -1,0 +1,3 @@
+pub mod Masters
+pub mod Calls
+pub mod Fields

@@ -1,0 +1,131 @@
+-- Who stands to which master, and the masters, as flat lists in the order of births (drm(7), masters; drm-uapi, leases).
+use Rattle.std.specs.Prelude.{◌≡◌, ℕ, ◌==◌, ◌<◌, ◌≤◌, Bool, true, false, not, ◌&&◌, ◌||◌, List, [], length, Option, None, Some, find, filter}
+use Rattle.std.specs.List.{list_any, AllByRecursion}
+use Rattle.std.specs.Option.{is_some, option_map, option_map_or, option_and_then}
+use Rattle.drm_index_array.specs.Least.{least}
+use Rattle.drm_lists.specs.Orders.{InOrder}
+use Rattle.drm_lists.specs.Chains.{is_under, top_of}
+use Rattle.drm_masters.specs.declared.rows.Magic.{Magic}
+use Rattle.drm_masters.specs.declared.rows.Master.{Master}
+use Rattle.drm_masters.specs.declared.rows.Member.{Member}
+
+-- a client, a master and the device's master are named by their births; magics run to one number, the ids of lessees to
+-- another
+pub record MasterSet : Type 0 where
+  pub members : List Member
+  pub masters : List Master
+  pub device_master : Option ℕ
+  pub last_magic : ℕ
+  pub last_lessee : ℕ
+
+abbrev pub is_option : ℕ → Option ℕ → Bool
+is_option n None = false
+is_option n (Some m) = m == n
+
+-- clients
+
+abbrev pub is_client : ℕ → Member → Bool
+is_client c x = x.client == c
+
+abbrev pub member_of : List Member → ℕ → Option Member
+member_of members c = find (is_client c) members
+
+-- masters
+
+abbrev pub is_birth : ℕ → Master → Bool
+is_birth m x = x.birth == m
+
+abbrev pub is_key : ℕ → Master → Bool
+is_key key x = x.key == key
+
+abbrev pub master_at : List Master → ℕ → Option Master
+master_at masters m = find (is_birth m) masters
+
+-- the master of a key; 0 where none has it
+abbrev pub birth_at : List Master → ℕ → ℕ
+birth_at masters key = option_map_or (λ (x : Master). x.birth) (find (is_key key) masters) 0
+
+-- the key of a master, if it is there
+abbrev pub key_of : List Master → ℕ → Option ℕ
+key_of masters m = option_map (λ (x : Master). x.key) (master_at masters m)
+
+-- whether a master has the key
+abbrev pub is_there : List Master → ℕ → Bool
+is_there masters key = is_some (find (is_key key) masters)
+
+abbrev pub lessor_of : List Master → ℕ → Option ℕ
+lessor_of masters m = option_and_then (λ (x : Master). x.lessor) (master_at masters m)
+
+abbrev pub is_lessee : List Master → ℕ → Bool
+is_lessee masters m = is_some (lessor_of masters m)
+
+-- the owner of a master: the top of its chain of lessors
+abbrev pub owner_of : List Master → ℕ → ℕ
+owner_of masters m = top_of (lessor_of masters) m
+
+-- current: a client that is a master, whose master's owner is the device's
+abbrev pub is_current_member : MasterSet → Member → Bool
+is_current_member v x = x.is_master && is_option (owner_of v.masters x.master) v.device_master
+
+abbrev pub is_current : MasterSet → ℕ → Bool
+is_current v c = option_map_or (is_current_member v) (member_of v.members c) false
+
+-- which masters stay
+
+-- whether it is kept, or a client names it
+abbrev pub is_held : List Member → Master → Bool
+is_held members x = x.kept || list_any (λ (y : Member). y.master == x.birth) members
+
+-- whether the master or one below it is held
+abbrev pub is_living : List Member → List Master → ℕ → Bool
+is_living members masters m = list_any (λ (x : Master). is_held members x && is_under (lessor_of masters) m x.birth) masters
+
+-- a master goes with the last that is held below it
+abbrev pub swept : MasterSet → MasterSet
+swept v = record v { masters = filter (λ (x : Master). is_living v.members v.masters x.birth) v.masters }
+
+-- magics
+
+-- whether the client has the number under the master
+abbrev pub has_magic : ℕ → ℕ → Member → Bool
+has_magic m n x = (x.master == m) && option_map_or (λ (g : Magic). g.number == n) x.magic false
+
+-- whether it has it unspent
+abbrev pub has_open_magic : ℕ → ℕ → Member → Bool
+has_open_magic m n x = (x.master == m) && option_map_or (λ (g : Magic). (g.number == n) && not g.spent) x.magic false
+
+-- the least number that no client has under the master (drm(7); the kernel's IDR gives the least)
+abbrev pub free_magic : MasterSet → ℕ → Option ℕ
+free_magic v m = least (λ n. not (list_any (has_magic m n) v.members)) 1 v.last_magic
+
+-- lessees
+
+-- whether it is a lessee of this id under the owner
+abbrev pub is_lessee_of : List Master → ℕ → ℕ → Master → Bool
+is_lessee_of masters owner id x = is_some x.lessor && (x.lessee_id == id) && (owner_of masters x.birth == owner)
+
+-- the least id that no lessee has under the owner (drm-uapi, leases; ids own)
+abbrev pub free_lessee : MasterSet → ℕ → Option ℕ
+free_lessee v owner = least (λ id. not (list_any (is_lessee_of v.masters owner id) v.masters)) 1 v.last_lessee
+
+-- what is so at all times
+
+-- each lessor is there, and older
+abbrev pub HasOlderLessor : List Master → Master → Type 0
+HasOlderLessor masters x = (l : ℕ) → x.lessor ≡ Some l → (is_some (master_at masters l) ≡ true) × (l < x.birth)
+
+-- one of the two has no number, or they have two, or they stand to two masters
+abbrev pub HaveOtherMagics : Member → Member → Type 0
+HaveOtherMagics x y = (n : ℕ) → has_magic x.master n x ≡ true → has_magic x.master n y ≡ false
+
+-- the lists stand in the order of births; all that is named is there; the device's master is some client's own; each master
+-- is held, or one below it; no two clients of a master have one number, and there are no more clients than numbers
+pub record AreMasters (v : MasterSet) : Type 0 where
+  pub members_rise : InOrder (λ (x y : Member). x.client < y.client) v.members
+  pub masters_rise : InOrder (λ (x y : Master). x.birth < y.birth) v.masters
+  pub lessors_older : AllByRecursion (HasOlderLessor v.masters) v.masters
+  pub masters_there : AllByRecursion (λ (x : Member). is_some (master_at v.masters x.master) ≡ true) v.members
+  pub device_own : (m : ℕ) → v.device_master ≡ Some m → list_any (λ (x : Member). x.is_master && (x.master == m)) v.members ≡ true
+  pub used : AllByRecursion (λ (x : Master). is_living v.members v.masters x.birth ≡ true) v.masters
+  pub magics_differ : InOrder HaveOtherMagics v.members
+  pub few : length v.members ≤ v.last_magic

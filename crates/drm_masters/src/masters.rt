@@ -1,0 +1,361 @@
+//! The clients that stand to masters, and the masters.
+
+ghost use Rattle.std.specs.Prelude.{◌≡◌, ◌<◌, ◌&&◌, ◌||◌, true, false, None, Some, [], find, length, slice_get, OnOk, OnErr, IfOk, IfSome, IsOk, not};
+ghost use Rattle.std.specs.Option.{is_some, option_map, option_map_or, option_and_then};
+ghost use Rattle.drm_masters.specs.Masters as sets;
+ghost use Rattle.drm_masters.specs.Calls as calls;
+
+use crate::faults::{LesseeFault, NoMemory, SetDone, SetFault};
+use crate::rows::{Master, MasterKey, Member};
+use crate::searches::{
+    find_lessee, find_open_magic, free_lessee, free_magic, is_option, lessor_of, master_at,
+    master_of_key, member_of, owner_of,
+};
+use crate::sweeps::sweep;
+use crate::writes::{
+    device_without, guest, lessee, own_master, owner, redeemer, remove_member, set_kept,
+    set_member, with_magic,
+};
+use drm_table::Rule;
+use std::alloc::Global;
+use std::marker::Model;
+
+/// The clients that stand to a master, the masters, and which of these is the device's (drm(7); drm-uapi, leases). A
+/// master stays while it, or one below it, is kept or named by a client. Contracts see flat lists, in the order of births.
+#[derive(Drop)]
+pub struct Masters {
+    members: Vec<Member>,
+    masters: Vec<Master>,
+    device_master: Option<u32>,
+    last_magic: u32,
+    last_lessee: u32,
+}
+
+impl Model for Masters {
+    ghost use Rattle.drm_masters.specs.Masters.{MasterSet};
+
+    ghost Value = { MasterSet };
+
+    ghost use Rattle.drm_masters.specs.Fields.{set_of, IsSound};
+
+    ghost view = { set_of };
+
+    ghost invariant = { IsSound };
+}
+
+impl Masters {
+    /// No client and no master: for so many clients at once, with magics from 1 to that, and for lessee ids from 1 to
+    /// `lessees` below each owner. It takes no memory.
+    pub fn new(alloc: Global, clients: u32, lessees: u32) -> Masters
+        ensures { result ≡ record { members = []; masters = []; device_master = None; last_magic = clients; last_lessee = lessees } }
+    {
+        Masters {
+            members: Vec::new(alloc),
+            masters: Vec::new(alloc),
+            device_master: None,
+            last_magic: clients,
+            last_lessee: lessees,
+        }
+    }
+
+    /// How a client stands to masters, if it does. It takes no memory.
+    pub fn member(&self, client: u32) -> Option<Member>
+        ensures member { result ≡ sets.member_of self.now.members client }
+        ensures are { sets.AreMasters self.now }
+    {
+        member_of(&self.members, client)
+    }
+
+    /// The key of a client's master, if it stands to one.
+    pub fn master_of(&self, client: u32) -> Option<MasterKey>
+        ensures { result ≡ option_and_then (λ x. sets.key_of self.now.masters x.master) (sets.member_of self.now.members client) }
+    {
+        let member = member_of(&self.members, client)?;
+        let master = master_at(&self.masters, member.master)?;
+        Some(master.key)
+    }
+
+    /// The key of a master's lessor, if it is a lessee.
+    pub fn lessor_of(&self, master: MasterKey) -> Option<MasterKey>
+        requires { sets.is_there self.now.masters master ≡ true }
+        ensures { result ≡ option_and_then (sets.key_of self.now.masters) (sets.lessor_of self.now.masters (sets.birth_at self.now.masters master)) }
+    {
+        let birth = master_of_key(&self.masters, master)?.birth;
+        let lessor = lessor_of(&self.masters, birth)?;
+        Some(master_at(&self.masters, lessor)?.key)
+    }
+
+    /// The device's master, by the number of the step that made it.
+    pub fn device_master(&self) -> Option<u32>
+        ensures { result ≡ self.now.device_master }
+    {
+        self.device_master
+    }
+
+    /// Whether the client is current: it is a master, and the owner of its master is the device's (drm(7); for a lessee
+    /// drm-uapi, leases). One that stands to no master isn't.
+    pub fn is_current(&self, client: u32) -> bool
+        ensures { result ≡ sets.is_current self.now client }
+    {
+        match member_of(&self.members, client) {
+            Some(member) => self.is_current_member(member),
+            None => false,
+        }
+    }
+
+    fn is_current_member(&self, member: Member) -> bool
+        ensures { result ≡ sets.is_current_member self.now member }
+    {
+        member.is_master && is_option(owner_of(&self.masters, member.master), self.device_master)
+    }
+
+    /// Adds a client that opened the primary node. While the device has no master the client gets a new one, made by the
+    /// step of this number, which becomes the device's: true. Else it is a guest of the device's: false. Without memory
+    /// nothing changes.
+    pub fn on_open(&mut self, client: u32, birth: u32) -> Result<bool, NoMemory>
+        requires new_client { calls.IsNewClient self.old client }
+        requires room { length self.old.members < self.old.last_magic }
+        requires new_birth { calls.IsNewBirth self.old birth }
+        ensures made { IfOk result (λ made. made ≡ not (is_some self.old.device_master)) }
+        ensures ok { OnOk result (calls.Opened self.old client birth self.old.device_master self.new) }
+        ensures err { OnErr result (self.new ≡ self.old) }
+    {
+        if self.members.reserve(1).is_err() {
+            return Err(NoMemory);
+        }
+        if let Some(master) = self.device_master {
+            self.members.push_reserved(guest(client, master));
+            return Ok(false);
+        }
+        if self.masters.reserve(1).is_err() {
+            return Err(NoMemory);
+        }
+        self.masters.push_reserved(own_master(birth));
+        self.members.push_reserved(owner(client, birth));
+        self.device_master = Some(birth);
+        Ok(true)
+    }
+
+    /// Adds the client that redeems a lessee, which is kept no more. It is a master, though not once a master by that
+    /// (own). Without memory nothing changes.
+    pub fn on_redeem(&mut self, client: u32, master: MasterKey) -> Result<(), NoMemory>
+        requires new_client { calls.IsNewClient self.old client }
+        requires room { length self.old.members < self.old.last_magic }
+        requires unredeemed { option_map_or (λ x. x.kept && is_some x.lessor) (find (sets.is_key master) self.old.masters) false ≡ true }
+        ensures ok { OnOk result (self.new ≡ calls.redeemed client (sets.birth_at self.old.masters master) self.old) }
+        ensures err { OnErr result (self.new ≡ self.old) }
+    {
+        let Some(redeemed) = master_of_key(&self.masters, master) else {
+            unreachable!()
+        };
+        if self.members.reserve(1).is_err() {
+            return Err(NoMemory);
+        }
+        self.members.push_reserved(redeemer(client, redeemed.birth));
+        set_kept(&mut self.masters, redeemed.birth, false);
+        Ok(())
+    }
+
+    /// SET_MASTER (drm-uapi), in order: a client that was never a master and isn't root is refused (26); one that is
+    /// current is done; while the device has a master others are refused (27); a client that is no master gets a new one,
+    /// made by the step of this number, and loses its magic; a lessee is refused (29); any other has its own set again.
+    /// A refusal changes nothing.
+    #[tactic(auto, unfolding(crate::specs::Calls::set_checks))]
+    pub fn set(&mut self, client: u32, root: bool, birth: u32) -> Result<SetDone, SetFault>
+        requires present { is_some (sets.member_of self.old.members client) ≡ true }
+        requires new_birth { calls.IsNewBirth self.old birth }
+        ensures { IfSome (sets.member_of self.old.members client) (λ x. calls.SetOf self.old x root birth result self.new) }
+    {
+        let Some(member) = member_of(&self.members, client) else {
+            unreachable!()
+        };
+        if !is_permitted(member, root) {
+            return Err(SetFault::Denied(Rule::MasterPerm));
+        }
+        if self.is_current_member(member) {
+            return Ok(SetDone::Already);
+        }
+        if self.device_master.is_some() {
+            return Err(SetFault::Denied(Rule::MasterBusy));
+        }
+        if !member.is_master {
+            if let Err(NoMemory) = self.found(client, birth) {
+                return Err(SetFault::NoMemory);
+            }
+            return Ok(SetDone::Made);
+        }
+        if lessor_of(&self.masters, member.master).is_some() {
+            return Err(SetFault::Denied(Rule::IsLessee));
+        }
+        self.device_master = Some(member.master);
+        Ok(SetDone::Again)
+    }
+
+    /// DROP_MASTER (drm-uapi), in order: a client that was never a master and isn't root is refused (26), one that isn't
+    /// current (28), and a lessee (29). Else the device has no master, and the client stays a master of its own. A refusal
+    /// changes nothing.
+    #[tactic(auto, unfolding(crate::specs::Calls::drop_checks))]
+    pub fn drop_master(&mut self, client: u32, root: bool) -> Result<(), Rule>
+        requires { is_some (sets.member_of self.old.members client) ≡ true }
+        ensures { IfSome (sets.member_of self.old.members client) (λ x. calls.DroppedBy self.old x root result self.new) }
+    {
+        let Some(member) = member_of(&self.members, client) else {
+            unreachable!()
+        };
+        if !is_permitted(member, root) {
+            return Err(Rule::MasterPerm);
+        }
+        if !self.is_current_member(member) {
+            return Err(Rule::NotCurrent);
+        }
+        if lessor_of(&self.masters, member.master).is_some() {
+            return Err(Rule::IsLessee);
+        }
+        self.device_master = None;
+        Ok(())
+    }
+
+    /// GET_MAGIC (drm(7)): the client's number under its master. Where it has none, it gets the least free one: among so
+    /// many clients as there are numbers one is free, so that this always answers. It takes no memory.
+    pub fn magic(&mut self, client: u32) -> Result<u32, NoMemory>
+        requires { is_some (sets.member_of self.old.members client) ≡ true }
+        ensures given { IfOk result (λ n. IfSome (sets.member_of self.old.members client) (λ x. calls.GaveMagic self.old x x.magic n self.new)) }
+        ensures always { IsOk result }
+    {
+        let Some(member) = member_of(&self.members, client) else {
+            unreachable!()
+        };
+        if let Some(magic) = member.magic {
+            return Ok(magic.number);
+        }
+        let Some(number) = free_magic(&self.members, member.master, self.last_magic) else {
+            unreachable!()
+        };
+        set_member(&mut self.members, with_magic(member, number, false));
+        Ok(number)
+    }
+
+    /// AUTH_MAGIC (drm(7)): spends a number under the caller's master, and says which client it authenticates. A number
+    /// that no client has there, or that is spent, is refused (25), and then nothing changes.
+    pub fn auth(&mut self, client: u32, number: u32) -> Result<u32, Rule>
+        requires { is_some (sets.member_of self.old.members client) ≡ true }
+        ensures { IfSome (sets.member_of self.old.members client) (λ x. calls.AuthenticatedBy self.old x.master number result self.new) }
+    {
+        let Some(member) = member_of(&self.members, client) else {
+            unreachable!()
+        };
+        let Some(found) = find_open_magic(&self.members, member.master, number) else {
+            return Err(Rule::NoMagic);
+        };
+        set_member(&mut self.members, with_magic(found, number, true));
+        Ok(found.client)
+    }
+
+    /// Takes a client out with its magic. A master of its own is given back and stays until its release, and if it was
+    /// the device's, the device has none. Any other master goes where nothing else holds it. A client that stands to no
+    /// master changes nothing. It takes no memory.
+    pub fn on_close(&mut self, client: u32) -> Option<MasterKey>
+        ensures { calls.ClosedBy self.old (sets.member_of self.old.members client) result self.new }
+    {
+        let member = member_of(&self.members, client)?;
+        remove_member(&mut self.members, client);
+        if !member.is_master {
+            sweep(&self.members, &mut self.masters);
+            return None;
+        }
+        let Some(master) = master_at(&self.masters, member.master) else {
+            unreachable!()
+        };
+        set_kept(&mut self.masters, member.master, true);
+        self.device_master = device_without(self.device_master, member.master);
+        Some(master.key)
+    }
+
+    /// Makes a lessee of a master that is none itself, by the step of this number, with the least id that is free below
+    /// it (drm-uapi, leases; ids own). It stays until it is redeemed or released. A refusal changes nothing: `Full`
+    /// exactly where no id is free, `NoMemory` where memory was refused.
+    pub fn make_lessee(
+        &mut self,
+        master: MasterKey,
+        birth: u32,
+    ) -> Result<(MasterKey, u32), LesseeFault>
+        requires present { sets.is_there self.old.masters master ≡ true }
+        requires top { sets.lessor_of self.old.masters (sets.birth_at self.old.masters master) ≡ None }
+        requires new_birth { calls.IsNewBirth self.old birth }
+        ensures { calls.MadeLessee self.old (sets.birth_at self.old.masters master) birth result self.new }
+    {
+        let Some(lessor) = master_of_key(&self.masters, master) else {
+            unreachable!()
+        };
+        let Some(id) = free_lessee(&self.masters, lessor.birth, self.last_lessee) else {
+            return Err(LesseeFault::Full);
+        };
+        if self.masters.reserve(1).is_err() {
+            return Err(LesseeFault::NoMemory);
+        }
+        self.masters.push_reserved(lessee(birth, lessor.birth, id));
+        Ok((MasterKey::from_number(birth), id))
+    }
+
+    /// The lessee of this id among all of the master's owner.
+    pub fn lessee(&self, master: MasterKey, id: u32) -> Option<MasterKey>
+        requires { sets.is_there self.now.masters master ≡ true }
+        ensures { result ≡ option_map (λ x. x.key) (find (sets.is_lessee_of self.now.masters (sets.owner_of self.now.masters (sets.birth_at self.now.masters master)) id) self.now.masters) }
+    {
+        let birth = master_of_key(&self.masters, master)?.birth;
+        let owner = owner_of(&self.masters, birth);
+        Some(find_lessee(&self.masters, owner, id)?.key)
+    }
+
+    /// Ends the stay of a kept master. It goes, and those above it, as far as nothing else holds them. It takes no memory.
+    pub fn release(&mut self, master: MasterKey)
+        requires { sets.is_there self.old.masters master ≡ true }
+        ensures { self.new ≡ sets.swept (calls.with_kept (sets.birth_at self.old.masters master) false self.old) }
+    {
+        let Some(released) = master_of_key(&self.masters, master) else {
+            unreachable!()
+        };
+        set_kept(&mut self.masters, released.birth, false);
+        sweep(&self.members, &mut self.masters);
+    }
+
+    /// The client at a place, from 0, in the order of births, among those that stand to masters; none past the last. It
+    /// takes no memory.
+    pub fn nth_member(&self, place: usize) -> Option<Member>
+        ensures { result ≡ slice_get self.now.members place }
+    {
+        self.members.get(place).copied()
+    }
+
+    /// The master at a place, from 0, in the order of births; none past the last. It takes no memory.
+    pub fn nth_master(&self, place: usize) -> Option<Master>
+        ensures { result ≡ slice_get self.now.masters place }
+    {
+        self.masters.get(place).copied()
+    }
+
+    // a new master of a client that is no master; the device has none
+    fn found(&mut self, client: u32, birth: u32) -> Result<(), NoMemory>
+        requires new_birth { calls.IsNewBirth self.old birth }
+        requires present { is_some (sets.member_of self.old.members client) ≡ true }
+        ensures ok { OnOk result (self.new ≡ calls.remade client birth birth self.old) }
+        ensures free { OnOk result (calls.IsFreeKey self.old birth) }
+        ensures err { OnErr result (self.new ≡ self.old) }
+    {
+        if self.masters.reserve(1).is_err() {
+            return Err(NoMemory);
+        }
+        self.masters.push_reserved(own_master(birth));
+        set_member(&mut self.members, owner(client, birth));
+        self.device_master = Some(birth);
+        sweep(&self.members, &mut self.masters);
+        Ok(())
+    }
+}
+
+/// Whether a client was ever a master by its opening or SET_MASTER, or is root.
+fn is_permitted(member: Member, root: bool) -> bool
+    ensures { result ≡ (member.once_master || root) }
+{
+    member.once_master || root
+}

@@ -1,0 +1,74 @@
+//! What is kept of a client, and of a master.
+
+ghost use Rattle.std.specs.Prelude.{◌≡◌};
+
+use std::marker::Model;
+
+/// Names a master of its [`Masters`](crate::Masters) for as long as it is there; another may have the key afterwards.
+/// Contracts see a number.
+#[derive(Clone, Copy, PartialEq, Eq, Debug)]
+pub struct MasterKey {
+    number: u32,
+}
+
+impl Model for MasterKey {
+    ghost use Rattle.std.specs.Prelude.{ℕ};
+
+    ghost Value = { ℕ };
+
+    ghost view = { λ key. key.number };
+
+    ghost inverse = { λ number. record { number = number } };
+}
+
+impl MasterKey {
+    pub(crate) fn from_number(number: u32) -> MasterKey
+        ensures { result ≡ number }
+    {
+        MasterKey { number }
+    }
+
+    pub(crate) fn number(self) -> u32
+        ensures { result ≡ self }
+    {
+        self.number
+    }
+}
+
+/// A client's number under its master (drm(7)).
+#[derive(Clone, Copy, PartialEq, Eq, Debug)]
+pub struct Magic {
+    /// The number, from 1.
+    pub number: u32,
+    /// Whether it was used. It then stays reserved until its client closes or gets a new master.
+    pub spent: bool,
+}
+
+/// How an open client stands to masters. A render client does not, and is not listed.
+#[derive(Clone, Copy, PartialEq, Eq, Debug)]
+pub struct Member {
+    /// The client's number.
+    pub client: u32,
+    /// Whether its opening or SET_MASTER ever made it a master.
+    pub once_master: bool,
+    /// Whether its master is its own.
+    pub is_master: bool,
+    /// Its master, by the number of the step that made it.
+    pub master: u32,
+    /// Its number under that master, if it asked for one.
+    pub magic: Option<Magic>,
+}
+
+/// A master.
+#[derive(Clone, Copy, PartialEq, Eq, Debug)]
+pub struct Master {
+    pub key: MasterKey,
+    /// The number of the step that made it.
+    pub birth: u32,
+    /// Whose lessee it is, by the number of the step that made that one.
+    pub lessor: Option<u32>,
+    /// The id of a lessee among all of its owner, from 1; of another master 0.
+    pub lessee_id: u32,
+    /// Whether it stays until its release: a lessee that nobody redeemed yet, or the own master of a client that closed.
+    pub kept: bool,
+}

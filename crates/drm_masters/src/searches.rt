@@ -1,0 +1,186 @@
+//! Searches among the clients and the masters.
+
+ghost use Rattle.std.specs.Prelude.{◌≡◌, ◌==◌, find, not};
+ghost use Rattle.std.specs.List.{list_any, AllByRecursion};
+ghost use Rattle.drm_index_array.specs.Least.{least};
+ghost use Rattle.drm_masters.specs.Masters as sets;
+
+use crate::rows::{Master, MasterKey, Member};
+
+/// How a client stands to masters, if it does.
+pub fn member_of(members: &[Member], client: u32) -> Option<Member>
+    ensures { result ≡ sets.member_of members.now client }
+{
+    for member in members {
+        if member.client == client {
+            return Some(*member);
+        }
+    }
+    None
+}
+
+/// The master of a birth, if it is there.
+pub fn master_at(masters: &[Master], birth: u32) -> Option<Master>
+    ensures { result ≡ sets.master_at masters.now birth }
+{
+    for master in masters {
+        if master.birth == birth {
+            return Some(*master);
+        }
+    }
+    None
+}
+
+/// The master of a key, if it is there.
+pub fn master_of_key(masters: &[Master], key: MasterKey) -> Option<Master>
+    ensures { result ≡ find (sets.is_key key) masters.now }
+{
+    for master in masters {
+        if master.key == key {
+            return Some(*master);
+        }
+    }
+    None
+}
+
+/// The lessor of a master, if it is a lessee.
+pub fn lessor_of(masters: &[Master], birth: u32) -> Option<u32>
+    ensures { result ≡ sets.lessor_of masters.now birth }
+{
+    match master_at(masters, birth) {
+        Some(master) => master.lessor,
+        None => None,
+    }
+}
+
+/// The top of a master's chain of lessors.
+pub fn owner_of(masters: &[Master], birth: u32) -> u32
+    requires older { AllByRecursion (sets.HasOlderLessor masters.now) masters.now }
+    ensures { result ≡ sets.owner_of masters.now birth }
+{
+    match lessor_of(masters, birth) {
+        Some(lessor) => owner_of(masters, lessor),
+        None => birth,
+    }
+}
+
+/// Whether a client names the master.
+pub fn is_named(members: &[Member], master: u32) -> bool
+    ensures { result ≡ list_any (λ x. x.master == master) members.now }
+{
+    for member in members {
+        if member.master == master {
+            return true;
+        }
+    }
+    false
+}
+
+/// Whether a master names it as its lessor.
+pub fn has_lessee(masters: &[Master], lessor: u32) -> bool
+    ensures { result ≡ list_any (λ x. sets.is_option lessor x.lessor) masters.now }
+{
+    for master in masters {
+        if is_option(lessor, master.lessor) {
+            return true;
+        }
+    }
+    false
+}
+
+/// Whether the option is this number.
+pub fn is_option(number: u32, option: Option<u32>) -> bool
+    ensures { result ≡ sets.is_option number option }
+{
+    match option {
+        Some(named) => named == number,
+        None => false,
+    }
+}
+
+/// The client that has the number under the master, unspent.
+pub fn find_open_magic(members: &[Member], master: u32, number: u32) -> Option<Member>
+    ensures { result ≡ find (sets.has_open_magic master number) members.now }
+{
+    for member in members {
+        if has_open_magic(*member, master, number) {
+            return Some(*member);
+        }
+    }
+    None
+}
+
+fn has_open_magic(member: Member, master: u32, number: u32) -> bool
+    ensures { result ≡ sets.has_open_magic master number member }
+{
+    match member.magic {
+        Some(magic) => member.master == master && magic.number == number && !magic.spent,
+        None => false,
+    }
+}
+
+fn has_magic(member: Member, master: u32, number: u32) -> bool
+    ensures { result ≡ sets.has_magic master number member }
+{
+    match member.magic {
+        Some(magic) => member.master == master && magic.number == number,
+        None => false,
+    }
+}
+
+/// Whether a client has the number under the master.
+pub fn is_magic(members: &[Member], master: u32, number: u32) -> bool
+    ensures { result ≡ list_any (sets.has_magic master number) members.now }
+{
+    for member in members {
+        if has_magic(*member, master, number) {
+            return true;
+        }
+    }
+    false
+}
+
+/// The least number up to the last that no client has under the master.
+pub fn free_magic(members: &[Member], master: u32, last: u32) -> Option<u32>
+    ensures { result ≡ least (λ n. not (list_any (sets.has_magic master n) members.now)) 1 last }
+{
+    for number in 1..=last {
+        if !is_magic(members, master, number) {
+            return Some(number);
+        }
+    }
+    None
+}
+
+/// The lessee of this id under the owner.
+pub fn find_lessee(masters: &[Master], owner: u32, id: u32) -> Option<Master>
+    requires older { AllByRecursion (sets.HasOlderLessor masters.now) masters.now }
+    ensures { result ≡ find (sets.is_lessee_of masters.now owner id) masters.now }
+{
+    for master in masters {
+        if is_lessee_of(masters, *master, owner, id) {
+            return Some(*master);
+        }
+    }
+    None
+}
+
+fn is_lessee_of(masters: &[Master], master: Master, owner: u32, id: u32) -> bool
+    requires older { AllByRecursion (sets.HasOlderLessor masters.now) masters.now }
+    ensures { result ≡ sets.is_lessee_of masters.now owner id master }
+{
+    master.lessor.is_some() && master.lessee_id == id && owner_of(masters, master.birth) == owner
+}
+
+/// The least id up to the last that no lessee has under the owner.
+pub fn free_lessee(masters: &[Master], owner: u32, last: u32) -> Option<u32>
+    requires older { AllByRecursion (sets.HasOlderLessor masters.now) masters.now }
+    ensures { result ≡ least (λ id. not (list_any (sets.is_lessee_of masters.now owner id) masters.now)) 1 last }
+{
+    for id in 1..=last {
+        let Some(_taken) = find_lessee(masters, owner, id) else {
+            return Some(id);
+        };
+    }
+    None
+}
