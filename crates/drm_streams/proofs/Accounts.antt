@@ -2,7 +2,7 @@
 use Rattle.std.proofs.Common.{◌≡◌, ℕ, ◌+◌, ◌-◌, ◌<◌, zero, suc, List, [], ◌∷◌, ◌++◌, take, Option, refl, sym, subst, arith}
 use Rattle.std.specs.Io.KnownBytes.{Appends}
 use Rattle.std.proofs.KnownBytes.{Consumes-nil, Consumes-trans, Appends-nil, Appends-trans, Appends-kept}
-use Rattle.drm_streams.specs.Streams.{Counts, one_call, one_fault, SourceAccount, SinkAccount, PutGives, counts_put}
+use Rattle.drm_streams.specs.Streams.{Counts, one_call, one_interruption, one_failure, SourceAccount, SinkAccount, PutGives, counts_put}
 use Rattle.drm_streams.specs.Turns.{NeverFall, Gave, Took, Spends, Pays}
 use Rattle.drm_streams.specs.declared.sink.Put.{Put}
 use Rattle.drm_streams.specs.declared.sink.Put.TheVariants as put
@@ -23,15 +23,18 @@ record IsNext (old new : Counts) : Type 0 where
 IsNext-one_call : (c : Counts) → IsNext c (one_call c)
 IsNext-one_call c = record { calls = refl; counts = record { calls = omega arith; ends = omega arith; faults = omega arith } }
 
-IsNext-one_fault : (c : Counts) → IsNext c (one_fault c)
-IsNext-one_fault c = record { calls = refl; counts = record { calls = omega arith; ends = omega arith; faults = omega arith } }
+IsNext-one_interruption : (c : Counts) → IsNext c (one_interruption c)
+IsNext-one_interruption c = record { calls = refl; counts = record { calls = omega arith; ends = omega arith; faults = omega arith } }
+
+IsNext-one_failure : (c : Counts) → IsNext c (one_failure c)
+IsNext-one_failure c = record { calls = refl; counts = record { calls = omega arith; ends = omega arith; faults = omega arith } }
 
 IsNext-counts_put : (r : Put) (text : List ℕ) (c : Counts) → IsNext c (counts_put r text c)
 IsNext-counts_put (put.Took n) [] c = IsNext-one_call c
-IsNext-counts_put (put.Took zero) (b ∷ text) c = IsNext-one_fault c
+IsNext-counts_put (put.Took zero) (b ∷ text) c = IsNext-one_failure c
 IsNext-counts_put (put.Took (suc n)) (b ∷ text) c = IsNext-one_call c
-IsNext-counts_put put.Interrupted text c = IsNext-one_fault c
-IsNext-counts_put put.Fault text c = IsNext-one_fault c
+IsNext-counts_put put.Interrupted text c = IsNext-one_interruption c
+IsNext-counts_put put.Fault text c = IsNext-one_failure c
 
 -- ---- what a source gave
 

@@ -1,2 +1,3 @@
 pub mod Accounts
+pub mod Calls
 pub mod PutSoFar

@@ -6,26 +6,31 @@ use Rattle.drm_streams.specs.declared.source.Taken.TheVariants as taken
 use Rattle.drm_streams.specs.declared.sink.Put.{Put}
 use Rattle.drm_streams.specs.declared.sink.Put.TheVariants as put
 
--- how many calls were made, and how many of them answered an end or a fault
+-- how many calls were made, how many of them answered an end or a fault, and how many of the faults were no interruption
 pub record Counts : Type 0 where
   pub calls : ℕ
   pub ends : ℕ
   pub faults : ℕ
+  pub failures : ℕ
 
--- what a source tells: the bytes still to come, where it knows them (a socket doesn't), and its counts
+-- what a source tells: the bytes still to come, where it knows them (a socket doesn't), its counts, and how many bytes
+-- the last call gave that gave some
 pub record SourceAccount : Type 0 where
   pub left : Option (List ℕ)
   pub counts : Counts
+  pub gave : ℕ
 
--- what a sink tells: the bytes given to it so far, where it knows them (a socket doesn't), and its counts
+-- what a sink tells: the bytes given to it so far, where it knows them (a socket doesn't), its counts, and how many bytes
+-- the last call was handed
 pub record SinkAccount : Type 0 where
   pub written : Option (List ℕ)
   pub counts : Counts
+  pub handed : ℕ
 
 -- ---- the counts after one call
 
 abbrev pub no_calls : Counts
-no_calls = record { calls = 0; ends = 0; faults = 0 }
+no_calls = record { calls = 0; ends = 0; faults = 0; failures = 0 }
 
 abbrev pub one_call : Counts → Counts
 one_call c = record c { calls = c.calls + 1 }
@@ -33,23 +38,33 @@ one_call c = record c { calls = c.calls + 1 }
 abbrev pub one_end : Counts → Counts
 one_end c = record c { calls = c.calls + 1; ends = c.ends + 1 }
 
-abbrev pub one_fault : Counts → Counts
-one_fault c = record c { calls = c.calls + 1; faults = c.faults + 1 }
+abbrev pub one_interruption : Counts → Counts
+one_interruption c = record c { calls = c.calls + 1; faults = c.faults + 1 }
 
--- An interruption counts as a fault.
+abbrev pub one_failure : Counts → Counts
+one_failure c = record c { calls = c.calls + 1; faults = c.faults + 1; failures = c.failures + 1 }
+
+-- An interruption counts as a fault, but as no failure.
 abbrev pub counts_taken : Taken → Counts → Counts
 counts_taken (taken.Got n) c = one_call c
 counts_taken taken.End c = one_end c
-counts_taken taken.Interrupted c = one_fault c
-counts_taken taken.Fault c = one_fault c
+counts_taken taken.Interrupted c = one_interruption c
+counts_taken taken.Fault c = one_failure c
 
--- An interruption counts as a fault, and so does taking no byte of a text that has some.
+-- how many bytes the last call gave that gave some
+abbrev pub gave_after : Taken → ℕ → ℕ
+gave_after (taken.Got n) gave = n
+gave_after taken.End gave = gave
+gave_after taken.Interrupted gave = gave
+gave_after taken.Fault gave = gave
+
+-- An interruption counts as a fault, but as no failure; taking no byte of a text that has some counts as a failure.
 abbrev pub counts_put : Put → List ℕ → Counts → Counts
 counts_put (put.Took n) [] c = one_call c
-counts_put (put.Took zero) (b ∷ text) c = one_fault c
+counts_put (put.Took zero) (b ∷ text) c = one_failure c
 counts_put (put.Took (suc n)) (b ∷ text) c = one_call c
-counts_put put.Interrupted text c = one_fault c
-counts_put put.Fault text c = one_fault c
+counts_put put.Interrupted text c = one_interruption c
+counts_put put.Fault text c = one_failure c
 
 -- ---- the bytes of one call
 

@@ -1,7 +1,8 @@
 -- What a source gave and a sink took over several calls, and what that cost.
-use Rattle.std.specs.Prelude.{◌≡◌, ℕ, ◌+◌, ◌*◌, ◌<◌, ◌≤◌, List, [], ◌++◌, length, take}
+use Rattle.std.specs.Prelude.{◌≡◌, ℕ, ◌+◌, ◌*◌, ◌<◌, ◌≤◌, ◌⊎◌, List, [], ◌∷◌, ◌++◌, length, take, ⊤}
+use Rattle.std.specs.List.{AllByRecursion}
 use Rattle.std.specs.Io.KnownBytes.{Appends, Consumes, IsAtEnd}
-use Rattle.drm_streams.specs.Streams.{Counts, SourceAccount, SinkAccount}
+use Rattle.drm_streams.specs.Streams.{Counts, one_call, one_end, one_failure, SourceAccount, SinkAccount}
 use Rattle.drm_streams.specs.declared.turns.Refill.{Refill}
 use Rattle.drm_streams.specs.declared.turns.Refill.TheVariants as refill
 use Rattle.drm_streams.specs.declared.turns.Written.{Written}
@@ -58,3 +59,48 @@ abbrev pub Writes : Written → SinkAccount → SinkAccount → List ℕ → ℕ
 Writes written.Whole old new text had has = Pays old new text had has × (0 < length text → has < had)
 Writes written.Fault old new text had has = PaysPart old new text had has × (old.counts.faults < new.counts.faults)
 Writes written.TurnsUsed old new text had has = PaysPart old new text had has × (has ≡ 0)
+
+-- ---- each call of a loop
+
+-- so many interruptions, one after the other
+abbrev pub interrupted : ℕ → Counts → Counts
+interrupted row c = record c { calls = c.calls + row; faults = c.faults + row }
+
+-- The calls of a refill: interruptions, fewer than 1,000, and then the call that is told; or 1,000 interruptions. Where
+-- turns are used up, each call was interrupted, and one more was wanted.
+abbrev pub TakeCalls : Refill → Counts → Counts → ℕ → Type 0
+TakeCalls (refill.Got n) old new had = (row : ℕ) × (row < 1000) × (new ≡ one_call (interrupted row old))
+TakeCalls refill.End old new had = (row : ℕ) × (row < 1000) × (new ≡ one_end (interrupted row old))
+TakeCalls refill.Fault old new had = ((row : ℕ) × (row < 1000) × (new ≡ one_failure (interrupted row old))) ⊎ (new ≡ interrupted 1000 old)
+TakeCalls refill.TurnsUsed old new had = (had < 1000) × (new ≡ interrupted had old)
+
+-- how many bytes the last call gave that gave some
+abbrev pub gave_by : Refill → ℕ → ℕ
+gave_by (refill.Got n) gave = n
+gave_by refill.End gave = gave
+gave_by refill.Fault gave = gave
+gave_by refill.TurnsUsed gave = gave
+
+-- the counts after the sink took some pieces, each after so many interruptions
+abbrev pub pieces_put : List ℕ → Counts → Counts
+pieces_put [] c = c
+pieces_put (row ∷ rows) c = pieces_put rows (one_call (interrupted row c))
+
+-- The sink took some pieces, each after fewer than 1,000 interruptions, and then so many interruptions came in a row.
+pub record PutPieces (old new : Counts) (row : ℕ) : Type 0 where
+  pub rows : List ℕ
+  pub patient : AllByRecursion (λ k. k < 1000) rows
+  pub counts : new ≡ interrupted row (pieces_put rows old)
+
+-- The calls that put a text: the last is a failure or the 1,000th interruption in a row only where they fault. Where turns
+-- are used up, one more was wanted.
+abbrev pub PutCalls : Written → Counts → Counts → Type 0
+PutCalls written.Whole old new = PutPieces old new 0
+PutCalls written.Fault old new = ((row : ℕ) × (mid : Counts) × (row < 1000) × PutPieces old mid row × (new ≡ one_failure mid)) ⊎ PutPieces old new 1000
+PutCalls written.TurnsUsed old new = (row : ℕ) × (row < 1000) × PutPieces old new row
+
+-- A call that faults was handed all that the sink hasn't taken.
+abbrev pub HandsRest : Written → SinkAccount → SinkAccount → List ℕ → Type 0
+HandsRest written.Fault old new text = (front : List ℕ) × (rest : List ℕ) × (text ≡ front ++ rest) × Appends old.written new.written front × (new.handed ≡ length rest)
+HandsRest written.Whole old new text = ⊤
+HandsRest written.TurnsUsed old new text = ⊤

@@ -1,5 +1,5 @@
 //! Where bytes go to.
-ghost use Rattle.std.specs.Prelude.{◌≡◌, ◌-◌, ◌^◌, ◌<◌};
+ghost use Rattle.std.specs.Prelude.{◌≡◌, ◌-◌, ◌^◌, ◌<◌, length};
 ghost use Rattle.drm_streams.specs.Streams.{SinkAccount, PutGives, counts_put, no_calls};
 
 use std::io::{ErrorKind, Write};
@@ -18,7 +18,8 @@ pub enum Put {
 
 /// A sink of bytes that counts what it was asked.
 pub trait Sink {
-    /// The bytes that it was given so far, where the sink knows them, and the counts of its calls.
+    /// The bytes that it was given so far, where the sink knows them, the counts of its calls, and
+    /// how many bytes it was handed last.
     ghost account: { Self → SinkAccount };
 
     /// How many calls of `put` were made.
@@ -27,14 +28,16 @@ pub trait Sink {
 
     /// Puts bytes from the front of the text, which may be empty.
     ///
-    /// An interruption counts as a fault, and so does taking no byte of a text that has some.
+    /// An interruption counts as a fault, but as no failure; taking no byte of a text that has some
+    /// counts as a failure.
     /// Only `Took` adds bytes to those given so far.
     fn put(&mut self, text: &[u8]) -> Put
         requires countable { (account self.old).counts.calls < 2 ^ 64 - 1 }
         ensures gives { PutGives result (account self.old).written (account self.new).written
             text.now }
         ensures counts { (account self.new).counts
-            ≡ counts_put result text.now (account self.old).counts };
+            ≡ counts_put result text.now (account self.old).counts }
+        ensures handed { (account self.new).handed ≡ length text.now };
 }
 
 /// A sink that writes to a writer.
@@ -43,6 +46,10 @@ pub struct ToWrite<W: Write> {
     writer: W,
     calls: u64,
     faults: u64,
+    /// How many of the faults were no interruption.
+    failures: u64,
+    /// How many bytes the last call was handed.
+    handed: usize,
 }
 
 impl<W: Write> Model for ToWrite<W> {
@@ -53,10 +60,11 @@ impl<W: Write> Model for ToWrite<W> {
 
     ghost view = { λ s. record {
       written = W.contents s.writer;
-      counts = record { calls = s.calls; ends = 0; faults = s.faults };
+      counts = record { calls = s.calls; ends = 0; faults = s.faults; failures = s.failures };
+      handed = s.handed;
     } };
 
-    ghost invariant = { λ s. s.faults ≤ s.calls };
+    ghost invariant = { λ s. (s.faults ≤ s.calls) × (s.failures ≤ s.faults) };
 }
 
 impl<W: Write> ToWrite<W> {
@@ -69,6 +77,8 @@ impl<W: Write> ToWrite<W> {
             writer,
             calls: 0,
             faults: 0,
+            failures: 0,
+            handed: 0,
         }
     }
 
@@ -89,10 +99,12 @@ impl<W: Write> Sink for ToWrite<W> {
 
     fn put(&mut self, text: &[u8]) -> Put {
         self.calls += 1;
+        self.handed = text.len();
         match self.writer.write(text) {
             Ok(0) => {
                 if !text.is_empty() {
                     self.faults += 1;
+                    self.failures += 1;
                 }
                 Put::Took(0)
             }
@@ -102,6 +114,7 @@ impl<W: Write> Sink for ToWrite<W> {
                 if error.kind() == ErrorKind::Interrupted {
                     Put::Interrupted
                 } else {
+                    self.failures += 1;
                     Put::Fault
                 }
             }

@@ -1,6 +1,12 @@
 //! Where bytes come from.
 ghost use Rattle.std.specs.Prelude.{◌≡◌, ◌-◌, ◌^◌, ◌<◌, length};
-ghost use Rattle.drm_streams.specs.Streams.{SourceAccount, TakeGives, counts_taken, no_calls};
+ghost use Rattle.drm_streams.specs.Streams.{
+  SourceAccount,
+  TakeGives,
+  counts_taken,
+  gave_after,
+  no_calls,
+};
 
 use std::io::{ErrorKind, Read};
 use std::marker::Model;
@@ -20,7 +26,8 @@ pub enum Taken {
 
 /// A source of bytes that counts what it was asked.
 pub trait Source {
-    /// The bytes still to come, where the source knows them, and the counts of its calls.
+    /// The bytes still to come, where the source knows them, the counts of its calls, and how many
+    /// bytes came last.
     ghost account: { Self → SourceAccount };
 
     /// How many calls of `take` were made.
@@ -29,14 +36,15 @@ pub trait Source {
 
     /// Takes bytes into the front of the buffer. What stands behind them is open.
     ///
-    /// An interruption counts as a fault. Only `Got` takes bytes from those still to come.
+    /// An interruption counts as a fault, but as no failure. Only `Got` takes bytes from those still to come.
     fn take(&mut self, buffer: &mut [u8]) -> Taken
         requires room { 0 < length buffer.old }
         requires countable { (account self.old).counts.calls < 2 ^ 64 - 1 }
         ensures gives { TakeGives result (account self.old).left (account self.new).left
             buffer.new }
         ensures counts { (account self.new).counts
-            ≡ counts_taken result (account self.old).counts };
+            ≡ counts_taken result (account self.old).counts }
+        ensures gave { (account self.new).gave ≡ gave_after result (account self.old).gave };
 }
 
 /// A source that reads from a reader.
@@ -46,6 +54,10 @@ pub struct FromRead<R: Read> {
     calls: u64,
     ends: u64,
     faults: u64,
+    /// How many of the faults were no interruption.
+    failures: u64,
+    /// How many bytes the last call gave that gave some.
+    gave: usize,
 }
 
 impl<R: Read> Model for FromRead<R> {
@@ -56,10 +68,11 @@ impl<R: Read> Model for FromRead<R> {
 
     ghost view = { λ s. record {
       left = R.remaining s.reader;
-      counts = record { calls = s.calls; ends = s.ends; faults = s.faults };
+      counts = record { calls = s.calls; ends = s.ends; faults = s.faults; failures = s.failures };
+      gave = s.gave;
     } };
 
-    ghost invariant = { λ s. s.ends + s.faults ≤ s.calls };
+    ghost invariant = { λ s. (s.ends + s.faults ≤ s.calls) × (s.failures ≤ s.faults) };
 }
 
 impl<R: Read> FromRead<R> {
@@ -73,6 +86,8 @@ impl<R: Read> FromRead<R> {
             calls: 0,
             ends: 0,
             faults: 0,
+            failures: 0,
+            gave: 0,
         }
     }
 
@@ -98,12 +113,16 @@ impl<R: Read> Source for FromRead<R> {
                 self.ends += 1;
                 Taken::End
             }
-            Ok(count) => Taken::Got(count),
+            Ok(count) => {
+                self.gave = count;
+                Taken::Got(count)
+            }
             Err(error) => {
                 self.faults += 1;
                 if error.kind() == ErrorKind::Interrupted {
                     Taken::Interrupted
                 } else {
+                    self.failures += 1;
                     Taken::Fault
                 }
             }

@@ -77,6 +77,15 @@ fn refills_and_texts_cost_their_turns(rt: HostRuntime) {
     assert_eq!(rt; written.as_slice(), b"fram!".as_slice());
 }
 
+#[test]
+fn long_text_is_put_at_once(rt: HostRuntime) {
+    let mut sink = ToWrite::new(Vec::new(rt.alloc()));
+    assert_eq!(rt; put_all(&mut sink, &[7; 1028], &mut 1), Written::Whole);
+    assert_eq!(rt; sink.calls(), 1);
+    let written = sink.into_inner();
+    assert_eq!(rt; written.as_slice(), [7; 1028].as_slice());
+}
+
 /// A reader and writer whose every call fails.
 #[derive(Drop)]
 struct Failing(ErrorKind);

@@ -1,6 +1,14 @@
 //! Taking and putting over interruptions, each call for one turn.
-ghost use Rattle.std.specs.Prelude.{◌+◌, ◌^◌, ◌<◌, length};
-ghost use Rattle.drm_streams.specs.Turns.{Refills, Tries, Writes};
+ghost use Rattle.std.specs.Prelude.{◌≡◌, ◌+◌, ◌^◌, ◌<◌, length};
+ghost use Rattle.drm_streams.specs.Turns.{
+  HandsRest,
+  PutCalls,
+  Refills,
+  TakeCalls,
+  Tries,
+  Writes,
+  gave_by,
+};
 
 use crate::sink::{Put, Sink};
 use crate::source::{Source, Taken};
@@ -44,6 +52,11 @@ pub fn take_some<S: Source>(source: &mut S, buffer: &mut [u8], turns: &mut u64) 
 
     // It asks again only after an interruption, and of these at most 1,000 come in a row.
     ensures tries { Tries (S.account source.old).counts (S.account source.new).counts 1 }
+
+    // It faults only where the source failed or the 1,000th interruption in a row came.
+    ensures calls { TakeCalls result (S.account source.old).counts (S.account source.new).counts
+        turns.old }
+    ensures gave { (S.account source.new).gave ≡ gave_by result (S.account source.old).gave }
 {
     'tries: for _ in 0..LAST_INTERRUPTION {
         if *turns == 0 {
@@ -73,6 +86,10 @@ pub fn put_all<K: Sink>(sink: &mut K, text: &[u8], turns: &mut u64) -> Written
     // Each call takes a byte at least or is a fault, and at most 1,000 faults come before a byte.
     ensures tries { Tries (K.account sink.old).counts (K.account sink.new).counts
         (length text.now) }
+
+    // It faults only where the sink failed or the 1,000th interruption in a row came.
+    ensures calls { PutCalls result (K.account sink.old).counts (K.account sink.new).counts }
+    ensures handed { HandsRest result (K.account sink.old) (K.account sink.new) text.now }
 {
     let mut rest = text;
     let mut interruptions = 0;

@@ -20,6 +20,10 @@ pub struct CutSink<const N: usize> {
     interruptions: Interruptions,
     calls: u64,
     faults: u64,
+    /// How many of the faults were no interruption.
+    failures: u64,
+    /// How many bytes the last call was handed.
+    handed: usize,
 }
 
 impl<const N: usize> Model for CutSink<N> {
@@ -30,10 +34,11 @@ impl<const N: usize> Model for CutSink<N> {
 
     ghost view = { λ s. record {
       written = Some s.bytes.items;
-      counts = record { calls = s.calls; ends = 0; faults = s.faults };
+      counts = record { calls = s.calls; ends = 0; faults = s.faults; failures = s.failures };
+      handed = s.handed;
     } };
 
-    ghost invariant = { λ s. (0 < s.piece) × (s.faults ≤ s.calls) × (length s.bytes.items + s.room ≤ N) };
+    ghost invariant = { λ s. (0 < s.piece) × (s.faults ≤ s.calls) × (s.failures ≤ s.faults) × (length s.bytes.items + s.room ≤ N) };
 }
 
 impl<const N: usize> CutSink<N> {
@@ -51,6 +56,8 @@ impl<const N: usize> CutSink<N> {
             interruptions: Interruptions::never(),
             calls: 0,
             faults: 0,
+            failures: 0,
+            handed: 0,
         }
     }
 
@@ -106,6 +113,7 @@ impl<const N: usize> Sink for CutSink<N> {
 
     fn put(&mut self, text: &[u8]) -> Put {
         self.calls += 1;
+        self.handed = text.len();
         if self.interruptions.take_due() {
             self.faults += 1;
             return Put::Interrupted;
@@ -115,6 +123,7 @@ impl<const N: usize> Sink for CutSink<N> {
         let (now, _) = text.split_at(count);
         if self.bytes.try_extend_from_slice(now).is_err() {
             self.faults += 1;
+            self.failures += 1;
             return Put::Fault;
         }
         self.room -= count;
@@ -123,6 +132,7 @@ impl<const N: usize> Sink for CutSink<N> {
             return Put::Took(count);
         }
         self.faults += 1;
+        self.failures += 1;
         if self.is_silent {
             Put::Took(0)
         } else {

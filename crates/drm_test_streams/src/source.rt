@@ -19,6 +19,10 @@ pub struct CutSource<'a> {
     calls: u64,
     ends: u64,
     faults: u64,
+    /// How many of the faults were no interruption.
+    failures: u64,
+    /// How many bytes the last call gave that gave some.
+    gave: usize,
 }
 
 impl<'a> Model for CutSource<'a> {
@@ -29,10 +33,11 @@ impl<'a> Model for CutSource<'a> {
 
     ghost view = { λ s. record {
       left = Some s.rest.now;
-      counts = record { calls = s.calls; ends = s.ends; faults = s.faults };
+      counts = record { calls = s.calls; ends = s.ends; faults = s.faults; failures = s.failures };
+      gave = s.gave;
     } };
 
-    ghost invariant = { λ s. (0 < s.piece) × (s.ends + s.faults ≤ s.calls) };
+    ghost invariant = { λ s. (0 < s.piece) × (s.ends + s.faults ≤ s.calls) × (s.failures ≤ s.faults) };
 }
 
 impl<'a> CutSource<'a> {
@@ -50,6 +55,8 @@ impl<'a> CutSource<'a> {
             calls: 0,
             ends: 0,
             faults: 0,
+            failures: 0,
+            gave: 0,
         }
     }
 
@@ -107,6 +114,7 @@ impl Source for CutSource<'_> {
         if self.rest.is_empty() {
             if self.is_faulty {
                 self.faults += 1;
+                self.failures += 1;
                 return Taken::Fault;
             }
             self.ends += 1;
@@ -118,6 +126,7 @@ impl Source for CutSource<'_> {
         buffer[..count].copy_from_slice(now);
         self.rest = later;
         self.interruptions.pass(count);
+        self.gave = count;
         Taken::Got(count)
     }
 }

@@ -1,3 +1,4 @@
+use Rattle.drm_streams.specs.Turns.{PutPieces}
 use Rattle.drm_streams.proofs.PutSoFar.{PutSoFar}
 use Rattle.drm_streams.proofs.turns.put_all.Given as goal
 
@@ -5,6 +6,7 @@ abbrev pub invariant-pieces : goal.invariant-pieces
 invariant-pieces g l =
     let account = g.K.Sink.account in
     PutSoFar (account l.fn.sink) (account l.sink) l.fn.text l.rest l.fn.turns l.turns l.interruptions
+    × PutPieces (account l.fn.sink).counts (account l.sink).counts l.interruptions
 
 abbrev pub decreases-pieces : goal.decreases-pieces
 decreases-pieces g l = l.turns

@@ -1,5 +1,5 @@
 use Rattle.std.proofs.Common.{◌≡◌, [], ◌+◌}
-use Rattle.drm_streams.specs.Turns.{Spends}
+use Rattle.drm_streams.specs.Turns.{Spends, interrupted}
 use Rattle.drm_streams.proofs.turns.take_some.Given as goal
 
 abbrev pub invariant-tries : goal.invariant-tries
@@ -8,5 +8,7 @@ invariant-tries g l =
     record {
       spent : Spends (account l.fn.source) (account l.source) [] l.fn.turns l.turns;
       called : (account l.source).counts.calls ≡ (account l.fn.source).counts.calls + l.counter;
-      interrupted : (account l.source).counts.faults ≡ (account l.fn.source).counts.faults + l.counter;
+      faults : (account l.source).counts.faults ≡ (account l.fn.source).counts.faults + l.counter;
+      each : (account l.source).counts ≡ interrupted l.counter (account l.fn.source).counts;
+      gave : (account l.source).gave ≡ (account l.fn.source).gave;
     }
