@@ -1,5 +1,5 @@
 -- One more turn of a session's requests.
-use Rattle.std.proofs.Common.{◌≡◌, ℕ, ◌+◌, List, [], ◌∷◌, ◌++◌, refl, sym, ap, ◌∙◌, subst, arith, append_assoc}
+use Rattle.std.proofs.Common.{◌≡◌, ℕ, Bool, false, ◌+◌, List, [], ◌∷◌, ◌++◌, refl, sym, ap, ◌∙◌, subst, arith, append_assoc}
 use Rattle.std.specs.List.{flat_map, AllByRecursion}
 use Rattle.std.proofs.lemmas.List.{append-nil, flat_map_more, map_push}
 use Rattle.std.proofs.KnownBytes.{Consumes-nil, Consumes-trans}
@@ -7,8 +7,10 @@ use Rattle.drm_table.specs.declared.events.Event.{Event}
 use Rattle.drm_frames.specs.Grammar.{Packet, frame_text, IsPacket}
 use Rattle.drm_frames.specs.Answers.{Outcome, answer_text}
 use Rattle.drm_streams.specs.Streams.{SourceAccount}
+use Rattle.drm_sessions.specs.Intakes.{Used, ends_in_chunk}
 use Rattle.drm_sessions.specs.Reading.{Comes, Uses}
 use Rattle.drm_sessions.specs.Runs.{Exchange, exchange, Runs, asked, outcomes, session_text, noted, one_if_noted, Requests}
+use Rattle.drm_sessions.proofs.Taking.{Takes-none, Takes-then, Takes-read, Uses-takes, ends_in_chunk-then}
 
 All-push : {X : Type 0} (P : X → Type 0) (xs : List X) (x : X) → AllByRecursion P xs → P x → AllByRecursion P (xs ++ x ∷ [])
 All-push P [] x h p = (p, tt)
@@ -29,7 +31,7 @@ pub session_text-push : (results : List Outcome) (result : Outcome) → session_
 session_text-push results result = sym (flat_map_more answer_text [] results result)
 
 module _ {A : Type 0} (answers : A → Event → Outcome → A → Type 0) (client : ℕ) where
-  pub none-yet : (a : A) (source : SourceAccount) (waits : List ℕ) → Requests answers client a a source source waits waits [] 0
+  pub none-yet : (a : A) (source : SourceAccount) (waits : List ℕ) → Requests answers client a a source source waits waits [] 0 false
   none-yet a source waits = record {
     read = [];
     frames = [];
@@ -41,10 +43,14 @@ module _ {A : Type 0} (answers : A → Event → Outcome → A → Type 0) (clie
     asks = refl;
     answered = refl;
     counted = refl;
+    intakes = [];
+    takes = Takes-none source waits;
+    last = refl;
   }
 
-  pub bytes-more : {a0 a1 : A} {s0 s1 s2 : SourceAccount} {w0 w1 w2 : List ℕ} {results : List Outcome} {steps t u : ℕ}
-      → Requests answers client a0 a1 s0 s1 w0 w1 results steps → Comes s1 s2 w1 w2 t u → Requests answers client a0 a1 s0 s2 w0 w2 results steps
+  pub bytes-more : {a0 a1 : A} {s0 s1 s2 : SourceAccount} {w0 w1 w2 : List ℕ} {results : List Outcome} {steps t u : ℕ} {behind : Bool}
+      → Requests answers client a0 a1 s0 s1 w0 w1 results steps behind → (m : Comes s1 s2 w1 w2 t u)
+      → Requests answers client a0 a1 s0 s2 w0 w2 results steps (ends_in_chunk m.intakes behind)
   bytes-more {s0} {s1} {s2} {w0} {w1} r m = record {
     read = r.read ++ m.more;
     frames = r.frames;
@@ -57,11 +63,14 @@ module _ {A : Type 0} (answers : A → Event → Outcome → A → Type 0) (clie
     asks = r.asks;
     answered = r.answered;
     counted = r.counted;
+    intakes = r.intakes ++ m.intakes;
+    takes = Takes-read r.takes m.takes;
+    last = ends_in_chunk-then r.intakes m.intakes false ∙ ap (λ (was : Bool). ends_in_chunk m.intakes was) r.last;
   }
 
-  pub frame-more : {a0 a1 a2 : A} {s0 s1 s2 : SourceAccount} {w0 w1 w2 : List ℕ} {results : List Outcome} {steps t u : ℕ} {frame : Packet} {result : Outcome}
-      → Requests answers client a0 a1 s0 s1 w0 w1 results steps → Uses s1 s2 w1 w2 t u frame → answers a1 (asked client frame) result a2
-      → Requests answers client a0 a2 s0 s2 w0 w2 (results ++ result ∷ []) (steps + one_if_noted result)
+  pub frame-more : {a0 a1 a2 : A} {s0 s1 s2 : SourceAccount} {w0 w1 w2 : List ℕ} {results : List Outcome} {steps t u : ℕ} {behind : Bool} {frame : Packet} {result : Outcome}
+      → Requests answers client a0 a1 s0 s1 w0 w1 results steps behind → Uses s1 s2 w1 w2 t u frame → answers a1 (asked client frame) result a2
+      → Requests answers client a0 a2 s0 s2 w0 w2 (results ++ result ∷ []) (steps + one_if_noted result) false
   frame-more {a0} {a1} {a2} {s0} {s1} {s2} {w0} {w1} {w2} {results} {steps} {frame} {result} r m h =
       let frames : List ℕ = flat_map frame_text r.frames in
       let call : Exchange = exchange (asked client frame) result in
@@ -78,4 +87,7 @@ module _ {A : Type 0} (answers : A → Event → Outcome → A → Type 0) (clie
         asks = map_push (λ (x : Exchange). x.event) r.log call ∙ ap (λ (x : List Event). x ++ asked client frame ∷ []) r.asks ∙ sym (map_push (asked client) r.frames frame);
         answered = outcomes-push r.log call ∙ ap (λ (x : List Outcome). x ++ result ∷ []) r.answered;
         counted = noted-push results result ∙ ap (λ (n : ℕ). n + one_if_noted result) r.counted;
+        intakes = r.intakes ++ (m.intakes ++ Used frame ∷ []);
+        takes = Takes-then r.takes (Uses-takes m);
+        last = ends_in_chunk-then r.intakes (m.intakes ++ Used frame ∷ []) false ∙ ends_in_chunk-then m.intakes (Used frame ∷ []) (ends_in_chunk r.intakes false);
       }

@@ -1,5 +1,5 @@
 -- How a session's requests come to an end.
-use Rattle.std.proofs.Common.{◌≡◌, ℕ, ◌+◌, ◌≤◌, List, [], ◌∷◌, ◌++◌, Ok, Err, refl, sym, ap, ◌∙◌, subst, arith, append_assoc, inl, inr}
+use Rattle.std.proofs.Common.{◌≡◌, ℕ, true, false, ◌+◌, ◌≤◌, List, [], ◌∷◌, ◌++◌, Ok, Err, refl, sym, ap, ◌∙◌, subst, arith, append_assoc, inl, inr}
 use Rattle.std.specs.Io.KnownBytes.{Appends}
 use Rattle.std.proofs.lemmas.List.{append-nil}
 use Rattle.std.proofs.KnownBytes.{Appends-nil, Appends-trans}
@@ -10,6 +10,7 @@ use Rattle.drm_streams.specs.Streams.{SourceAccount, SinkAccount}
 use Rattle.drm_streams.specs.Turns.{NeverFall, Spends, Pays, PaysPart}
 use Rattle.drm_sessions.specs.declared.end.SessionEnd.{SessionEnd}
 use Rattle.drm_sessions.specs.declared.end.SessionEnd.TheVariants as ends
+use Rattle.drm_sessions.specs.Intakes.{ends_in_chunk}
 use Rattle.drm_sessions.specs.Reading.{Comes, Uses, StopsAt, ReadShows, WriteShows}
 use Rattle.drm_sessions.specs.Runs.{asked, one_if_noted, session_text, Requests}
 use Rattle.drm_sessions.specs.Ends.{CutsLast, Leaves, Moves, Shows, Ends}
@@ -89,11 +90,14 @@ one_if_noted-at-most (Err apart) = omega arith
 
 -- ---- the ends
 
+pub not-behind : false ≡ true → ⊥
+not-behind e = cc
+
 module _ {A : Type 0} (answers : A → Event → Outcome → A → Type 0) (client : ℕ) where
   -- what holds while requests are answered: each answer so far is written whole
   pub record SoFar (old new : A) (in0 in1 : SourceAccount) (out0 out1 : SinkAccount) (waited waits : List ℕ) (steps : ℕ) : Type 0 where
     pub results : List Outcome
-    pub did : Requests answers client old new in0 in1 waited waits results steps
+    pub did : Requests answers client old new in0 in1 waited waits results steps false
     pub wrote : Appends out0.written out1.written (session_text results)
 
   pub SoFar-none : (a : A) (source : SourceAccount) (sink : SinkAccount) (waits : List ℕ) → SoFar a a source source sink sink waits waits 0
@@ -104,7 +108,7 @@ module _ {A : Type 0} (answers : A → Event → Outcome → A → Type 0) (clie
       → Pays out1 out2 (answer_text result) u v → SoFar a0 a2 in0 in2 out0 out2 w0 w2 (steps + one)
   SoFar-more {a0} {a2} {in0} {in2} {out0} {out1} {out2} {w0} {w2} {steps} {result} r m h n p = record {
     results = r.results ++ result ∷ [];
-    did = subst (λ (k : ℕ). Requests answers client a0 a2 in0 in2 w0 w2 (r.results ++ result ∷ []) (steps + k)) (sym n) (frame-more answers client r.did m h);
+    did = subst (λ (k : ℕ). Requests answers client a0 a2 in0 in2 w0 w2 (r.results ++ result ∷ []) (steps + k) false) (sym n) (frame-more answers client r.did m h);
     wrote = subst (λ (x : List ℕ). Appends out0.written out2.written x) (sym (session_text-push r.results result))
         (Appends-trans out0.written out1.written out2.written (session_text r.results) (answer_text result) r.wrote p.took.taken);
   }
@@ -116,9 +120,11 @@ module _ {A : Type 0} (answers : A → Event → Outcome → A → Type 0) (clie
     results = r.results;
     front = session_text r.results;
     later = [];
+    behind = ends_in_chunk m.intakes false;
     did = bytes-more answers client r.did m;
     puts = record { parts = sym (append-nil (session_text r.results)); adds = r.wrote };
     leaves = leaves-read e w2 r.results h;
+    prompt = λ _. refl;
   }
 
   -- the last answer is written in part
@@ -132,10 +138,12 @@ module _ {A : Type 0} (answers : A → Event → Outcome → A → Type 0) (clie
         results = results;
         front = session_text r.results ++ p.front;
         later = p.rest;
-        did = subst (λ (k : ℕ). Requests answers client a0 a2 in0 in2 w0 w2 results (steps + k)) (sym n) (frame-more answers client r.did m h);
+        behind = false;
+        did = subst (λ (k : ℕ). Requests answers client a0 a2 in0 in2 w0 w2 results (steps + k) false) (sym n) (frame-more answers client r.did m h);
         puts = record {
           parts = session_text-push r.results result ∙ ap (λ (x : List ℕ). session_text r.results ++ x) p.parts ∙ sym (append_assoc (session_text r.results) p.front p.rest);
           adds = Appends-trans out0.written out1.written out2.written (session_text r.results) p.front r.wrote p.pays.took.taken;
         };
         leaves = leaves-write e w2 results p.rest out1 out2 v shows (record { before = r.results; last = result; sent = p.front; whole = refl; parts = p.parts; more = p.more });
+        prompt = λ wrong. absurd (not-behind wrong);
       }

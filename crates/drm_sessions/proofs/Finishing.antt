@@ -1,5 +1,5 @@
 -- A whole session from its parts.
-use Rattle.std.proofs.Common.{◌≡◌, ℕ, ◌+◌, ◌⊎◌, List, [], ◌∷◌, ◌++◌, Option, Some, None, Ok, Err, refl, sym, ap, ◌∙◌, subst, inl, inr, append_assoc}
+use Rattle.std.proofs.Common.{◌≡◌, ℕ, Bool, false, ◌+◌, ◌⊎◌, List, [], ◌∷◌, ◌++◌, Option, Some, None, Ok, Err, refl, sym, ap, ◌∙◌, subst, inl, inr, append_assoc}
 use Rattle.std.specs.List.{flat_map}
 use Rattle.std.proofs.lemmas.List.{append-nil}
 use Rattle.std.proofs.KnownBytes.{Appends-nil, Appends-trans, Consumes-nil, Consumes-trans}
@@ -19,12 +19,14 @@ use Rattle.drm_sessions.specs.declared.end.Session.{Session}
 use Rattle.drm_sessions.specs.declared.end.SessionEnd.{SessionEnd}
 use Rattle.drm_sessions.specs.declared.end.SessionEnd.TheVariants as ends
 use Rattle.drm_sessions.specs.Opening.{opening_in}
+use Rattle.drm_sessions.specs.Intakes.{Used, Takes, ends_in_chunk}
 use Rattle.drm_sessions.specs.Reading.{Comes, Uses, StopsAt, WriteShows}
 use Rattle.drm_sessions.specs.Runs.{Exchange, exchange, outcomes, session_text, noted, one_if_noted}
-use Rattle.drm_sessions.specs.Ends.{CutsLast, Leaves, Ends, Refuses, EndsClosed}
-use Rattle.drm_sessions.specs.Serving.{Follows, Because, Serves, Continues}
+use Rattle.drm_sessions.specs.Ends.{CutsLast, Leaves, Ends, Refuses, EndsClosed, EndsRequests, EndsUnopened, EndsWriting, EndsRefused}
+use Rattle.drm_sessions.specs.Serving.{Follows, Because, EndsAfter, Serves, Continues}
+use Rattle.drm_sessions.proofs.Taking.{Takes-none, Takes-then, Uses-takes, ends_in_chunk-then}
 use Rattle.drm_sessions.proofs.Composing.{none-yet, Runs-push, noted-push, outcomes-push}
-use Rattle.drm_sessions.proofs.Ending.{leaves-write}
+use Rattle.drm_sessions.proofs.Ending.{leaves-write, not-behind}
 
 -- ---- causes
 
@@ -97,6 +99,41 @@ because-read ends.BadHello class rest h = absurd h
 because-read (ends.OpenRefused rule) class rest h = absurd h
 because-read (ends.Apart apart) class rest h = absurd h
 
+-- ---- the ends by how the opening was answered
+
+ends-requests : (e : SessionEnd) (waits : List ℕ) (results : List Outcome) (later : List ℕ) → Leaves e waits results later → EndsRequests e
+ends-requests ends.Ended waits results later h = tt
+ends-requests ends.Truncated waits results later h = tt
+ends-requests ends.TooLong waits results later h = tt
+ends-requests ends.ReadFault waits results later h = tt
+ends-requests ends.WriteFault waits results later h = tt
+ends-requests ends.TurnsUsed waits results later h = tt
+ends-requests ends.BadHello waits results later h = h
+ends-requests (ends.OpenRefused rule) waits results later h = h
+ends-requests (ends.Apart apart) waits results later h = h
+
+ends-unopened : (e : SessionEnd) (rest : List ℕ) → StopsAt e rest → EndsUnopened e
+ends-unopened ends.Ended rest h = tt
+ends-unopened ends.Truncated rest h = tt
+ends-unopened ends.TooLong rest h = tt
+ends-unopened ends.ReadFault rest h = tt
+ends-unopened ends.TurnsUsed rest h = tt
+ends-unopened ends.BadHello rest h = tt
+ends-unopened ends.WriteFault rest h = h
+ends-unopened (ends.OpenRefused rule) rest h = h
+ends-unopened (ends.Apart apart) rest h = h
+
+ends-writing : (e : SessionEnd) (from to : SinkAccount) (has : ℕ) → WriteShows e from to has → EndsWriting e
+ends-writing ends.WriteFault from to has h = tt
+ends-writing ends.TurnsUsed from to has h = tt
+ends-writing ends.Ended from to has h = h
+ends-writing ends.Truncated from to has h = h
+ends-writing ends.TooLong from to has h = h
+ends-writing ends.ReadFault from to has h = h
+ends-writing ends.BadHello from to has h = h
+ends-writing (ends.OpenRefused rule) from to has h = h
+ends-writing (ends.Apart apart) from to has h = h
+
 -- ---- the parts joined
 
 cut-of-part : (result : Outcome) {out0 out1 : SinkAccount} {said : List ℕ} {t u : ℕ} → said ≡ answer_text result → (p : PaysPart out0 out1 said t u) → CutsLast (result ∷ []) p.rest
@@ -119,6 +156,8 @@ module _ {A : Type 0} (answers : A → Event → Outcome → A → Type 0) where
           adds = Appends-trans out0.written out1.written out2.written (answer_text result) h.front pays.took.taken h.puts.adds;
         };
         leaves = leaves-cons e result h.waits h.results h.later h.leaves;
+        behind = h.behind;
+        prompt = h.prompt;
       }
 
   pub said-in-part : {client : ℕ} {a : A} {source : SourceAccount} {out0 out1 : SinkAccount} {said : List ℕ} {waited : List ℕ} {t u : ℕ} {e : SessionEnd} (result : Outcome)
@@ -131,6 +170,8 @@ module _ {A : Type 0} (answers : A → Event → Outcome → A → Type 0) where
     did = none-yet answers client a source waited;
     puts = record { parts = append-nil (answer_text result) ∙ sym is ∙ p.parts; adds = p.pays.took.taken };
     leaves = leaves-write e waited (result ∷ []) p.rest out0 out1 u shows (cut-of-part result is p);
+    behind = false;
+    prompt = λ wrong. absurd (not-behind wrong);
   }
 
   pub continues-client : {class : Class} {opening : Opening} {client : ℕ} {a0 a1 a2 a3 : A} {in0 in1 : SourceAccount} {out0 out1 : SinkAccount} {waited : List ℕ} {steps : ℕ} {e : SessionEnd} {r : Outcome} {s : Session}
@@ -162,13 +203,18 @@ module _ {A : Type 0} (answers : A → Event → Outcome → A → Type 0) where
             ) ∙ sym n;
         puts = record { parts = ap session_text (sym same) ∙ h.puts.parts; adds = h.puts.adds };
         because = because-closed e client r s.end class h.waits (first ∷ log) h.later (subst (λ (x : List Outcome). Leaves e h.waits x h.later) same h.leaves) ended;
+        ended = (r, e, refl, ends-requests e h.waits (Ok (Opened client) ∷ h.results) h.later h.leaves, ended);
+        intakes = h.did.intakes;
+        in_turn = h.did.takes;
+        prompt = λ behind. (tt, h.prompt (sym h.did.last ∙ behind));
       }
 
   continues-refused : {class : Class} {opening : Opening} (result : Outcome) {a0 a1 : A} {source : SourceAccount} {out0 out1 : SinkAccount} {waited said : List ℕ} (meant : SessionEnd) {s : Session} {t u : ℕ}
       → answers a0 (Open opening) result a1 → said ≡ answer_text result → Follows result [] [] [] s.client → noted (result ∷ []) ≡ s.steps
-      → Because meant class waited (exchange (Open opening) result ∷ []) [] [] → Refuses meant s.end out0 out1 said t u
+      → Because meant class waited (exchange (Open opening) result ∷ []) [] [] → ((end : SessionEnd) (later : List ℕ) → EndsRefused meant later end → EndsAfter result [] later end)
+      → Refuses meant s.end out0 out1 said t u
       → Continues answers class opening a0 a1 source source out0 out1 waited s
-  continues-refused {class} {opening} result {a1} {source} {waited} {said} meant {s} opened is f n b (inl p) = record {
+  continues-refused {class} {opening} result {a1} {source} {waited} {said} meant {s} opened is f n b after (inl p) = record {
     read = [];
     frames = [];
     rest = waited;
@@ -185,8 +231,12 @@ module _ {A : Type 0} (answers : A → Event → Outcome → A → Type 0) where
     counted = n;
     puts = record { parts = append-nil (answer_text result) ∙ sym is ∙ sym (append-nil said); adds = p.1.took.taken };
     because = subst (λ (x : SessionEnd). Because x class waited (exchange (Open opening) result ∷ []) [] []) (sym p.0) b;
+    ended = after s.end [] (inl (p.0, refl));
+    intakes = [];
+    in_turn = Takes-none source waited;
+    prompt = λ wrong. absurd (not-behind wrong);
   }
-  continues-refused {class} {opening} result {a1} {source} {out0} {out1} {waited} meant {s} {u} opened is f n b (inr p) = record {
+  continues-refused {class} {opening} result {a1} {source} {out0} {out1} {waited} meant {s} {u} opened is f n b after (inr p) = record {
     read = [];
     frames = [];
     rest = waited;
@@ -204,23 +254,27 @@ module _ {A : Type 0} (answers : A → Event → Outcome → A → Type 0) where
     puts = record { parts = append-nil (answer_text result) ∙ sym is ∙ p.0.parts; adds = p.0.pays.took.taken };
     because = because-left s.end class waited (exchange (Open opening) result ∷ []) [] p.0.rest
         (leaves-write s.end waited (result ∷ []) p.0.rest out0 out1 u p.1 (cut-of-part result is p.0));
+    ended = after s.end p.0.rest (inr (ends-writing s.end out0 out1 u p.1, p.0.more));
+    intakes = [];
+    in_turn = Takes-none source waited;
+    prompt = λ wrong. absurd (not-behind wrong);
   }
 
   pub continues-denied : {class : Class} {opening : Opening} (rule : Rule) {a0 a1 : A} {source : SourceAccount} {out0 out1 : SinkAccount} {waited said : List ℕ} {s : Session} {t u : ℕ}
       → answers a0 (Open opening) (Ok (Denied rule)) a1 → said ≡ answer_text (Ok (Denied rule)) → s.client ≡ 0 → s.steps ≡ 1 → Refuses (ends.OpenRefused rule) s.end out0 out1 said t u
       → Continues answers class opening a0 a1 source source out0 out1 waited s
-  continues-denied {opening} rule opened is c n r = continues-refused (Ok (Denied rule)) (ends.OpenRefused rule) opened is (refl, refl, refl, c) (sym n) ((opening, refl), refl) r
+  continues-denied {opening} rule opened is c n r = continues-refused (Ok (Denied rule)) (ends.OpenRefused rule) opened is (refl, refl, refl, c) (sym n) ((opening, refl), refl) (λ end later h. h) r
 
   pub continues-apart : {class : Class} {opening : Opening} (apart : Apart) {a0 a1 : A} {source : SourceAccount} {out0 out1 : SinkAccount} {waited said : List ℕ} {s : Session} {t u : ℕ}
       → answers a0 (Open opening) (Err apart) a1 → said ≡ answer_text (Err apart) → s.client ≡ 0 → s.steps ≡ 0 → Refuses (ends.Apart apart) s.end out0 out1 said t u
       → Continues answers class opening a0 a1 source source out0 out1 waited s
-  continues-apart {opening} apart opened is c n r = continues-refused (Err apart) (ends.Apart apart) opened is (refl, refl, refl, c) (sym n) (inl ((opening, refl), refl)) r
+  continues-apart {opening} apart opened is c n r = continues-refused (Err apart) (ends.Apart apart) opened is (refl, refl, refl, c) (sym n) (inl ((opening, refl), refl)) (λ end later h. h) r
 
   -- ---- from the first frame
 
   pub serves-unread : (class : Class) (a : A) (sink : SinkAccount) {in0 in1 : SourceAccount} {rest : List ℕ} {t u : ℕ} (e : SessionEnd)
       → Comes in0 in1 [] rest t u → StopsAt e rest → Serves answers class a a in0 in1 sink sink (record { end = e; client = 0; steps = 0 })
-  serves-unread class a sink {rest} e m h = record {
+  serves-unread class a sink {in0} {in1} {rest} e m h = record {
     read = m.more;
     frames = [];
     rest = m.more;
@@ -236,12 +290,16 @@ module _ {A : Type 0} (answers : A → Event → Outcome → A → Type 0) where
     counted = refl;
     puts = record { parts = refl; adds = Appends-nil sink.written };
     because = because-read e class m.more (subst (λ (x : List ℕ). StopsAt e x) m.parts h);
+    ended = ends-unopened e rest h;
+    intakes = m.intakes;
+    in_turn = subst (λ (w : List ℕ). Takes in0 in1 [] w m.intakes m.more []) m.parts m.takes;
+    prompt = λ _. tt;
   }
 
   pub serves-no-hello : (class : Class) (a : A) (sink : SinkAccount) {in0 in1 : SourceAccount} {waits : List ℕ} {t u : ℕ} {frame : Packet} {found : Option Opening}
       → Uses in0 in1 [] waits t u frame → found ≡ opening_in class frame → found ≡ None
       → Serves answers class a a in0 in1 sink sink (record { end = ends.BadHello; client = 0; steps = 0 })
-  serves-no-hello class a sink {waits} {frame} m is none = record {
+  serves-no-hello class a sink {in0} {in1} {waits} {frame} m is none = record {
     read = m.more;
     frames = [];
     rest = m.more;
@@ -257,6 +315,10 @@ module _ {A : Type 0} (answers : A → Event → Outcome → A → Type 0) where
     counted = refl;
     puts = record { parts = refl; adds = Appends-nil sink.written };
     because = ((frame, waits, m.parts, m.fits, sym is ∙ none), refl, refl);
+    ended = tt;
+    intakes = m.intakes;
+    in_turn = subst (λ (w : List ℕ). Takes in0 in1 [] w m.intakes m.more []) (sym m.parts) m.takes;
+    prompt = λ _. tt;
   }
 
   pub serves-session : {class : Class} {opening : Opening} {a0 a1 : A} {in0 in1 in2 : SourceAccount} {out0 out1 : SinkAccount} {waits : List ℕ} {t u : ℕ} {frame : Packet} {found : Option Opening} {s : Session}
@@ -281,4 +343,11 @@ module _ {A : Type 0} (answers : A → Event → Outcome → A → Type 0) where
         counted = h.counted;
         puts = h.puts;
         because = h.because;
+        ended = h.ended;
+        intakes = (m.intakes ++ Used frame ∷ []) ++ h.intakes;
+        in_turn = Takes-then (Uses-takes m) h.in_turn;
+        prompt = λ behind. h.prompt (
+            sym (ap (λ (was : Bool). ends_in_chunk h.intakes was) (ends_in_chunk-then m.intakes (Used frame ∷ []) false))
+            ∙ sym (ends_in_chunk-then (m.intakes ++ Used frame ∷ []) h.intakes false) ∙ behind
+            );
       }

@@ -1,4 +1,5 @@
 pub mod Parts
+pub mod Taking
 pub mod Composing
 pub mod Ending
 pub mod Finishing

@@ -30,6 +30,10 @@ module _ {A B : Type 0} (view : A → B) (p : A → Event → Outcome → A → 
     counted = h.counted;
     puts = h.puts;
     because = h.because;
+    ended = h.ended;
+    intakes = h.intakes;
+    in_turn = h.in_turn;
+    prompt = h.prompt;
   }
 
 -- what each call keeps, a session keeps

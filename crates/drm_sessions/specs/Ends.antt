@@ -1,5 +1,5 @@
 -- How the requests of a session end.
-use Rattle.std.specs.Prelude.{◌≡◌, ℕ, ◌+◌, ◌<◌, ◌⊎◌, List, [], ◌∷◌, ◌++◌, length, Err, ⊤}
+use Rattle.std.specs.Prelude.{◌≡◌, ℕ, Bool, true, ◌+◌, ◌<◌, ◌⊎◌, List, [], ◌∷◌, ◌++◌, length, Err, ⊤}
 use Rattle.std.specs.Io.KnownBytes.{IsAtEnd}
 use Rattle.drm_table.specs.declared.events.Event.{Event}
 use Rattle.drm_table.specs.declared.apart.Apart.TheVariants as aparts
@@ -48,15 +48,17 @@ Shows ends.TurnsUsed in0 in1 out0 out1 unused = unused ≡ 0
 Shows _ in0 in1 out0 out1 unused = ⊤
 
 -- The requests of a client up to their end, after these results were said: what was written is a front of the
--- text of all results.
+-- text of all results. Bytes were taken behind the last frame only where it was all of it.
 pub record Ends {A : Type 0} (answers : A → Event → Outcome → A → Type 0) (client : ℕ) (old new : A) (in0 in1 : SourceAccount) (out0 out1 : SinkAccount) (said : List Outcome) (waited : List ℕ) (steps : ℕ) (end : SessionEnd) : Type 0 where
   pub waits : List ℕ
   pub results : List Outcome
   pub front : List ℕ
   pub later : List ℕ
-  pub did : Requests answers client old new in0 in1 waited waits results steps
+  pub behind : Bool
+  pub did : Requests answers client old new in0 in1 waited waits results steps behind
   pub puts : Puts out0 out1 (session_text (said ++ results)) front later
   pub leaves : Leaves end waits (said ++ results) later
+  pub prompt : behind ≡ true → later ≡ []
 
 -- The text of a refusal is written whole and the session ends as is meant, or writing stopped it.
 abbrev pub Refuses : SessionEnd → SessionEnd → SinkAccount → SinkAccount → List ℕ → ℕ → ℕ → Type 0
@@ -66,3 +68,29 @@ Refuses meant end from to text had has = ((end ≡ meant) × Pays from to text h
 abbrev pub EndsClosed : SessionEnd → Outcome → SessionEnd → Type 0
 EndsClosed stopped (Err aparts.Worn) end = end ≡ ends.Apart aparts.Worn
 EndsClosed stopped _ end = end ≡ stopped
+
+-- ---- the ends of a session by how its opening was answered
+
+-- the ends of a client's requests
+abbrev pub EndsRequests : SessionEnd → Type 0
+EndsRequests ends.BadHello = ⊥
+EndsRequests (ends.OpenRefused rule) = ⊥
+EndsRequests (ends.Apart apart) = ⊥
+EndsRequests _ = ⊤
+
+-- the ends without an opening
+abbrev pub EndsUnopened : SessionEnd → Type 0
+EndsUnopened (ends.OpenRefused rule) = ⊥
+EndsUnopened (ends.Apart apart) = ⊥
+EndsUnopened ends.WriteFault = ⊥
+EndsUnopened _ = ⊤
+
+-- the ends by a text that isn't written whole
+abbrev pub EndsWriting : SessionEnd → Type 0
+EndsWriting ends.WriteFault = ⊤
+EndsWriting ends.TurnsUsed = ⊤
+EndsWriting _ = ⊥
+
+-- A refusal ends the session as is meant, where its text is written whole.
+abbrev pub EndsRefused : SessionEnd → List ℕ → SessionEnd → Type 0
+EndsRefused meant later end = ((end ≡ meant) × (later ≡ [])) ⊎ (EndsWriting end × (0 < length later))

@@ -1,3 +1,4 @@
+pub mod Intakes
 pub mod Reading
 pub mod Opening
 pub mod Accepting

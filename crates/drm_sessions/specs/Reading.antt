@@ -6,28 +6,41 @@ use Rattle.drm_streams.specs.Streams.{SourceAccount, SinkAccount}
 use Rattle.drm_streams.specs.Turns.{Spends, Pays, PaysPart}
 use Rattle.drm_streams.specs.declared.turns.Refill.{Refill}
 use Rattle.drm_streams.specs.declared.turns.Refill.TheVariants as refill
+use Rattle.drm_sessions.specs.Intakes.{Intake, Takes}
 use Rattle.drm_sessions.specs.declared.end.SessionEnd.{SessionEnd}
 use Rattle.drm_sessions.specs.declared.end.SessionEnd.TheVariants as ends
 
--- Bytes came from the source, each call at the cost of a turn, and wait behind those that waited.
+-- One call of the source gave bytes, which wait behind those that waited.
+pub record Gives (from to : SourceAccount) (waited waits : List ℕ) (had has : ℕ) : Type 0 where
+  pub more : List ℕ
+  pub spends : Spends from to more had has
+  pub parts : waits ≡ waited ++ more
+  pub some : 0 < length more
+  pub gave : to.gave ≡ length more
+
+-- Bytes came from the source in turn, each call at the cost of a turn, and wait behind those that waited.
 pub record Comes (from to : SourceAccount) (waited waits : List ℕ) (had has : ℕ) : Type 0 where
   pub more : List ℕ
   pub spends : Spends from to more had has
   pub parts : waits ≡ waited ++ more
+  pub intakes : List Intake
+  pub takes : Takes from to waited waits intakes more []
 
--- Bytes came from the source, and this frame stood at the front of all that waited.
+-- Bytes came from the source in turn, and this frame stood at the front of all that waited.
 pub record Uses (from to : SourceAccount) (waited waits : List ℕ) (had has : ℕ) (frame : Packet) : Type 0 where
   pub more : List ℕ
   pub spends : Spends from to more had has
   pub parts : waited ++ more ≡ frame_text frame ++ waits
   pub fits : IsPacket frame
+  pub intakes : List Intake
+  pub takes : Takes from to waited (frame_text frame ++ waits) intakes more []
 
 -- what came of taking bytes behind those that wait
 abbrev pub Supplies : Refill → SourceAccount → SourceAccount → List ℕ → List ℕ → ℕ → ℕ → Type 0
-Supplies (refill.Got n) from to waited waits had has = Comes from to waited waits had has × (has < had)
-Supplies refill.End from to waited waits had has = Spends from to [] had has × (waits ≡ waited) × IsAtEnd to.left × (from.counts.ends < to.counts.ends)
-Supplies refill.Fault from to waited waits had has = Spends from to [] had has × (waits ≡ waited) × (from.counts.faults < to.counts.faults)
-Supplies refill.TurnsUsed from to waited waits had has = Spends from to [] had has × (waits ≡ waited) × (has ≡ 0)
+Supplies (refill.Got n) from to waited waits had has = Gives from to waited waits had has × (has < had)
+Supplies refill.End from to waited waits had has = Spends from to [] had has × (waits ≡ waited) × IsAtEnd to.left × (from.counts.ends < to.counts.ends) × (to.gave ≡ from.gave)
+Supplies refill.Fault from to waited waits had has = Spends from to [] had has × (waits ≡ waited) × (from.counts.faults < to.counts.faults) × (to.gave ≡ from.gave)
+Supplies refill.TurnsUsed from to waited waits had has = Spends from to [] had has × (waits ≡ waited) × (has ≡ 0) × (to.gave ≡ from.gave)
 
 -- what waits where reading stops: never a whole frame
 abbrev pub StopsAt : SessionEnd → List ℕ → Type 0

@@ -1,5 +1,5 @@
 -- The calls that a session makes, in their order.
-use Rattle.std.specs.Prelude.{◌≡◌, ℕ, ◌+◌, List, [], ◌∷◌, ◌++◌, map, Ok, Err}
+use Rattle.std.specs.Prelude.{◌≡◌, ℕ, Bool, false, ◌+◌, List, [], ◌∷◌, ◌++◌, map, Ok, Err}
 use Rattle.std.specs.List.{flat_map, AllByRecursion}
 use Rattle.std.specs.Io.KnownBytes.{Consumes}
 use Rattle.drm_table.specs.declared.events.Event.{Event}
@@ -8,6 +8,7 @@ use Rattle.drm_frames.specs.Grammar.{Packet, frame_text, IsPacket}
 use Rattle.drm_frames.specs.Requests.{request_of}
 use Rattle.drm_frames.specs.Answers.{Outcome, answer_text}
 use Rattle.drm_streams.specs.Streams.{SourceAccount}
+use Rattle.drm_sessions.specs.Intakes.{Intake, Takes, ends_in_chunk}
 
 -- an event and what it was answered
 pub record Exchange : Type 0 where
@@ -46,8 +47,9 @@ noted [] = 0
 noted (result ∷ results) = one_if_noted result + noted results
 
 -- A client's requests: of the bytes that waited and those that were read, these frames were used, each
--- for the call that it asks, and `results` is what the calls were answered.
-pub record Requests {A : Type 0} (answers : A → Event → Outcome → A → Type 0) (client : ℕ) (old new : A) (from to : SourceAccount) (waited waits : List ℕ) (results : List Outcome) (steps : ℕ) : Type 0 where
+-- for the call that it asks, and `results` is what the calls were answered. `behind` says whether bytes were taken behind
+-- the last of the frames.
+pub record Requests {A : Type 0} (answers : A → Event → Outcome → A → Type 0) (client : ℕ) (old new : A) (from to : SourceAccount) (waited waits : List ℕ) (results : List Outcome) (steps : ℕ) (behind : Bool) : Type 0 where
   pub read : List ℕ
   pub frames : List Packet
   pub log : List Exchange
@@ -58,3 +60,6 @@ pub record Requests {A : Type 0} (answers : A → Event → Outcome → A → Ty
   pub asks : events log ≡ map (asked client) frames
   pub answered : outcomes log ≡ results
   pub counted : noted results ≡ steps
+  pub intakes : List Intake
+  pub takes : Takes from to waited waits intakes read frames
+  pub last : ends_in_chunk intakes false ≡ behind

@@ -1,5 +1,5 @@
 -- A whole session.
-use Rattle.std.specs.Prelude.{◌≡◌, ℕ, ◌⊎◌, List, [], ◌∷◌, ◌++◌, map, Some, None, Ok, Err}
+use Rattle.std.specs.Prelude.{◌≡◌, ℕ, true, false, ◌⊎◌, List, [], ◌∷◌, ◌++◌, map, Some, None, Ok, Err, ⊤}
 use Rattle.std.specs.List.{flat_map, AllByRecursion}
 use Rattle.std.specs.Io.KnownBytes.{Consumes}
 use Rattle.drm_table.specs.declared.events.Event.{Event}
@@ -15,9 +15,10 @@ use Rattle.drm_sessions.specs.declared.end.Session.{Session}
 use Rattle.drm_sessions.specs.declared.end.SessionEnd.{SessionEnd}
 use Rattle.drm_sessions.specs.declared.end.SessionEnd.TheVariants as ends
 use Rattle.drm_sessions.specs.Opening.{opening_in}
+use Rattle.drm_sessions.specs.Intakes.{Intake, Takes, ends_in_chunk}
 use Rattle.drm_sessions.specs.Reading.{Puts, StopsAt}
 use Rattle.drm_sessions.specs.Runs.{Exchange, exchange, Runs, asked, events, outcomes, session_text, noted}
-use Rattle.drm_sessions.specs.Ends.{CutsLast, Moves, Shows}
+use Rattle.drm_sessions.specs.Ends.{CutsLast, EndsClosed, EndsRefused, EndsRequests, EndsUnopened, Moves, Shows}
 
 -- After the opening: of a client its requests and one closing, and else nothing.
 abbrev pub Follows : Outcome → List Packet → List Exchange → List Exchange → ℕ → Type 0
@@ -50,8 +51,30 @@ Because (ends.Apart apart) class rest answered closing later =
 Because ends.WriteFault class rest answered closing later = CutsLast (outcomes answered) later
 Because ends.TurnsUsed class rest answered closing later = (StopsAt ends.TurnsUsed rest × (later ≡ [])) ⊎ CutsLast (outcomes answered) later
 
--- A session: of the bytes that it read these whole frames were used, and the rest was not; its calls
--- follow from the frames; what it wrote is a front of the text of their results.
+-- How the opening was answered says how the session ends: an accepted one as the requests did, or worn where the closing
+-- was; a denied one refused by its rule, and one answered by what stands apart by that, unless the answer wasn't written whole.
+abbrev pub EndsAfter : Outcome → List Exchange → List ℕ → SessionEnd → Type 0
+EndsAfter (Ok (Opened c)) closing later end =
+    (result : Outcome) × (stopped : SessionEnd) × (closing ≡ exchange (Close c) result ∷ []) × EndsRequests stopped × EndsClosed stopped result end
+EndsAfter (Ok (Denied rule)) closing later end = EndsRefused (ends.OpenRefused rule) later end
+EndsAfter (Err apart) closing later end = EndsRefused (ends.Apart apart) later end
+EndsAfter (Ok _) closing later end = ⊥
+
+abbrev pub EndsAs : List Exchange → List Exchange → List ℕ → SessionEnd → Type 0
+EndsAs [] closing later end = EndsUnopened end
+EndsAs (first ∷ asks) closing later end = EndsAfter first.outcome closing later end
+
+abbrev pub IsAccepted : Outcome → Type 0
+IsAccepted (Ok (Opened c)) = ⊤
+IsAccepted _ = ⊥
+
+-- Bytes are taken behind a frame that was used where the opening was accepted and each answer so far is written whole.
+abbrev pub MayRead : List Exchange → List ℕ → Type 0
+MayRead [] later = ⊤
+MayRead (first ∷ asks) later = IsAccepted first.outcome × (later ≡ [])
+
+-- A session: of the bytes that it read, which it took in turn, these whole frames were used, and the rest was not; its
+-- calls follow from the frames; what it wrote is a front of the text of their results.
 pub record Serves {A : Type 0} (answers : A → Event → Outcome → A → Type 0) (class : Class) (old new : A) (in0 in1 : SourceAccount) (out0 out1 : SinkAccount) (session : Session) : Type 0 where
   pub read : List ℕ
   pub frames : List Packet
@@ -68,6 +91,10 @@ pub record Serves {A : Type 0} (answers : A → Event → Outcome → A → Type
   pub counted : noted (outcomes (answered ++ closing)) ≡ session.steps
   pub puts : Puts out0 out1 (session_text (outcomes answered)) front later
   pub because : Because session.end class rest answered closing later
+  pub ended : EndsAs answered closing later session.end
+  pub intakes : List Intake
+  pub in_turn : Takes in0 in1 [] rest intakes read frames
+  pub prompt : ends_in_chunk intakes false ≡ true → MayRead answered later
 
 -- the same from the opening on, with bytes that wait
 pub record Continues {A : Type 0} (answers : A → Event → Outcome → A → Type 0) (class : Class) (opening : Opening) (old new : A) (in0 in1 : SourceAccount) (out0 out1 : SinkAccount) (waited : List ℕ) (session : Session) : Type 0 where
@@ -87,6 +114,10 @@ pub record Continues {A : Type 0} (answers : A → Event → Outcome → A → T
   pub counted : noted (outcomes ((exchange (Open opening) result ∷ asks) ++ closing)) ≡ session.steps
   pub puts : Puts out0 out1 (session_text (outcomes (exchange (Open opening) result ∷ asks))) front later
   pub because : Because session.end class rest (exchange (Open opening) result ∷ asks) closing later
+  pub ended : EndsAfter result closing later session.end
+  pub intakes : List Intake
+  pub in_turn : Takes in0 in1 waited rest intakes read frames
+  pub prompt : ends_in_chunk intakes false ≡ true → IsAccepted result × (later ≡ [])
 
 -- At most `turns` calls were made of the source and the sink, and the accounts show the end's cause.
 pub record Costs (in0 in1 : SourceAccount) (out0 out1 : SinkAccount) (turns : ℕ) (end : SessionEnd) : Type 0 where

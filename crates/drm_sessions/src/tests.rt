@@ -3,12 +3,13 @@
 ghost use Rattle.std.specs.Prelude.{◌≡◌, ◌<◌, ◌≤◌};
 ghost use Rattle.drm_streams.specs.Streams.{no_calls};
 
-use crate::{Class, Gate, NoGate, Session, SessionEnd, serve_alone};
+use crate::{Access, Class, Gate, NoGate, Session, SessionEnd, serve, serve_alone};
 use drm_device::{Device, Topology};
-use drm_streams::{FromRead, ToWrite};
-use drm_table::{Apart, Limits, Rule};
+use drm_streams::{FromRead, Source, ToWrite};
+use drm_table::{Answer, Apart, Event, Limits, Rule};
 use drm_test_streams::{CutSink, CutSource};
 use std::alloc::Global;
+use std::cell::Cell;
 use std::io::{self, Read, Write};
 use std::net::Shutdown;
 use std::os::unix::net::UnixStream;
@@ -466,6 +467,149 @@ fn gate_stands_before_each_request(rt: HostRuntime) -> Result<(), Fail> {
     assert_eq!(rt; done, session(SessionEnd::Ended, 4));
     assert_eq!(rt; gate.requests, 2);
     Ok(())
+}
+
+/// What a session called, a digit each: 1 the gate, 2 an opening, 3 a request, 4 a closing.
+type Calls = Cell<u64>;
+
+/// Notes one call more.
+fn note(calls: &Calls, call: u64) {
+    calls.set(calls.get().wrapping_mul(10).wrapping_add(call));
+}
+
+/// A gate that notes its calls.
+#[derive(Drop)]
+struct NotedGate<'a>(&'a Calls);
+
+impl Gate for NotedGate<'_> {
+    fn before(&mut self, _client: u32) {
+        note(self.0, 1);
+    }
+}
+
+/// An access that notes its calls and opens each client as client 1.
+#[derive(Drop)]
+struct Noted<'a> {
+    calls: &'a Calls,
+    closing: Result<Answer, Apart>,
+}
+
+impl Access for Noted<'_> {
+    ghost use Rattle.std.specs.Prelude.{⊤};
+
+    ghost answers = { λ before event outcome after. ⊤ };
+
+    fn call(&mut self, event: Event) -> Result<Answer, Apart> {
+        match event {
+            Event::Open(_) => {
+                note(self.calls, 2);
+                Ok(Answer::Opened { client: 1 })
+            }
+            Event::Ask(_, _) => {
+                note(self.calls, 3);
+                Ok(Answer::Done)
+            }
+            Event::Close(_) => {
+                note(self.calls, 4);
+                match self.closing {
+                    Ok(_) => Ok(Answer::Closed),
+                    Err(apart) => Err(apart),
+                }
+            }
+        }
+    }
+}
+
+/// Serves the hello and VERSION twice, and gives the session with the calls that it made.
+fn noted_calls(alloc: Global, closing: Result<Answer, Apart>) -> Result<(Session, u64), Fail> {
+    let mut input = Vec::new(alloc);
+    input.extend_from_slice(&HELLO_VERSION)?;
+    input.extend_from_slice(&HELLO_VERSION[18..])?;
+    let calls = Cell::new(0);
+    let mut access = Noted {
+        calls: &calls,
+        closing,
+    };
+    let mut gate = NotedGate(&calls);
+    let mut source = FromRead::new(input.as_slice());
+    let mut sink = ToWrite::new(Vec::new(alloc));
+    let session = serve(
+        &mut access,
+        &mut gate,
+        Class::Card,
+        &mut source,
+        &mut sink,
+        MANY_TURNS,
+    );
+    Ok((session, calls.get()))
+}
+
+#[test]
+fn gate_stands_before_each_request_and_nothing_else(rt: HostRuntime) -> Result<(), Fail> {
+    let (done, calls) = noted_calls(rt.alloc(), Ok(Answer::Closed))?;
+    assert_eq!(rt; done, session(SessionEnd::Ended, 4));
+    assert_eq!(rt; calls, 213_134);
+    Ok(())
+}
+
+#[test]
+fn worn_closing_is_the_end(rt: HostRuntime) -> Result<(), Fail> {
+    let (done, calls) = noted_calls(rt.alloc(), Err(Apart::Worn))?;
+    assert_eq!(rt; done, session(SessionEnd::Apart(Apart::Worn), 3));
+    assert_eq!(rt; calls, 213_134);
+    let (done, _) = noted_calls(rt.alloc(), Err(Apart::JournalFull))?;
+    assert_eq!(rt; done, session(SessionEnd::Ended, 3));
+    Ok(())
+}
+
+/// Serves these bytes to a card client, each piece of so many by one call, and compares how many
+/// calls of the source were made.
+fn takes(
+    rt: &impl Abort,
+    alloc: Global,
+    input: &[u8],
+    piece: usize,
+    wanted: Session,
+    calls: u64,
+) -> Result<(), Fail>
+    requires { 0 < piece }
+{
+    let mut device = device(alloc, Limits::PROGRAM)?;
+    let mut source = CutSource::new(input, piece);
+    let mut sink = CutSink::<64>::new(64);
+    let done = serve_alone(
+        &mut device,
+        &mut NoGate,
+        Class::Card,
+        &mut source,
+        &mut sink,
+        MANY_TURNS,
+    );
+    assert_eq!(rt; done, wanted);
+    assert_eq!(rt; source.calls(), calls);
+    Ok(())
+}
+
+#[test]
+fn nothing_is_read_behind_an_end(rt: HostRuntime) -> Result<(), Fail> {
+    // A hello by the lease token 0, which no lease has, and then more bytes.
+    let by_token = [
+        0x0e, 0, 0, 0, 0, 1, 1, 0, 0, 0, 1, 0, 0, 0, 0, 0, 0, 0, 2, 0, 0, 0, 0, 0,
+    ];
+    let refused = Session {
+        end: SessionEnd::OpenRefused(Rule::NoLeaseToken),
+        client: 0,
+        steps: 1,
+    };
+    takes(&rt, rt.alloc(), &by_token, 18, refused, 1)?;
+    takes(&rt, rt.alloc(), &by_token, 1, refused, 18)?;
+    let version = [2, 0, 0, 0, 0, 0, 2, 0, 0, 0, 0, 0];
+    let bad_hello = session(SessionEnd::BadHello, 0);
+    takes(&rt, rt.alloc(), &version, 6, bad_hello, 1)?;
+    let bad_length = [1, 0, 0, 0, 0, 0, 0, 0];
+    let too_long = session(SessionEnd::TooLong, 0);
+    takes(&rt, rt.alloc(), &bad_length, 4, too_long, 1)?;
+    takes(&rt, rt.alloc(), &bad_length, 1, too_long, 4)
 }
 
 /// Sends the requests, closes its writing side, and gives what came back.
