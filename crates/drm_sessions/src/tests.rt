@@ -193,14 +193,22 @@ fn serves_cut_input(
 ) -> Result<(), Fail> {
     let class = Class::Card;
     for piece in PIECES {
+        let (sink, failing_sink) = (CutSink::new(piece), CutSink::new(piece));
         let ending = CutSource::new(&HELLO_VERSION, piece).ending_at(at);
-        let sink = CutSink::new(piece);
         let ended = session(end, steps);
         serves(rt, alloc, class, ending, sink, MANY_TURNS, ended, written)?;
         let failing = CutSource::new(&HELLO_VERSION, piece).faulting_at(at);
-        let sink = CutSink::new(piece);
         let fault = session(SessionEnd::ReadFault, steps);
-        serves(rt, alloc, class, failing, sink, MANY_TURNS, fault, written)?;
+        serves(
+            rt,
+            alloc,
+            class,
+            failing,
+            failing_sink,
+            MANY_TURNS,
+            fault,
+            written,
+        )?;
     }
     Ok(())
 }
