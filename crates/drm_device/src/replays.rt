@@ -1,6 +1,7 @@
 //! A device made from a journal.
 
-ghost use Rattle.std.specs.Prelude.{◌≡◌};
+ghost use Rattle.std.specs.Prelude.{◌≡◌, ◌↔◌, false, Err};
+ghost use Rattle.drm_table.specs.Limits.{are_in_range};
 ghost use Rattle.drm_device.specs.Replay.{IsReplay};
 
 use crate::device::{Device, NewFault};
@@ -26,7 +27,8 @@ pub fn replay(
     limits: Limits,
     events: &[Event],
 ) -> Result<Device, ReplayFault>
-    ensures { IsReplay topology limits events.now result }
+    ensures replays { IsReplay topology limits events.now result }
+    ensures bad_limits { (result ≡ Err (ReplayFault.New NewFault.BadLimits)) ↔ (are_in_range limits ≡ false) }
 {
     let mut device = match Device::new(alloc, topology, limits) {
         Ok(device) => device,

@@ -25,12 +25,12 @@ refused_at : (event : Event) (apart : Apart) (device next before : History) → 
 refused_at event apart device next before e f h =
     subst (λ d. Step (rows_of d) event (Err apart) (rows_of d)) f (subst (λ n. Step (rows_of device) event (Err apart) (rows_of n)) e h)
 
-pub returns-in-Err : goal.returns-in-Err
-returns-in-Err c = new_fault c.args.topology c.args.limits c.args.events.now c.in-Err.fault (λ e. c.in-Err.ensures.bad_limits.0 (ap Err e))
+pub returns-in-Err-clause-replays : goal.returns-in-Err-clause-replays
+returns-in-Err-clause-replays c = new_fault c.args.topology c.args.limits c.args.events.now c.in-Err.fault (λ e. c.in-Err.ensures.bad_limits.0 (ap Err e))
 
-pub returns-in-Err-step : goal.returns-in-Err-step
+pub returns-in-Err-step-clause-replays : goal.returns-in-Err-step-clause-replays
 unfolding IsReplay
-returns-in-Err-step c =
+returns-in-Err-step-clause-replays c =
     let index = c.loop-event.event-index in
     let at : c.loop-event.device ≡ history_before c.args.topology c.args.limits c.args.events.now index = c.loop-event.invariant in
     let same : c.step.new.self ≡ c.loop-event.device = c.in-Err-step.ensures.err in
@@ -48,6 +48,6 @@ returns-in-Err-step c =
       },
     )
 
-pub returns : goal.returns
+pub returns-clause-replays : goal.returns-clause-replays
 unfolding IsReplay
-returns c = c.loop-event.invariant ∙ ap (λ j. record { topology = c.args.topology; limits = c.args.limits; journal = j }) (take_all c.loop-event.event-index c.args.events.now c.loop-event-test.false)
+returns-clause-replays c = c.loop-event.invariant ∙ ap (λ j. record { topology = c.args.topology; limits = c.args.limits; journal = j }) (take_all c.loop-event.event-index c.args.events.now c.loop-event-test.false)
