@@ -1,5 +1,6 @@
 -- Where a line ends.
 use Rattle.std.proofs.Common.{◌≡◌, ℕ, ◌+◌, ◌≤◌, ◌<◌, ◌*◌, ◌↔◌, List, [], ◌∷◌, ◌++◌, length, take, drop, refl, sym, ap, ◌∙◌, arith, Bool, true, false, not, cond, nat_lt, suc, Some, None, Result, Ok, Err, OnOk, IsOk, append_assoc, append-nil, take-append-drop, length-append, length-take}
+use Rattle.std.proofs.lemmas.List.{length-drop}
 use Prim.Native.Nat.{zero}
 use Rattle.std.specs.List.{position, position_or_len}
 use Rattle.std.proofs.lemmas.Option.{cond_some, none-some}
@@ -75,12 +76,13 @@ bare_all xs p =
     let past : length xs ≤ until xs = none_place _ _ _ refl p in
     rw (take_whole (until xs) xs past) at (bare_until xs)
 
--- 256 bytes without a line end
-pub too_long : (xs a b : List ℕ) → xs ≡ a ++ b → IsBare a → 256 ≤ length a → IsTooLong xs (take 256 a) (drop 256 a ++ b)
-too_long xs a b e p l = record {
+-- 256 bytes without a line end, in a line of which 255 were held at most when at most 256 more came
+pub too_long : (xs a b : List ℕ) → xs ≡ a ++ b → IsBare a → 256 ≤ length a → length xs ≤ 511 → IsTooLong xs (take 256 a) (drop 256 a ++ b)
+too_long xs a b e p l m = record {
   whole = e ∙ ap (λ z. z ++ b) (sym (take-append-drop 256 a)) ∙ append_assoc (take 256 a) (drop 256 a) b;
   bare = IsBare-take 256 a p;
   long = rw length-take (omega arith);
+  behind = (let n = ap length e in let s = length-append a b in rw (length-append, length-drop) (omega arith));
 }
 
 -- what an extension of a vector that has room leaves
@@ -93,22 +95,22 @@ extended (Err e) P Q v q h = absurd (not_ok (v.1 q))
 
 -- ---- what one scan finds, with h held and p pending
 
-pub scan_long_line : (h p : List ℕ) (n room : ℕ) → position is_end p ≡ Some n → room + length h ≡ 255 → room < n → IsBare h
+pub scan_long_line : (h p : List ℕ) (n room : ℕ) → position is_end p ≡ Some n → room + length h ≡ 255 → length p ≤ 256 → room < n → IsBare h
     → (front rest : List ℕ) × IsTooLong (h ++ p) front rest
-scan_long_line h p n room e r l bare =
+scan_long_line h p n room e r m l bare =
     let place = some_place p n e in
     let below : n < length p = place.1 in
     let front = h ++ take n p in
     let whole : h ++ p ≡ front ++ drop n p = ap (λ z. h ++ z) (sym (take-append-drop n p)) ∙ sym (append_assoc h (take n p) (drop n p)) in
     let long : 256 ≤ length front = rw (length-append, length-take) (omega arith) in
-    (take 256 front, drop 256 front ++ drop n p, too_long (h ++ p) front (drop n p) whole (IsBare-append h (take n p) bare (bare_front p n e)) long)
+    (take 256 front, drop 256 front ++ drop n p, too_long (h ++ p) front (drop n p) whole (IsBare-append h (take n p) bare (bare_front p n e)) long (rw length-append (omega arith)))
 
-pub scan_long_rest : (h p : List ℕ) (room : ℕ) → position is_end p ≡ None → room + length h ≡ 255 → room < length p → IsBare h
+pub scan_long_rest : (h p : List ℕ) (room : ℕ) → position is_end p ≡ None → room + length h ≡ 255 → length p ≤ 256 → room < length p → IsBare h
     → (front rest : List ℕ) × IsTooLong (h ++ p) front rest
-scan_long_rest h p room e r l bare =
+scan_long_rest h p room e r m l bare =
     let front = h ++ p in
     let long : 256 ≤ length front = rw length-append (omega arith) in
-    (take 256 front, drop 256 front ++ [], too_long (h ++ p) front [] (sym (append-nil front)) (IsBare-append h p bare (bare_all p e)) long)
+    (take 256 front, drop 256 front ++ [], too_long (h ++ p) front [] (sym (append-nil front)) (IsBare-append h p bare (bare_all p e)) long (rw length-append (omega arith)))
 
 pub scan_line : (h p : List ℕ) (n : ℕ) → position is_end p ≡ Some n → h ++ p ≡ (h ++ take n p) ++ 10 ∷ drop (n + 1) p
 scan_line h p n e = ap (λ z. h ++ z) (line_end p n e) ∙ sym (append_assoc h (take n p) (10 ∷ drop (n + 1) p))
@@ -121,3 +123,16 @@ pub more_fuel : (turns less : ℕ) (h p line x : List ℕ) (most : ℕ) → 256 
 more_fuel turns less h p line x most f e l t =
     let same : length h + length p ≡ length line = sym (length-append h p) ∙ ap length e in
     omega arith
+
+pub more_chunks : (given x : List ℕ) (start old new had has : ℕ) → length given + 256 * start ≤ 256 * old → length x ≤ 256 → new + has ≡ old + had → has < had
+    → length (given ++ x) + 256 * start ≤ 256 * new
+more_chunks given x start old new had has l m cost less =
+    let both = length-append given x in
+    omega arith
+
+-- what is pending of a chunk, and what is left of it behind a line
+pub few_pending : (p chunk : List ℕ) (next end : ℕ) → p ≡ drop next (take end chunk) → end ≤ 256 → length p ≤ 256
+few_pending p chunk next end e l = rw e (rw (length-drop, length-take) (omega arith))
+
+pub few_left : (chunk : List ℕ) (next n end : ℕ) → end ≤ 256 → length (drop (next + (n + 1)) (take end chunk)) ≤ 255
+few_left chunk next n end l = rw (length-drop, length-take) (omega arith)

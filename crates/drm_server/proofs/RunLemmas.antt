@@ -1,5 +1,5 @@
 -- A run of a script, line by line.
-use Rattle.std.proofs.Common.{◌≡◌, ℕ, ◌+◌, ◌≤◌, ◌<◌, List, [], ◌∷◌, ◌++◌, length, refl, sym, ap, subst, ◌∙◌, arith, Some, None, Option, Result, append_assoc, append-nil, inl, inr, ◌⊎◌, unwrap_or}
+use Rattle.std.proofs.Common.{◌≡◌, ℕ, ◌+◌, ◌*◌, ◌≤◌, ◌<◌, List, [], ◌∷◌, ◌++◌, length, refl, sym, ap, subst, ◌∙◌, arith, Some, None, Option, Result, append_assoc, append-nil, length-append, inl, inr, ◌⊎◌, unwrap_or}
 use Rattle.std.proofs.lemmas.List.{length_push}
 use Rattle.drm_table.specs.declared.answers.Answer.{Answer}
 use Rattle.drm_table.specs.declared.apart.Apart.{Apart}
@@ -40,13 +40,15 @@ unmade (line s b (limited n h)) e = absurd (cc)
 unmade (line s b (asked h t)) e = absurd (cc)
 
 module _ {s0 s : SourceAccount} {k0 k : SinkAccount} {turns has n : ℕ} {rest : List ℕ} {device : Option Rows} {labels : List ℕ} (so : SoFar s0 s k0 k turns has n rest device labels) where
-  pub so_far_read : (s' : SourceAccount) (given : List ℕ) (has' : ℕ) (rest' : List ℕ) → Spends s s' given has has' → rest ++ given ≡ rest' → SoFar s0 s' k0 k turns has' n rest' device labels
-  so_far_read s' given has' rest' p e = record {
+  pub so_far_read : (s' : SourceAccount) (given : List ℕ) (has' : ℕ) (rest' : List ℕ) → Spends s s' given has has' → length given + 256 * s.counts.calls ≤ 256 * s'.counts.calls → rest ++ given ≡ rest'
+      → SoFar s0 s' k0 k turns has' n rest' device labels
+  so_far_read s' given has' rest' p m e = record {
     read = so.read ++ given;
     lines = so.lines;
     results = so.results;
     gave = Gave-then so.gave p.gave;
     took = so.took;
+    chunks = (let a = so.chunks in let b = length-append so.read given in omega arith);
     cost = (let a = p.cost in let b = so.cost in omega arith);
     script = so.script;
     whole = ap (λ z. z ++ given) so.whole ∙ append_assoc (joined so.lines) rest given ∙ ap (λ z. joined so.lines ++ z) e;
@@ -61,6 +63,7 @@ module _ {s0 s : SourceAccount} {k0 k : SinkAccount} {turns has n : ℕ} {rest :
     results = so.results ++ results;
     gave = so.gave;
     took = subst (Took k0 k') (sym (script_text-append so.results results)) (Took-then so.took p.took);
+    chunks = so.chunks;
     cost = (let a = p.cost in let b = so.cost in omega arith);
     script = line so.script bare u;
     whole = so.whole ∙ ap (λ z. joined so.lines ++ z) e ∙ sym (joined-push so.lines next more);
@@ -70,12 +73,14 @@ module _ {s0 s : SourceAccount} {k0 k : SinkAccount} {turns has n : ℕ} {rest :
   bounded : s.counts.calls + k.counts.calls ≤ s0.counts.calls + k0.counts.calls + turns
   bounded = let b = so.cost in omega arith
 
-  pub run_malformed : (bad more : List ℕ) → rest ≡ bad ++ more → IsMisplaced device bad → IsBare bad → EndsLine (s0.counts.ends < s.counts.ends) more ⊎ (length bad ≡ 256) → Runs s0 s k0 k turns (ends.Malformed (n + 1))
-  run_malformed bad more e m b u = record {
+  pub run_malformed : (bad more : List ℕ) → rest ≡ bad ++ more → IsMisplaced device bad → IsBare bad → EndsLine (s0.counts.ends < s.counts.ends) more ⊎ (length bad ≡ 256)
+      → length bad ≤ 256 → length more ≤ 256 → Runs s0 s k0 k turns (ends.Malformed (n + 1))
+  run_malformed bad more e m b u short behind = record {
     read = so.read;
     written = script_text so.results;
     gave = so.gave;
     took = so.took;
+    chunks = so.chunks;
     turns_at_most = bounded;
     ends = record {
       lines = so.lines;
@@ -89,30 +94,34 @@ module _ {s0 s : SourceAccount} {k0 k : SinkAccount} {turns has n : ℕ} {rest :
       misplaced = m;
       bare = b;
       until = u;
+      short = short;
+      behind = behind;
       counted = (let c = so.number in omega arith);
       text = refl;
     };
   }
 
-  pub run_read_fault : IsBare rest → s0.counts.faults < s.counts.faults → Runs s0 s k0 k turns ends.ReadFault
-  run_read_fault b f = record {
+  pub run_read_fault : IsBare rest → length rest ≤ 255 → s0.counts.faults < s.counts.faults → Runs s0 s k0 k turns ends.ReadFault
+  run_read_fault b short f = record {
     read = so.read;
     written = script_text so.results;
     gave = so.gave;
     took = so.took;
+    chunks = so.chunks;
     turns_at_most = bounded;
-    ends = (record { lines = so.lines; results = so.results; device = device; labels = labels; rest = rest; script = so.script; whole = so.whole; bare = b; text = refl }, f);
+    ends = (record { lines = so.lines; results = so.results; device = device; labels = labels; rest = rest; script = so.script; whole = so.whole; bare = b; short = short; text = refl }, f);
   }
 
-  pub run_turns_used : IsBare rest → has ≡ 0 → Runs s0 s k0 k turns ends.TurnsUsed
-  run_turns_used b h = record {
+  pub run_turns_used : IsBare rest → length rest ≤ 255 → has ≡ 0 → Runs s0 s k0 k turns ends.TurnsUsed
+  run_turns_used b short h = record {
     read = so.read;
     written = script_text so.results;
     gave = so.gave;
     took = so.took;
+    chunks = so.chunks;
     turns_at_most = bounded;
     ends = (
-      inl (record { lines = so.lines; results = so.results; device = device; labels = labels; rest = rest; script = so.script; whole = so.whole; bare = b; text = refl }),
+      inl (record { lines = so.lines; results = so.results; device = device; labels = labels; rest = rest; script = so.script; whole = so.whole; bare = b; short = short; text = refl }),
       (let b = so.cost in omega arith),
     );
   }
@@ -123,6 +132,7 @@ module _ {s0 s : SourceAccount} {k0 k : SinkAccount} {turns has n : ℕ} {rest :
     written = script_text so.results;
     gave = so.gave;
     took = so.took;
+    chunks = so.chunks;
     turns_at_most = bounded;
     ends = (record { lines = so.lines; results = so.results; device = device; labels = labels; script = so.script; covers = inl (so.whole ∙ ap (λ z. joined so.lines ++ z) e); text = refl }, f);
   }
@@ -134,6 +144,7 @@ module _ {s0 s : SourceAccount} {k0 k : SinkAccount} {turns has n : ℕ} {rest :
     written = script_text so.results ++ script_text results;
     gave = so.gave;
     took = Took-then so.took p.took;
+    chunks = so.chunks;
     turns_at_most = (let a = p.cost in let b = so.cost in omega arith);
     ends = (
       record {
@@ -149,9 +160,9 @@ module _ {s0 s : SourceAccount} {k0 k : SinkAccount} {turns has n : ℕ} {rest :
     );
   }
 
-  stopped_at : (next more : List ℕ) (result : Result Answer Apart) (device' : Option Rows) (labels' written : List ℕ) → rest ≡ next ++ more → EndsLine (s0.counts.ends < s.counts.ends) more → IsBare next
+  stopped_at : (next more : List ℕ) (result : Result Answer Apart) (device' : Option Rows) (labels' written : List ℕ) → rest ≡ next ++ more → EndsLine (s0.counts.ends < s.counts.ends) more → length more ≤ 256 → IsBare next
       → Uses device labels next (result ∷ []) device' labels' → IsCutInLast (so.results ++ result ∷ []) written → IsStopped (s0.counts.ends < s.counts.ends) so.read written
-  stopped_at next more result device' labels' written e (inl (none, f)) bare u cut =
+  stopped_at next more result device' labels' written e (inl (none, f)) m bare u cut =
       let whole : so.read ≡ joined so.lines ++ next = so.whole ∙ ap (λ z. joined so.lines ++ z) (e ∙ ap (λ z. next ++ z) none ∙ append-nil next) in record {
         lines = so.lines ++ next ∷ [];
         results = so.results ++ result ∷ [];
@@ -160,9 +171,10 @@ module _ {s0 s : SourceAccount} {k0 k : SinkAccount} {turns has n : ℕ} {rest :
         rest = [];
         script = line so.script bare u;
         covers = inr (so.lines, next, refl, whole, refl, f);
+        behind = omega arith;
         cut = cut;
       }
-  stopped_at next more result device' labels' written e (inr (behind, f)) bare u cut =
+  stopped_at next more result device' labels' written e (inr (behind, f)) m bare u cut =
       let whole : so.read ≡ joined (so.lines ++ next ∷ []) ++ behind =
       so.whole ∙ ap (λ z. joined so.lines ++ z) (e ∙ ap (λ z. next ++ z) f) ∙ sym (joined-push so.lines next behind) in record {
         lines = so.lines ++ next ∷ [];
@@ -172,26 +184,28 @@ module _ {s0 s : SourceAccount} {k0 k : SinkAccount} {turns has n : ℕ} {rest :
         rest = behind;
         script = line so.script bare u;
         covers = inl whole;
+        behind = (let whole = ap length f in omega arith);
         cut = cut;
       }
 
-  run_stopped : (next more : List ℕ) (result : Result Answer Apart) (device' : Option Rows) (labels' : List ℕ) (k' : SinkAccount) (has' : ℕ) → rest ≡ next ++ more → EndsLine (s0.counts.ends < s.counts.ends) more → IsBare next
+  run_stopped : (next more : List ℕ) (result : Result Answer Apart) (device' : Option Rows) (labels' : List ℕ) (k' : SinkAccount) (has' : ℕ) → rest ≡ next ++ more → EndsLine (s0.counts.ends < s.counts.ends) more → length more ≤ 256 → IsBare next
       → Uses device labels next (result ∷ []) device' labels' → PaysPart k k' (answer_line result) has has'
       → (written : List ℕ) × Took k0 k' written × (k'.counts.calls + has' ≡ k.counts.calls + has) × IsStopped (s0.counts.ends < s.counts.ends) so.read written
-  run_stopped next more result device' labels' k' has' e ending bare u p =
+  run_stopped next more result device' labels' k' has' e ending m bare u p =
       let written = script_text so.results ++ p.front in
       let cut : IsCutInLast (so.results ++ result ∷ []) written =
       record { before = so.results; last = result; sent = p.front; unsent = p.rest; whole = refl; parts = p.parts; more = p.more; text = refl } in
-      (written, Took-then so.took p.pays.took, p.pays.cost, stopped_at next more result device' labels' written e ending bare u cut)
+      (written, Took-then so.took p.pays.took, p.pays.cost, stopped_at next more result device' labels' written e ending m bare u cut)
 
-  pub run_unmade : (next more : List ℕ) → rest ≡ next ++ more → EndsLine (s0.counts.ends < s.counts.ends) more → IsBare next → device ≡ None → WantsDevice next
+  pub run_unmade : (next more : List ℕ) → rest ≡ next ++ more → EndsLine (s0.counts.ends < s.counts.ends) more → length more ≤ 256 → IsBare next → device ≡ None → WantsDevice next
       → Runs s0 s k0 k turns ends.NoMemory
-  run_unmade next more e t b none wants =
+  run_unmade next more e t m b none wants =
       let nothing = unmade so.script none in record {
         read = so.read;
         written = script_text so.results;
         gave = so.gave;
         took = so.took;
+        chunks = so.chunks;
         turns_at_most = bounded;
         ends = record {
           lines = so.lines;
@@ -202,6 +216,7 @@ module _ {s0 s : SourceAccount} {k0 k : SinkAccount} {turns has n : ℕ} {rest :
           whole = so.whole ∙ ap (λ z. joined so.lines ++ z) e;
           bare = b;
           until = t;
+          behind = m;
           wants = wants;
           nothing = ap script_text nothing;
         };
@@ -212,47 +227,49 @@ some_end a b e = cc
 
 -- a line that doesn't let the run go on
 pub run_stop : {s0 s : SourceAccount} {k0 k : SinkAccount} {turns has n : ℕ} {rest : List ℕ} (old new : Interpreter) (next more : List ℕ) (k' : SinkAccount) (has' : ℕ) (end : LineEnd) (stop : ScriptEnd)
-    → SoFar s0 s k0 k turns has n rest (device_of old) old.labels → rest ≡ next ++ more → EndsLine (s0.counts.ends < s.counts.ends) more → IsBare next
+    → SoFar s0 s k0 k turns has n rest (device_of old) old.labels → rest ≡ next ++ more → EndsLine (s0.counts.ends < s.counts.ends) more → length next ≤ 255 → length more ≤ 256 → IsBare next
     → UsesLine old new next k k' has has' end → stop_of end (n + 1) ≡ Some stop → Runs s0 s k0 k' turns stop
-run_stop old new next more k' has' line_ends.Used stop so e t b u h = absurd (cc)
-run_stop {s0} {s} {k0} {k} {turns} old new next more k' has' line_ends.Malformed stop so e t b u h =
-    subst (λ q. Runs s0 s k0 q turns stop) (sym u.1) (subst (Runs s0 s k0 k turns) (some_end _ _ h) (run_malformed so next more e u.0 b (inl t)))
-run_stop {s0} {s} {k0} {k} {turns} old new next more k' has' line_ends.WriteFault stop so e t b u h =
-    let w = run_stopped so next more u.0 (device_of new) new.labels k' has' e t b u.1 u.2 in
+run_stop old new next more k' has' line_ends.Used stop so e t l m b u h = absurd (cc)
+run_stop {s0} {s} {k0} {k} {turns} old new next more k' has' line_ends.Malformed stop so e t l m b u h =
+    subst (λ q. Runs s0 s k0 q turns stop) (sym u.1) (subst (Runs s0 s k0 k turns) (some_end _ _ h) (run_malformed so next more e u.0 b (inl t) (omega arith) m))
+run_stop {s0} {s} {k0} {k} {turns} old new next more k' has' line_ends.WriteFault stop so e t l m b u h =
+    let w = run_stopped so next more u.0 (device_of new) new.labels k' has' e t m b u.1 u.2 in
     subst (Runs s0 s k0 k' turns) (some_end _ _ h) (record {
       read = so.read;
       written = w.0;
       gave = so.gave;
       took = w.1;
+      chunks = so.chunks;
       turns_at_most = (let a = w.2 in let c = so.cost in omega arith);
       ends = (w.3, (let a = so.took.counts.faults in omega (arith, a, u.3)));
     })
-run_stop {s0} {s} {k0} {k} {turns} old new next more k' has' line_ends.TurnsUsed stop so e t b u h =
-    let w = run_stopped so next more u.0 (device_of new) new.labels k' has' e t b u.1 u.2 in
+run_stop {s0} {s} {k0} {k} {turns} old new next more k' has' line_ends.TurnsUsed stop so e t l m b u h =
+    let w = run_stopped so next more u.0 (device_of new) new.labels k' has' e t m b u.1 u.2 in
     subst (Runs s0 s k0 k' turns) (some_end _ _ h) (record {
       read = so.read;
       written = w.0;
       gave = so.gave;
       took = w.1;
+      chunks = so.chunks;
       turns_at_most = (let a = w.2 in let c = so.cost in omega arith);
       ends = (inr w.3, (let a = w.2 in let c = so.cost in omega (arith, a, c, u.3)));
     })
-run_stop {s0} {s} {k0} {k} {turns} old new next more k' has' line_ends.NoMemory stop so e t b u h =
-    subst (λ q. Runs s0 s k0 q turns stop) (sym u.2) (subst (Runs s0 s k0 k turns) (some_end _ _ h) (run_unmade so next more e t b u.0 u.1))
+run_stop {s0} {s} {k0} {k} {turns} old new next more k' has' line_ends.NoMemory stop so e t l m b u h =
+    subst (λ q. Runs s0 s k0 q turns stop) (sym u.2) (subst (Runs s0 s k0 k turns) (some_end _ _ h) (run_unmade so next more e t m b u.0 u.1))
 
 -- the last line
 pub run_last : {s0 s : SourceAccount} {k0 k : SinkAccount} {turns has n : ℕ} {rest : List ℕ} (old new : Interpreter) (k' : SinkAccount) (has' : ℕ) (end : LineEnd)
-    → SoFar s0 s k0 k turns has n rest (device_of old) old.labels → IsBare rest → s0.counts.ends < s.counts.ends
+    → SoFar s0 s k0 k turns has n rest (device_of old) old.labels → IsBare rest → length rest ≤ 255 → s0.counts.ends < s.counts.ends
     → UsesLine old new rest k k' has has' end → Runs s0 s k0 k' turns (unwrap_or (stop_of end (n + 1)) ends.Done)
-run_last {rest} old new k' has' line_ends.Used so b f u = run_done_last so u.0 (device_of new) new.labels k' has' b u.1 u.2 f
-run_last {rest} old new k' has' line_ends.Malformed so b f u = run_stop old new rest [] k' has' line_ends.Malformed _ so (sym (append-nil rest)) (inl (refl, f)) b u refl
-run_last {rest} old new k' has' line_ends.WriteFault so b f u = run_stop old new rest [] k' has' line_ends.WriteFault _ so (sym (append-nil rest)) (inl (refl, f)) b u refl
-run_last {rest} old new k' has' line_ends.TurnsUsed so b f u = run_stop old new rest [] k' has' line_ends.TurnsUsed _ so (sym (append-nil rest)) (inl (refl, f)) b u refl
-run_last {rest} old new k' has' line_ends.NoMemory so b f u = run_stop old new rest [] k' has' line_ends.NoMemory _ so (sym (append-nil rest)) (inl (refl, f)) b u refl
+run_last {rest} old new k' has' line_ends.Used so b l f u = run_done_last so u.0 (device_of new) new.labels k' has' b u.1 u.2 f
+run_last {rest} old new k' has' line_ends.Malformed so b l f u = run_stop old new rest [] k' has' line_ends.Malformed _ so (sym (append-nil rest)) (inl (refl, f)) l (omega arith) b u refl
+run_last {rest} old new k' has' line_ends.WriteFault so b l f u = run_stop old new rest [] k' has' line_ends.WriteFault _ so (sym (append-nil rest)) (inl (refl, f)) l (omega arith) b u refl
+run_last {rest} old new k' has' line_ends.TurnsUsed so b l f u = run_stop old new rest [] k' has' line_ends.TurnsUsed _ so (sym (append-nil rest)) (inl (refl, f)) l (omega arith) b u refl
+run_last {rest} old new k' has' line_ends.NoMemory so b l f u = run_stop old new rest [] k' has' line_ends.NoMemory _ so (sym (append-nil rest)) (inl (refl, f)) l (omega arith) b u refl
 
 pub run_too_long : {s0 s : SourceAccount} {k0 k : SinkAccount} {turns has n : ℕ} {rest : List ℕ} {device : Option Rows} {labels : List ℕ} (front more : List ℕ)
     → SoFar s0 s k0 k turns has n rest device labels → IsTooLong rest front more → Runs s0 s k0 k turns (ends.Malformed (n + 1))
-run_too_long front more so t = run_malformed so front more t.whole (malformed (reading_of-long front (omega (arith, t.long)))) t.bare (inr t.long)
+run_too_long front more so t = run_malformed so front more t.whole (malformed (reading_of-long front (omega (arith, t.long)))) t.bare (inr t.long) (omega (arith, t.long)) (omega (arith, t.behind))
 
 pub so_far_none : (source : SourceAccount) (sink : SinkAccount) (turns : ℕ) (rest : List ℕ) (device : Option Rows) (labels : List ℕ) → rest ≡ [] → device ≡ None → labels ≡ unbound
     → SoFar source source sink sink turns turns 0 rest device labels
@@ -262,6 +279,7 @@ so_far_none source sink turns rest device labels e f h = record {
   results = [];
   gave = Gave-none source;
   took = Took-none sink;
+  chunks = omega arith;
   cost = refl;
   script = subst (λ d. Script [] [] d labels) (sym f) (subst (Script [] [] None) (sym h) start);
   whole = sym e;

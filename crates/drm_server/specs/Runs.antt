@@ -1,5 +1,5 @@
 -- How a run of a script ends, and what was then read and written (own).
-use Rattle.std.specs.Prelude.{◌≡◌, ℕ, ◌+◌, ◌<◌, ◌≤◌, List, [], ◌∷◌, ◌++◌, ◌⊎◌, Option, None, Some, Result, length}
+use Rattle.std.specs.Prelude.{◌≡◌, ℕ, ◌+◌, ◌*◌, ◌<◌, ◌≤◌, List, [], ◌∷◌, ◌++◌, ◌⊎◌, Option, None, Some, Result, length}
 use Rattle.drm_table.specs.declared.answers.Answer.{Answer}
 use Rattle.drm_table.specs.declared.apart.Apart.{Apart}
 use Rattle.drm_model.specs.Rows.{Rows}
@@ -35,7 +35,8 @@ pub record IsDone (ended : Type 0) (read written : List ℕ) : Type 0 where
 abbrev pub EndsLine : Type 0 → List ℕ → Type 0
 EndsLine ended rest = ((rest ≡ []) × ended) ⊎ ((more : List ℕ) × (rest ≡ 10 ∷ more))
 
--- The lines before the bad one were used. The bad one can't be used: its end was read, or the input ended, or it is too long.
+-- The lines before the bad one were used. The bad one can't be used: its end was read, or the input ended, or it is too long,
+-- which its first 256 bytes tell. No more was read behind it than one read gives.
 pub record IsMalformed (ended : Type 0) (number : ℕ) (read written : List ℕ) : Type 0 where
   pub lines : List (List ℕ)
   pub results : Results
@@ -48,10 +49,12 @@ pub record IsMalformed (ended : Type 0) (number : ℕ) (read written : List ℕ)
   pub misplaced : IsMisplaced device bad
   pub bare : IsBare bad
   pub until : EndsLine ended rest ⊎ (length bad ≡ 256)
+  pub short : length bad ≤ 256
+  pub behind : length rest ≤ 256
   pub counted : number ≡ length lines + 1
   pub text : written ≡ script_text results
 
--- Every whole line that was read was used.
+-- Every whole line that was read was used, and what is left is shorter than a line that is too long.
 pub record IsCutShort (read written : List ℕ) : Type 0 where
   pub lines : List (List ℕ)
   pub results : Results
@@ -61,6 +64,7 @@ pub record IsCutShort (read written : List ℕ) : Type 0 where
   pub script : Script lines results device labels
   pub whole : read ≡ joined lines ++ rest
   pub bare : IsBare rest
+  pub short : length rest ≤ 255
   pub text : written ≡ script_text results
 
 -- Writing stopped in the last answer's line: those before it were written, and of it a front that lacks a byte at least.
@@ -74,7 +78,8 @@ pub record IsCutInLast (results : Results) (written : List ℕ) : Type 0 where
   pub more : 0 < length unsent
   pub text : written ≡ script_text before ++ sent
 
--- Some lines were used, and writing stopped in the answer of the last one; so no line is used after a failed write.
+-- Some lines were used, and writing stopped in the answer of the last one; so no line is used after a failed write, and no
+-- more was read behind it than one read gives.
 pub record IsStopped (ended : Type 0) (read written : List ℕ) : Type 0 where
   pub lines : List (List ℕ)
   pub results : Results
@@ -83,9 +88,11 @@ pub record IsStopped (ended : Type 0) (read written : List ℕ) : Type 0 where
   pub rest : List ℕ
   pub script : Script lines results device labels
   pub covers : Covers ended read lines rest
+  pub behind : length rest ≤ 256
   pub cut : IsCutInLast results written
 
--- The lines before were all skipped; the next one wants a device, for which there was no memory. Nothing was written.
+-- The lines before were all skipped; the next one wants a device, for which there was no memory. Nothing was written, and no
+-- more was read behind that line than one read gives.
 pub record IsUnmade (ended : Type 0) (read written : List ℕ) : Type 0 where
   pub lines : List (List ℕ)
   pub labels : List ℕ
@@ -95,6 +102,7 @@ pub record IsUnmade (ended : Type 0) (read written : List ℕ) : Type 0 where
   pub whole : read ≡ joined lines ++ (next ++ rest)
   pub bare : IsBare next
   pub until : EndsLine ended rest
+  pub behind : length rest ≤ 256
   pub wants : WantsDevice next
   pub nothing : written ≡ []
 
@@ -111,12 +119,13 @@ Ends ends.TurnsUsed source source' sink sink' turns read written =
     × (source'.counts.calls + sink'.counts.calls ≡ source.counts.calls + sink.counts.calls + turns)
 Ends ends.NoMemory source source' sink sink' turns read written = IsUnmade (source.counts.ends < source'.counts.ends) read written
 
--- A run: what it read and wrote, at what cost, and why it ended.
+-- A run: what it read and wrote, at what cost, and why it ended. Each take asks for 256 bytes at most.
 pub record Runs (source source' : SourceAccount) (sink sink' : SinkAccount) (turns : ℕ) (end : ScriptEnd) : Type 0 where
   pub read : List ℕ
   pub written : List ℕ
   pub gave : Gave source source' read
   pub took : Took sink sink' written
+  pub chunks : length read + 256 * source.counts.calls ≤ 256 * source'.counts.calls
   pub turns_at_most : source'.counts.calls + sink'.counts.calls ≤ source.counts.calls + sink.counts.calls + turns
   pub ends : Ends end source source' sink sink' turns read written
 
@@ -127,6 +136,7 @@ pub record SoFar (source source' : SourceAccount) (sink sink' : SinkAccount) (tu
   pub results : Results
   pub gave : Gave source source' read
   pub took : Took sink sink' (script_text results)
+  pub chunks : length read + 256 * source.counts.calls ≤ 256 * source'.counts.calls
   pub cost : source'.counts.calls + sink'.counts.calls + has ≡ source.counts.calls + sink.counts.calls + turns
   pub script : Script lines results device labels
   pub whole : read ≡ joined lines ++ rest

@@ -9,7 +9,8 @@ invariant-pieces g l =
     let account = g.S.Source.account in
     record {
       given : (given : List ℕ) × Spends (account l.fn.source) (account l.source) given l.fn.turns l.turns
-          × (pending l.fn.self ++ given ≡ held l.self ++ pending l.self);
+          × (pending l.fn.self ++ given ≡ held l.self ++ pending l.self)
+          × (length given + 256 * (account l.fn.source).counts.calls ≤ 256 * (account l.source).counts.calls);
       bare : IsBare (held l.self);
       fuel : 256 * l.turns + length (held l.self) + length (pending l.self) ≤ 256 * l.fn.turns + length (pending l.fn.self);
     }
