@@ -11,12 +11,21 @@ use std::os::unix::net::{UnixListener, UnixStream};
 use std::sync::Wait;
 use std::test::Fail;
 use std::thread::Threads;
+use std::time::Duration;
 use std::{env, fs, io, process, thread};
 
 /// A hello for a node, and VERSION.
 const HELLO_VERSION: [u8; 24] = [
     0x0e, 0, 0, 0, 0, 1, 1, 0, 0, 0, 0, 0, 0, 0, 0, 0, 0, 0, 2, 0, 0, 0, 0, 0,
 ];
+
+/// AUDIT of the device.
+const AUDIT: [u8; 14] = [0x0a, 0, 0, 0, 0x45, 0, 0x0a, 0, 0, 0, 0, 0, 0, 0];
+
+/// The numbers of the answers that a client gets who is root, and one who isn't: rows, and a denial.
+const ROWS: [u8; 2] = [0x0b, 0x10];
+
+const DENIED: [u8; 2] = [0, 0x20];
 
 /// Client 1 was opened, and the version is 1.0.0.
 const ANSWERS: [u8; 28] = [
@@ -105,6 +114,41 @@ fn open_four<R: Net>(rt: &R, places: &Places) -> io::Result<()> {
         stream.shutdown(Shutdown::Both)?;
     }
     Ok(())
+}
+
+/// Opens two clients, of which the second ends while the first is open, and gives what the second then reads. Where it
+/// reads no end, the read times out.
+fn end_second_first<R: Net>(rt: &R, alloc: Global, path: &str) -> io::Result<Vec<u8>> {
+    let first = open(rt, path)?;
+    let mut second = open(rt, path)?;
+    second.set_read_timeout(Some(Duration::from_secs(20)))?;
+    second.shutdown(Shutdown::Write)?;
+    let mut rest = Vec::new(alloc);
+    let read = second.read_to_end(&mut rest);
+    first.shutdown(Shutdown::Both)?;
+    read?;
+    Ok(rest)
+}
+
+/// Opens a client, and asks for the version so many times, each time once the answer before is read.
+fn ask_in_turn<R: Net>(rt: &R, path: &str, times: u32) -> io::Result<()> {
+    let (_, version) = HELLO_VERSION.split_at(18);
+    let mut stream = open(rt, path)?;
+    for _ in 0..times {
+        stream.write_all(version)?;
+        let mut answer = [0; 18];
+        stream.read_exact(&mut answer)?;
+    }
+    stream.shutdown(Shutdown::Both)
+}
+
+/// Opens a client, asks for an audit of the device, and gives the number of the answer.
+fn ask_audit<R: Net>(rt: &R, path: &str) -> io::Result<[u8; 2]> {
+    let mut stream = open(rt, path)?;
+    stream.write_all(&AUDIT)?;
+    let mut answer = [0; 6];
+    stream.read_exact(&mut answer)?;
+    Ok([answer[4], answer[5]])
 }
 
 /// What a device served, and how many steps it noted and what it lists afterwards.
@@ -225,5 +269,82 @@ fn tells_of_a_connection_that_is_not_accepted(rt: HostRuntime) -> Result<(), Fai
     );
     remove(&rt, &places)?;
     assert_eq!(&rt; served.err(), Some(ServeFault::Accept(Class::Render)));
+    Ok(())
+}
+
+#[test]
+fn connection_ends_with_its_session(rt: HostRuntime) -> Result<(), Fail> {
+    let alloc: Global = rt.alloc();
+    let places = choose_places(&rt, alloc)?;
+    let sockets = bind(&rt, &places)?;
+    let counts = Counts {
+        cards: 2,
+        renders: 0,
+        roots: 0,
+    };
+    let (rest, served) = thread::join(
+        &rt,
+        || end_second_first(&rt, alloc, places.card.as_str()),
+        || serve(&rt, alloc, &sockets, counts),
+    );
+    remove(&rt, &places)?;
+    assert_eq!(&rt; rest?.len(), 0);
+    let served = served.ok_or("no outcome")?;
+    assert_eq!(&rt; served.sessions.len(), 2);
+    Ok(())
+}
+
+#[test]
+fn session_of_many_requests(rt: HostRuntime) -> Result<(), Fail> {
+    let alloc: Global = rt.alloc();
+    let places = choose_places(&rt, alloc)?;
+    let sockets = bind(&rt, &places)?;
+    let counts = Counts {
+        cards: 0,
+        renders: 1,
+        roots: 0,
+    };
+    let (asked, served) = thread::join(
+        &rt,
+        || ask_in_turn(&rt, places.render.as_str(), 1_000),
+        || serve(&rt, alloc, &sockets, counts),
+    );
+    remove(&rt, &places)?;
+    asked?;
+    let served = served.ok_or("no outcome")?;
+    let session = Session {
+        end: SessionEnd::Ended,
+        client: 1,
+        steps: 1_002,
+    };
+    assert_eq!(&rt; served.sessions.as_slice(), [session].as_slice());
+    Ok(())
+}
+
+#[test]
+fn root_alone_is_root(rt: HostRuntime) -> Result<(), Fail> {
+    let alloc: Global = rt.alloc();
+    let places = choose_places(&rt, alloc)?;
+    let sockets = bind(&rt, &places)?;
+    let counts = Counts {
+        cards: 1,
+        renders: 1,
+        roots: 1,
+    };
+    let (answers, served) = thread::join(
+        &rt,
+        || -> io::Result<[[u8; 2]; 3]> {
+            Ok([
+                ask_audit(&rt, places.card.as_str())?,
+                ask_audit(&rt, places.render.as_str())?,
+                ask_audit(&rt, places.root.as_str())?,
+            ])
+        },
+        || serve(&rt, alloc, &sockets, counts),
+    );
+    remove(&rt, &places)?;
+    assert_eq!(&rt; answers?, [DENIED, DENIED, ROWS]);
+    let served = served.ok_or("no outcome")?;
+    assert_eq!(&rt; served.sessions.len(), 3);
     Ok(())
 }
