@@ -3,12 +3,15 @@
 ghost use Rattle.std.specs.Prelude.{◌≡◌, ◌≤◌, [], All, IfOk, IfErr, vec_len};
 ghost use Rattle.std.specs.Vec.{vec_capacity};
 ghost use Rattle.drm_turns.specs.Seats.{fresh};
+ghost use Rattle.drm_streams.specs.Streams.{no_calls};
 ghost use Rattle.drm_sessions.specs.Matched.{Matched};
-ghost use Rattle.drm_listeners.specs.Connections.{IsFaultOf, IsSessionOf, Serves};
+ghost use Rattle.drm_sessions.specs.Serving.{Costs};
+ghost use Rattle.drm_sessions.specs.Shared.{ServesShared};
+ghost use Rattle.drm_listeners.specs.Connections.{IsFaultOf, IsSessionOf, Serves, connection_turns};
 
 use crate::serve_faults::ServeFault;
 use drm_sessions::{Class, NoGate, Served, Session, serve_through};
-use drm_streams::{FromRead, ToWrite};
+use drm_streams::{FromRead, Sink, Source, ToWrite};
 use drm_turns::{Seat, SharedDevice, Sharing};
 use std::alloc::Global;
 use std::os::unix::net::{UnixListener, UnixStream};
@@ -47,6 +50,37 @@ impl Promise<Served> for ConnectionServed {
 /// A thread that serves a connection.
 type ConnectionHandle = PromisedHandle<Served, ConnectionServed>;
 
+// Serves a connection over its two sides, which nobody had asked before.
+fn serve_sides<R: Wait, D: Sharing, S: Source, K: Sink>(
+    rt: &R,
+    shared: &D,
+    seat: Seat,
+    class: Class,
+    source: &mut S,
+    sink: &mut K,
+) -> Served
+    requires seat { seat ≡ fresh }
+    requires unread { (S.account source.old).counts ≡ no_calls }
+    requires unwritten { (K.account sink.old).counts ≡ no_calls }
+    ensures serves { ServesShared class fresh fresh
+        (S.account source.old) (S.account source.new) (K.account sink.old) (K.account sink.new)
+        result.session }
+    ensures costs { Costs (S.account source.old) (S.account source.new)
+        (K.account sink.old) (K.account sink.new) connection_turns result.session.end }
+    ensures seat { result.seat ≡ fresh }
+{
+    serve_through(
+        rt,
+        shared.device(),
+        seat,
+        &mut NoGate,
+        class,
+        source,
+        sink,
+        MOST_TURNS,
+    )
+}
+
 // Serves a connection, which is closed as the session ends.
 fn serve_connection<R: Wait, D: Sharing>(
     rt: &R,
@@ -61,16 +95,7 @@ fn serve_connection<R: Wait, D: Sharing>(
 {
     let mut source = FromRead::new(&stream);
     let mut sink = ToWrite::new(&stream);
-    serve_through(
-        rt,
-        shared.device(),
-        seat,
-        &mut NoGate,
-        class,
-        &mut source,
-        &mut sink,
-        MOST_TURNS,
-    )
+    serve_sides(rt, shared, seat, class, &mut source, &mut sink)
 }
 
 // Accepts a connection, and starts the thread that serves it.
