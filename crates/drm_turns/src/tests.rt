@@ -68,6 +68,38 @@ fn seats_share_one_device(rt: HostRuntime) -> Result<(), Fail> {
     Ok(())
 }
 
+#[test]
+fn stamp_of_one_seat_is_read_by_another(rt: HostRuntime) -> Result<(), Fail> {
+    let (shared, mut seat) = shared(rt.alloc())?;
+    let opening = Event::Open(Opening::Primary { root: false });
+    let opened = shared.call(&rt, &mut seat, opening);
+    assert_eq!(rt; opened, Ok(Answer::Opened { client: 1 }));
+    let made = shared.call(&rt, &mut seat, Event::Ask(1, Call::BufCreate { size: 1 }));
+    let buffer = Answer::Buffer {
+        handle: 1,
+        size: 4096,
+    };
+    assert_eq!(rt; made, Ok(buffer));
+    let write = Call::StampWrite {
+        handle: 1,
+        stamp: 9,
+    };
+    assert_eq!(rt;
+        shared.call(&rt, &mut seat, Event::Ask(1, write)),
+        Ok(Answer::Done)
+    );
+    let mut other = shared.split(&mut seat);
+    let read = Event::Ask(1, Call::StampRead { handle: 1 });
+    assert_eq!(rt;
+        shared.call(&rt, &mut other, read),
+        Ok(Answer::Number { value: 9 })
+    );
+    shared.join(&mut seat, other);
+    let device = shared.close(seat).map_err(|_| "the device is out")?;
+    assert_eq!(rt; device.journal().len(), 4);
+    Ok(())
+}
+
 /// Opens a render client and asks 99 times.
 fn hundred_events(rt: &(impl Wait + Abort), shared: &SharedDevice, seat: &mut Seat) {
     let opened = shared.call(rt, seat, Event::Open(Opening::Render));
