@@ -5,3 +5,4 @@ mod Pushed
 mod Swept
 mod Numbered
 mod Sound
+pub mod Tested
