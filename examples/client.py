@@ -17,11 +17,15 @@ HELLO = 0x0100
 # a call's word: its number and the format of its fields (I is a u32, Q a u64)
 CALLS = {
     "version": (0x00, ""),
+    "get_magic": (0x02, ""),
     "gem_close": (0x09, "I"),
     "gem_flink": (0x0A, "I"),
     "gem_open": (0x0B, "I"),
     "get_cap": (0x0C, "Q"),
     "set_client_cap": (0x0D, "QQ"),
+    "auth_magic": (0x11, "I"),
+    "set_master": (0x1E, ""),
+    "drop_master": (0x1F, ""),
     "prime_export": (0x2D, "I"),
     "prime_import": (0x2E, "I"),
     "buf_create": (0x40, "Q"),

@@ -1,137 +1,138 @@
 -- What an opening leaves of the parts.
-use Rattle.std.proofs.Common.{◌≡◌, ℕ, ◌==◌, true, false, List, [], ◌∷◌, ◌++◌, map, Option, Some, sym, ap, ◌∙◌, subst}
-use Rattle.std.specs.List.{list_any, AllByRecursion}
-use Rattle.std.specs.Global.{Vec}
-use Rattle.std.proofs.lemmas.Bool.{or_left}
+use Rattle.std.proofs.Common.{◌≡◌, ℕ, ◌<◌, ◌≤◌, ◌==◌, Bool, true, false, not, ◌||◌, cond, List, [], ◌∷◌, ◌++◌, filter, find, Option, None, Some, refl, sym, ap, ◌∙◌, subst, append-nil, eq-eqb, length, arith}
+use Rattle.std.specs.List.{filter_map, cons_option, AllByRecursion}
+use Rattle.std.specs.Option.{is_some, option_map}
+use Rattle.std.proofs.lemmas.Bool.{eqb-true, or_left, or_right}
 use Rattle.std.proofs.lemmas.List.{map-append}
-use Rattle.drm_lists.specs.Orders.{InOrder}
-use Rattle.drm_lists.proofs.Lists.{all_weaker, all_append, list_any_left, list_any_right}
-use Rattle.drm_lists.proofs.Orders.{in_order_append}
+use Rattle.std.proofs.lemmas.List.Elements.{filter-append}
+use Rattle.drm_lists.specs.Orders.{SameRows, InOrder}
+use Rattle.drm_lists.proofs.Lists.{all_weaker, all_append, filter_all, filter-fewer, all_both, list_any_left, list_any_right}
+use Rattle.drm_lists.proofs.Found.{is_some-find, find_others}
+use Rattle.drm_lists.proofs.Numbers.{less-differ, flipped}
 use Rattle.drm_files.specs.declared.rows.FileFlags.{FileFlags}
 use Rattle.drm_files.specs.declared.rows.FileClient.{FileClient}
-use Rattle.drm_files.specs.Files.{FileLists, is_present}
-use Rattle.drm_model.specs.Rows.{Rows, ClientRow, MasterRow, is_option}
-use Rattle.drm_state.specs.declared.state.Member.{Member}
+use Rattle.drm_files.specs.declared.rows.FileHold.{FileHold}
+use Rattle.drm_files.specs.Files as files
+use Rattle.drm_files.specs.Files.{FileLists, AreFiles, IsHoldOf, is_present, without_client}
+use Rattle.drm_masters.specs.declared.rows.Magic.{Magic}
+use Rattle.drm_masters.specs.declared.rows.Member.{Member}
+use Rattle.drm_masters.specs.declared.rows.Master.{Master}
+use Rattle.drm_masters.specs.Masters as masters
+use Rattle.drm_masters.specs.Masters.{MasterSet, AreMasters}
+use Rattle.drm_masters.specs.Calls.{with_member, with_master, with_device}
+use Rattle.drm_model.specs.Rows.{Rows, ClientRow, MasterRow}
 use Rattle.drm_state.specs.declared.state.State.{State}
-use Rattle.drm_state.specs.Parts.{no_member, client_row_by, client_row_of, master_row_of, clients_of, masters_of}
-use Rattle.drm_state.specs.Ties.{Tie, MembersOpen, MembersDiffer, MastersNamed, is_tied, IsTied, IsLater}
-use Rattle.drm_model.specs.Parts.{Part, Clients, Masters, DeviceMaster}
+use Rattle.drm_state.specs.Parts.{client_row_by, master_row_of, magic_row_of, clients_of, masters_of}
+use Rattle.drm_state.specs.Ties.{Tie, MembersOpen, ClientsHave, MastersAre, NoneKept, MagicsSuffice, is_tied, IsTied, IsLater, HasMaster}
+use Rattle.drm_model.specs.Parts.{Part, Clients, Masters, Magics, DeviceMaster}
 use Rattle.drm_state.specs.Refinement.{stands_for, Represents}
-use Rattle.drm_state.proofs.Represented.{clients_are, masters_are, members_open, members_differ, masters_are_named}
-use Rattle.drm_state.proofs.Members.{client_pushed, render_pushed, members_older, members_open_yet, found_last}
+use Rattle.drm_state.proofs.Represented.{clients_are, masters_are, magics_are, members_open, clients_have, magics_suffice}
+use Rattle.drm_state.proofs.Members.{client_pushed, render_pushed, members_open_yet, found_last}
+use Rattle.drm_client_calls.proofs.Files.{not_there}
 
-abbrev AreDifferent : List Member → Type 0
-AreDifferent ms = InOrder (λ (x y : Member). (x.client == y.client) ≡ false) ms
+-- ---- a file that was opened is closed again
 
-abbrev AreNamed : List Member → List ℕ → Type 0
-AreNamed members ms = AllByRecursion (λ m. list_any (λ (x : Member). is_option m x.master) members ≡ true) ms
+abbrev pub with_file : FileLists → ℕ → FileFlags → FileLists
+with_file fs c flags = record fs { clients = fs.clients ++ record { client = c; flags = flags } ∷ [] }
 
--- ---- no opening: other storage for the same lists
+pub closed_again : (fs : FileLists) (c : ℕ) (flags : FileFlags) → AreFiles fs → AllByRecursion (λ (g : FileClient). g.client < c) fs.clients → without_client (with_file fs c flags) c ≡ fs
+closed_again fs c flags are newest = λ i. record fs { clients = clients i; holds = holds i }
+  where
+    others : AllByRecursion (λ (g : FileClient). not (files.is_client c g) ≡ true) fs.clients
+    others = all_weaker (λ (g : FileClient). g.client < c) (λ (g : FileClient). not (files.is_client c g) ≡ true) (λ g lt. ap not (less-differ g.client c lt)) fs.clients newest
 
-abbrev pub unopened : State → FileLists → Vec Member → Vec ℕ → State
-unopened s files members masters = record s { files = files; members = members; masters = masters }
+    clients : filter (λ (g : FileClient). not (files.is_client c g)) (fs.clients ++ record { client = c; flags = flags } ∷ []) ≡ fs.clients
+    clients =
+        filter-append (λ (g : FileClient). not (files.is_client c g)) fs.clients (record { client = c; flags = flags } ∷ [])
+        ∙ ap (λ b. filter (λ (g : FileClient). not (files.is_client c g)) fs.clients ++ cond (not b) (record { client = c; flags = flags } ∷ []) []) (eq-eqb c c refl)
+        ∙ append-nil (filter (λ (g : FileClient). not (files.is_client c g)) fs.clients) ∙ filter_all (λ (g : FileClient). not (files.is_client c g)) fs.clients others
 
-same_rows : (s : State) (w : Rows) (members : Vec Member) (masters : Vec ℕ) → members.items ≡ s.members.items → masters.items ≡ s.masters.items → Represents s w → (part : Part) → stands_for part (unopened s s.files members masters) w
-unfolding stands_for
-same_rows s w members masters e f h Clients = clients_are s w h ∙ ap (λ ms. map (client_row_of ms) s.files.clients) (sym e)
-same_rows s w members masters e f h Masters = masters_are s w h ∙ ap (map master_row_of) (sym f)
-same_rows s w members masters e f h part = h part
-
-same_ties : (s : State) (members : Vec Member) (masters : Vec ℕ) → members.items ≡ s.members.items → masters.items ≡ s.masters.items → IsTied s → (tie : Tie) → is_tied tie (unopened s s.files members masters)
-unfolding is_tied
-same_ties s members masters e f t MembersOpen = subst (AllByRecursion (λ (m : Member). is_present s.files m.client ≡ true)) (sym e) (members_open s t)
-same_ties s members masters e f t MembersDiffer = subst AreDifferent (sym e) (members_differ s t)
-same_ties s members masters e f t MastersNamed = subst (λ xs. AreNamed xs masters.items) (sym e) (subst (AreNamed s.members.items) (sym f) (masters_are_named s t))
-same_ties s members masters e f t tie = t tie
-
-pub unopened_represents : (s : State) (w : Rows) (files : FileLists) (members : Vec Member) (masters : Vec ℕ) → files ≡ s.files → members.items ≡ s.members.items → masters.items ≡ s.masters.items → Represents s w → Represents (unopened s files members masters) w
-unopened_represents s w files members masters e f g h = subst (λ fs. Represents (unopened s fs members masters) w) (sym e) (same_rows s w members masters f g h)
-
-pub unopened_tied : (s : State) (files : FileLists) (members : Vec Member) (masters : Vec ℕ) → files ≡ s.files → members.items ≡ s.members.items → masters.items ≡ s.masters.items → IsTied s → IsTied (unopened s files members masters)
-unopened_tied s files members masters e f g t = subst (λ fs. IsTied (unopened s fs members masters)) (sym e) (same_ties s members masters f g t)
+    holds : filter (λ (x : FileHold). not (files.of_client c x)) fs.holds ≡ fs.holds
+    holds = filter_all (λ (x : FileHold). not (files.of_client c x)) fs.holds (all_weaker (IsHoldOf fs) (λ (x : FileHold). not (files.of_client c x) ≡ true) (λ x h. ap not (its_client x h.client_open)) fs.holds are.holds_are)
+      where
+        its_client : (x : FileHold) → is_present fs x.client ≡ true → (x.client == c) ≡ false
+        its_client x there = (elim (x.client == c) as (λ b. (x.client == c) ≡ b → b ≡ false) [ true ↦ λ e. absurd (let j : false ≡ true = sym (not_there c fs.clients newest) ∙ ap (is_present fs) (sym (eqb-true x.client c e)) ∙ there in cc) | false ↦ λ e. refl ]) refl
 
 -- ---- one more client
 
-abbrev pub with_file : State → ℕ → FileFlags → FileLists
-with_file s c flags = record s.files { clients = s.files.clients ++ record { client = c; flags = flags } ∷ [] }
+-- the state with a client that stands to masters so
+abbrev pub joined : State → ℕ → FileFlags → MasterSet → State
+joined s c flags set = record s { files = with_file s.files c flags; masters = set }
 
-abbrev pub opened : State → FileLists → Vec Member → Vec ℕ → Option ℕ → State
-opened s files members masters device = record s { files = files; members = members; masters = masters; device_master = device }
+have_more : (v : MasterSet) (set : MasterSet) (m : Member) → set.members ≡ v.members ++ m ∷ [] → (f : FileClient) → HasMaster v f → HasMaster set f
+have_more v set m e f h = ap (λ l. f.flags.render || is_some (masters.member_of l f.client)) e ∙ by_render f.flags.render h
+  where
+    by_render : (b : Bool) → (b || is_some (masters.member_of v.members f.client)) ≡ true → (b || is_some (masters.member_of (v.members ++ m ∷ []) f.client)) ≡ true
+    by_render true k = refl
+    by_render false k = is_some-find (masters.is_client f.client) (v.members ++ m ∷ []) ∙ list_any_left (masters.is_client f.client) v.members (m ∷ []) (sym (is_some-find (masters.is_client f.client) v.members) ∙ k)
 
--- its masters are named: those that were, and its own
-pub named_yet : (s : State) (m : Member) → IsTied s → AreNamed (s.members.items ++ m ∷ []) s.masters.items
-named_yet s m t = all_weaker _ _ (λ n e. list_any_left (λ (x : Member). is_option n x.master) s.members.items (m ∷ []) e) s.masters.items (masters_are_named s t)
-
-pub named_more : (s : State) (m : Member) (n : ℕ) → is_option n m.master ≡ true → IsTied s → AreNamed (s.members.items ++ m ∷ []) (s.masters.items ++ n ∷ [])
-named_more s m n e t =
-    all_append _ s.masters.items (n ∷ []) (named_yet s m t) (list_any_right (λ (x : Member). is_option n x.master) s.members.items (m ∷ []) (or_left (is_option n m.master) false e), tt)
-
-ties_more : (s : State) (flags : FileFlags) (m : Member) (members : Vec Member) (masters : Vec ℕ) (device : Option ℕ) → IsTied s → IsLater s m.client → members.items ≡ s.members.items ++ m ∷ [] → AreNamed (s.members.items ++ m ∷ []) masters.items →
-    (tie : Tie) → is_tied tie (opened s (with_file s m.client flags) members masters device)
+pub joined_tied : (s : State) (flags : FileFlags) (m : Member) (set : MasterSet) → IsTied s → set.members ≡ s.masters.members ++ m ∷ [] → AreMasters set → AllByRecursion (λ (x : Master). x.kept ≡ false) set.masters → set.last_magic ≡ s.masters.last_magic → (tie : Tie) → is_tied tie (joined s m.client flags set)
 unfolding is_tied
-ties_more s flags m members masters device t later e named MembersOpen =
+joined_tied s flags m set t e are kept last MembersOpen =
     let f : FileClient = record { client = m.client; flags = flags } in
-    subst (AllByRecursion (λ (x : Member). is_present (with_file s m.client flags) x.client ≡ true)) (sym e) (all_append _ s.members.items (m ∷ []) (members_open_yet f s.files.clients s.members.items (members_open s t)) (found_last f s.files.clients, tt))
-ties_more s flags m members masters device t later e named MembersDiffer =
-    subst AreDifferent (sym e) (in_order_append (λ (x y : Member). (x.client == y.client) ≡ false) s.members.items m (members_differ s t) (members_older m.client s.files.clients s.members.items later.clients (members_open s t)))
-ties_more s flags m members masters device t later e named MastersNamed = subst (λ xs. AreNamed xs masters.items) (sym e) named
-ties_more s flags m members masters device t later e named tie = t tie
+    subst (AllByRecursion (λ (x : Member). is_present (with_file s.files m.client flags) x.client ≡ true)) (sym e) (all_append _ s.masters.members (m ∷ []) (members_open_yet f s.files.clients s.masters.members (members_open s t)) (found_last f s.files.clients, tt))
+joined_tied s flags m set t e are kept last ClientsHave =
+    all_append (HasMaster set) s.files.clients (record { client = m.client; flags = flags } ∷ []) (all_weaker (HasMaster s.masters) (HasMaster set) (λ f h. have_more s.masters set m e f h) s.files.clients (clients_have s t))
+    (ap (λ l. flags.render || is_some (masters.member_of l m.client)) e ∙ or_right flags.render _ (is_some-find (masters.is_client m.client) (s.masters.members ++ m ∷ []) ∙ list_any_right (masters.is_client m.client) s.masters.members (m ∷ []) (or_left (m.client == m.client) false (eq-eqb m.client m.client refl))), tt)
+joined_tied s flags m set t e are kept last MastersAre = are
+joined_tied s flags m set t e are kept last NoneKept = kept
+joined_tied s flags m set t e are kept last MagicsSuffice = last ∙ magics_suffice s t
+joined_tied s flags m set t e are kept last tie = t tie
 
-pub opened_tied : (s : State) (files : FileLists) (flags : FileFlags) (m : Member) (members : Vec Member) (masters : Vec ℕ) (device : Option ℕ) → IsTied s → IsLater s m.client → files ≡ with_file s m.client flags → members.items ≡ s.members.items ++ m ∷ [] → AreNamed (s.members.items ++ m ∷ []) masters.items →
-    IsTied (opened s files members masters device)
-opened_tied s files flags m members masters device t later e f named = subst (λ fs. IsTied (opened s fs members masters device)) (sym e) (ties_more s flags m members masters device t later f named)
+no_magic_more : (m : Member) → m.magic ≡ None → (xs : List Member) → filter_map magic_row_of (xs ++ m ∷ []) ≡ filter_map magic_row_of xs
+no_magic_more m e [] = ap (λ (g : Option Magic). cons_option (option_map (λ (d : Magic). record { master = m.master; number = d.number; client = m.client; spent = d.spent }) g) []) e
+no_magic_more m e (x ∷ xs) = ap (cons_option (magic_row_of x)) (no_magic_more m e xs)
 
--- the rows with one more client, and with its master where it founds one
-clients_more : (s : State) (w : Rows) (flags : FileFlags) (m : Member) (members : Vec Member) (row : ClientRow) → IsTied s → IsLater s m.client → members.items ≡ s.members.items ++ m ∷ [] → client_row_by (record { client = m.client; flags = flags }) m ≡ row → Represents s w →
-    w.clients ++ row ∷ [] ≡ map (client_row_of members.items) (with_file s m.client flags).clients
-clients_more s w flags m members row t later e r h =
-    ap (λ l. l ++ row ∷ []) (clients_are s w h) ∙ ap (λ x. clients_of s ++ x ∷ []) (sym r) ∙ sym (client_pushed flags m s.files.clients s.members.items later.clients (members_open s t))
-    ∙ ap (λ ms. map (client_row_of ms) (with_file s m.client flags).clients) (sym e)
-
-rows_joined : (s : State) (w : Rows) (flags : FileFlags) (m : Member) (members : Vec Member) (row : ClientRow) → IsTied s → IsLater s m.client → members.items ≡ s.members.items ++ m ∷ [] → client_row_by (record { client = m.client; flags = flags }) m ≡ row → Represents s w →
-    (part : Part) → stands_for part (opened s (with_file s m.client flags) members s.masters s.device_master) (record w { clients = w.clients ++ row ∷ [] })
+-- a guest
+pub guest_represents : (s : State) (w : Rows) (flags : FileFlags) (m : Member) (row : ClientRow) → IsTied s → IsLater s m.client → m.magic ≡ None → client_row_by (record { client = m.client; flags = flags }) (Some m) ≡ row → Represents s w →
+    (part : Part) → stands_for part (joined s m.client flags (with_member m s.masters)) (record w { clients = w.clients ++ row ∷ [] })
 unfolding stands_for
-rows_joined s w flags m members row t later e r h Clients = clients_more s w flags m members row t later e r h
-rows_joined s w flags m members row t later e r h part = h part
+guest_represents s w flags m row t later none r h Clients =
+    ap (λ l. l ++ row ∷ []) (clients_are s w h) ∙ ap (λ x. clients_of s ++ x ∷ []) (sym r) ∙ sym (client_pushed flags m s.files.clients s.masters.members later.clients (members_open s t))
+guest_represents s w flags m row t later none r h Magics = subst (SameRows w.magics) (sym (no_magic_more m none s.masters.members)) (magics_are s w h)
+guest_represents s w flags m row t later none r h part = h part
 
-pub joined_represents : (s : State) (w : Rows) (files : FileLists) (flags : FileFlags) (m : Member) (members : Vec Member) (row : ClientRow) → IsTied s → IsLater s m.client → files ≡ with_file s m.client flags → members.items ≡ s.members.items ++ m ∷ [] → client_row_by (record { client = m.client; flags = flags }) m ≡ row → Represents s w →
-    Represents (opened s files members s.masters s.device_master) (record w { clients = w.clients ++ row ∷ [] })
-joined_represents s w files flags m members row t later e f r h =
-    subst (λ fs. Represents (opened s fs members s.masters s.device_master) (record w { clients = w.clients ++ row ∷ [] })) (sym e) (rows_joined s w flags m members row t later f r h)
-
-rows_founded : (s : State) (w : Rows) (flags : FileFlags) (m : Member) (members : Vec Member) (masters : Vec ℕ) (n : ℕ) (row : ClientRow) (master : MasterRow) → IsTied s → IsLater s m.client → members.items ≡ s.members.items ++ m ∷ [] → masters.items ≡ s.masters.items ++ n ∷ [] →
-    client_row_by (record { client = m.client; flags = flags }) m ≡ row → master_row_of n ≡ master → Represents s w →
-    (part : Part) → stands_for part (opened s (with_file s m.client flags) members masters (Some n)) (record w { masters = w.masters ++ master ∷ []; device_master = Some master.master; clients = w.clients ++ row ∷ [] })
+-- a founder
+pub founder_represents : (s : State) (w : Rows) (flags : FileFlags) (m : Member) (z : Master) (row : ClientRow) (master : MasterRow) → IsTied s → IsLater s m.client → m.magic ≡ None → client_row_by (record { client = m.client; flags = flags }) (Some m) ≡ row → master_row_of z ≡ master → Represents s w →
+    (part : Part) → stands_for part (joined s m.client flags (with_device (Some z.birth) (with_member m (with_master z s.masters)))) (record w { masters = w.masters ++ master ∷ []; device_master = Some master.master; clients = w.clients ++ row ∷ [] })
 unfolding stands_for
-rows_founded s w flags m members masters n row master t later e f r k h Clients = clients_more s w flags m members row t later e r h
-rows_founded s w flags m members masters n row master t later e f r k h Masters =
-    ap (λ l. l ++ master ∷ []) (masters_are s w h) ∙ ap (λ x. masters_of s ++ x ∷ []) (sym k) ∙ sym (map-append master_row_of s.masters.items (n ∷ [])) ∙ ap (map master_row_of) (sym f)
-rows_founded s w flags m members masters n row master t later e f r k h DeviceMaster = ap (λ (x : MasterRow). Some x.master) (sym k)
-rows_founded s w flags m members masters n row master t later e f r k h part = h part
-
-pub founded_represents : (s : State) (w : Rows) (files : FileLists) (flags : FileFlags) (m : Member) (members : Vec Member) (masters : Vec ℕ) (n : ℕ) (row : ClientRow) (master : MasterRow) → IsTied s → IsLater s m.client → files ≡ with_file s m.client flags → members.items ≡ s.members.items ++ m ∷ [] → masters.items ≡ s.masters.items ++ n ∷ [] →
-    client_row_by (record { client = m.client; flags = flags }) m ≡ row → master_row_of n ≡ master → Represents s w →
-    Represents (opened s files members masters (Some n)) (record w { masters = w.masters ++ master ∷ []; device_master = Some master.master; clients = w.clients ++ row ∷ [] })
-founded_represents s w files flags m members masters n row master t later e f g r k h =
-    subst (λ fs. Represents (opened s fs members masters (Some n)) (record w { masters = w.masters ++ master ∷ []; device_master = Some master.master; clients = w.clients ++ row ∷ [] })) (sym e) (rows_founded s w flags m members masters n row master t later f g r k h)
+founder_represents s w flags m z row master t later none r k h Clients =
+    ap (λ l. l ++ row ∷ []) (clients_are s w h) ∙ ap (λ x. clients_of s ++ x ∷ []) (sym r) ∙ sym (client_pushed flags m s.files.clients s.masters.members later.clients (members_open s t))
+founder_represents s w flags m z row master t later none r k h Masters = ap (λ l. l ++ master ∷ []) (masters_are s w h) ∙ ap (λ x. masters_of s ++ x ∷ []) (sym k) ∙ sym (map-append master_row_of s.masters.masters (z ∷ []))
+founder_represents s w flags m z row master t later none r k h Magics = subst (SameRows w.magics) (sym (no_magic_more m none s.masters.members)) (magics_are s w h)
+founder_represents s w flags m z row master t later none r k h DeviceMaster = ap (λ (x : MasterRow). Some x.master) (sym k)
+founder_represents s w flags m z row master t later none r k h part = h part
 
 -- ---- one more render client, which does not stand to masters
 
-rows_rendered : (s : State) (w : Rows) (c : ℕ) (flags : FileFlags) (row : ClientRow) → IsTied s → IsLater s c → client_row_by (record { client = c; flags = flags }) (no_member c) ≡ row → Represents s w →
-    (part : Part) → stands_for part (record s { files = with_file s c flags }) (record w { clients = w.clients ++ row ∷ [] })
+rows_rendered : (s : State) (w : Rows) (c : ℕ) (flags : FileFlags) (row : ClientRow) → IsTied s → IsLater s c → client_row_by (record { client = c; flags = flags }) None ≡ row → Represents s w →
+    (part : Part) → stands_for part (record s { files = with_file s.files c flags }) (record w { clients = w.clients ++ row ∷ [] })
 unfolding stands_for
 rows_rendered s w c flags row t later r h Clients =
-    ap (λ l. l ++ row ∷ []) (clients_are s w h) ∙ ap (λ x. clients_of s ++ x ∷ []) (sym r) ∙ sym (render_pushed (record { client = c; flags = flags }) s.files.clients s.members.items later.clients (members_open s t))
+    ap (λ l. l ++ row ∷ []) (clients_are s w h) ∙ ap (λ x. clients_of s ++ x ∷ []) (sym r) ∙ sym (render_pushed (record { client = c; flags = flags }) s.files.clients s.masters.members later.clients (members_open s t))
 rows_rendered s w c flags row t later r h part = h part
 
-pub rendered_represents : (s : State) (w : Rows) (files : FileLists) (c : ℕ) (flags : FileFlags) (row : ClientRow) → IsTied s → IsLater s c → files ≡ with_file s c flags → client_row_by (record { client = c; flags = flags }) (no_member c) ≡ row → Represents s w →
-    Represents (record s { files = files }) (record w { clients = w.clients ++ row ∷ [] })
-rendered_represents s w files c flags row t later e r h = subst (λ fs. Represents (record s { files = fs }) (record w { clients = w.clients ++ row ∷ [] })) (sym e) (rows_rendered s w c flags row t later r h)
+pub rendered_represents : (s : State) (w : Rows) (fs : FileLists) (c : ℕ) (flags : FileFlags) (row : ClientRow) → IsTied s → IsLater s c → fs ≡ with_file s.files c flags → client_row_by (record { client = c; flags = flags }) None ≡ row → Represents s w →
+    Represents (record s { files = fs }) (record w { clients = w.clients ++ row ∷ [] })
+rendered_represents s w fs c flags row t later e r h = subst (λ l. Represents (record s { files = l }) (record w { clients = w.clients ++ row ∷ [] })) (sym e) (rows_rendered s w c flags row t later r h)
 
-ties_rendered : (s : State) (c : ℕ) (flags : FileFlags) → IsTied s → (tie : Tie) → is_tied tie (record s { files = with_file s c flags })
+ties_rendered : (s : State) (c : ℕ) (flags : FileFlags) → flags.render ≡ true → IsTied s → (tie : Tie) → is_tied tie (record s { files = with_file s.files c flags })
 unfolding is_tied
-ties_rendered s c flags t MembersOpen = members_open_yet (record { client = c; flags = flags }) s.files.clients s.members.items (members_open s t)
-ties_rendered s c flags t tie = t tie
+ties_rendered s c flags render t MembersOpen = members_open_yet (record { client = c; flags = flags }) s.files.clients s.masters.members (members_open s t)
+ties_rendered s c flags render t ClientsHave = all_append (HasMaster s.masters) s.files.clients (record { client = c; flags = flags } ∷ []) (clients_have s t) (ap (λ b. b || is_some (masters.member_of s.masters.members c)) render, tt)
+ties_rendered s c flags render t tie = t tie
 
-pub rendered_tied : (s : State) (files : FileLists) (c : ℕ) (flags : FileFlags) → IsTied s → files ≡ with_file s c flags → IsTied (record s { files = files })
-rendered_tied s files c flags t e = subst (λ fs. IsTied (record s { files = fs })) (sym e) (ties_rendered s c flags t)
+pub rendered_tied : (s : State) (fs : FileLists) (c : ℕ) (flags : FileFlags) → flags.render ≡ true → IsTied s → fs ≡ with_file s.files c flags → IsTied (record s { files = fs })
+rendered_tied s fs c flags render t e = subst (λ l. IsTied (record s { files = l })) (sym e) (ties_rendered s c flags render t)
+
+-- ---- that there is room
+
+-- no more clients stand to masters than are open
+pub fewer_members : (ms : List Member) (fs : List FileClient) → InOrder (λ (x y : Member). x.client < y.client) ms → AllByRecursion (λ (x : Member). is_some (find (files.is_client x.client) fs) ≡ true) ms → length ms ≤ length fs
+fewer_members [] fs h there = omega arith
+fewer_members (m ∷ ms) fs h there =
+    let less = filter (λ (f : FileClient). not (files.is_client m.client f)) fs in
+    let rest = fewer_members ms less h.1 (all_both (λ (x : Member). m.client < x.client) (λ (x : Member). is_some (find (files.is_client x.client) fs) ≡ true) (λ (x : Member). is_some (find (files.is_client x.client) less) ≡ true)
+    (λ x lt e. ap is_some (find_others (λ (f : FileClient). f.client) x.client m.client (flipped m.client x.client (less-differ m.client x.client lt)) fs) ∙ e) ms h.0 there.1) in
+    let lt = filter-fewer (files.is_client m.client) fs (sym (is_some-find (files.is_client m.client) fs) ∙ there.0) in
+    omega (arith, rest, lt)

@@ -1,23 +1,24 @@
 //! How a client goes.
 
-ghost use Rattle.std.specs.Prelude.{◌≡◌, ◌==◌, ◌&&◌, ℕ, List, true, None, ◌++◌, not, filter, if◌then◌else◌};
-ghost use Rattle.std.specs.List.{list_any};
+ghost use Rattle.std.specs.Prelude.{◌≡◌, ℕ, List, true, false, ◌++◌};
+ghost use Rattle.std.specs.List.{AllByRecursion};
+ghost use Rattle.drm_masters.specs.Masters.{AreMasters};
 ghost use Rattle.drm_table.specs.declared.events.Event.TheVariants.{Close};
-ghost use Rattle.drm_model.specs.Rows.{is_option};
 ghost use Rattle.drm_files.specs.Files.{is_present, without_client};
-ghost use Rattle.drm_state.specs.Parts.{keys_of, token_keys, without_tokens_of};
+ghost use Rattle.drm_state.specs.Parts.{keys_of, token_keys, without_tokens_of, without_its_master};
 ghost use Rattle.drm_state.specs.Ties.{IsTied, AreTied, AreNamed, AreThoseNamed, Leaves};
-ghost use Rattle.drm_state.specs.Refinement.{OwesAnswer, is_same};
+ghost use Rattle.drm_state.specs.Refinement.{OwesAnswer};
 
 use drm_files::Files;
 use drm_gem::Objects;
+use drm_masters::Masters;
 use drm_share::{Names, Tokens};
-use drm_state::{Member, State, is_device_master, member_of, release};
+use drm_state::{State, release};
 use drm_table::{Answer, Rule};
 
-/// Closes a client: its tokens and handles go, the names of objects that no handle names any more, and the objects that
-/// nothing else refers to; its master goes where nobody else names it, and the device's master where that was the client's
-/// own. It takes no memory and asks for no limit.
+/// Closes a client: its tokens, its magic and its handles go, the names of objects that no handle names any more, and the
+/// objects that nothing else refers to; its master goes where nobody else names it, and the device's master where that was the
+/// client's own. It takes no memory and asks for no limit.
 pub fn close(state: &mut State, client: u32) -> Answer
     requires { IsTied state.old }
     ensures tied { IsTied state.new }
@@ -26,9 +27,8 @@ pub fn close(state: &mut State, client: u32) -> Answer
     let Some(_flags) = state.files.flags_of(client) else {
         return Answer::Denied(Rule::NoClient);
     };
-    let member = member_of(&state.members, client);
-    state.device_master = master_without(member, state.device_master);
-    remove_member(&mut state.members, client);
+    close_master(&mut state.masters, client);
+    state.masters.laws();
     close_tokens(&mut state.tokens, &mut state.objects, client);
     release_all(
         &mut state.files,
@@ -36,25 +36,19 @@ pub fn close(state: &mut State, client: u32) -> Answer
         &mut state.objects,
         client,
     );
-    sweep_masters(&mut state.masters, &state.members);
     Answer::Closed
 }
 
-/// The device's master, unless it is the client's own.
-fn master_without(member: Member, device_master: Option<u32>) -> Option<u32>
-    ensures { result ≡ (if member.is_master && is_same device_master member.master then None else device_master) }
+/// A client no more stands to masters. A master of its own is released at once: it gave no lease.
+fn close_master(masters: &mut Masters, client: u32)
+    requires are { AreMasters masters.old }
+    requires kept { AllByRecursion (λ x. x.kept ≡ false) masters.old.masters }
+    ensures { masters.new ≡ without_its_master client masters.old }
 {
-    if member.is_master && is_device_master(device_master, member.master) {
-        None
-    } else {
-        device_master
-    }
-}
-
-fn remove_member(members: &mut Vec<Member>, client: u32)
-    ensures { members.new.items ≡ filter (λ x. not (x.client == client)) members.old.items }
-{
-    members.retain(|x| x.client != client);
+    let Some(own) = masters.on_close(client) else {
+        return;
+    };
+    masters.release(own);
 }
 
 /// A client's tokens go, and the objects that they alone referred to, whatever handles name.
@@ -83,23 +77,4 @@ fn release_all(files: &mut Files, names: &mut Names, objects: &mut Objects, clie
     while let Some(hold) = rest.take_next() {
         release(names, objects, hold.1);
     }
-}
-
-/// Masters that no client names go.
-fn sweep_masters(masters: &mut Vec<u32>, members: &[Member])
-    ensures { masters.new.items ≡ filter (λ m. list_any (λ x. is_option m x.master) members.now) masters.old.items }
-{
-    masters.retain(|m| has_member(members, *m));
-}
-
-/// Whether a client names the master.
-fn has_member(members: &[Member], master: u32) -> bool
-    ensures { result ≡ list_any (λ x. is_option master x.master) members.now }
-{
-    for member in members {
-        if member.master == Some(master) {
-            return true;
-        }
-    }
-    false
 }

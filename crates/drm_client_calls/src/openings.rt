@@ -9,7 +9,8 @@ ghost use Rattle.drm_state.specs.Ties.{IsTied, IsReady};
 ghost use Rattle.drm_state.specs.Refinement.{Owes};
 
 use drm_files::Files;
-use drm_state::{Member, State};
+use drm_masters::NoMemory;
+use drm_state::State;
 use drm_table::{Answer, Opening, Rule};
 use std::alloc::AllocError;
 
@@ -36,27 +37,13 @@ fn open_primary(state: &mut State, birth: u32, root: bool) -> Result<Answer, All
     if state.files.is_full() {
         return Ok(Answer::Denied(Rule::Full));
     }
-    state.members.reserve(1)?;
-    let Some(master) = state.device_master else {
-        state.masters.reserve(1)?;
-        open_file(&mut state.files, birth, false, root, true)?;
-        state.masters.push_reserved(birth);
-        state.device_master = Some(birth);
-        state.members.push_reserved(Member {
-            client: birth,
-            once_master: true,
-            is_master: true,
-            master: Some(birth),
-        });
-        return Ok(Answer::Opened { client: birth });
-    };
-    open_file(&mut state.files, birth, false, root, false)?;
-    state.members.push_reserved(Member {
-        client: birth,
-        once_master: false,
-        is_master: false,
-        master: Some(master),
-    });
+    let founder = state.masters.device_master().is_none();
+    open_file(&mut state.files, birth, false, root, founder)?;
+    if let Err(NoMemory) = state.masters.on_open(birth, birth) {
+        let _rest = state.files.close(birth);
+        return Err(AllocError);
+    }
+    state.masters.laws();
     Ok(Answer::Opened { client: birth })
 }
 

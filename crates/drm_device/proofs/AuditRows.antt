@@ -26,6 +26,7 @@ use Rattle.drm_model.specs.Rows.{Rows, TokenRow, FramebufferRow}
 use Rattle.drm_model.specs.Births.{MadeInTurn}
 use Rattle.drm_model.specs.Audit.{audit_row, or_zero, is_before, client_audit, master_audit, object_audit, hold_audit, name_audit, token_audit, hold_count, reference_count, audit_rows, rising_rows}
 use Rattle.drm_model.proofs.Orders.{is_row, order_of_rows}
+use Rattle.drm_masters.specs.declared.rows.Master.{Master}
 use Rattle.drm_state.specs.declared.state.State.{State}
 use Rattle.drm_state.specs.Parts.{client_row_of, master_row_of, object_row_of, hold_row_of, holds_of, name_row_of, names_of, token_row_of, tokens_of, birth_at, keys_of, referring_keys}
 use Rattle.drm_state.specs.Ties.{IsTied, Counts}
@@ -40,13 +41,13 @@ before-less x y h = grind (arith, nat_tests)
 by_number : {X : Type 0} (f : X → AuditRow) (rows : List X) (last : ℕ) → MadeInTurn (λ x. (f x).a) last rows → rising_rows (map f rows) ≡ map f rows
 by_number f rows last h = sorted-as_is is_before (map f rows) (in_order_map (λ x y. is_before x y ≡ true) f rows (in_order_weaker _ _ (λ x y k. before-less (f x) (f y) k) rows h.0))
 
-pub client_rows : (s : State) (steps : ℕ) (w : Rows) → StandsAfter s steps w → rising_rows (audit_rows w kinds.Client) ≡ map (λ f. client_audit w (client_row_of s.members.items f)) s.files.clients
+pub client_rows : (s : State) (steps : ℕ) (w : Rows) → StandsAfter s steps w → rising_rows (audit_rows w kinds.Client) ≡ map (λ f. client_audit w (client_row_of s.masters.members f)) s.files.clients
 unfolding audit_rows
-client_rows s steps w h = by_number (client_audit w) w.clients w.steps h.births.0 ∙ ap (map (client_audit w)) (clients_are s w h.rows) ∙ map-map (client_audit w) (client_row_of s.members.items) s.files.clients
+client_rows s steps w h = by_number (client_audit w) w.clients w.steps h.births.0 ∙ ap (map (client_audit w)) (clients_are s w h.rows) ∙ map-map (client_audit w) (client_row_of s.masters.members) s.files.clients
 
-pub master_rows : (s : State) (steps : ℕ) (w : Rows) → StandsAfter s steps w → rising_rows (audit_rows w kinds.Master) ≡ map (λ (m : ℕ). master_audit (master_row_of m)) s.masters.items
+pub master_rows : (s : State) (steps : ℕ) (w : Rows) → StandsAfter s steps w → rising_rows (audit_rows w kinds.Master) ≡ map (λ (x : Master). master_audit (master_row_of x)) s.masters.masters
 unfolding audit_rows
-master_rows s steps w h = by_number master_audit w.masters w.steps h.births.1 ∙ ap (map master_audit) (masters_are s w h.rows) ∙ map-map master_audit master_row_of s.masters.items
+master_rows s steps w h = by_number master_audit w.masters w.steps h.births.1 ∙ ap (map master_audit) (masters_are s w h.rows) ∙ map-map master_audit master_row_of s.masters.masters
 
 object_rows : (s : State) (steps : ℕ) (w : Rows) → StandsAfter s steps w → rising_rows (audit_rows w kinds.Object) ≡ map (λ (x : Object). object_audit w (object_row_of x)) s.objects.objects
 unfolding audit_rows
@@ -119,7 +120,7 @@ unfolding audit_rows
 token_rows s steps w are h =
     rising_by token_audit (token_row_of s.objects.objects) (λ x y. token_before x y ≡ true) (token-rises s) w.tokens s.tokens.tokens (as_order token_before s.tokens.tokens are.tokens_rise) (tokens_are s w h.rows)
 
-pub device_rows : (s : State) (steps : ℕ) (w : Rows) → StandsAfter s steps w → rising_rows (audit_rows w kinds.Device) ≡ audit_row (or_zero s.device_master) (or_zero s.tokens.last_given) 0 steps ∷ []
+pub device_rows : (s : State) (steps : ℕ) (w : Rows) → StandsAfter s steps w → rising_rows (audit_rows w kinds.Device) ≡ audit_row (or_zero s.masters.device_master) (or_zero s.tokens.last_given) 0 steps ∷ []
 unfolding audit_rows sorted_by
 device_rows s steps w h = rw (device_master_is s w h.rows, last_token_is s w h.rows, last_lease_token_none s w h.rows, h.steps_are) refl
 

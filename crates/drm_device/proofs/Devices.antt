@@ -1,6 +1,6 @@
 -- What is true of a device's fields, and of the fields after a step.
-use Rattle.std.proofs.Common.{◌≡◌, ℕ, ◌+◌, ◌-◌, ◌<◌, ◌≤◌, ◌==◌, ◌&&◌, true, false, not, refl, sym, ap, ◌∙◌, arith, subst, length, map, [], ◌∷◌, ◌++◌, nat_le, nat_lt, None, filter}
-use Rattle.std.specs.List.{list_any, AllByRecursion}
+use Rattle.std.proofs.Common.{◌≡◌, ℕ, ◌+◌, ◌-◌, ◌<◌, ◌≤◌, ◌&&◌, true, false, not, refl, sym, ap, ◌∙◌, arith, subst, length, map, [], ◌∷◌, ◌++◌, nat_le, nat_lt, None, Some, filter}
+use Rattle.std.specs.List.{filter_map, AllByRecursion}
 use Rattle.std.specs.Vec.{vec_len, vec_capacity}
 use Rattle.std.specs.Global.{Vec}
 use Rattle.std.proofs.lemmas.Bool.{leb-true, and_parts}
@@ -23,7 +23,7 @@ use Rattle.drm_table.specs.declared.limits.Limits.{Limits}
 use Rattle.drm_table.specs.Limits.{are_in_range, is_between}
 use Rattle.drm_share.specs.Names.{NameList, empty_names}
 use Rattle.drm_share.specs.Tokens.{TokenList, empty_tokens}
-use Rattle.drm_model.specs.Rows.{Rows, ClientRow, ObjectRow, empty_rows, is_option}
+use Rattle.drm_model.specs.Rows.{Rows, ClientRow, MasterRow, ObjectRow, empty_rows}
 use Rattle.drm_model.specs.Topology.{Topology}
 use Rattle.drm_model.specs.Change.{after}
 use Rattle.drm_model.specs.Run.{FoundRoom, places_left, run, rows_of, no_room, start_of}
@@ -31,14 +31,16 @@ use Rattle.drm_model.proofs.Births.{births_rise}
 use Rattle.drm_model.proofs.Counts.{few_rows}
 use Rattle.drm_model.proofs.Journals.{found_room_push, rows_noted, after-steps, rows_of-limits, rows_of-steps, room_after}
 use Rattle.drm_device.specs.declared.device.Device.TheInside.{Inside}
-use Rattle.drm_state.specs.declared.state.Member.{Member}
+use Rattle.drm_masters.specs.declared.rows.Master.{Master}
+use Rattle.drm_masters.specs.declared.rows.Member.{Member}
+use Rattle.drm_masters.specs.Masters.{MasterSet, AreMasters}
 use Rattle.drm_state.specs.declared.state.State.{State}
 use Rattle.drm_device.specs.Device.{history_of, IsDevice}
-use Rattle.drm_state.specs.Parts.{client_row_of, master_row_of, object_row_of, hold_row_of, holds_of, name_row_of, token_row_of, tokens_of, keys_of, token_keys, referring_keys}
-use Rattle.drm_state.specs.Ties.{Tie, MembersOpen, MembersDiffer, MastersNamed, HoldsRise, ObjectsCounted, NamesHeld, is_tied, IsTied, IsLater, IsReady, AreTied, AreNamed}
-use Rattle.drm_model.specs.Parts.{Part, Bounds, Masters, Holds, Clients, Objects, Names, Tokens, DeviceMaster, LastToken, count_in}
+use Rattle.drm_state.specs.Parts.{client_row_of, master_row_of, magic_row_of, object_row_of, hold_row_of, holds_of, name_row_of, token_row_of, tokens_of, keys_of, token_keys, referring_keys}
+use Rattle.drm_state.specs.Ties.{Tie, MembersOpen, ClientsHave, MastersAre, NoneKept, MagicsSuffice, HasMaster, HoldsRise, ObjectsCounted, NamesHeld, is_tied, IsTied, IsLater, IsReady, AreTied, AreNamed}
+use Rattle.drm_model.specs.Parts.{Part, Bounds, Masters, Magics, Holds, Clients, Objects, Names, Tokens, DeviceMaster, LastToken, count_in}
 use Rattle.drm_state.specs.Refinement.{stands_for, Represents, Stands}
-use Rattle.drm_state.proofs.Represented.{clients_are, holds_are, objects_are, tokens_are}
+use Rattle.drm_state.proofs.Represented.{clients_are, masters_are, holds_are, objects_are, tokens_are}
 use Rattle.drm_state.proofs.Outcomes.{represented_count}
 use Rattle.drm_state.proofs.Lookups.{is_open_is}
 
@@ -138,34 +140,41 @@ some_handles limits h = at_least 1 65535 limits.handles (and_parts _ (is_between
 
 -- ---- a device without rows
 
+abbrev no_masters : ℕ → ℕ → MasterSet
+no_masters clients lessees = record { members = []; masters = []; device_master = None; last_magic = clients; last_lessee = lessees }
+
 -- its parts are empty
 pub record IsStart (s : State) (limits : Limits) : Type 0 where
   pub files : s.files ≡ empty_files limits.clients limits.handles
-  pub members : s.members.items ≡ []
-  pub masters : s.masters.items ≡ []
+  pub masters : s.masters ≡ no_masters limits.clients limits.lessees
   pub objects : s.objects ≡ record { limit = limits.objects; objects = [] }
   pub names : s.names ≡ empty_names limits.names
   pub tokens : s.tokens ≡ empty_tokens limits.tokens
-  pub device_master : s.device_master ≡ None
 
 start_represents : (t : Topology) (limits : Limits) (s : State) → IsStart s limits → (part : Part) → stands_for part s (empty_rows t limits)
 unfolding stands_for
-start_represents t limits s is Bounds = (ap (λ (f : FileLists). f.limit) is.files, ap (λ (f : FileLists). f.last_handle) is.files, ap (λ (o : ObjectSet). o.limit) is.objects, ap (λ (l : NameList). l.last) is.names, ap (λ (l : TokenList). l.last) is.tokens)
-start_represents t limits s is Clients = sym (ap (λ (f : FileLists). map (client_row_of s.members.items) f.clients) is.files)
-start_represents t limits s is Masters = sym (ap (map master_row_of) is.masters)
+start_represents t limits s is Bounds = (ap (λ (f : FileLists). f.limit) is.files, ap (λ (f : FileLists). f.last_handle) is.files, ap (λ (o : ObjectSet). o.limit) is.objects, ap (λ (l : NameList). l.last) is.names, ap (λ (l : TokenList). l.last) is.tokens, ap (λ (v : MasterSet). v.last_magic) is.masters)
+start_represents t limits s is Clients = sym (ap (λ (f : FileLists). map (client_row_of s.masters.members) f.clients) is.files)
+start_represents t limits s is Masters = sym (ap (λ (v : MasterSet). map master_row_of v.masters) is.masters)
+start_represents t limits s is Magics = λ test. sym (ap (λ (v : MasterSet). length (filter test (filter_map magic_row_of v.members))) is.masters)
 start_represents t limits s is Holds = λ test. sym (ap (λ (f : FileLists). length (filter test (map (hold_row_of s.objects.objects) f.holds))) is.files)
 start_represents t limits s is Objects = sym (ap (λ (o : ObjectSet). map object_row_of o.objects) is.objects)
 start_represents t limits s is Names = λ test. sym (ap (λ (l : NameList). length (filter test (map (name_row_of s.objects.objects) l.names))) is.names)
 start_represents t limits s is Tokens = λ test. sym (ap (λ (l : TokenList). length (filter test (map (token_row_of s.objects.objects) l.tokens))) is.tokens)
 start_represents t limits s is LastToken = sym (ap (λ (l : TokenList). unwrap_or l.last_given 0) is.tokens)
-start_represents t limits s is DeviceMaster = sym is.device_master
+start_represents t limits s is DeviceMaster = sym (ap (λ (v : MasterSet). v.device_master) is.masters)
 start_represents t limits s is part = refl
+
+nobody : (clients lessees : ℕ) → AreMasters (no_masters clients lessees)
+nobody clients lessees = record { members_rise = tt; masters_rise = tt; lessors_older = tt; masters_there = tt; device_own = λ m e. absurd (let n : None ≡ Some m = e in cc); used = tt; magics_differ = tt; few = omega arith }
 
 start_tied : (limits : Limits) (s : State) → IsStart s limits → (tie : Tie) → is_tied tie s
 unfolding is_tied
-start_tied limits s is MembersOpen = subst (AllByRecursion (λ (x : Member). is_present s.files x.client ≡ true)) (sym is.members) tt
-start_tied limits s is MembersDiffer = subst (InOrder (λ (x y : Member). (x.client == y.client) ≡ false)) (sym is.members) tt
-start_tied limits s is MastersNamed = subst (AllByRecursion (λ n. list_any (λ (x : Member). is_option n x.master) s.members.items ≡ true)) (sym is.masters) tt
+start_tied limits s is MembersOpen = subst (λ (v : MasterSet). AllByRecursion (λ (x : Member). is_present s.files x.client ≡ true) v.members) (sym is.masters) tt
+start_tied limits s is ClientsHave = subst (λ (f : FileLists). AllByRecursion (HasMaster s.masters) f.clients) (sym is.files) tt
+start_tied limits s is MastersAre = subst AreMasters (sym is.masters) (nobody limits.clients limits.lessees)
+start_tied limits s is NoneKept = subst (λ (v : MasterSet). AllByRecursion (λ (x : Master). x.kept ≡ false) v.masters) (sym is.masters) tt
+start_tied limits s is MagicsSuffice = ap (λ (v : MasterSet). v.last_magic) is.masters ∙ sym (ap (λ (f : FileLists). f.limit) is.files)
 start_tied limits s is HoldsRise = subst (λ (f : FileLists). InOrder (λ (x y : FileHold). hold_before x y ≡ true) f.holds) (sym is.files) tt
 start_tied limits s is ObjectsCounted =
     subst (λ (f : FileLists). AreTied (keys_of f.holds) (referring_keys s) s.objects.objects) (sym is.files)
@@ -215,8 +224,9 @@ ready d n h e =
     let steps : w.steps ≡ n = rows_of-steps (history_of d) ∙ sym d.journal.ok.0 ∙ sym e in
     let births = births_rise (history_of d) in
     let later : IsLater d.state (w.steps + 1) = record {
-      clients = all_weaker (λ (f : FileClient). f.client ≤ w.steps) (λ (f : FileClient). f.client < w.steps + 1) (λ f k. not_later f.client w.steps k) d.state.files.clients (all_of_map (λ (row : ClientRow). row.client ≤ w.steps) (client_row_of d.state.members.items) d.state.files.clients (subst (AllByRecursion (λ (row : ClientRow). row.client ≤ w.steps)) (clients_are d.state w h.rows) births.0.1));
+      clients = all_weaker (λ (f : FileClient). f.client ≤ w.steps) (λ (f : FileClient). f.client < w.steps + 1) (λ f k. not_later f.client w.steps k) d.state.files.clients (all_of_map (λ (row : ClientRow). row.client ≤ w.steps) (client_row_of d.state.masters.members) d.state.files.clients (subst (AllByRecursion (λ (row : ClientRow). row.client ≤ w.steps)) (clients_are d.state w h.rows) births.0.1));
       objects = all_weaker (λ (x : Object). x.birth ≤ w.steps) (λ (x : Object). x.birth < w.steps + 1) (λ x k. not_later x.birth w.steps k) d.state.objects.objects (all_of_map (λ (row : ObjectRow). row.object ≤ w.steps) object_row_of d.state.objects.objects (subst (AllByRecursion (λ (row : ObjectRow). row.object ≤ w.steps)) (objects_are d.state w h.rows) births.2.1));
+      masters = all_weaker (λ (x : Master). x.birth ≤ w.steps) (λ (x : Master). x.birth < w.steps + 1) (λ x k. not_later x.birth w.steps k) d.state.masters.masters (all_of_map (λ (row : MasterRow). row.master ≤ w.steps) master_row_of d.state.masters.masters (subst (AllByRecursion (λ (row : MasterRow). row.master ≤ w.steps)) (masters_are d.state w h.rows) births.1.1));
       holds = not_later (length d.state.files.holds) w.steps (subst (λ n. n ≤ w.steps) (holds_many d.state w h.rows) (few_holds d));
       tokens = not_later (length d.state.tokens.tokens) w.steps (subst (λ n. n ≤ w.steps) (tokens_many d.state w h.rows) (few_tokens d));
     } in

@@ -1,20 +1,23 @@
 //! AUDIT: the rows of a kind, in pages.
 
-ghost use Rattle.std.specs.Prelude.{◌≡◌, ◌≤◌, ℕ, Ok, [], map, slice_get, if◌then◌else◌};
+ghost use Rattle.std.specs.Prelude.{◌≡◌, ◌≤◌, ℕ, false, Ok, [], map, slice_get, if◌then◌else◌};
 ghost use Rattle.drm_table.specs.declared.calls.Call.TheVariants.{Audit};
 ghost use Rattle.drm_model.specs.Rows.{Rows};
 ghost use Rattle.drm_model.specs.Audit as model;
+ghost use Rattle.std.specs.Option.{option_map, option_map_or, option_and_then};
+ghost use Rattle.drm_model.specs.Rows.{magic_row};
 ghost use Rattle.drm_model.specs.Audit.{audit_row, client_audit, hold_audit, master_audit, name_audit, token_audit};
 ghost use Rattle.drm_share.specs.Names.{AreNames};
 ghost use Rattle.drm_share.specs.Tokens.{AreTokens};
-ghost use Rattle.drm_state.specs.Parts.{client_row_by, master_row_of, holds_of, names_of, tokens_of};
+ghost use Rattle.drm_state.specs.Parts.{client_row_by, magic_row_of, master_row_of, holds_of, names_of, tokens_of};
 ghost use Rattle.drm_state.specs.Ties.{IsTied};
 ghost use Rattle.drm_state.specs.Refinement.{OwesCall};
 ghost use Rattle.drm_device.specs.Audits.{IsPage, IsRowAt};
 
 use drm_files::FileClient;
 use drm_gem::Object;
-use drm_state::{Member, State, member_of};
+use drm_masters::{Magic, Master, Member};
+use drm_state::State;
 use drm_table::{Answer, AuditKind, AuditPage, AuditRow};
 
 /// How many rows a page has at most.
@@ -54,16 +57,19 @@ fn row_at(state: &State, steps: u32, kind: AuditKind, place: usize) -> Option<Au
     match kind {
         AuditKind::Client => {
             let file = state.files.nth_client(place)?;
-            Some(client_row(file, member_of(&state.members, file.client)))
+            Some(client_row(file, state.masters.member(file.client)))
         }
-        AuditKind::Master => Some(master_row(item_at(&state.masters, place)?)),
+        AuditKind::Master => Some(master_row(state.masters.nth_master(place)?)),
         AuditKind::Object => Some(object_row(state.objects.nth(place)?)),
         AuditKind::Name => name_at(state, place),
         AuditKind::Token => token_at(state, place),
         AuditKind::Hold => hold_at(state, place),
         AuditKind::Device => {
             let last_token = state.tokens.last_given();
-            item_at(&[device_row(state.device_master, last_token, steps)], place)
+            item_at(
+                &[device_row(state.masters.device_master(), last_token, steps)],
+                place,
+            )
         }
         // no call makes these yet
         AuditKind::Grant | AuditKind::Framebuffer | AuditKind::Shown => None,
@@ -77,28 +83,86 @@ pub fn item_at<T: Copy>(items: &[T], place: usize) -> Option<T>
     items.get(place).copied()
 }
 
-/// What is told of a client: nobody has a magic yet.
-fn client_row(file: FileClient, member: Member) -> AuditRow
-    ensures { (w : Rows) → w.magics ≡ [] → result ≡ client_audit w (client_row_by file member) }
+/// What is told of a client, by its file and by how it stands to masters; its magic is told with it.
+fn client_row(file: FileClient, member: Option<Member>) -> AuditRow
+    ensures { (w : Rows) → magic_row w file.client ≡ option_and_then magic_row_of member → result ≡ client_audit w (client_row_by file member) }
 {
+    let magic = magic_of(member);
     AuditRow {
         a: file.client as u64,
         b: flag(file.flags.render, 1)
             + flag(file.flags.root, 2)
             + flag(file.flags.authenticated, 4)
-            + flag(member.once_master, 8)
-            + flag(member.is_master, 16),
-        c: or_zero(member.master),
-        d: 0,
+            + flag(was_master(member), 8)
+            + flag(is_master(member), 16)
+            + flag(is_spent(magic), 32),
+        c: or_zero(master_of(member)),
+        d: number_of(magic),
     }
 }
 
-fn master_row(master: u32) -> AuditRow
+fn was_master(member: Option<Member>) -> bool
+    ensures { result ≡ option_map_or (λ x. x.once_master) member false }
+{
+    match member {
+        Some(member) => member.once_master,
+        None => false,
+    }
+}
+
+fn is_master(member: Option<Member>) -> bool
+    ensures { result ≡ option_map_or (λ x. x.is_master) member false }
+{
+    match member {
+        Some(member) => member.is_master,
+        None => false,
+    }
+}
+
+fn master_of(member: Option<Member>) -> Option<u32>
+    ensures { result ≡ option_map (λ x. x.master) member }
+{
+    match member {
+        Some(member) => Some(member.master),
+        None => None,
+    }
+}
+
+fn magic_of(member: Option<Member>) -> Option<Magic>
+    ensures { result ≡ option_and_then (λ x. x.magic) member }
+{
+    match member {
+        Some(member) => member.magic,
+        None => None,
+    }
+}
+
+fn is_spent(magic: Option<Magic>) -> bool
+    ensures { result ≡ option_map_or (λ x. x.spent) magic false }
+{
+    match magic {
+        Some(magic) => magic.spent,
+        None => false,
+    }
+}
+
+fn number_of(magic: Option<Magic>) -> u64
+    ensures { result ≡ option_map_or (λ x. x.number) magic 0 }
+{
+    match magic {
+        Some(magic) => magic.number as u64,
+        None => 0,
+    }
+}
+
+fn master_row(master: Master) -> AuditRow
     ensures { result ≡ master_audit (master_row_of master) }
 {
     AuditRow {
-        a: master as u64,
-        ..AuditRow::default()
+        a: master.birth as u64,
+        b: or_zero(master.lessor),
+        c: master.lessee_id as u64,
+        d: 0,
     }
 }
 

@@ -12,8 +12,9 @@ use crate::capabilities::{get_cap, set_client_cap, version};
 use drm_buffer_calls::{
     Pixels, buf_create, create_dumb, gem_close, list_handles, stamp_read, stamp_write,
 };
+use drm_master_calls::{auth_magic, drop_master, get_magic, set_master};
 use drm_share_calls::{gem_flink, gem_open, prime_export, prime_import, token_close};
-use drm_state::{State, is_current};
+use drm_state::State;
 use drm_table::{Answer, Call, Rule, Standing, permit};
 use std::alloc::AllocError;
 
@@ -47,7 +48,7 @@ fn admission(state: &State, client: u32, call: &Call) -> Option<Rule>
                 root: flags.root,
                 render: flags.render,
                 authenticated: flags.authenticated,
-                current: is_current(state, client),
+                current: state.masters.is_current(client),
             };
             permit(call.flags(), standing)
         }
@@ -84,7 +85,11 @@ fn carry_out(state: &mut State, birth: u32, client: u32, call: &Call) -> Result<
         Call::GemClose { handle } => Ok(gem_close(state, client, *handle)),
         Call::GemFlink { handle } => gem_flink(state, birth, client, *handle),
         Call::GemOpen { name } => gem_open(state, birth, client, *name),
+        Call::GetMagic => Ok(get_magic(state, client)),
         Call::GetCap { cap } => Ok(get_cap(state, client, *cap)),
+        Call::AuthMagic { magic } => Ok(auth_magic(state, client, *magic)),
+        Call::SetMaster => set_master(state, birth, client),
+        Call::DropMaster => Ok(drop_master(state, client)),
         Call::SetClientCap { cap, value } => Ok(set_client_cap(state, client, *cap, *value)),
         Call::PrimeHandleToFd { handle } => prime_export(state, birth, client, *handle),
         Call::PrimeFdToHandle { token } => prime_import(state, birth, client, *token),

@@ -10,6 +10,7 @@ use crate::events::advance;
 use crate::topologies::Topology;
 use drm_files::Files;
 use drm_gem::Objects;
+use drm_masters::Masters;
 use drm_share::{Names, Tokens};
 use drm_state::State;
 use drm_table::{Answer, Apart, AuditKind, AuditPage, Event, Limits, are_in_range};
@@ -66,12 +67,10 @@ impl Device {
             journal,
             state: State {
                 files: Files::new(alloc, limits.clients, limits.handles),
-                members: Vec::new(alloc),
-                masters: Vec::new(alloc),
+                masters: Masters::new(alloc, limits.clients, limits.lessees),
                 objects: Objects::new(alloc, limits.objects),
                 names: Names::new(alloc, limits.names),
                 tokens: Tokens::new(alloc, limits.tokens),
-                device_master: None,
             },
         })
     }

@@ -17,6 +17,8 @@ pub use topologies::Topology;
 #[cfg(test)]
 mod buffer_tests;
 #[cfg(test)]
+mod master_tests;
+#[cfg(test)]
 mod share_tests;
 #[cfg(test)]
 mod tests;

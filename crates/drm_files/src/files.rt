@@ -113,7 +113,8 @@ impl Files {
 
     /// Whether as many clients are open as may be.
     pub fn is_full(&self) -> bool
-        ensures { result ≡ nat_le self.now.limit (length self.now.clients) }
+        ensures full { result ≡ nat_le self.now.limit (length self.now.clients) }
+        ensures lists { AreFiles self.now }
     {
         self.clients.len() >= self.open_limit as usize
     }

@@ -95,12 +95,35 @@ fn names_and_tokens_have_their_bytes(rt: HostRuntime) {
 }
 
 #[test]
+fn masters_and_magics_have_their_bytes(rt: HostRuntime) {
+    check_call(&rt, &[2, 0, 0, 0, 0x02, 0], Call::GetMagic);
+    check_call(
+        &rt,
+        &[6, 0, 0, 0, 0x11, 0, 1, 2, 0, 4],
+        Call::AuthMagic { magic: 67_109_377 },
+    );
+    check_call(&rt, &[2, 0, 0, 0, 0x1E, 0], Call::SetMaster);
+    check_call(&rt, &[2, 0, 0, 0, 0x1F, 0], Call::DropMaster);
+}
+
+#[test]
+fn calls_without_fields_have_another_layout_with_some(rt: HostRuntime) {
+    for number in [0x00, 0x02, 0x1E, 0x1F] {
+        for size in 1..8usize {
+            let frame = Frame::new(number, &[0; 8][..size]);
+            assert_eq!(&rt; call_of(&frame), Call::BadLayout(number));
+        }
+    }
+}
+
+#[test]
 fn other_sizes_have_another_layout(rt: HostRuntime) {
     let rows = [
         (0x0A, [3, 5]),
         (0x0B, [3, 5]),
         (0x0C, [7, 9]),
         (0x0D, [15, 17]),
+        (0x11, [3, 5]),
         (0x2D, [3, 5]),
         (0x2E, [3, 5]),
         (0x40, [7, 9]),

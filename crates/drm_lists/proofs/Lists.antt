@@ -1,5 +1,5 @@
 -- What a map, a filter and a test give of a list, and what is true of all of its elements.
-use Rattle.std.proofs.Common.{◌≡◌, suc, ◌+◌, ◌≤◌, Bool, true, false, cond, ◌&&◌, ◌||◌, List, [], ◌∷◌, ◌++◌, map, filter, length, refl, ◌∙◌, ap, arith, length-append}
+use Rattle.std.proofs.Common.{◌≡◌, suc, ◌+◌, ◌≤◌, ◌<◌, Bool, true, false, not, cond, ◌&&◌, ◌||◌, List, [], ◌∷◌, ◌++◌, map, filter, length, refl, ◌∙◌, ap, arith, length-append}
 use Rattle.std.specs.List.{list_any, AllByRecursion}
 use Rattle.std.proofs.lemmas.Bool.{or_left, or_right}
 use Rattle.std.proofs.lemmas.List.Elements.{filter-append}
@@ -38,6 +38,16 @@ filter-shorter p [] = omega arith
 filter-shorter p (x ∷ xs) =
     let rest = filter-shorter p xs in
     elim (p x) as (λ b. length (cond b (x ∷ filter p xs) (filter p xs)) ≤ suc (length xs)) [ true ↦ omega (arith, rest) | false ↦ omega (arith, rest) ]
+
+-- one that passes is gone, and with it at least one of the list
+pub filter-fewer : {X : Type 0} (p : X → Bool) → (xs : List X) → list_any p xs ≡ true → length (filter (λ x. not (p x)) xs) < length xs
+filter-fewer p [] h = absurd (let e : false ≡ true = h in cc)
+filter-fewer p (x ∷ xs) h =
+    let few = filter-shorter (λ x. not (p x)) xs in
+    (elim (p x) as (λ b. (b || list_any p xs) ≡ true → length (cond (not b) (x ∷ filter (λ x. not (p x)) xs) (filter (λ x. not (p x)) xs)) < suc (length xs)) [
+      | true ↦ λ k. omega (arith, few)
+      | false ↦ λ k. let lt = filter-fewer p xs k in omega (arith, lt)
+    ]) h
 
 pub length-filter_append : {X : Type 0} (p : X → Bool) (xs ys : List X) → length (filter p (xs ++ ys)) ≡ length (filter p xs) + length (filter p ys)
 length-filter_append p xs ys = ap length (filter-append p xs ys) ∙ length-append (filter p xs) (filter p ys)

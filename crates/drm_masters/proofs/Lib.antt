@@ -5,4 +5,5 @@ mod Pushed
 mod Swept
 mod Numbered
 mod Sound
+pub mod Crossing
 pub mod Tested

@@ -1,14 +1,13 @@
 -- Chains of masters, which masters stay, and what a sweep leaves.
-use Rattle.std.proofs.Common.{◌≡◌, ℕ, ◌<◌, ◌≤◌, ◌==◌, Bool, true, false, not, cond, ◌&&◌, ◌||◌, inl, inr, List, [], ◌∷◌, ◌++◌, map, filter, find, Option, None, Some, refl, sym, ap, subst, ◌∙◌, eq-eqb, arith}
+use Rattle.std.proofs.Common.{◌≡◌, ℕ, ◌<◌, Bool, true, false, not, ◌&&◌, ◌||◌, inl, inr, List, Option, None, Some, refl, sym, ap, subst, ◌∙◌, eq-eqb, arith}
 use Rattle.std.specs.List.{list_any, AllByRecursion}
-use Rattle.std.specs.Option.{is_some, option_map, option_and_then}
+use Rattle.std.specs.Option.{is_some, option_and_then}
 use Rattle.std.proofs.lemmas.Bool.{eqb-true, or_left, or_right}
-use Rattle.drm_lists.specs.Numbers.{is_among}
 use Rattle.drm_lists.specs.Orders.{InOrder}
-use Rattle.drm_lists.specs.Chains.{chain_within, is_under}
-use Rattle.drm_lists.proofs.Lists.{some_passing, all_weaker, all_both, all_filter, all_each, filter_true, filter-both}
-use Rattle.drm_lists.proofs.Chains.{IsFalling, itself, child, above_too, same_chain}
-use Rattle.drm_lists.proofs.Rising.{found, any_found, any_more, all_found, find_where}
+use Rattle.drm_lists.specs.Chains.{is_under}
+use Rattle.drm_lists.proofs.Lists.{some_passing}
+use Rattle.drm_lists.proofs.Chains.{IsFalling, itself, child, above_too}
+use Rattle.drm_lists.proofs.Rising.{found, any_found, all_found}
 use Rattle.drm_masters.specs.declared.rows.Member.{Member}
 use Rattle.drm_masters.specs.declared.rows.Master.{Master}
 use Rattle.drm_masters.specs.Masters.{is_option, is_birth, master_at, lessor_of, is_held, is_living, HasOlderLessor}

@@ -1,40 +1,28 @@
 -- Magics: that no two clients of a master have one number, and that one is always free.
-use Rattle.std.proofs.Common.{◌≡◌, ℕ, zero, suc, ◌+◌, ◌<◌, ◌≤◌, ◌==◌, Bool, true, false, not, cond, ◌&&◌, ◌||◌, List, [], ◌∷◌, ◌++◌, map, filter, find, length, Option, None, Some, refl, sym, ap, subst, ◌∙◌, eq-eqb, arith}
-use Rattle.std.specs.Prelude.{if◌then◌else◌}
-use Rattle.std.specs.List.{list_any, AllByRecursion}
+use Rattle.std.proofs.Common.{◌≡◌, ℕ, zero, suc, ◌<◌, ◌≤◌, ◌==◌, Bool, true, false, not, cond, ◌&&◌, ◌||◌, List, [], ◌∷◌, filter, find, length, Option, None, Some, refl, sym, ap, subst, ◌∙◌, arith}
+use Rattle.std.specs.List.{list_any}
 use Rattle.std.specs.Option.{option_map_or}
 use Rattle.std.proofs.Math.Bool.{and-false}
 use Rattle.std.proofs.lemmas.Bool.{eqb-true}
 use Rattle.std.proofs.lemmas.Bool.Decides.{nat_tests}
 use Rattle.drm_index_array.specs.Least.{least}
 use Rattle.drm_index_array.proofs.Least.{least_none}
-use Rattle.drm_lists.specs.Orders.{InOrder}
-use Rattle.drm_lists.proofs.Lists.{filter-shorter, all_each}
+use Rattle.drm_lists.proofs.Lists.{filter-fewer, all_each}
 use Rattle.drm_lists.proofs.Rising.{any_left}
 use Rattle.drm_masters.specs.declared.rows.Magic.{Magic}
 use Rattle.drm_masters.specs.declared.rows.Member.{Member}
-use Rattle.drm_masters.specs.Masters.{has_magic, has_open_magic, is_client, HaveOtherMagics}
+use Rattle.drm_masters.specs.Masters.{has_magic, is_client, HaveOtherMagics}
 use Rattle.drm_masters.specs.Calls.{with_magic}
 
 -- a client without a number has none
 pub no_magic : (m n : ℕ) (x : Member) → x.magic ≡ None → has_magic m n x ≡ false
 no_magic m n x e = ap (λ (g : Option Magic). (x.master == m) && option_map_or (λ (h : Magic). h.number == n) g false) e ∙ and-false (x.master == m)
 
--- one that passes is gone, and with it at least one of the list
-shorter : {X : Type 0} (p : X → Bool) → (xs : List X) → list_any p xs ≡ true → length (filter (λ x. not (p x)) xs) < length xs
-shorter p [] h = absurd (let e : false ≡ true = h in cc)
-shorter p (x ∷ xs) h =
-    let few = filter-shorter (λ x. not (p x)) xs in
-    (elim (p x) as (λ b. (b || list_any p xs) ≡ true → length (cond (not b) (x ∷ filter (λ x. not (p x)) xs) (filter (λ x. not (p x)) xs)) < suc (length xs)) [
-      | true ↦ λ k. omega (arith, few)
-      | false ↦ λ k. let lt = shorter p xs k in omega (arith, lt)
-    ]) h
-
 -- where each number from 1 to n is some element's, there are n of them
 as_many : {X : Type 0} (has : ℕ → X → Bool) → ((i n : ℕ) (x : X) → i < n → has n x ≡ true → has i x ≡ false) → (n : ℕ) (xs : List X) → ((i : ℕ) → 1 ≤ i → i ≤ n → list_any (has i) xs ≡ true) → n ≤ length xs
 as_many has one zero xs all = omega arith
 as_many has one (suc n) xs all =
-    let lt = shorter (has (suc n)) xs (all (suc n) (omega arith) (omega arith)) in
+    let lt = filter-fewer (has (suc n)) xs (all (suc n) (omega arith) (omega arith)) in
     let rest = as_many has one n (filter (λ x. not (has (suc n) x)) xs) (λ i low high. any_left (λ _. Unit {0}) (has (suc n)) (has i) (λ x u h. one i (suc n) x (omega (arith, high)) h) xs (all_each (λ _. Unit {0}) (λ _. tt) xs) (all i low (omega (arith, high)))) in
     omega (arith, lt, rest)
 

@@ -1,20 +1,19 @@
 -- What stays so as a master comes, or is kept or not: lessors, and which masters stay.
-use Rattle.std.proofs.Common.{◌≡◌, ℕ, ◌<◌, ◌≤◌, ◌==◌, Bool, true, false, cond, ◌&&◌, ◌||◌, List, [], ◌∷◌, ◌++◌, map, find, Option, None, Some, refl, sym, ap, subst, ◌∙◌, eq-eqb, arith}
+use Rattle.std.proofs.Common.{◌≡◌, ℕ, ◌<◌, ◌==◌, Bool, true, false, ◌&&◌, List, [], ◌∷◌, ◌++◌, map, Option, None, Some, refl, sym, ap, subst, ◌∙◌, eq-eqb, arith}
 use Rattle.std.specs.Prelude.{if◌then◌else◌}
-use Rattle.std.specs.List.{list_any, AllByRecursion}
+use Rattle.std.specs.List.{AllByRecursion}
 use Rattle.std.specs.Option.{is_some, option_map, option_and_then}
 use Rattle.std.proofs.lemmas.Bool.{eqb-true, or_left}
-use Rattle.drm_lists.specs.Orders.{InOrder}
-use Rattle.drm_lists.specs.Chains.{chain_within, is_under}
-use Rattle.drm_lists.proofs.Lists.{all_weaker, all_each, all_append, all_mapped, list_any-map, list_any_agree, list_any_left, list_any_right}
-use Rattle.drm_lists.proofs.Found.{is_some-find, find-map, find_none, find_last, find-same}
+use Rattle.drm_lists.specs.Chains.{is_under}
+use Rattle.drm_lists.proofs.Lists.{all_weaker, all_each, all_append, all_mapped, list_any-map, list_any_left, list_any_right}
+use Rattle.drm_lists.proofs.Found.{is_some-find, find-map, find-same}
 use Rattle.drm_lists.proofs.Numbers.{less-differ, flipped}
-use Rattle.drm_lists.proofs.Chains.{IsFalling, itself, same_chain}
+use Rattle.drm_lists.proofs.Chains.{itself, same_chain}
 use Rattle.drm_lists.proofs.Rising.{found, any_more, find_more, in_order_kept}
 use Rattle.drm_lists.specs.Numbers.{is_among}
 use Rattle.drm_masters.specs.declared.rows.Member.{Member}
 use Rattle.drm_masters.specs.declared.rows.Master.{Master}
-use Rattle.drm_masters.specs.Masters.{is_option, is_birth, master_at, lessor_of, is_held, is_living, HasOlderLessor}
+use Rattle.drm_masters.specs.Masters.{is_birth, is_key, IsKeyOf, master_at, lessor_of, is_held, is_living, HasOlderLessor}
 use Rattle.drm_masters.specs.Calls.{kept_as}
 use Rattle.drm_masters.proofs.Living.{Rise, Older, falls, both_true, and_true}
 
@@ -51,6 +50,15 @@ module _ (m : ℕ) (kept : Bool) (ms : List Master) where
       same : (o : Option Master) → option_and_then (λ (x : Master). x.lessor) (option_map (kept_at m kept) o) ≡ option_and_then (λ (x : Master). x.lessor) o
       same None = refl
       same (Some x) = lessor_stays m kept x
+
+  -- it has its key yet
+  pub kept_key : AllByRecursion (λ (x : Master). x.key ≡ x.birth) ms → (x : Master) → master_at ms x.birth ≡ Some x → IsKeyOf now x.birth x.key
+  kept_key keyed x here =
+      let same = found (is_birth x.birth) (λ (y : Master). y.key ≡ y.birth) x ms keyed here in
+      ap (λ o. option_map (λ (y : Master). y.birth) o)
+      (find-map (is_key x.key) (kept_at m kept) ms
+      ∙ ap (option_map (kept_at m kept)) (find-same (λ y. is_key x.key (kept_at m kept y)) (is_birth x.birth) ms (all_weaker (λ (y : Master). y.key ≡ y.birth) (λ y. is_key x.key (kept_at m kept y) ≡ is_birth x.birth y) (λ y e. ap (λ k. k == x.key) (key_stays m kept y ∙ e) ∙ ap (λ k. y.birth == k) same.1) ms keyed) ∙ here)
+      ) ∙ ap Some (birth_stays m kept x)
 
   pub kept_rise : Rise ms → Rise now
   kept_rise rise = in_order_kept (λ (x y : Master). x.birth < y.birth) (kept_at m kept) (λ x y lt. omega (arith, lt, birth_stays m kept x, birth_stays m kept y)) ms rise

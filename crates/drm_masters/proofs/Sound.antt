@@ -1,5 +1,5 @@
 -- What is so of the masters at all times is so after each change.
-use Rattle.std.proofs.Common.{◌≡◌, ℕ, suc, ◌+◌, ◌<◌, ◌≤◌, ◌==◌, Bool, true, false, not, cond, ◌&&◌, ◌||◌, List, [], ◌∷◌, ◌++◌, map, filter, find, length, Option, None, Some, refl, sym, ap, subst, ◌∙◌, eq-eqb, arith, length-append}
+use Rattle.std.proofs.Common.{◌≡◌, ℕ, ◌+◌, ◌<◌, ◌≤◌, ◌==◌, Bool, true, false, not, ◌&&◌, ◌||◌, List, [], ◌∷◌, ◌++◌, map, filter, find, length, Option, None, Some, refl, sym, ap, subst, ◌∙◌, eq-eqb, arith, length-append}
 use Rattle.std.specs.Prelude.{if◌then◌else◌}
 use Rattle.std.specs.List.{list_any, AllByRecursion}
 use Rattle.std.specs.Option.{is_some, option_map_or}
@@ -15,11 +15,11 @@ use Rattle.drm_lists.proofs.Rising.{found, any_found, any_more, any_left, all_fo
 use Rattle.drm_masters.specs.declared.rows.Magic.{Magic}
 use Rattle.drm_masters.specs.declared.rows.Member.{Member}
 use Rattle.drm_masters.specs.declared.rows.Master.{Master}
-use Rattle.drm_masters.specs.Masters.{MasterSet, AreMasters, HaveOtherMagics, HasOlderLessor, is_client, is_birth, is_key, is_option, birth_at, member_of, master_at, lessor_of, is_held, is_living, has_magic, has_open_magic, swept}
+use Rattle.drm_masters.specs.Masters.{MasterSet, AreMasters, HaveOtherMagics, HasOlderLessor, is_client, is_birth, is_key, is_option, birth_at, member_of, master_at, is_held, is_living, has_magic, has_open_magic, swept}
 use Rattle.drm_masters.specs.declared.masters.Masters.TheInside.{Inside}
 use Rattle.drm_masters.specs.Fields.{set_of, IsSound}
-use Rattle.drm_masters.specs.Calls.{IsNewClient, IsNewBirth, own_master, lessee, owner, guest, redeemer, with_member, with_master, with_device, without_member, changed_member, with_kept, with_magic, closed_own, redeemed}
-use Rattle.drm_masters.proofs.Living.{Rise, Older, both_true, and_true}
+use Rattle.drm_masters.specs.Calls.{with_member, with_master, with_device, without_member, changed_member, with_kept, with_magic, closed_own}
+use Rattle.drm_masters.proofs.Living.{both_true, and_true}
 use Rattle.drm_masters.proofs.Pushed.{kept_at, kept_there, kept_rise, kept_older, kept_used, same_used, there_too, new_there, pushed_older, pushed_used}
 use Rattle.drm_masters.proofs.Swept.{swept_older, swept_used, named_there}
 use Rattle.drm_masters.proofs.Numbered.{no_magic, other_none, given_before, given_behind, spent_same}
@@ -386,3 +386,9 @@ pub of_key : (ms : List Master) (key : ℕ) (x : Master) → Keyed ms → find (
 of_key ms key x keyed e =
     let w = found (is_key key) (λ (y : Master). y.key ≡ y.birth) x ms keyed e in
     (w.1, ap (λ o. option_map_or (λ (y : Master). y.birth) o 0) e, is_some-find (is_birth x.birth) ms ∙ any_found (is_key key) (is_birth x.birth) x ms e (eq-eqb x.birth x.birth refl))
+
+-- what a birth finds has it
+pub at_birth : (ms : List Master) (m : ℕ) (x : Master) → master_at ms m ≡ Some x → (x.birth ≡ m) × (master_at ms x.birth ≡ Some x)
+at_birth ms m x e =
+    let num : x.birth ≡ m = eqb-true x.birth m (found (is_birth m) (λ _. Unit {0}) x ms (all_each (λ _. Unit {0}) (λ _. tt) ms) e).0 in
+    (num, ap (master_at ms) num ∙ e)

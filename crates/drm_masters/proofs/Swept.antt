@@ -1,5 +1,5 @@
 -- What a sweep leaves.
-use Rattle.std.proofs.Common.{◌≡◌, ℕ, ◌<◌, ◌==◌, Bool, true, false, cond, ◌&&◌, ◌||◌, List, [], ◌∷◌, filter, find, Option, None, Some, refl, sym, ap, subst, ◌∙◌, eq-eqb, arith}
+use Rattle.std.proofs.Common.{◌≡◌, ℕ, ◌==◌, true, false, cond, List, filter, Option, None, Some, refl, ap, subst, ◌∙◌}
 use Rattle.std.specs.List.{list_any, AllByRecursion}
 use Rattle.std.specs.Option.{is_some, option_and_then}
 use Rattle.std.proofs.lemmas.Bool.{eqb-true, or_right}
@@ -11,7 +11,7 @@ use Rattle.drm_lists.proofs.Rising.{found, all_found, find_where}
 use Rattle.drm_masters.specs.declared.rows.Member.{Member}
 use Rattle.drm_masters.specs.declared.rows.Master.{Master}
 use Rattle.drm_masters.specs.Masters.{is_birth, master_at, lessor_of, is_held, is_living, HasOlderLessor}
-use Rattle.drm_masters.proofs.Living.{Rise, Older, both_true, and_true, living_by, held_below, lessor_lives}
+use Rattle.drm_masters.proofs.Living.{Rise, Older, living_by, held_below, lessor_lives}
 
 module _ (members : List Member) (ms : List Master) (rise : Rise ms) (older : Older ms) where
   abbrev left : List Master

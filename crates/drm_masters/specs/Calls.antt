@@ -1,7 +1,7 @@
 -- What each call does.
-use Rattle.std.specs.Prelude.{◌≡◌, ℕ, ◌==◌, ◌<◌, Bool, true, false, not, ◌&&◌, ◌||◌, List, [], ◌∷◌, ◌++◌, Option, None, Some, Result, Ok, Err, find, map, filter, if◌then◌else◌, ⊤}
+use Rattle.std.specs.Prelude.{◌≡◌, ℕ, ◌<◌, Bool, true, false, not, ◌&&◌, ◌||◌, List, [], ◌∷◌, ◌++◌, Option, None, Some, Result, Ok, Err, find, map, filter, if◌then◌else◌}
 use Rattle.std.specs.List.{AllByRecursion}
-use Rattle.std.specs.Option.{is_some, option_map}
+use Rattle.std.specs.Option.{is_some}
 use Rattle.drm_table.specs.declared.rules.Rule.{Rule}
 use Rattle.drm_table.specs.declared.rules.Rule.TheVariants.{MasterPerm, MasterBusy, IsLessee, NotCurrent, NoMagic}
 use Rattle.drm_table.specs.Permit.{Check, check, first_failing}
@@ -14,7 +14,7 @@ use Rattle.drm_masters.specs.declared.faults.LesseeFault.TheVariants.{Full, NoMe
 use Rattle.drm_masters.specs.declared.rows.Magic.{Magic}
 use Rattle.drm_masters.specs.declared.rows.Master.{Master}
 use Rattle.drm_masters.specs.declared.rows.Member.{Member}
-use Rattle.drm_masters.specs.Masters.{MasterSet, is_client, is_birth, is_key, is_option, key_of, is_lessee, is_current_member, has_open_magic, free_magic, free_lessee, swept}
+use Rattle.drm_masters.specs.Masters.{MasterSet, is_client, is_birth, is_key, is_option, IsKeyOf, is_lessee, is_current_member, has_open_magic, free_magic, free_lessee, swept}
 
 -- each client that is there is older
 abbrev pub IsNewClient : MasterSet → ℕ → Type 0
@@ -141,8 +141,9 @@ AuthenticatedBy v m n (Err rule) new = (find (has_open_magic m n) v.members ≡ 
 abbrev pub closed_own : ℕ → ℕ → MasterSet → MasterSet
 closed_own c m v = with_device (if is_option m v.device_master then None else v.device_master) (with_kept m true (without_member c v))
 
+-- its key is given back
 abbrev pub ClosedOf : MasterSet → Member → Bool → Option ℕ → MasterSet → Type 0
-ClosedOf v x true own new = (own ≡ key_of v.masters x.master) × (new ≡ closed_own x.client x.master v)
+ClosedOf v x true own new = ((key : ℕ) × (own ≡ Some key) × IsKeyOf new.masters x.master key) × (new ≡ closed_own x.client x.master v)
 ClosedOf v x false own new = (own ≡ None) × (new ≡ swept (without_member x.client v))
 
 abbrev pub ClosedBy : MasterSet → Option Member → Option ℕ → MasterSet → Type 0

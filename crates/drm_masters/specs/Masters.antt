@@ -1,5 +1,5 @@
 -- Who stands to which master, and the masters, as flat lists in the order of births (drm(7), masters; drm-uapi, leases).
-use Rattle.std.specs.Prelude.{◌≡◌, ℕ, ◌==◌, ◌<◌, ◌≤◌, Bool, true, false, not, ◌&&◌, ◌||◌, List, [], length, Option, None, Some, find, filter}
+use Rattle.std.specs.Prelude.{◌≡◌, ℕ, ◌==◌, ◌<◌, ◌≤◌, Bool, true, false, not, ◌&&◌, ◌||◌, List, length, Option, None, Some, find, filter}
 use Rattle.std.specs.List.{list_any, AllByRecursion}
 use Rattle.std.specs.Option.{is_some, option_map, option_map_or, option_and_then}
 use Rattle.drm_index_array.specs.Least.{least}
@@ -48,6 +48,10 @@ birth_at masters key = option_map_or (λ (x : Master). x.birth) (find (is_key ke
 -- the key of a master, if it is there
 abbrev pub key_of : List Master → ℕ → Option ℕ
 key_of masters m = option_map (λ (x : Master). x.key) (master_at masters m)
+
+-- the key is that of a master which is there
+abbrev pub IsKeyOf : List Master → ℕ → ℕ → Type 0
+IsKeyOf masters m key = option_map (λ (x : Master). x.birth) (find (is_key key) masters) ≡ Some m
 
 -- whether a master has the key
 abbrev pub is_there : List Master → ℕ → Bool

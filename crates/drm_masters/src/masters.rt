@@ -58,6 +58,13 @@ impl Masters {
         }
     }
 
+    /// What is so of the clients and the masters at all times. It does nothing.
+    pub fn laws(&self)
+        ensures { sets.AreMasters self.now }
+    {
+        let _ = &self.members;
+    }
+
     /// How a client stands to masters, if it does. It takes no memory.
     pub fn member(&self, client: u32) -> Option<Member>
         ensures member { result ≡ sets.member_of self.now.members client }

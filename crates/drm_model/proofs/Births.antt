@@ -6,14 +6,15 @@ use Rattle.drm_lists.specs.Orders.{InOrder}
 use Rattle.drm_lists.proofs.Lists.{all_weaker, all_append, all_filter}
 use Rattle.drm_lists.proofs.Orders.{in_order_filter, in_order_append}
 use Rattle.drm_table.specs.declared.calls.Call.{Call}
-use Rattle.drm_table.specs.declared.calls.Call.TheVariants.{BufCreate, StampWrite, CreateDumb}
+use Rattle.drm_table.specs.declared.calls.Call.TheVariants.{AuthMagic, SetMaster, BufCreate, StampWrite, CreateDumb}
 use Rattle.drm_table.specs.declared.events.Event.{Event}
 use Rattle.drm_table.specs.declared.events.Event.TheVariants.{Open, Ask, Close}
 use Rattle.drm_table.specs.declared.events.Opening.TheVariants.{Primary, Render, Lease}
 use Rattle.drm_table.specs.declared.rules.Rule.{Rule}
 use Rattle.drm_model.specs.Births.{MadeInTurn, BirthsRise}
-use Rattle.drm_model.specs.Rows.{Rows, ClientRow, MasterRow, ObjectRow, birth, empty_rows, is_option, client_row, object_of}
+use Rattle.drm_model.specs.Rows.{Rows, ClientRow, MasterRow, ObjectRow, birth, empty_rows, is_option, is_client, client_row, object_of}
 use Rattle.drm_model.specs.Masters.{is_under}
+use Rattle.drm_model.specs.Magics.{own_master, magic_client, is_current, is_master, mastered, with_authenticated, with_master}
 use Rattle.drm_model.specs.Leases.{ended}
 use Rattle.drm_model.specs.Buffers.{with_object, with_stamp}
 use Rattle.drm_model.specs.Clients.{opened, opened_primary, closed, ended_own, ended_if}
@@ -94,12 +95,33 @@ stamped : (b : Bool) (row : ObjectRow) (stamp : ℕ) → (if b then record row {
 stamped true row stamp = refl
 stamped false row stamp = refl
 
+-- a client stays the one that it is
+authenticated : (b : Bool) (row : ClientRow) → client_birth (if b then record row { authenticated = true } else row) ≡ client_birth row
+authenticated true row = refl
+authenticated false row = refl
+
+mastering : (b : Bool) (row : ClientRow) (m : ℕ) → client_birth (if b then record row { authenticated = true; once_master = true; is_master = true; master = Some m } else row) ≡ client_birth row
+mastering true row m = refl
+mastering false row m = refl
+
+mastered-births : (w : Rows) (c : ℕ) (current master : Bool) → BirthsRise w.steps w → BirthsRise (birth w) (mastered w c current master)
+unfolding with_master
+mastered-births w c true master h = later w h
+mastered-births w c false true h = later w h
+mastered-births w c false false h = (
+  turn-later client_birth w.steps _ (turn-map client_birth _ (λ row. mastering (is_client c row) row (birth w)) w.steps w.clients h.0),
+  turn-push master_birth w.steps w.masters _ refl h.1,
+  (later w h).2,
+)
+
 -- a call that is not told here makes and takes no client, master or object
 asked-births : (w : Rows) (c : ℕ) (call : Call) → BirthsRise w.steps w → BirthsRise (birth w) (meaning w c call).rows
-unfolding meaning with_object with_stamp
+unfolding meaning with_object with_stamp with_authenticated
 asked-births w c (BufCreate size) h = ((later w h).0, (later w h).1, turn-push object_birth w.steps w.objects _ refl h.2)
 asked-births w c (CreateDumb width height bpp) h = ((later w h).0, (later w h).1, turn-push object_birth w.steps w.objects _ refl h.2)
 asked-births w c (StampWrite handle stamp) h = ((later w h).0, (later w h).1, turn-map object_birth _ (λ row. stamped (row.object == object_of w c handle) row stamp) (birth w) w.objects (later w h).2)
+asked-births w c (AuthMagic magic) h = (turn-map client_birth _ (λ row. authenticated (is_option row.client (magic_client w (own_master w c) magic)) row) (birth w) w.clients (later w h).0, (later w h).1, (later w h).2)
+asked-births w c SetMaster h = mastered-births w c (is_current w c) (is_master w c) h
 asked-births w c call h = later w h
 
 changed-births : (w : Rows) (event : Event) → BirthsRise w.steps w → BirthsRise (birth w) (changed w event)

@@ -6,7 +6,7 @@ use Rattle.drm_lists.proofs.Lists.{filter-shorter}
 use Rattle.drm_table.specs.declared.audits.AuditKind.{AuditKind}
 use Rattle.drm_table.specs.declared.audits.AuditKind.TheVariants as kinds
 use Rattle.drm_table.specs.declared.calls.Call.{Call}
-use Rattle.drm_table.specs.declared.calls.Call.TheVariants.{GemClose, GemFlink, GemOpen, PrimeHandleToFd, PrimeFdToHandle, BufCreate, StampWrite, TokenClose, CreateDumb, DestroyDumb}
+use Rattle.drm_table.specs.declared.calls.Call.TheVariants.{GetMagic, GemClose, GemFlink, GemOpen, AuthMagic, SetMaster, DropMaster, PrimeHandleToFd, PrimeFdToHandle, BufCreate, StampWrite, TokenClose, CreateDumb, DestroyDumb}
 use Rattle.drm_table.specs.declared.events.Event.{Event}
 use Rattle.drm_table.specs.declared.events.Event.TheVariants.{Open, Ask, Close}
 use Rattle.drm_table.specs.declared.events.Opening.TheVariants.{Primary, Render, Lease}
@@ -18,6 +18,7 @@ use Rattle.drm_model.specs.Rows.{Rows, ClientRow, birth, empty_rows, client_row,
 use Rattle.drm_model.specs.Leases.{ended}
 use Rattle.drm_model.specs.Buffers.{with_object, with_stamp}
 use Rattle.drm_model.specs.Sharing.{name_of, named, exported_object, prime_handle, imported, with_place}
+use Rattle.drm_model.specs.Magics.{own_master, magic_of, with_magic, is_current, is_master, mastered, with_authenticated, with_spent, with_master}
 use Rattle.drm_model.specs.Clients.{opened, opened_primary, opened_lease, closed, ended_own, ended_if}
 use Rattle.drm_model.specs.Calls.{meaning}
 use Rattle.drm_model.specs.Verdict.{verdict}
@@ -82,9 +83,28 @@ imported-few : (w : Rows) (c o : ℕ) (handle : Option ℕ) → length w.holds �
 imported-few w c o (Some handle) h = more _ w.steps h
 imported-few w c o None h = few-push w.holds _ w.steps h
 
+with_magic-few : (w : Rows) (c m : ℕ) (number : Option ℕ) → length w.magics ≤ w.steps → length (with_magic w c m number) ≤ birth w
+with_magic-few w c m (Some number) h = more _ w.steps h
+with_magic-few w c m None h = few-push w.magics _ w.steps h
+
+mastered-few : (w : Rows) (c : ℕ) (current master : Bool) → FewRows w.steps w → (part : Part) → count_in part (mastered w c current master) ≤ birth w
+unfolding with_master count_in
+mastered-few w c false false h Clients = more _ w.steps (few-map _ w.clients w.steps (h Clients))
+mastered-few w c false false h Masters = few-push w.masters _ w.steps (h Masters)
+mastered-few w c false false h Magics = more _ w.steps (few-filter _ w.magics w.steps (h Magics))
+mastered-few w c true master h part = later w w.steps h part
+mastered-few w c false true h Clients = later w w.steps h Clients
+mastered-few w c false true h part = later w w.steps h part
+mastered-few w c false false h part = later w w.steps h part
+
 -- a call that is not told here makes no list longer or shorter
 asked-few : (w : Rows) (c : ℕ) (call : Call) → FewRows w.steps w → (part : Part) → count_in part (meaning w c call).rows ≤ birth w
-unfolding meaning with_object with_stamp with_place count_in
+unfolding meaning with_object with_stamp with_place with_authenticated with_spent count_in
+asked-few w c GetMagic h Magics = with_magic-few w c (own_master w c) (magic_of w c) (h Magics)
+asked-few w c (AuthMagic magic) h Clients = more _ w.steps (few-map _ w.clients w.steps (h Clients))
+asked-few w c (AuthMagic magic) h Magics = more _ w.steps (few-map _ w.magics w.steps (h Magics))
+asked-few w c SetMaster h part = mastered-few w c (is_current w c) (is_master w c) h part
+asked-few w c DropMaster h Clients = later w w.steps h Clients
 asked-few w c (GemClose handle) h Holds = more _ w.steps (few-filter _ w.holds w.steps (h Holds))
 asked-few w c (DestroyDumb handle) h Holds = more _ w.steps (few-filter _ w.holds w.steps (h Holds))
 asked-few w c (GemFlink handle) h Names = named-few w (object_of w c handle) (name_of w (object_of w c handle)) (h Names)

@@ -1,10 +1,11 @@
 -- What each step leaves of limits, steps and open clients, so that the journal has places for their closings.
-use Rattle.std.proofs.Common.{◌≡◌, ℕ, suc, ◌+◌, ◌≤◌, nat_lt, Bool, true, false, cond, not, ◌&&◌, List, [], ◌∷◌, ◌++◌, length, find, Option, None, Some, refl, sym, ◌∙◌, ap, arith, length-append}
+use Rattle.std.proofs.Common.{◌≡◌, ℕ, suc, ◌+◌, ◌≤◌, nat_lt, Bool, true, false, cond, not, ◌&&◌, List, [], ◌∷◌, ◌++◌, length, find, map, Option, None, Some, refl, sym, ◌∙◌, ap, arith, length-append}
 use Rattle.std.specs.Option.{is_some}
 use Rattle.std.proofs.lemmas.Bool.{ltb-false}
+use Rattle.std.proofs.lemmas.List.{length-map}
 use Rattle.drm_lists.proofs.Lists.{filter-shorter}
 use Rattle.drm_table.specs.declared.calls.Call.{Call}
-use Rattle.drm_table.specs.declared.calls.Call.TheVariants.{Version}
+use Rattle.drm_table.specs.declared.calls.Call.TheVariants.{Version, AuthMagic, SetMaster}
 use Rattle.drm_table.specs.declared.events.Event.{Event}
 use Rattle.drm_table.specs.declared.events.Event.TheVariants.{Open, Ask, Close}
 use Rattle.drm_table.specs.declared.events.Opening.{Opening}
@@ -19,6 +20,7 @@ use Rattle.drm_model.specs.Clients.{opened, opened_primary, closed, ended_own, e
 use Rattle.drm_model.specs.Run.{FoundRoom, no_room, places_left, run, rows_of, History, noted_in}
 use Rattle.drm_model.specs.Leases.{ended}
 use Rattle.drm_model.specs.Buffers.{with_object}
+use Rattle.drm_model.specs.Magics.{is_current, is_master, mastered, with_authenticated, with_master}
 use Rattle.drm_model.proofs.Closings.{closing_verdict}
 
 pub run_push : (w : Rows) (events : List Event) (event : Event) → run w (events ++ event ∷ []) ≡ after (run w events) event
@@ -55,9 +57,15 @@ opened_primary-kept : (w : Rows) (root : Bool) (m : Option ℕ) → IsKept w (op
 opened_primary-kept w root None = record { limits = refl; steps = refl }
 opened_primary-kept w root (Some m) = record { limits = refl; steps = refl }
 
+mastered-kept : (w : Rows) (c : ℕ) (current master : Bool) → IsKept w (mastered w c current master)
+mastered-kept w c true master = record { limits = refl; steps = refl }
+mastered-kept w c false true = record { limits = refl; steps = refl }
+mastered-kept w c false false = record { limits = refl; steps = refl }
+
 asked-kept : (w : Rows) (c : ℕ) (call : Call) → IsKept w (meaning w c call).rows
 unfolding meaning with_object
 asked-kept w c Version = record { limits = refl; steps = refl }
+asked-kept w c SetMaster = mastered-kept w c (is_current w c) (is_master w c)
 asked-kept w c _ = record { limits = refl; steps = refl }
 
 changed-kept : (w : Rows) (event : Event) → IsKept w (changed w event)
@@ -115,9 +123,20 @@ opened-count w (Primary root) = opened_primary-count w root w.device_master
 opened-count w Render = length-append w.clients _
 opened-count w (Lease token root) = length-append w.clients _
 
+map-count : (f : ClientRow → ClientRow) (rows : List ClientRow) → length (map f rows) ≡ length rows
+map-count f rows = let l = length-map rows f in omega (arith, l)
+
+mastered-count : (w : Rows) (c : ℕ) (current master : Bool) → length (mastered w c current master).clients ≡ length w.clients
+unfolding with_master
+mastered-count w c true master = refl
+mastered-count w c false true = refl
+mastered-count w c false false = map-count _ w.clients
+
 asked-count : (w : Rows) (c : ℕ) (call : Call) → length (meaning w c call).rows.clients ≡ length w.clients
-unfolding meaning with_object
+unfolding meaning with_object with_authenticated
 asked-count w c Version = refl
+asked-count w c (AuthMagic magic) = map-count _ w.clients
+asked-count w c SetMaster = mastered-count w c (is_current w c) (is_master w c)
 asked-count w c _ = refl
 
 without-found : {X : Type 0} (p : X → Bool) → (xs : List X) → is_some (find p xs) ≡ true → length (without p xs) + 1 ≤ length xs

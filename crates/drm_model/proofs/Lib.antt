@@ -24,3 +24,12 @@ pub mod WorkedTokensAreGivenInTurn
 pub mod WorkedNamesAndHandlesAreLimited
 pub mod WorkedImportsBesideHandlesWithoutAPlace
 pub mod WorkedAuditsOfNamesAndTokens
+pub mod WorkedMagicsAreSpentOnce
+pub mod WorkedMagicsAreTheLowestFree
+pub mod WorkedMastersAndMagicsAreNotForRenderClients
+pub mod WorkedMastersAreSetAndDropped
+pub mod WorkedMagicsAreThoseOfTheOwnMaster
+pub mod WorkedNewMasterTakesTheMagic
+pub mod WorkedAuditsOfMastersAndMagics
+pub mod WorkedOldMagicIsNotAccepted
+pub mod WorkedRootMayBeMaster

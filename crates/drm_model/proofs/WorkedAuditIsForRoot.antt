@@ -3,14 +3,15 @@ use Rattle.std.proofs.Common.{◌≡◌, true, false, List, ◌∷◌, Result, O
 use Rattle.drm_table.specs.declared.answers.Answer.{Answer}
 use Rattle.drm_table.specs.declared.answers.Answer.TheVariants.{Opened, Version as VersionIs, Audit as AuditIs, Denied}
 use Rattle.drm_table.specs.declared.apart.Apart.{Apart}
-use Rattle.drm_table.specs.declared.rules.Rule.TheVariants.{RootOnly as DeniedRootOnly}
-use Rattle.drm_table.specs.declared.calls.Call.TheVariants.{Version, Audit}
+use Rattle.drm_table.specs.declared.rules.Rule.TheVariants.{Auth as DeniedAuth, Master as DeniedMaster, RootOnly as DeniedRootOnly}
+use Rattle.drm_table.specs.declared.calls.Call.TheVariants.{Version, GemFlink, AuthMagic, Audit}
 use Rattle.drm_table.specs.declared.events.Event.{Event}
 use Rattle.drm_table.specs.declared.events.Event.TheVariants.{Open, Ask}
 use Rattle.drm_table.specs.declared.events.Opening.TheVariants.{Primary}
 use Rattle.drm_table.specs.declared.limits.Limits.{Limits}
 use Rattle.drm_table.specs.declared.audits.AuditKind.TheVariants.{Client as OfClient}
 use Rattle.drm_index_array.specs.Least.{first_passing, least}
+use Rattle.drm_lists.specs.Chains.{chain_within}
 use Rattle.drm_lists.specs.Orders.{sorted_by}
 use Rattle.drm_table.specs.Answers.{answer_kind_row, told, answer_with, answer_kind_of}
 use Rattle.drm_table.specs.Audits.{kind_number, kind_of, kind_name}
@@ -23,7 +24,7 @@ use Rattle.drm_model.specs.Calls.{meaning}
 use Rattle.drm_model.specs.Change.{changed, swept, after}
 use Rattle.drm_model.specs.Clients.{opening_checks, opened, closed}
 use Rattle.drm_model.specs.Leases.{ended}
-use Rattle.drm_model.specs.Masters.{chain_within}
+use Rattle.drm_model.specs.Magics.{with_spent, with_authenticated, with_master}
 use Rattle.drm_model.specs.Numbers.{numbers_from}
 use Rattle.drm_model.specs.Parts.{count_in}
 use Rattle.drm_model.specs.Reply.{answer_of, reply}
@@ -46,9 +47,9 @@ abbrev events : List Event
 events =
     Open (Primary false) ∷
     Open (Primary false) ∷
+    Ask 2 (GemFlink 1) ∷
     Ask 2 Version ∷
-    Ask 2 Version ∷
-    Ask 2 Version ∷
+    Ask 2 (AuthMagic 1) ∷
     Ask 2 (Audit OfClient 0) ∷
     Open (Primary true) ∷
     Ask 7 (Audit OfClient 0) ∷
@@ -58,14 +59,14 @@ abbrev answers : List (Result Answer Apart)
 answers =
     Ok (Opened 1) ∷
     Ok (Opened 2) ∷
+    Ok (Denied DeniedAuth) ∷
     Ok (VersionIs 1 0 0) ∷
-    Ok (VersionIs 1 0 0) ∷
-    Ok (VersionIs 1 0 0) ∷
+    Ok (Denied DeniedMaster) ∷
     Ok (Denied DeniedRootOnly) ∷
     Ok (Opened 7) ∷
     Ok (AuditIs ((audit_row 1 28 1 0) ∷ (audit_row 2 0 1 0) ∷ (audit_row 7 6 1 0) ∷ [])) ∷
     []
 
 pub audit_is_for_root : results (empty_rows test_topology limits) events ≡ answers
-unfolding first_passing least sorted_by answer_kind_row told answer_with answer_kind_of kind_number kind_of kind_name are_in_range rule_of_number apart_of_number kind_row call_row call_with call_kind_of call_kind_of_word row_of call_number flags_of audit_rows audit_page dumb_pitch dumb_size buffer_size with_object with_stamp meaning changed swept after opening_checks opened closed ended chain_within numbers_from count_in answer_of reply results no_room run rows_of with_place prime_handle is_topology admission_checks checks verdict
+unfolding first_passing least chain_within sorted_by answer_kind_row told answer_with answer_kind_of kind_number kind_of kind_name are_in_range rule_of_number apart_of_number kind_row call_row call_with call_kind_of call_kind_of_word row_of call_number flags_of audit_rows audit_page dumb_pitch dumb_size buffer_size with_object with_stamp meaning changed swept after opening_checks opened closed ended with_spent with_authenticated with_master numbers_from count_in answer_of reply results no_room run rows_of with_place prime_handle is_topology admission_checks checks verdict
 audit_is_for_root = refl

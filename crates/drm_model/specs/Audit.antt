@@ -1,5 +1,5 @@
 -- AUDIT: the rows of a kind, in pages (all of it is this project's own).
-use Rattle.std.specs.Prelude.{ℕ, ◌+◌, ◌==◌, nat_lt, nat_le, Bool, false, ◌&&◌, ◌||◌, List, [], ◌∷◌, length, Option, unwrap_or, find, map, filter, take, drop, if◌then◌else◌}
+use Rattle.std.specs.Prelude.{ℕ, ◌+◌, ◌==◌, nat_lt, nat_le, Bool, false, ◌&&◌, ◌||◌, List, [], ◌∷◌, length, Option, unwrap_or, map, filter, take, drop, if◌then◌else◌}
 use Rattle.std.specs.Option.{option_map_or}
 use Rattle.drm_lists.specs.Orders.{sorted_by}
 use Rattle.drm_table.specs.declared.answers.Answer.TheVariants as answers
@@ -7,7 +7,7 @@ use Rattle.drm_table.specs.declared.audits.AuditKind.{AuditKind}
 use Rattle.drm_table.specs.declared.audits.AuditKind.TheVariants.{Client, Master, Object, Name, Token, Hold, Grant, Framebuffer, Shown, Device}
 use Rattle.drm_table.specs.declared.audits.AuditRow.{AuditRow}
 use Rattle.drm_model.specs.Meaning.{Meaning, nothing}
-use Rattle.drm_model.specs.Rows.{Rows, ClientRow, MasterRow, MagicRow, HoldRow, ObjectRow, NameRow, TokenRow, GrantRow, FramebufferRow, ShownRow}
+use Rattle.drm_model.specs.Rows.{Rows, ClientRow, MasterRow, MagicRow, HoldRow, ObjectRow, NameRow, TokenRow, GrantRow, FramebufferRow, ShownRow, magic_row}
 
 abbrev pub audit_row : ℕ → ℕ → ℕ → ℕ → AuditRow
 audit_row a b c d = record { a = a; b = b; c = c; d = d }
@@ -18,9 +18,6 @@ or_zero number = unwrap_or number 0
 
 abbrev pub flag : Bool → ℕ → ℕ
 flag b n = if b then n else 0
-
-abbrev pub magic_row : Rows → ℕ → Option MagicRow
-magic_row w c = find (λ row. row.client == c) w.magics
 
 abbrev pub client_flags : Rows → ClientRow → ℕ
 client_flags w row =

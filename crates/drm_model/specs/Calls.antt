@@ -1,12 +1,13 @@
 -- What each call means. Its meaning stands with its family.
 use Rattle.std.specs.Prelude.{ℕ}
 use Rattle.drm_table.specs.declared.calls.Call.{Call}
-use Rattle.drm_table.specs.declared.calls.Call.TheVariants.{Unknown, BadLayout, Version, GemClose, GemFlink, GemOpen, GetCap, SetClientCap, PrimeHandleToFd, PrimeFdToHandle, BufCreate, StampWrite, StampRead, TokenClose, ListHandles, Audit, CreateDumb, DestroyDumb}
+use Rattle.drm_table.specs.declared.calls.Call.TheVariants.{Unknown, BadLayout, Version, GetMagic, GemClose, GemFlink, GemOpen, GetCap, SetClientCap, AuthMagic, SetMaster, DropMaster, PrimeHandleToFd, PrimeFdToHandle, BufCreate, StampWrite, StampRead, TokenClose, ListHandles, Audit, CreateDumb, DestroyDumb}
 use Rattle.drm_model.specs.Rows.{Rows}
 use Rattle.drm_model.specs.Meaning.{Meaning, nothing}
 use Rattle.drm_model.specs.Capabilities.{version, get_cap, set_client_cap}
 use Rattle.drm_model.specs.Audit.{audit}
 use Rattle.drm_model.specs.Buffers.{gem_close, buf_create, create_dumb, stamp_write, stamp_read, list_handles}
+use Rattle.drm_model.specs.Magics.{get_magic, auth_magic, set_master, drop_master}
 use Rattle.drm_model.specs.Sharing.{gem_flink, gem_open, prime_export, prime_import, token_close}
 
 -- the first two are never admitted
@@ -14,11 +15,15 @@ unfoldable pub meaning : Rows → ℕ → Call → Meaning
 meaning w c (Unknown number) = nothing w
 meaning w c (BadLayout number) = nothing w
 meaning w c Version = version w
+meaning w c GetMagic = get_magic w c
 meaning w c (GemClose handle) = gem_close w c handle
 meaning w c (GemFlink handle) = gem_flink w c handle
 meaning w c (GemOpen name) = gem_open w c name
 meaning w c (GetCap cap) = get_cap w cap
 meaning w c (SetClientCap cap value) = set_client_cap w
+meaning w c (AuthMagic magic) = auth_magic w c magic
+meaning w c SetMaster = set_master w c
+meaning w c DropMaster = drop_master w c
 meaning w c (PrimeHandleToFd handle) = prime_export w c handle
 meaning w c (PrimeFdToHandle token) = prime_import w c token
 meaning w c (BufCreate size) = buf_create w c size

@@ -6,6 +6,7 @@ use Rattle.drm_table.specs.declared.events.Opening.TheVariants.{Primary, Render,
 use Rattle.drm_table.specs.declared.rules.Rule.TheVariants.{NoLeaseToken, Full}
 use Rattle.drm_table.specs.Permit.{Check, check}
 use Rattle.drm_model.specs.Rows.{Rows, ClientRow, MasterRow, birth, without, is_option, client_row, has_client_room}
+use Rattle.drm_model.specs.Masters.{new_master}
 use Rattle.drm_model.specs.Leases.{lease_master, ended}
 
 -- the rules of an opening, in order (limits and lease tokens are own)
@@ -17,7 +18,7 @@ opening_checks w (Lease token root) = check NoLeaseToken (is_some (lease_master 
 -- the first master of a device without one: its client is a master
 abbrev pub founded : Rows → Bool → Rows
 founded w root = record w {
-  masters = w.masters ++ record { master = birth w; lessor = None; lessee_id = 0; lease_token = None } ∷ [];
+  masters = w.masters ++ new_master (birth w) ∷ [];
   device_master = Some (birth w);
   clients = w.clients ++ record { client = birth w; render = false; root = root; authenticated = true; once_master = true; is_master = true; master = Some (birth w) } ∷ [];
 }

@@ -10,6 +10,7 @@ pub mod Capabilities
 pub mod Audit
 pub mod Buffers
 pub mod Sharing
+pub mod Magics
 pub mod Calls
 pub mod Clients
 pub mod Verdict

@@ -1,9 +1,18 @@
 -- Masters, their chains of lessors, and who is current (drm(7), masters; drm-uapi, leases).
-use Rattle.std.specs.Prelude.{ℕ, zero, suc, ◌==◌, Bool, false, ◌&&◌, List, [], ◌∷◌, Option, None, Some, find}
-use Rattle.std.specs.Option.{option_and_then}
-use Rattle.drm_lists.specs.Numbers.{is_among}
+use Rattle.std.specs.Prelude.{ℕ, ◌==◌, Bool, false, ◌&&◌, List, Option, None, Some, find}
+use Rattle.std.specs.Option.{is_some, option_and_then}
+use Rattle.drm_lists.specs.Chains as chains
+use Rattle.drm_lists.specs.Chains.{top_of}
 use Rattle.drm_model.specs.Rows.{Rows, MasterRow, ClientRow, client_row}
 use Rattle.drm_table.specs.declared.permits.Standing.{Standing}
+
+-- a master that nobody lent: it has no lessor
+abbrev pub new_master : ℕ → MasterRow
+new_master m = record { master = m; lessor = None; lessee_id = 0; lease_token = None }
+
+-- the master of a client, its own or the one that it joined
+abbrev pub master_of : Rows → ℕ → Option ℕ
+master_of w c = option_and_then (λ row. row.master) (client_row w c)
 
 abbrev pub master_row : List MasterRow → ℕ → Option MasterRow
 master_row rows m = find (λ row. row.master == m) rows
@@ -11,25 +20,17 @@ master_row rows m = find (λ row. row.master == m) rows
 abbrev pub lessor_of : List MasterRow → ℕ → Option ℕ
 lessor_of rows m = option_and_then (λ row. row.lessor) (master_row rows m)
 
--- a master and those above it: its lessor, that one's lessor and so on. A lessor is older, so that as many steps as the birth are enough
-unfoldable pub chain_within : ℕ → List MasterRow → ℕ → List ℕ
-chain_within zero rows m = m ∷ []
-chain_within (suc steps) rows m = m ∷ elim (lessor_of rows m) [ None ↦ [] | Some lessor ↦ chain_within steps rows lessor ]
+-- whether the client's master has a lessor
+abbrev pub is_lessee : Rows → ℕ → Bool
+is_lessee w c = is_some (option_and_then (lessor_of w.masters) (master_of w c))
 
-abbrev pub chain_of : List MasterRow → ℕ → List ℕ
-chain_of rows m = chain_within m rows m
-
-abbrev pub last_of : ℕ → List ℕ → ℕ
-last_of m [] = m
-last_of m (x ∷ xs) = last_of x xs
-
--- the owner of a master: the top of its chain
+-- the owner of a master: the top of its chain of lessors
 abbrev pub owner_of : List MasterRow → ℕ → ℕ
-owner_of rows m = last_of m (chain_of rows m)
+owner_of rows m = top_of (lessor_of rows) m
 
--- whether m is the master named top, or below it
+-- whether m is the master named top, or below it: its chain of lessors leads there
 abbrev pub is_under : List MasterRow → ℕ → ℕ → Bool
-is_under rows top m = is_among (chain_of rows m) top
+is_under rows top m = chains.is_under (lessor_of rows) top m
 
 -- whether the device's master is the owner of a client's
 abbrev pub is_owner : List MasterRow → Option ℕ → Option ℕ → Bool

@@ -1,7 +1,7 @@
 -- The rows of a device: flat lists, in which a client, a master or an object is named by its birth, the number of the
 -- step that made it (births are this project's own; what a row stands for is in drm-uapi, drm-mm, drm(7) and drm-gem(7)).
 use Rattle.std.specs.Prelude.{ℕ, ◌+◌, ◌==◌, Bool, false, not, ◌&&◌, nat_lt, List, [], ◌∷◌, ◌++◌, length, Option, None, Some, unwrap_or, find, map, filter}
-use Rattle.std.specs.Option.{is_some, option_map}
+use Rattle.std.specs.Option.{is_some, option_map, option_map_or}
 use Rattle.drm_lists.specs.Numbers.{is_among}
 use Rattle.drm_table.specs.declared.limits.Limits.{Limits}
 use Rattle.drm_index_array.specs.Least.{least}
@@ -139,9 +139,18 @@ client_row w c = find (is_client c) w.clients
 abbrev pub is_open : Rows → ℕ → Bool
 is_open w c = is_some (client_row w c)
 
+-- whether the client is open and its row passes the test
+abbrev pub client_has : (ClientRow → Bool) → Rows → ℕ → Bool
+client_has test w c = option_map_or test (client_row w c) false
+
 -- whether one more client may be open (the limit is own)
 abbrev pub has_client_room : Rows → Bool
 has_client_room w = nat_lt (length w.clients) w.limits.clients
+
+-- magics
+
+abbrev pub magic_row : Rows → ℕ → Option MagicRow
+magic_row w c = find (λ row. row.client == c) w.magics
 
 -- handles and objects
 

@@ -25,7 +25,7 @@ fn calls_of_one_number_are_read(rt: HostRuntime) -> Result<(), Fail> {
     asks(&rt, b"a list_handles 0", a, Call::ListHandles { from: 0 });
     asks(&rt, b"a destroy_dumb 1", a, Call::DestroyDumb { handle: 1 });
     asks(&rt, b"a raw 64", a, Call::BadLayout(64));
-    asks(&rt, b"a raw 2", a, Call::Unknown(2));
+    asks(&rt, b"a raw 3", a, Call::Unknown(3));
     Ok(())
 }
 
@@ -93,6 +93,53 @@ fn bare_numbers_of_names_and_tokens_are_read(rt: HostRuntime) -> Result<(), Fail
 }
 
 #[test]
+fn calls_of_masters_and_magics_are_read(rt: HostRuntime) -> Result<(), Fail> {
+    let a = Label::from_letter(b'a').ok_or("a letter")?;
+    asks(&rt, b"a get_magic", a, Call::GetMagic);
+    asks(&rt, b"a auth_magic 1", a, Call::AuthMagic { magic: 1 });
+    asks(
+        &rt,
+        b"a auth_magic 4294967295",
+        a,
+        Call::AuthMagic { magic: u32::MAX },
+    );
+    asks(&rt, b"a set_master", a, Call::SetMaster);
+    asks(&rt, b" a  drop_master ", a, Call::DropMaster);
+    Ok(())
+}
+
+#[test]
+fn bare_numbers_of_masters_and_magics_are_read(rt: HostRuntime) -> Result<(), Fail> {
+    let a = Label::from_letter(b'a').ok_or("a letter")?;
+    asks(&rt, b"a raw 2", a, Call::BadLayout(2));
+    asks(&rt, b"a raw 17", a, Call::BadLayout(17));
+    asks(&rt, b"a raw 30", a, Call::BadLayout(30));
+    asks(&rt, b"a raw 31", a, Call::BadLayout(31));
+    asks(&rt, b"a raw 29", a, Call::Unknown(29));
+    asks(&rt, b"a raw 32", a, Call::Unknown(32));
+    Ok(())
+}
+
+#[test]
+fn masters_and_magics_with_other_fields_are_malformed(rt: HostRuntime) {
+    let lines: [&[u8]; 10] = [
+        b"a get_magic 1",
+        b"a get_magics",
+        b"a auth_magic",
+        b"a auth_magic 1 1",
+        b"a auth_magic 4294967296",
+        b"a set_master 1",
+        b"a set_maste",
+        b"a drop_master 1",
+        b"a drop_masters",
+        b"a SET_MASTER",
+    ];
+    for line in lines {
+        assert_eq!(rt; read_line(line), Reading::Malformed);
+    }
+}
+
+#[test]
 fn names_and_tokens_with_other_fields_are_malformed(rt: HostRuntime) {
     let lines: [&[u8]; 18] = [
         b"a gem_flink",
@@ -124,7 +171,7 @@ fn other_fields_are_malformed(rt: HostRuntime) {
     let lines: [&[u8]; 14] = [
         b"a get_cap",
         b"a get_cap 18446744073709551616",
-        b"a get_magic",
+        b"a get_magics",
         b"a set_client_cap 2",
         b"a set_client_cap 2 1 0",
         b"a buf_create -1",

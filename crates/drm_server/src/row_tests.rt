@@ -1,4 +1,4 @@
-//! Scripts of buffers, stamps, handles, capabilities, names and tokens, with their published answers.
+//! Scripts of buffers, stamps, handles, capabilities, names, tokens, masters and magics, with their published answers.
 
 use crate::run::ScriptEnd;
 use crate::tests::check_script;
@@ -63,6 +63,60 @@ fn tokens(rt: HostRuntime) {
         (
             b"open a card\na buf_create 1\na prime_export 1\nopen r render\na gem_flink 1\nopen q root\nq gem_open 1\nq prime_import 1\nq prime_import 1\na prime_import 1\nr prime_import 1\nq gem_close 2\nq prime_import 1\nq audit 10 0\n",
             b"client 1\nbuffer 1 4096\nnumber 1\nclient 4\nnumber 1\nclient 6\nbuffer 1 4096\nbuffer 2 4096\nbuffer 2 4096\nbuffer 1 4096\nbuffer 1 4096\ndone\nbuffer 2 4096\nrows 1 | 1 1 0 13\n",
+        ),
+    ];
+    for (script, answers) in rows {
+        check_script(&rt, rt.alloc(), script, ScriptEnd::Done, answers);
+    }
+}
+
+#[test]
+fn magics(rt: HostRuntime) {
+    let rows: [(&[u8], &[u8]); 4] = [
+        (
+            b"open a card\nopen b card\nb get_magic\nb get_magic\na auth_magic 1\na auth_magic 1\nb get_magic\nclose b\nopen d card\nd get_magic\n",
+            b"client 1\nclient 2\nnumber 1\nnumber 1\ndone\ndenied 25 NoMagic 22\nnumber 1\nclosed\nclient 9\nnumber 1\n",
+        ),
+        (
+            b"open a card\nopen b card\nopen c card\nb get_magic\nc get_magic\na auth_magic 1\nclose b\nopen d card\nopen e card\nd get_magic\ne get_magic\na auth_magic 2\nc get_magic\na get_magic\nd auth_magic 3\na auth_magic 0\na auth_magic 4294967295\nc gem_flink 1\nd gem_flink 1\n",
+            b"client 1\nclient 2\nclient 3\nnumber 1\nnumber 2\ndone\nclosed\nclient 8\nclient 9\nnumber 1\nnumber 3\ndone\nnumber 2\nnumber 4\ndenied 13 Master 13\ndenied 25 NoMagic 22\ndenied 25 NoMagic 22\ndenied 21 NoHandle 2\ndenied 12 Auth 13\n",
+        ),
+        (
+            b"open a card\na drop_master\nopen b card\nb get_magic\na get_magic\nb auth_magic 2\na auth_magic 1\na set_master\nclose b\na set_master\na auth_magic 1\n",
+            b"client 1\ndone\nclient 3\nnumber 1\nnumber 1\ndenied 25 NoMagic 22\ndenied 13 Master 13\ndenied 27 MasterBusy 16\nclosed\ndone\ndone\n",
+        ),
+        (
+            b"open a card\nopen q root\nq get_magic\na auth_magic 1\nq audit 1 0\na drop_master\nq set_master\nq audit 1 0\nq audit 2 0\nq audit 10 0\nq get_magic\nq audit 1 1\nq drop_master\na set_master\nq audit 10 0\na auth_magic 1\nclose a\nq audit 2 0\nq set_master\nq audit 10 0\n",
+            b"client 1\nclient 2\nnumber 1\ndone\nrows 2 | 1 28 1 0 | 2 38 1 1\ndone\ndone\nrows 2 | 1 28 1 0 | 2 30 7 0\nrows 2 | 1 0 0 0 | 7 0 0 0\nrows 1 | 7 0 0 9\nnumber 1\nrows 1 | 2 30 7 1\ndone\ndone\nrows 1 | 1 0 0 14\ndenied 25 NoMagic 22\nclosed\nrows 1 | 7 0 0 0\ndone\nrows 1 | 7 0 0 19\n",
+        ),
+    ];
+    for (script, answers) in rows {
+        check_script(&rt, rt.alloc(), script, ScriptEnd::Done, answers);
+    }
+}
+
+#[test]
+fn masters(rt: HostRuntime) {
+    let rows: [(&[u8], &[u8]); 5] = [
+        (
+            b"open a card\nopen q root\nq set_master\na drop_master\nq set_master\na set_master\nclose q\na set_master\na set_master\nopen b card\nb set_master\nb drop_master\nopen q root\nq drop_master\n",
+            b"client 1\nclient 2\ndenied 27 MasterBusy 16\ndone\ndone\ndenied 27 MasterBusy 16\nclosed\ndone\ndone\nclient 10\ndenied 26 MasterPerm 13\ndenied 26 MasterPerm 13\nclient 13\ndenied 28 NotCurrent 22\n",
+        ),
+        (
+            b"open a card\nopen r render\nr get_magic\nr auth_magic 1\nr set_master\nr drop_master\n",
+            b"client 1\nclient 2\ndenied 14 RenderAllow 13\ndenied 13 Master 13\ndenied 14 RenderAllow 13\ndenied 14 RenderAllow 13\n",
+        ),
+        (
+            b"open a card\nopen q root\nopen b card\nb drop_master\nq drop_master\na drop_master\nb set_master\nq set_master\nq drop_master\nb set_master\n",
+            b"client 1\nclient 2\nclient 3\ndenied 26 MasterPerm 13\ndenied 28 NotCurrent 22\ndone\ndenied 26 MasterPerm 13\ndone\ndone\ndenied 26 MasterPerm 13\n",
+        ),
+        (
+            b"open a card\nopen b card\nb gem_flink 1\nb version\nb auth_magic 1\nb audit 1 0\nopen q root\nq audit 1 0\n",
+            b"client 1\nclient 2\ndenied 12 Auth 13\nversion 1 0 0\ndenied 13 Master 13\ndenied 11 RootOnly 13\nclient 7\nrows 3 | 1 28 1 0 | 2 0 1 0 | 7 6 1 0\n",
+        ),
+        (
+            b"open q root\nopen b card\nb get_magic\nq audit 1 0\nq auth_magic 1\nq audit 1 0\nq drop_master\nq audit 10 0\nb set_master\nopen r root\nq set_master\nq audit 2 0\nclose r\nq audit 10 0\nq set_master\nq audit 10 0\nclose b\nq audit 1 0\n",
+            b"client 1\nclient 2\nnumber 1\nrows 2 | 1 30 1 0 | 2 0 1 1\ndone\nrows 2 | 1 30 1 0 | 2 36 1 1\ndone\nrows 1 | 0 0 0 7\ndenied 26 MasterPerm 13\nclient 10\ndenied 27 MasterBusy 16\nrows 2 | 1 0 0 0 | 10 0 0 0\nclosed\nrows 1 | 0 0 0 13\ndone\nrows 1 | 1 0 0 15\nclosed\nrows 1 | 1 30 1 0\n",
         ),
     ];
     for (script, answers) in rows {

@@ -3,7 +3,7 @@ pub mod Members
 pub mod Represented
 pub mod Naming
 pub mod Holding
-pub mod Flat
+pub mod Living
 pub mod Sweeps
 pub mod Outcomes
 pub mod Lookups
@@ -15,3 +15,4 @@ pub mod SharedChanges
 pub mod Crossing
 pub mod Leaving
 pub mod Taken
+pub mod Magics

@@ -1,6 +1,5 @@
 -- The rows of clients, by their files and how they stand to masters.
 use Rattle.std.proofs.Common.{◌≡◌, ℕ, ◌<◌, ◌==◌, Bool, true, false, cond, not, ◌||◌, List, [], ◌∷◌, ◌++◌, map, filter, find, Option, Some, None, refl, sym, ap, ◌∙◌, subst, eq-eqb}
-use Rattle.std.specs.Prelude.{unwrap_or}
 use Rattle.std.specs.List.{list_any, AllByRecursion}
 use Rattle.std.specs.Option.{is_some, option_map}
 use Rattle.std.proofs.lemmas.Bool.{eqb-true, or_left, or_right}
@@ -14,11 +13,11 @@ use Rattle.drm_files.specs.declared.rows.FileFlags.{FileFlags}
 use Rattle.drm_files.specs.declared.rows.FileClient.{FileClient}
 use Rattle.drm_files.specs.Files.{is_client}
 use Rattle.drm_model.specs.Rows.{ClientRow, is_option}
-use Rattle.drm_state.specs.declared.state.Member.{Member}
-use Rattle.drm_state.specs.Parts.{no_member, member_of, client_row_by, client_row_of}
-
-abbrev is_of : ℕ → Member → Bool
-is_of c m = m.client == c
+use Rattle.drm_masters.specs.declared.rows.Member.{Member}
+use Rattle.drm_masters.specs.Masters as masters
+use Rattle.drm_masters.specs.Masters.{member_of}
+use Rattle.drm_lists.proofs.Rising.{any_found, all_found}
+use Rattle.drm_state.specs.Parts.{client_row_by, client_row_of}
 
 abbrev IsThere : List FileClient → Member → Type 0
 IsThere fs m = is_some (find (is_client m.client) fs) ≡ true
@@ -51,7 +50,7 @@ found c flags fs e = something (find (is_client c) fs) e
 
 -- ---- one more client
 
-older : (c b : ℕ) → (fs : List FileClient) → AllByRecursion (λ (f : FileClient). f.client < b) fs → is_some (find (is_client c) fs) ≡ true → c < b
+pub older : (c b : ℕ) → (fs : List FileClient) → AllByRecursion (λ (f : FileClient). f.client < b) fs → is_some (find (is_client c) fs) ≡ true → c < b
 older c b [] h e = absurd (let k : false ≡ true = e in cc)
 older c b (f ∷ fs) h e =
     elim (f.client == c) as (λ t. (f.client == c) ≡ t → is_some (cond t (Some f) (find (is_client c) fs)) ≡ true → c < b)
@@ -61,29 +60,29 @@ older c b (f ∷ fs) h e =
 pub members_older : (b : ℕ) (fs : List FileClient) (ms : List Member) → AllByRecursion (λ (f : FileClient). f.client < b) fs → AllByRecursion (IsThere fs) ms → AllByRecursion (λ (m : Member). (m.client == b) ≡ false) ms
 members_older b fs ms h k = all_weaker (IsThere fs) (λ (m : Member). (m.client == b) ≡ false) (λ m e. less-differ m.client b (older m.client b fs h e)) ms k
 
-find_before : (c : ℕ) (m : Member) → (m.client == c) ≡ false → (ms : List Member) → find (is_of c) (ms ++ m ∷ []) ≡ find (is_of c) ms
+find_before : (c : ℕ) (m : Member) → (m.client == c) ≡ false → (ms : List Member) → find (masters.is_client c) (ms ++ m ∷ []) ≡ find (masters.is_client c) ms
 find_before c m e [] = ap (λ t. cond t (Some m) None) e
 find_before c m e (x ∷ ms) = ap (λ r. cond (x.client == c) (Some x) r) (find_before c m e ms)
 
 rows_before : (m : Member) (ms : List Member) → (fs : List FileClient) → AllByRecursion (λ (f : FileClient). f.client < m.client) fs → map (client_row_of (ms ++ m ∷ [])) fs ≡ map (client_row_of ms) fs
 rows_before m ms [] h = refl
 rows_before m ms (f ∷ fs) h =
-    ap (λ o. client_row_by f (unwrap_or o (no_member f.client)) ∷ map (client_row_of (ms ++ m ∷ [])) fs) (find_before f.client m (flipped f.client m.client (less-differ f.client m.client h.0)) ms) ∙ ap (λ l. client_row_of ms f ∷ l) (rows_before m ms fs h.1)
+    ap (λ o. client_row_by f o ∷ map (client_row_of (ms ++ m ∷ [])) fs) (find_before f.client m (flipped f.client m.client (less-differ f.client m.client h.0)) ms) ∙ ap (λ l. client_row_of ms f ∷ l) (rows_before m ms fs h.1)
 
 -- the rows with one more client, which stands to masters
 pub client_pushed : (flags : FileFlags) (m : Member) (fs : List FileClient) (ms : List Member) → AllByRecursion (λ (f : FileClient). f.client < m.client) fs → AllByRecursion (IsThere fs) ms →
-    map (client_row_of (ms ++ m ∷ [])) (fs ++ record { client = m.client; flags = flags } ∷ []) ≡ map (client_row_of ms) fs ++ client_row_by (record { client = m.client; flags = flags }) m ∷ []
+    map (client_row_of (ms ++ m ∷ [])) (fs ++ record { client = m.client; flags = flags } ∷ []) ≡ map (client_row_of ms) fs ++ client_row_by (record { client = m.client; flags = flags }) (Some m) ∷ []
 client_pushed flags m fs ms h k =
     let f : FileClient = record { client = m.client; flags = flags } in
     map-append (client_row_of (ms ++ m ∷ [])) fs (f ∷ []) ∙ ap (λ l. l ++ client_row_of (ms ++ m ∷ []) f ∷ []) (rows_before m ms fs h)
-    ∙ ap (λ o. map (client_row_of ms) fs ++ client_row_by f (unwrap_or o (no_member m.client)) ∷ []) (find_last (is_of m.client) m (eq-eqb m.client m.client refl) ms (members_older m.client fs ms h k))
+    ∙ ap (λ o. map (client_row_of ms) fs ++ client_row_by f o ∷ []) (find_last (masters.is_client m.client) m (eq-eqb m.client m.client refl) ms (members_older m.client fs ms h k))
 
 -- and with one that doesn't
 pub render_pushed : (f : FileClient) (fs : List FileClient) (ms : List Member) → AllByRecursion (λ (g : FileClient). g.client < f.client) fs → AllByRecursion (IsThere fs) ms →
-    map (client_row_of ms) (fs ++ f ∷ []) ≡ map (client_row_of ms) fs ++ client_row_by f (no_member f.client) ∷ []
+    map (client_row_of ms) (fs ++ f ∷ []) ≡ map (client_row_of ms) fs ++ client_row_by f None ∷ []
 render_pushed f fs ms h k =
     map-append (client_row_of ms) fs (f ∷ [])
-    ∙ ap (λ o. map (client_row_of ms) fs ++ client_row_by f (unwrap_or o (no_member f.client)) ∷ []) (find_none (is_of f.client) ms (members_older f.client fs ms h k))
+    ∙ ap (λ o. map (client_row_of ms) fs ++ client_row_by f o ∷ []) (find_none (masters.is_client f.client) ms (members_older f.client fs ms h k))
 
 some-append : (c : ℕ) (f : FileClient) (fs : List FileClient) → is_some (find (is_client c) fs) ≡ true → is_some (find (is_client c) (fs ++ f ∷ [])) ≡ true
 some-append c f fs h = is_some-find (is_client c) (fs ++ f ∷ []) ∙ list_any_left (is_client c) fs (f ∷ []) (sym (is_some-find (is_client c) fs) ∙ h)
@@ -105,7 +104,7 @@ rows_left c ms (f ∷ fs) =
     let rest = filter (λ (f : FileClient). not (is_client c f)) fs in
     elim (f.client == c) as (λ b. (f.client == c) ≡ b → map (client_row_of left) (cond (not b) (f ∷ rest) rest) ≡ cond (not b) (client_row_of ms f ∷ filter (λ (row : ClientRow). not (row.client == c)) (map (client_row_of ms) fs)) (filter (λ (row : ClientRow). not (row.client == c)) (map (client_row_of ms) fs))) [
       | true ↦ λ e. rows_left c ms fs
-      | false ↦ λ e. ap (λ o. client_row_by f (unwrap_or o (no_member f.client)) ∷ map (client_row_of left) rest) (find_others (λ (x : Member). x.client) f.client c e ms) ∙ ap (λ l. client_row_of ms f ∷ l) (rows_left c ms fs)
+      | false ↦ λ e. ap (λ o. client_row_by f o ∷ map (client_row_of left) rest) (find_others (λ (x : Member). x.client) f.client c e ms) ∙ ap (λ l. client_row_of ms f ∷ l) (rows_left c ms fs)
     ] refl
 
 -- those that are left are open
@@ -118,22 +117,13 @@ members_open_left c fs (m ∷ ms) h =
 
 -- ---- the masters that clients name
 
-abbrev AreDifferent : List Member → Type 0
-AreDifferent ms = InOrder (λ (x y : Member). (x.client == y.client) ≡ false) ms
-
-found_itself : (ms : List Member) → AreDifferent ms → AllByRecursion (λ (m : Member). find (is_of m.client) ms ≡ Some m) ms
-found_itself [] h = tt
-found_itself (m ∷ ms) h = (
-  ap (λ b. cond b (Some m) (find (is_of m.client) ms)) (eq-eqb m.client m.client refl),
-  all_both (λ (x : Member). (m.client == x.client) ≡ false) (λ (x : Member). find (is_of x.client) ms ≡ Some x) (λ (x : Member). find (is_of x.client) (m ∷ ms) ≡ Some x) (λ x e k. ap (λ b. cond b (Some m) (find (is_of x.client) ms)) e ∙ k) ms h.0 (found_itself ms h.1),
-)
-
 -- what a client's row names a member names
-named_by : (m c : ℕ) → (ms : List Member) → is_option m (unwrap_or (find (is_of c) ms) (no_member c)).master ≡ true → list_any (λ (x : Member). is_option m x.master) ms ≡ true
-named_by m c [] h = absurd (let e : false ≡ true = h in cc)
-named_by m c (x ∷ xs) h =
-    elim (x.client == c) as (λ b. is_option m (unwrap_or (cond b (Some x) (find (is_of c) xs)) (no_member c)).master ≡ true → (is_option m x.master || list_any (λ (x : Member). is_option m x.master) xs) ≡ true)
-    [ true ↦ λ e. or_left (is_option m x.master) _ e | false ↦ λ e. or_right (is_option m x.master) _ (named_by m c xs e) ] h
+named_by : (m c : ℕ) (ms : List Member) → is_option m (option_map (λ (x : Member). x.master) (masters.member_of ms c)) ≡ true → list_any (λ (x : Member). x.master == m) ms ≡ true
+named_by m c ms h = by_row (masters.member_of ms c) refl h
+  where
+    by_row : (o : Option Member) → masters.member_of ms c ≡ o → is_option m (option_map (λ (x : Member). x.master) o) ≡ true → list_any (λ (x : Member). x.master == m) ms ≡ true
+    by_row None e k = absurd (let n : false ≡ true = k in cc)
+    by_row (Some x) e k = any_found (masters.is_client c) (λ (y : Member). y.master == m) x ms e k
 
 any_of_client : (c : ℕ) (q : FileClient → Bool) → ((f : FileClient) → f.client ≡ c → q f ≡ true) → (fs : List FileClient) → is_some (find (is_client c) fs) ≡ true → list_any q fs ≡ true
 any_of_client c q g [] h = absurd (let e : false ≡ true = h in cc)
@@ -142,12 +132,12 @@ any_of_client c q g (f ∷ fs) h =
     [ true ↦ λ e k. or_left (q f) _ (g f (eqb-true f.client c e)) | false ↦ λ e k. or_right (q f) _ (any_of_client c q g fs k) ] refl h
 
 -- the clients' rows name the masters that the members name
-pub masters_named : (m : ℕ) (fs : List FileClient) (ms : List Member) → AllByRecursion (IsThere fs) ms → AreDifferent ms → list_any (λ (row : ClientRow). is_option m row.master) (map (client_row_of ms) fs) ≡ list_any (λ (x : Member). is_option m x.master) ms
-masters_named m fs ms there differ =
-    let test = λ (f : FileClient). is_option m (member_of ms f.client).master in
-    let down : list_any test fs ≡ true → list_any (λ (x : Member). is_option m x.master) ms ≡ true = list_any_gives test (list_any (λ (x : Member). is_option m x.master) ms) (λ f e. named_by m f.client ms e) fs in
-    let up = λ (e : list_any (λ (x : Member). is_option m x.master) ms ≡ true).
-    let it = some_passing (λ (x : Member). is_option m x.master) (λ (x : Member). IsThere fs x × (find (is_of x.client) ms ≡ Some x)) ms (all_both (IsThere fs) (λ (x : Member). find (is_of x.client) ms ≡ Some x) _ (λ x t f. (t, f)) ms there (found_itself ms differ)) e in
-    let some : list_any test fs ≡ true = any_of_client it.0.client test (λ f is. ap (λ n. is_option m (unwrap_or (find (is_of n) ms) (no_member n)).master) is ∙ ap (λ o. is_option m (unwrap_or o (no_member it.0.client)).master) it.2.1 ∙ it.1) fs it.2.0 in
+pub masters_named : (m : ℕ) (fs : List FileClient) (ms : List Member) → AllByRecursion (IsThere fs) ms → InOrder (λ (x y : Member). x.client < y.client) ms → list_any (λ (row : ClientRow). is_option m row.master) (map (client_row_of ms) fs) ≡ list_any (λ (x : Member). x.master == m) ms
+masters_named m fs ms there rise =
+    let test = λ (f : FileClient). is_option m (option_map (λ (x : Member). x.master) (masters.member_of ms f.client)) in
+    let down : list_any test fs ≡ true → list_any (λ (x : Member). x.master == m) ms ≡ true = list_any_gives test (list_any (λ (x : Member). x.master == m) ms) (λ f e. named_by m f.client ms e) fs in
+    let up = λ (e : list_any (λ (x : Member). x.master == m) ms ≡ true).
+    let it = some_passing (λ (x : Member). x.master == m) (λ (x : Member). IsThere fs x × (masters.member_of ms x.client ≡ Some x)) ms (all_both (IsThere fs) (λ (x : Member). masters.member_of ms x.client ≡ Some x) _ (λ x t f. (t, f)) ms there (all_found (λ (x : Member). x.client) ms rise)) e in
+    let some : list_any test fs ≡ true = any_of_client it.0.client test (λ f is. ap (λ n. is_option m (option_map (λ (x : Member). x.master) (masters.member_of ms n))) is ∙ ap (λ o. is_option m (option_map (λ (x : Member). x.master) o)) it.2.1 ∙ it.1) fs it.2.0 in
     some in
-    list_any-map (λ (row : ClientRow). is_option m row.master) (client_row_of ms) fs ∙ both_ways (list_any test fs) (list_any (λ (x : Member). is_option m x.master) ms) down up
+    list_any-map (λ (row : ClientRow). is_option m row.master) (client_row_of ms) fs ∙ both_ways (list_any test fs) (list_any (λ (x : Member). x.master == m) ms) down up

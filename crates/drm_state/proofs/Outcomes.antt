@@ -99,7 +99,7 @@ unfolding admission_checks
 admitted_by_permit w c call row k l o = rw (k, l, o) refl
 
 client_count : (s : State) (w : Rows) → Represents s w → length w.clients ≡ length s.files.clients
-client_count s w h = ap length (clients_are s w h) ∙ length-map s.files.clients (client_row_of s.members.items)
+client_count s w h = ap length (clients_are s w h) ∙ length-map s.files.clients (client_row_of s.masters.members)
 
 pub represented_count : (s : State) (w : Rows) → Represents s w → length w.clients ≡ length s.files.clients
 represented_count s w h = client_count s w h

@@ -1,14 +1,16 @@
 -- The parts of what a state stands for, and its ties, one by one.
-use Rattle.std.proofs.Common.{◌≡◌, ◌==◌, true, false, []}
-use Rattle.std.specs.List.{list_any, AllByRecursion}
+use Rattle.std.proofs.Common.{◌≡◌, true, false, []}
+use Rattle.std.specs.List.{AllByRecursion}
 use Rattle.drm_lists.specs.Orders.{SameRows, InOrder}
 use Rattle.drm_files.specs.declared.rows.FileHold.{FileHold}
 use Rattle.drm_files.specs.Files.{is_present, hold_before}
-use Rattle.drm_model.specs.Rows.{Rows, is_option}
-use Rattle.drm_state.specs.declared.state.Member.{Member}
+use Rattle.drm_model.specs.Rows.{Rows}
+use Rattle.drm_masters.specs.declared.rows.Master.{Master}
+use Rattle.drm_masters.specs.declared.rows.Member.{Member}
+use Rattle.drm_masters.specs.Masters.{AreMasters}
 use Rattle.drm_state.specs.declared.state.State.{State}
-use Rattle.drm_state.specs.Parts.{clients_of, masters_of, holds_of, objects_of, names_of, tokens_of, last_token_of, keys_of, referring_keys}
-use Rattle.drm_state.specs.Ties.{MembersOpen, MembersDiffer, MastersNamed, HoldsRise, ObjectsCounted, NamesHeld, is_tied, IsTied, AreTied, AreNamed}
+use Rattle.drm_state.specs.Parts.{clients_of, masters_of, magics_of, holds_of, objects_of, names_of, tokens_of, last_token_of, keys_of, referring_keys}
+use Rattle.drm_state.specs.Ties.{MembersOpen, ClientsHave, MastersAre, NoneKept, MagicsSuffice, HoldsRise, ObjectsCounted, NamesHeld, is_tied, IsTied, AreTied, AreNamed, HasMaster}
 use Rattle.drm_model.specs.Parts.{Bounds, Clients, Masters, Magics, Holds, Objects, Names, Tokens, Grants, Framebuffers, Shown, DeviceMaster, LastToken, LastLeaseToken}
 use Rattle.drm_state.specs.Refinement.{stands_for, Represents, HaveLimits}
 
@@ -25,9 +27,9 @@ module _ (s : State) (w : Rows) (h : Represents s w) where
   unfolding stands_for
   masters_are = h Masters
 
-  pub magics_none : w.magics ≡ []
+  pub magics_are : SameRows w.magics (magics_of s)
   unfolding stands_for
-  magics_none = h Magics
+  magics_are = h Magics
 
   pub holds_are : SameRows w.holds (holds_of s)
   unfolding stands_for
@@ -57,7 +59,7 @@ module _ (s : State) (w : Rows) (h : Represents s w) where
   unfolding stands_for
   shown_none = h Shown
 
-  pub device_master_is : w.device_master ≡ s.device_master
+  pub device_master_is : w.device_master ≡ s.masters.device_master
   unfolding stands_for
   device_master_is = h DeviceMaster
 
@@ -70,17 +72,25 @@ module _ (s : State) (w : Rows) (h : Represents s w) where
   last_lease_token_none = h LastLeaseToken
 
 module _ (s : State) (t : IsTied s) where
-  pub members_open : AllByRecursion (λ (m : Member). is_present s.files m.client ≡ true) s.members.items
+  pub members_open : AllByRecursion (λ (x : Member). is_present s.files x.client ≡ true) s.masters.members
   unfolding is_tied
   members_open = t MembersOpen
 
-  pub members_differ : InOrder (λ (x y : Member). (x.client == y.client) ≡ false) s.members.items
+  pub clients_have : AllByRecursion (HasMaster s.masters) s.files.clients
   unfolding is_tied
-  members_differ = t MembersDiffer
+  clients_have = t ClientsHave
 
-  pub masters_are_named : AllByRecursion (λ m. list_any (λ (x : Member). is_option m x.master) s.members.items ≡ true) s.masters.items
+  pub masters_so : AreMasters s.masters
   unfolding is_tied
-  masters_are_named = t MastersNamed
+  masters_so = t MastersAre
+
+  pub none_kept : AllByRecursion (λ (x : Master). x.kept ≡ false) s.masters.masters
+  unfolding is_tied
+  none_kept = t NoneKept
+
+  pub magics_suffice : s.masters.last_magic ≡ s.files.limit
+  unfolding is_tied
+  magics_suffice = t MagicsSuffice
 
   pub holds_rise : InOrder (λ (x y : FileHold). hold_before x y ≡ true) s.files.holds
   unfolding is_tied

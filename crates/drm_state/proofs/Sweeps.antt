@@ -1,13 +1,14 @@
 -- What a sweep leaves.
 use Rattle.std.proofs.Common.{◌≡◌, ℕ, ◌==◌, Bool, true, false, cond, not, ◌&&◌, ◌||◌, List, [], ◌∷◌, ◌++◌, map, filter, Option, Some, None, refl, sym, ◌∙◌, ap, subst}
 use Rattle.std.specs.Prelude.{if◌then◌else◌, unwrap_or}
-use Rattle.std.specs.List.{list_any, AllByRecursion}
-use Rattle.std.specs.Global.{Vec}
+use Rattle.std.specs.List.{list_any, filter_map, cons_option, AllByRecursion}
+use Rattle.std.specs.Option.{is_some, option_map, option_map_or}
 use Rattle.std.proofs.Math.Bool.{or_assoc}
 use Rattle.std.proofs.lemmas.Bool.{eqb-true, or_left, or_right}
 use Rattle.drm_lists.specs.Orders.{SameRows, InOrder}
 use Rattle.drm_lists.specs.Numbers.{is_among}
-use Rattle.drm_lists.proofs.Lists.{list_any-map, filter-map, filter_all, all_weaker, filter-same, filter_true, all_each, all_both}
+use Rattle.drm_lists.proofs.Lists.{list_any-map, filter-map, filter_all, all_weaker, filter-same, filter_true, all_both, all_filter}
+use Rattle.drm_lists.proofs.Found.{find_others}
 use Rattle.drm_lists.proofs.Numbers.{among-append, among-left, among-right, fewer_among, among-more}
 use Rattle.drm_lists.proofs.Orders.{same-any, same-filter, in_order_filter}
 use Rattle.drm_gem.specs.declared.object.Object.{Object}
@@ -19,22 +20,28 @@ use Rattle.drm_share.specs.Names.{NameList}
 use Rattle.drm_share.specs.Tokens.{is_exported_by}
 use Rattle.drm_files.specs.Files as files
 use Rattle.drm_files.specs.Files.{without_hold, without_client}
-use Rattle.drm_model.specs.Rows.{Rows, ClientRow, MasterRow, HoldRow, ObjectRow, NameRow, TokenRow, FramebufferRow, is_hold, is_option, client_row, without}
+use Rattle.drm_model.specs.Rows.{Rows, ClientRow, MasterRow, MagicRow, HoldRow, ObjectRow, NameRow, TokenRow, FramebufferRow, is_hold, is_option, client_row, without}
 use Rattle.drm_model.specs.Masters.{is_under}
 use Rattle.drm_model.specs.Leases.{ended}
 use Rattle.drm_model.specs.Change.{is_referred, is_living, swept}
 use Rattle.drm_model.specs.Clients.{closed, ended_own, ended_if}
-use Rattle.drm_state.specs.declared.state.Member.{Member}
+use Rattle.drm_files.specs.declared.rows.FileFlags.{FileFlags}
+use Rattle.drm_files.specs.declared.rows.FileClient.{FileClient}
+use Rattle.drm_masters.specs.declared.rows.Magic.{Magic}
+use Rattle.drm_masters.specs.declared.rows.Master.{Master}
+use Rattle.drm_masters.specs.declared.rows.Member.{Member}
+use Rattle.drm_masters.specs.Masters as masters
+use Rattle.drm_masters.specs.Masters.{MasterSet, AreMasters}
 use Rattle.drm_state.specs.declared.state.State.{State}
-use Rattle.drm_state.specs.Parts.{clients_of, masters_of, names_of, objects_of, client_row_of, hold_row_of, name_row_of, token_row_of, object_row_of, master_row_of, birth_at, keys_of, token_keys, referring_keys, without_tokens_of}
-use Rattle.drm_state.specs.Ties.{Tie, MembersOpen, MembersDiffer, MastersNamed, HoldsRise, ObjectsCounted, NamesHeld, is_tied, IsTied, AreTied, AreNamed, AreThoseNamed, Leaves, names_among}
+use Rattle.drm_state.specs.Parts.{clients_of, masters_of, magics_of, names_of, objects_of, client_row_by, magic_row_of, hold_row_of, name_row_of, token_row_of, object_row_of, master_row_of, birth_at, keys_of, token_keys, referring_keys, without_tokens_of, device_without, without_its_master}
+use Rattle.drm_state.specs.Ties.{Tie, MembersOpen, ClientsHave, MastersAre, NoneKept, MagicsSuffice, HoldsRise, ObjectsCounted, NamesHeld, is_tied, IsTied, HasMaster, AreTied, AreNamed, AreThoseNamed, Leaves, names_among}
 use Rattle.drm_model.specs.Parts.{Part, Bounds, Clients, Masters, Magics, Holds, Objects, Names, Tokens, Grants, Framebuffers, Shown, DeviceMaster, LastToken}
-use Rattle.drm_state.specs.Refinement.{stands_for, Represents, is_same}
-use Rattle.drm_state.proofs.Represented.{limits_are, clients_are, masters_are, magics_none, holds_are, objects_are, names_are, tokens_are, grants_none, framebuffers_none, shown_none, device_master_is, last_token_is, members_open, members_differ, masters_are_named, holds_rise, objects_counted, names_held}
+use Rattle.drm_state.specs.Refinement.{stands_for, Represents}
+use Rattle.drm_state.proofs.Represented.{limits_are, clients_are, masters_are, magics_are, holds_are, objects_are, names_are, tokens_are, grants_none, framebuffers_none, shown_none, device_master_is, last_token_is, members_open, clients_have, masters_so, none_kept, magics_suffice, holds_rise, objects_counted, names_held}
 use Rattle.drm_state.proofs.Counting.{all_named}
 use Rattle.drm_state.proofs.Naming.{references, references_by, among_numbers, among_key, holds_naming, holds_as_before, tokens_as_before, names_as_before, rows_left}
 use Rattle.drm_state.proofs.Members.{masters_named, members_open_left, rows_left as clients_left}
-use Rattle.drm_state.proofs.Flat.{swept_masters}
+use Rattle.drm_state.proofs.Living.{swept_masters}
 
 -- ---- objects
 
@@ -82,13 +89,15 @@ names_known s t = all_weaker (λ (x : SharedName). is_among (keys_of s.files.hol
 
 -- ---- masters
 
--- those stay that a member names
+-- the clients' rows name the masters that clients stand to
+pub named_by_clients : (v : Rows) (s : State) → IsTied s → v.clients ≡ clients_of s → (m : ℕ) → list_any (λ (row : ClientRow). is_option m row.master) v.clients ≡ list_any (λ (x : Member). x.master == m) s.masters.members
+named_by_clients v s t e m = ap (list_any (λ (row : ClientRow). is_option m row.master)) e ∙ masters_named m s.files.clients s.masters.members (members_open s t) (masters_so s t).members_rise
+
+-- all of them stay
 masters_left : (v : Rows) (s : State) → IsTied s → v.clients ≡ clients_of s → v.masters ≡ masters_of s → filter (λ (row : MasterRow). is_living v row.master) v.masters ≡ masters_of s
 masters_left v s t e f =
-    swept_masters v s.masters.items f
-    ∙ ap (map master_row_of) (filter_all (λ m. list_any (λ (row : ClientRow). is_option m row.master) v.clients) s.masters.items
-    (all_weaker (λ m. list_any (λ (x : Member). is_option m x.master) s.members.items ≡ true) (λ m. list_any (λ (row : ClientRow). is_option m row.master) v.clients ≡ true)
-    (λ m k. ap (list_any (λ (row : ClientRow). is_option m row.master)) e ∙ masters_named m s.files.clients s.members.items (members_open s t) (members_differ s t) ∙ k) s.masters.items (masters_are_named s t)))
+    swept_masters v s.masters.masters s.masters.members f (none_kept s t) (named_by_clients v s t e)
+    ∙ ap (map master_row_of) (filter_all (λ (x : Master). masters.is_living s.masters.members s.masters.masters x.birth) s.masters.masters (masters_so s t).used)
 
 -- ---- names
 
@@ -163,7 +172,7 @@ shared_rows w holds tokens last names = record w { holds = holds; tokens = token
 pub moved : (s : State) (w : Rows) (holds : List HoldRow) (tokens : List TokenRow) (last : ℕ) (names : List NameRow) (hs : List FileHold) (ts : List SharedToken) (given : Option ℕ) (ns left : List SharedName) (set : ObjectSet) →
     IsTied s → Represents s w → Moves s (shared_rows w holds tokens last names) hs ts ns left set → set.limit ≡ s.objects.limit → last ≡ unwrap_or given 0 → (part : Part) → stands_for part (moved_to s hs ts given left set) (swept (shared_rows w holds tokens last names))
 unfolding stands_for swept
-moved s w holds tokens last names hs ts given ns left set t h m l e Bounds = let k = limits_are s w h in (k.0, k.1, l ∙ k.2, k.3, k.4)
+moved s w holds tokens last names hs ts given ns left set t h m l e Bounds = let k = limits_are s w h in (k.0, k.1, l ∙ k.2, k.3, k.4, k.5)
 moved s w holds tokens last names hs ts given ns left set t h m l e Masters = masters_left (shared_rows w holds tokens last names) s t (clients_are s w h) (masters_are s w h)
 moved s w holds tokens last names hs ts given ns left set t h m l e Holds = holds_moved s (shared_rows w holds tokens last names) hs ts ns left set t m
 moved s w holds tokens last names hs ts given ns left set t h m l e Objects = objects_moved s (shared_rows w holds tokens last names) hs ts ns left set t m (framebuffers_none s w h) (objects_are s w h)
@@ -238,43 +247,47 @@ handle_gone s w c n names set t left h =
 -- ---- a client goes
 
 -- no lease token is open, so that none is taken
-unleased : (f : MasterRow → Bool) → (ms : List ℕ) → map (λ (row : MasterRow). if f row then record row { lease_token = None } else row) (map master_row_of ms) ≡ map master_row_of ms
+unleased : (f : MasterRow → Bool) → (ms : List Master) → map (λ (row : MasterRow). if f row then record row { lease_token = None } else row) (map master_row_of ms) ≡ map master_row_of ms
 unleased f [] = refl
 unleased f (m ∷ ms) =
     let g = λ (row : MasterRow). if f row then record row { lease_token = None } else row in
     elim (f (master_row_of m)) as (λ b. ((if b then record (master_row_of m) { lease_token = None } else master_row_of m) ∷ map g (map master_row_of ms)) ≡ (master_row_of m ∷ map master_row_of ms))
     [ true ↦ ap (λ rows. master_row_of m ∷ rows) (unleased f ms) | false ↦ ap (λ rows. master_row_of m ∷ rows) (unleased f ms) ]
 
-own_master : (device : Option ℕ) (m : ℕ) → (if is_option m device then None else device) ≡ (if is_same device (Some m) then None else device)
-own_master None m = refl
-own_master (Some d) m = refl
+-- the device's master without a client that stands to masters so
+abbrev device_left : Option ℕ → Option Member → Option ℕ
+device_left d o = option_map_or (λ (x : Member). if x.is_master && masters.is_option x.master d then None else d) o d
 
-no_master : (device : Option ℕ) → device ≡ (if is_same device None then None else device)
-no_master None = refl
-no_master (Some d) = refl
+same_option : (m : ℕ) (d : Option ℕ) → (if is_option m d then None else d) ≡ (if masters.is_option m d then None else d)
+same_option m None = refl
+same_option m (Some n) = refl
+
+-- the state whose device has this master
+abbrev pub with_device : State → Option ℕ → State
+with_device s d = record s { masters = record s.masters { device_master = d } }
 
 -- what a client's own master gave goes, and the device's master if it was that
-ended_if_represents : (s : State) (w : Rows) (b : Bool) (m : Option ℕ) → Represents s w → (part : Part) → stands_for part (record s { device_master = if b && is_same s.device_master m then None else s.device_master }) (ended_if w b m)
+ended_by_own : (s : State) (w : Rows) (m : ℕ) (b : Bool) → Represents s w → (part : Part) → stands_for part (with_device s (if b && masters.is_option m s.masters.device_master then None else s.masters.device_master)) (ended_if w b (Some m))
 unfolding stands_for ended
-ended_if_represents s w true (Some m) h Masters = ap (map _) (masters_are s w h) ∙ unleased (λ row. is_under w.masters m row.master) s.masters.items
-ended_if_represents s w true (Some m) h Grants = ap (without _) (grants_none s w h)
-ended_if_represents s w true (Some m) h DeviceMaster = ap (λ (d : Option ℕ). if is_option m d then None else d) (device_master_is s w h) ∙ own_master s.device_master m
-ended_if_represents s w true (Some m) h part = h part
-ended_if_represents s w true None h DeviceMaster = device_master_is s w h ∙ no_master s.device_master
-ended_if_represents s w true None h part = h part
-ended_if_represents s w false m h Clients = h Clients
-ended_if_represents s w false m h part = h part
+ended_by_own s w m true h Masters = ap (map _) (masters_are s w h) ∙ unleased (λ row. is_under w.masters m row.master) s.masters.masters
+ended_by_own s w m true h Grants = ap (without _) (grants_none s w h)
+ended_by_own s w m true h DeviceMaster = ap (λ (d : Option ℕ). if is_option m d then None else d) (device_master_is s w h) ∙ same_option m s.masters.device_master
+ended_by_own s w m true h part = h part
+ended_by_own s w m false h Clients = h Clients
+ended_by_own s w m false h part = h part
+
+ended_if_represents : (s : State) (w : Rows) (o : Option Member) → Represents s w → Represents (with_device s (device_left s.masters.device_master o)) (ended_if w (option_map_or (λ (x : Member). x.is_master) o false) (option_map (λ (x : Member). x.master) o))
+ended_if_represents s w None h = h
+ended_if_represents s w (Some x) h = ended_by_own s w x.master x.is_master h
 
 -- the state without a client
-abbrev pub without_its : State → ℕ → NameList → ObjectSet → Vec Member → Vec ℕ → Option ℕ → State
-without_its s c names set members masters device = record s {
+abbrev pub without_its : State → ℕ → NameList → ObjectSet → State
+without_its s c names set = record s {
   files = without_client s.files c;
   tokens = without_tokens_of c s.tokens;
   names = names;
-  members = members;
-  masters = masters;
+  masters = without_its_master c s.masters;
   objects = set;
-  device_master = device;
 }
 
 -- the handles and the objects of tokens without a client
@@ -291,16 +304,27 @@ all_among keys ns = filter_true (λ (x : SharedName). is_among keys x.object) ns
 pub named_left : (names now : NameList) (objects set : ObjectSet) (keys refs : List ℕ) → Leaves names objects keys refs now set → AreNamed keys now.names
 named_left names now objects set keys refs left = subst (λ (l : NameList). AreNamed keys l.names) (sym left.names) (all_among keys names.names)
 
+-- those that are left have masters yet
+have_left : (v : MasterSet) (c : ℕ) → (fs : List FileClient) → AllByRecursion (HasMaster v) fs → AllByRecursion (HasMaster (without_its_master c v)) (filter (λ (f : FileClient). not (files.is_client c f)) fs)
+have_left v c [] h = tt
+have_left v c (f ∷ fs) h =
+    let rest = filter (λ (f : FileClient). not (files.is_client c f)) fs in
+    (elim (f.client == c) as (λ b. (f.client == c) ≡ b → AllByRecursion (HasMaster (without_its_master c v)) (cond (not b) (f ∷ rest) rest)) [
+      | true ↦ λ e. have_left v c fs h.1
+      | false ↦ λ e. (ap (λ o. f.flags.render || is_some o) (find_others (λ (x : Member). x.client) f.client c e v.members) ∙ h.0, have_left v c fs h.1)
+    ]) refl
+
 -- the ties without a client
-pub client_gone_tied : (s : State) (c : ℕ) (names : NameList) (set : ObjectSet) (members : Vec Member) (masters : Vec ℕ) (device : Option ℕ) → IsTied s → members.items ≡ filter (λ (x : Member). not (x.client == c)) s.members.items →
-    masters.items ≡ filter (λ m. list_any (λ (x : Member). is_option m x.master) members.items) s.masters.items → Leaves s.names s.objects (keys_without s c) (references_without s c) names set → (tie : Tie) → is_tied tie (without_its s c names set members masters device)
+pub client_gone_tied : (s : State) (c : ℕ) (names : NameList) (set : ObjectSet) → IsTied s → AreMasters (without_its_master c s.masters) → Leaves s.names s.objects (keys_without s c) (references_without s c) names set → (tie : Tie) → is_tied tie (without_its s c names set)
 unfolding is_tied
-client_gone_tied s c names set members masters device t e f left MembersOpen = subst (λ ms. AllByRecursion (λ (m : Member). files.is_present (without_client s.files c) m.client ≡ true) ms) (sym e) (members_open_left c s.files.clients s.members.items (members_open s t))
-client_gone_tied s c names set members masters device t e f left MembersDiffer = subst (InOrder (λ (x y : Member). (x.client == y.client) ≡ false)) (sym e) (in_order_filter (λ (x y : Member). (x.client == y.client) ≡ false) _ s.members.items (members_differ s t))
-client_gone_tied s c names set members masters device t e f left MastersNamed = subst (AllByRecursion (λ m. list_any (λ (x : Member). is_option m x.master) members.items ≡ true)) (sym f) (filter_true (λ m. list_any (λ (x : Member). is_option m x.master) members.items) s.masters.items)
-client_gone_tied s c names set members masters device t e f left HoldsRise = in_order_filter (λ (x y : FileHold). files.hold_before x y ≡ true) _ s.files.holds (holds_rise s t)
-client_gone_tied s c names set members masters device t e f left ObjectsCounted = left.tied
-client_gone_tied s c names set members masters device t e f left NamesHeld = named_left s.names names s.objects set (keys_without s c) (references_without s c) left
+client_gone_tied s c names set t are left MembersOpen = members_open_left c s.files.clients s.masters.members (members_open s t)
+client_gone_tied s c names set t are left ClientsHave = have_left s.masters c s.files.clients (clients_have s t)
+client_gone_tied s c names set t are left MastersAre = are
+client_gone_tied s c names set t are left NoneKept = all_filter (λ (x : Master). x.kept ≡ false) (λ (x : Master). masters.is_living (without_its_master c s.masters).members s.masters.masters x.birth) s.masters.masters (none_kept s t)
+client_gone_tied s c names set t are left MagicsSuffice = magics_suffice s t
+client_gone_tied s c names set t are left HoldsRise = in_order_filter (λ (x y : FileHold). files.hold_before x y ≡ true) _ s.files.holds (holds_rise s t)
+client_gone_tied s c names set t are left ObjectsCounted = left.tied
+client_gone_tied s c names set t are left NamesHeld = named_left s.names names s.objects set (keys_without s c) (references_without s c) left
 
 pub some_opened : (p : SharedToken → Bool) → (ts : List SharedToken) (n : ℕ) → is_among (token_keys (filter p ts)) n ≡ true → is_among (token_keys ts) n ≡ true
 some_opened p [] n h = h
@@ -326,28 +350,50 @@ fewer_known s p q n e =
       | false ↦ λ is k. or_right (is_among (keys_of s.files.holds) n) _ (some_opened q s.tokens.tokens n k)
     ] refl split
 
-module _ (s : State) (w : Rows) (c : ℕ) (row : ClientRow) (names : NameList) (set : ObjectSet) (members : Vec Member) (masters : Vec ℕ) (device : Option ℕ)
-    (t : IsTied s) (now : IsTied (without_its s c names set members masters device)) (of : client_row w c ≡ Some row)
-    (gone : Leaves s.names s.objects (keys_without s c) (references_without s c) names set)
-    (left : members.items ≡ filter (λ (x : Member). not (x.client == c)) s.members.items) (stay : masters.items ≡ filter (λ m. list_any (λ (x : Member). is_option m x.master) members.items) s.masters.items)
-    (d : device ≡ (if row.is_master && is_same s.device_master row.master then None else s.device_master)) (h : Represents s w) where
+-- a magic is its client's
+magic_client : (x : Member) → (o : Option Magic) → x.magic ≡ o → (c : ℕ) → (xs : List MagicRow) → filter (λ (row : MagicRow). not (row.client == c)) (cons_option (magic_row_of x) xs) ≡ cond (not (x.client == c)) (cons_option (magic_row_of x) (filter (λ (row : MagicRow). not (row.client == c)) xs)) (filter (λ (row : MagicRow). not (row.client == c)) xs)
+magic_client x o e c xs = ap (λ (g : Option Magic). filter (λ (row : MagicRow). not (row.client == c)) (cons_option (row_by g) xs)) e ∙ by_magic o ∙ ap (λ (g : Option Magic). cond (not (x.client == c)) (cons_option (row_by g) (filter (λ (row : MagicRow). not (row.client == c)) xs)) (filter (λ (row : MagicRow). not (row.client == c)) xs)) (sym e)
+  where
+    row_by : Option Magic → Option MagicRow
+    row_by g = option_map (λ (d : Magic). record { master = x.master; number = d.number; client = x.client; spent = d.spent }) g
+
+    by_magic : (g : Option Magic) → filter (λ (row : MagicRow). not (row.client == c)) (cons_option (row_by g) xs) ≡ cond (not (x.client == c)) (cons_option (row_by g) (filter (λ (row : MagicRow). not (row.client == c)) xs)) (filter (λ (row : MagicRow). not (row.client == c)) xs)
+    by_magic None = none (not (x.client == c))
+      where
+        none : (b : Bool) → filter (λ (row : MagicRow). not (row.client == c)) xs ≡ cond b (filter (λ (row : MagicRow). not (row.client == c)) xs) (filter (λ (row : MagicRow). not (row.client == c)) xs)
+        none true = refl
+        none false = refl
+    by_magic (Some d) = refl
+
+-- the magics that are left
+pub magics_left : (c : ℕ) → (xs : List Member) → filter (λ (row : MagicRow). not (row.client == c)) (filter_map magic_row_of xs) ≡ filter_map magic_row_of (filter (λ (x : Member). not (masters.is_client c x)) xs)
+magics_left c [] = refl
+magics_left c (x ∷ xs) =
+    let rest = filter (λ (y : Member). not (masters.is_client c y)) xs in
+    magic_client x x.magic refl c (filter_map magic_row_of xs)
+    ∙ elim (x.client == c) as (λ b. cond (not b) (cons_option (magic_row_of x) (filter (λ (row : MagicRow). not (row.client == c)) (filter_map magic_row_of xs))) (filter (λ (row : MagicRow). not (row.client == c)) (filter_map magic_row_of xs)) ≡ filter_map magic_row_of (cond (not b) (x ∷ rest) rest)) [
+      | true ↦ magics_left c xs
+      | false ↦ ap (cons_option (magic_row_of x)) (magics_left c xs)
+    ]
+
+module _ (s : State) (w : Rows) (c : ℕ) (flags : FileFlags) (names : NameList) (set : ObjectSet)
+    (t : IsTied s) (are : AreMasters (without_its_master c s.masters)) (of : client_row w c ≡ Some (client_row_by (record { client = c; flags = flags }) (masters.member_of s.masters.members c)))
+    (gone : Leaves s.names s.objects (keys_without s c) (references_without s c) names set) (h : Represents s w) where
+  now : IsTied (without_its s c names set)
+  now = client_gone_tied s c names set t are gone
+
   -- when what its own master gave is gone
-  ended_represents : Represents (record s { device_master = device }) (ended_own w (client_row w c))
+  ended_represents : Represents (with_device s (device_without s.masters c)) (ended_own w (client_row w c))
   ended_represents =
-      subst (λ o. Represents (record s { device_master = device }) (ended_own w o)) (sym of)
-      (subst (λ m. Represents (record s { device_master = m }) (ended_own w (Some row))) (sym d) (ended_if_represents s w row.is_master row.master h))
+      subst (λ o. Represents (with_device s (device_without s.masters c)) (ended_own w o)) (sym of)
+      (ended_if_represents s w (masters.member_of s.masters.members c) h)
 
   -- its row goes
-  clients_now : without (λ (x : ClientRow). x.client == c) w.clients ≡ clients_of (without_its s c names set members masters device)
-  clients_now =
-      ap (without (λ (x : ClientRow). x.client == c)) (clients_are s w h) ∙ sym (clients_left c s.members.items s.files.clients)
-      ∙ ap (λ ms. map (client_row_of ms) (without_client s.files c).clients) (sym left)
+  clients_now : without (λ (x : ClientRow). x.client == c) w.clients ≡ clients_of (without_its s c names set)
+  clients_now = ap (without (λ (x : ClientRow). x.client == c)) (clients_are s w h) ∙ sym (clients_left c s.masters.members s.files.clients)
 
-  masters_now : (v : Rows) → v.clients ≡ clients_of (without_its s c names set members masters device) → v.masters ≡ masters_of s → filter (λ (x : MasterRow). is_living v x.master) v.masters ≡ map master_row_of masters.items
-  masters_now v e f =
-      swept_masters v s.masters.items f ∙ ap (map master_row_of) (filter-same (λ m. list_any (λ (x : ClientRow). is_option m x.master) v.clients) (λ m. list_any (λ (x : Member). is_option m x.master) members.items) s.masters.items
-      (all_each _ (λ m. ap (list_any (λ (x : ClientRow). is_option m x.master)) e
-      ∙ masters_named m (without_client s.files c).clients members.items (members_open (without_its s c names set members masters device) now) (members_differ (without_its s c names set members masters device) now)) s.masters.items) ∙ sym stay)
+  masters_now : (v : Rows) → v.clients ≡ clients_of (without_its s c names set) → v.masters ≡ masters_of s → filter (λ (x : MasterRow). is_living v x.master) v.masters ≡ masters_of (without_its s c names set)
+  masters_now v e f = swept_masters v s.masters.masters (without_its_master c s.masters).members f (none_kept s t) (named_by_clients v (without_its s c names set) now e)
 
   -- its handles and tokens go, and what they alone named
   moves : Moves s (closed w c) (without_client s.files c).holds (without_tokens_of c s.tokens).tokens s.names.names names.names set
@@ -371,12 +417,12 @@ module _ (s : State) (w : Rows) (c : ℕ) (row : ClientRow) (names : NameList) (
   objects_yet = objects_are _ _ ended_represents
 
   -- and the masters that no client names any more
-  pub client_gone : (part : Part) → stands_for part (without_its s c names set members masters device) (swept (closed w c))
+  pub client_gone : (part : Part) → stands_for part (without_its s c names set) (swept (closed w c))
   unfolding stands_for swept closed
-  client_gone Bounds = let k = limits_are _ _ ended_represents in (k.0, k.1, gone.limit ∙ k.2, ap (λ (l : NameList). l.last) gone.names ∙ k.3, k.4)
+  client_gone Bounds = let k = limits_are _ _ ended_represents in (k.0, k.1, gone.limit ∙ k.2, ap (λ (l : NameList). l.last) gone.names ∙ k.3, k.4, k.5)
   client_gone Clients = clients_now
   client_gone Masters = masters_now (closed w c) clients_now (masters_are _ _ ended_represents)
-  client_gone Magics = ap (without _) (magics_none s w h)
+  client_gone Magics = subst (SameRows (without (λ (row : MagicRow). row.client == c) w.magics)) (magics_left c s.masters.members) (same-filter (λ (row : MagicRow). not (row.client == c)) w.magics (magics_of s) (magics_are s w h))
   client_gone Holds = holds_moved s (closed w c) _ _ s.names.names names.names set t moves
   client_gone Objects = objects_moved s (closed w c) _ _ s.names.names names.names set t moves none_framed objects_yet
   client_gone Names = names_moved s (closed w c) _ _ s.names.names names.names set t moves

@@ -1,41 +1,45 @@
 -- The rows that the parts of the device stand for.
-use Rattle.std.specs.Prelude.{ℕ, ◌==◌, false, not, List, None, find, filter, map, unwrap_or}
-use Rattle.std.specs.Option.{option_map_or}
+use Rattle.std.specs.Prelude.{ℕ, Bool, false, not, ◌&&◌, List, Option, None, find, filter, map, unwrap_or, if◌then◌else◌}
+use Rattle.std.specs.List.{filter_map}
+use Rattle.std.specs.Option.{option_map, option_map_or}
 use Rattle.drm_gem.specs.declared.object.Object.{Object}
 use Rattle.drm_gem.specs.Objects.{is_key}
 use Rattle.drm_files.specs.declared.rows.FileClient.{FileClient}
 use Rattle.drm_files.specs.declared.rows.FileHold.{FileHold}
+use Rattle.drm_files.specs.Files.{is_client}
 use Rattle.drm_share.specs.declared.rows.SharedName.{SharedName}
 use Rattle.drm_share.specs.declared.rows.SharedToken.{SharedToken}
 use Rattle.drm_share.specs.Tokens.{TokenList, is_exported_by}
-use Rattle.drm_model.specs.Rows.{ClientRow, MasterRow, HoldRow, ObjectRow, NameRow, TokenRow}
-use Rattle.drm_state.specs.declared.state.Member.{Member}
+use Rattle.drm_model.specs.Rows.{ClientRow, MasterRow, MagicRow, HoldRow, ObjectRow, NameRow, TokenRow}
+use Rattle.drm_masters.specs.declared.rows.Magic.{Magic}
+use Rattle.drm_masters.specs.declared.rows.Master.{Master}
+use Rattle.drm_masters.specs.declared.rows.Member.{Member}
+use Rattle.drm_masters.specs.Masters.{MasterSet, member_of, is_option, swept}
+use Rattle.drm_masters.specs.Calls.{with_device, without_member}
 use Rattle.drm_state.specs.declared.state.State.{State}
 
--- how a client stands to masters that isn't listed: a render client
-abbrev pub no_member : ℕ → Member
-no_member c = record { client = c; once_master = false; is_master = false; master = None }
-
--- how a client stands to masters
-abbrev pub member_of : List Member → ℕ → Member
-member_of members c = unwrap_or (find (λ (m : Member). m.client == c) members) (no_member c)
-
-abbrev pub client_row_by : FileClient → Member → ClientRow
+-- a render client does not stand to masters
+abbrev pub client_row_by : FileClient → Option Member → ClientRow
 client_row_by f m = record {
   client = f.client;
   render = f.flags.render;
   root = f.flags.root;
   authenticated = f.flags.authenticated;
-  once_master = m.once_master;
-  is_master = m.is_master;
-  master = m.master;
+  once_master = option_map_or (λ (x : Member). x.once_master) m false;
+  is_master = option_map_or (λ (x : Member). x.is_master) m false;
+  master = option_map (λ (x : Member). x.master) m;
 }
 
 abbrev pub client_row_of : List Member → FileClient → ClientRow
 client_row_of members f = client_row_by f (member_of members f.client)
 
-abbrev pub master_row_of : ℕ → MasterRow
-master_row_of m = record { master = m; lessor = None; lessee_id = 0; lease_token = None }
+-- no lease token is open yet
+abbrev pub master_row_of : Master → MasterRow
+master_row_of x = record { master = x.birth; lessor = x.lessor; lessee_id = x.lessee_id; lease_token = None }
+
+-- a client's magic, if it has one
+abbrev pub magic_row_of : Member → Option MagicRow
+magic_row_of x = option_map (λ (g : Magic). record { master = x.master; number = g.number; client = x.client; spent = g.spent }) x.magic
 
 -- the number of the object of a key; 0 where none has it
 abbrev pub birth_at : List Object → ℕ → ℕ
@@ -65,10 +69,13 @@ abbrev pub token_row_of : List Object → SharedToken → TokenRow
 token_row_of objects x = token_row_by x (birth_at objects x.object)
 
 abbrev pub clients_of : State → List ClientRow
-clients_of s = map (client_row_of s.members.items) s.files.clients
+clients_of s = map (client_row_of s.masters.members) s.files.clients
 
 abbrev pub masters_of : State → List MasterRow
-masters_of s = map master_row_of s.masters.items
+masters_of s = map master_row_of s.masters.masters
+
+abbrev pub magics_of : State → List MagicRow
+magics_of s = filter_map magic_row_of s.masters.members
 
 abbrev pub holds_of : State → List HoldRow
 holds_of s = map (hold_row_of s.objects.objects) s.files.holds
@@ -101,3 +108,15 @@ referring_keys s = token_keys s.tokens.tokens
 -- the keys that handles name
 abbrev pub keys_of : List FileHold → List ℕ
 keys_of holds = map (λ (x : FileHold). x.object) holds
+
+-- the device's master without a client: none where it is the client's own
+abbrev pub device_without : MasterSet → ℕ → Option ℕ
+device_without v c = option_map_or (λ (x : Member). if x.is_master && is_option x.master v.device_master then None else v.device_master) (member_of v.members c) v.device_master
+
+-- the masters without a client: its magic goes with it, and the masters that no client names any more
+abbrev pub without_its_master : ℕ → MasterSet → MasterSet
+without_its_master c v = swept (with_device (device_without v c) (without_member c v))
+
+-- whether an open client is root
+abbrev pub root_of : State → ℕ → Bool
+root_of s c = option_map_or (λ (f : FileClient). f.flags.root) (find (is_client c) s.files.clients) false

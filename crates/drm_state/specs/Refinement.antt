@@ -1,5 +1,5 @@
 -- Which rows the state of the device stands for, and what the function of each event owes.
-use Rattle.std.specs.Prelude.{◌≡◌, ℕ, ◌+◌, ◌==◌, Bool, false, ◌&&◌, true, [], Option, None, Some, Result, Ok, Err}
+use Rattle.std.specs.Prelude.{◌≡◌, ℕ, ◌+◌, false, true, [], Option, None, Some, Result, Ok, Err}
 use Rattle.std.specs.declared.alloc.AllocError.{AllocError}
 use Rattle.drm_lists.specs.Orders.{SameRows}
 use Rattle.drm_table.specs.declared.answers.Answer.{Answer}
@@ -12,7 +12,6 @@ use Rattle.drm_table.specs.Permit.{first_failing}
 use Rattle.std.specs.Option.{is_some}
 use Rattle.drm_model.specs.Rows.{Rows, free_handle, with_hold}
 use Rattle.drm_model.specs.Parts.{Part, Bounds, Clients, Masters, Magics, Holds, Objects, Names, Tokens, Grants, Framebuffers, Shown, DeviceMaster, LastToken, LastLeaseToken}
-use Rattle.drm_model.specs.Masters.{is_owner}
 use Rattle.drm_model.specs.Births.{BirthsRise}
 use Rattle.drm_model.specs.Verdict.{admission_checks}
 use Rattle.drm_model.specs.Buffers.{with_object, has_buffer_room, new_handle}
@@ -20,20 +19,20 @@ use Rattle.drm_model.specs.Change.{after, swept}
 use Rattle.drm_model.specs.Reply.{reply}
 use Rattle.drm_model.specs.Run.{Growing}
 use Rattle.drm_state.specs.declared.state.State.{State}
-use Rattle.drm_state.specs.Parts.{birth_at, clients_of, masters_of, holds_of, objects_of, names_of, tokens_of, last_token_of, member_of}
+use Rattle.drm_state.specs.Parts.{birth_at, clients_of, masters_of, magics_of, holds_of, objects_of, names_of, tokens_of, last_token_of}
 
 -- the limits that the parts keep
 abbrev pub HaveLimits : State → Limits → Type 0
 HaveLimits s limits =
-    (s.files.limit ≡ limits.clients) × (s.files.last_handle ≡ limits.handles) × (s.objects.limit ≡ limits.objects) × (s.names.last ≡ limits.names) × (s.tokens.last ≡ limits.tokens)
+    (s.files.limit ≡ limits.clients) × (s.files.last_handle ≡ limits.handles) × (s.objects.limit ≡ limits.objects) × (s.names.last ≡ limits.names) × (s.tokens.last ≡ limits.tokens) × (s.masters.last_magic ≡ limits.clients)
 
--- what the state stands for in a part of the rows. Handles, names and tokens have their own order; no event makes the lists longer
+-- what the state stands for in a part of the rows. Magics, handles, names and tokens have their own order; no event makes the lists longer
 -- yet that are empty here
 unfoldable pub stands_for : Part → State → Rows → Type 0
 stands_for Bounds s w = HaveLimits s w.limits
 stands_for Clients s w = w.clients ≡ clients_of s
 stands_for Masters s w = w.masters ≡ masters_of s
-stands_for Magics s w = w.magics ≡ []
+stands_for Magics s w = SameRows w.magics (magics_of s)
 stands_for Holds s w = SameRows w.holds (holds_of s)
 stands_for Objects s w = w.objects ≡ objects_of s
 stands_for Names s w = SameRows w.names (names_of s)
@@ -41,7 +40,7 @@ stands_for Tokens s w = SameRows w.tokens (tokens_of s)
 stands_for Grants s w = w.grants ≡ []
 stands_for Framebuffers s w = w.framebuffers ≡ []
 stands_for Shown s w = w.shown ≡ []
-stands_for DeviceMaster s w = w.device_master ≡ s.device_master
+stands_for DeviceMaster s w = w.device_master ≡ s.masters.device_master
 stands_for LastToken s w = w.last_token ≡ last_token_of s
 stands_for LastLeaseToken s w = w.last_lease_token ≡ 0
 
@@ -102,13 +101,3 @@ AddsHandle old c key place result new = (w : Rows) → Represents old w → Adde
 -- the first rule of admission that fails, whichever rows the state stands for
 unfoldable pub IsAdmission : State → ℕ → Call → Option Rule → Type 0
 IsAdmission s c call rule = (w : Rows) → Represents s w → rule ≡ first_failing (admission_checks w c call)
-
--- whether the client is a master, and the device's master the owner of its own
-abbrev pub is_current : State → ℕ → Bool
-is_current s c = (member_of s.members.items c).is_master && is_owner (masters_of s) s.device_master (member_of s.members.items c).master
-
--- whether both are there and the same
-abbrev pub is_same : Option ℕ → Option ℕ → Bool
-is_same (Some device) (Some master) = device == master
-is_same (Some device) None = false
-is_same None master = false

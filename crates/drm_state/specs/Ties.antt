@@ -1,6 +1,6 @@
 -- How the parts of the device fit together, and what the next step may rely on.
-use Rattle.std.specs.Prelude.{◌≡◌, ℕ, ◌≤◌, ◌<◌, ◌==◌, true, false, List, ◌++◌, length, map, filter, find}
-use Rattle.std.specs.List.{list_any, AllByRecursion}
+use Rattle.std.specs.Prelude.{◌≡◌, ℕ, ◌≤◌, ◌<◌, ◌==◌, ◌||◌, true, false, List, ◌++◌, length, map, filter, find}
+use Rattle.std.specs.List.{AllByRecursion}
 use Rattle.std.specs.Option.{is_some}
 use Rattle.drm_lists.specs.Orders.{InOrder}
 use Rattle.drm_lists.specs.Numbers.{is_among, count}
@@ -11,8 +11,10 @@ use Rattle.drm_files.specs.declared.rows.FileHold.{FileHold}
 use Rattle.drm_files.specs.Files.{is_present, hold_before}
 use Rattle.drm_share.specs.declared.rows.SharedName.{SharedName}
 use Rattle.drm_share.specs.Names.{NameList}
-use Rattle.drm_model.specs.Rows.{is_option}
-use Rattle.drm_state.specs.declared.state.Member.{Member}
+use Rattle.drm_masters.specs.declared.rows.Master.{Master}
+use Rattle.drm_masters.specs.declared.rows.Member.{Member}
+use Rattle.drm_masters.specs.Masters.{MasterSet, AreMasters, member_of}
+use Rattle.drm_masters.specs.Calls as masters
 use Rattle.drm_state.specs.declared.state.State.{State}
 use Rattle.drm_state.specs.Parts.{keys_of, referring_keys}
 
@@ -53,21 +55,29 @@ pub record Leaves (all_names : NameList) (all_objects : ObjectSet) (keys refs : 
   pub limit : now_objects.limit ≡ all_objects.limit
   pub names : now_names ≡ names_among keys all_names
 
--- what ties the parts: who stands to masters is open, once each; a client names each master; handles stand in the order of
--- their clients and numbers; objects are those that handles and tokens name, which they count; names are of objects that handles
--- name
+-- a render client, or one that stands to a master
+abbrev pub HasMaster : MasterSet → FileClient → Type 0
+HasMaster v f = (f.flags.render || is_some (member_of v.members f.client)) ≡ true
+
+-- what ties the parts: who stands to masters is open, and of the clients all but those of render nodes do; what is so of masters
+-- at all times, none of which is kept, and there are as many magics as clients may be; handles stand in the order of their clients
+-- and numbers; objects are those that handles and tokens name, which they count; names are of objects that handles name
 pub data Tie : Type 0 where
   MembersOpen : Tie
-  MembersDiffer : Tie
-  MastersNamed : Tie
+  ClientsHave : Tie
+  MastersAre : Tie
+  NoneKept : Tie
+  MagicsSuffice : Tie
   HoldsRise : Tie
   ObjectsCounted : Tie
   NamesHeld : Tie
 
 unfoldable pub is_tied : Tie → State → Type 0
-is_tied MembersOpen s = AllByRecursion (λ (m : Member). is_present s.files m.client ≡ true) s.members.items
-is_tied MembersDiffer s = InOrder (λ (x y : Member). (x.client == y.client) ≡ false) s.members.items
-is_tied MastersNamed s = AllByRecursion (λ m. list_any (λ (x : Member). is_option m x.master) s.members.items ≡ true) s.masters.items
+is_tied MembersOpen s = AllByRecursion (λ (x : Member). is_present s.files x.client ≡ true) s.masters.members
+is_tied ClientsHave s = AllByRecursion (HasMaster s.masters) s.files.clients
+is_tied MastersAre s = AreMasters s.masters
+is_tied NoneKept s = AllByRecursion (λ (x : Master). x.kept ≡ false) s.masters.masters
+is_tied MagicsSuffice s = s.masters.last_magic ≡ s.files.limit
 is_tied HoldsRise s = InOrder (λ (x y : FileHold). hold_before x y ≡ true) s.files.holds
 is_tied ObjectsCounted s = AreTied (keys_of s.files.holds) (referring_keys s) s.objects.objects
 is_tied NamesHeld s = AreNamed (keys_of s.files.holds) s.names.names
@@ -79,6 +89,7 @@ IsTied s = (tie : Tie) → is_tied tie s
 pub record IsLater (s : State) (birth : ℕ) : Type 0 where
   pub clients : AllByRecursion (λ (f : FileClient). f.client < birth) s.files.clients
   pub objects : IsNewBirth s.objects birth
+  pub masters : masters.IsNewBirth s.masters birth
   pub holds : length s.files.holds < birth
   pub tokens : length s.tokens.tokens < birth
 

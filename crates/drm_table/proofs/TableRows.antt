@@ -84,11 +84,15 @@ audit-by number from (Some kind) e = ap (λ (n : ℕ). Some (kinds.Audit, U32 n 
 pub fields-of : (kind : CallKind) (fs : List Field) → AreFieldsOf kind fs (call_with kind fs)
 unfolding call_row call_with
 fields-of kinds.Version [] = refl
+fields-of kinds.GetMagic [] = refl
 fields-of kinds.GemClose (U32 handle ∷ []) = refl
 fields-of kinds.GemFlink (U32 handle ∷ []) = refl
 fields-of kinds.GemOpen (U32 name ∷ []) = refl
 fields-of kinds.GetCap (U64 cap ∷ []) = refl
 fields-of kinds.SetClientCap (U64 cap ∷ U64 value ∷ []) = refl
+fields-of kinds.AuthMagic (U32 magic ∷ []) = refl
+fields-of kinds.SetMaster [] = refl
+fields-of kinds.DropMaster [] = refl
 fields-of kinds.PrimeHandleToFd (U32 handle ∷ []) = refl
 fields-of kinds.PrimeFdToHandle (U32 token ∷ []) = refl
 fields-of kinds.BufCreate (U64 size ∷ []) = refl

@@ -4,6 +4,7 @@ pub mod BufferCalls
 pub mod DeviceCalls
 pub mod Fields
 pub mod Limits
+pub mod MasterCalls
 pub mod Permit
 pub mod Rules
 pub mod ShareCalls

@@ -12,6 +12,7 @@ use Rattle.drm_table.specs.declared.calls.Call.{Call}
 use Rattle.drm_table.specs.declared.calls.Call.TheVariants as calls
 use Rattle.drm_table.specs.BufferCalls.{buffer_row, buffer_call}
 use Rattle.drm_table.specs.DeviceCalls.{device_row, device_call}
+use Rattle.drm_table.specs.MasterCalls.{master_row, master_call}
 use Rattle.drm_table.specs.ShareCalls.{share_row, share_call}
 use Rattle.drm_table.specs.declared.rows.Row.{Row}
 use Rattle.drm_table.specs.Fields.{Layout, layout_of, width_of, widths_in}
@@ -54,11 +55,15 @@ columns row = table_row row.number row.name.now row.word.now row.flags (layout_o
 
 unfoldable pub kind_row : CallKind → TableRow
 kind_row kinds.Version = table_row 0x00 (codes "VERSION") (codes "version") render_allow (numbers [])
+kind_row kinds.GetMagic = table_row 0x02 (codes "GET_MAGIC") (codes "get_magic") no_flags (numbers [])
 kind_row kinds.GemClose = table_row 0x09 (codes "GEM_CLOSE") (codes "gem_close") render_allow (numbers (U32 ∷ []))
 kind_row kinds.GemFlink = table_row 0x0A (codes "GEM_FLINK") (codes "gem_flink") auth (numbers (U32 ∷ []))
 kind_row kinds.GemOpen = table_row 0x0B (codes "GEM_OPEN") (codes "gem_open") auth (numbers (U32 ∷ []))
 kind_row kinds.GetCap = table_row 0x0C (codes "GET_CAP") (codes "get_cap") render_allow (numbers (U64 ∷ []))
 kind_row kinds.SetClientCap = table_row 0x0D (codes "SET_CLIENT_CAP") (codes "set_client_cap") no_flags (numbers (U64 ∷ U64 ∷ []))
+kind_row kinds.AuthMagic = table_row 0x11 (codes "AUTH_MAGIC") (codes "auth_magic") master (numbers (U32 ∷ []))
+kind_row kinds.SetMaster = table_row 0x1E (codes "SET_MASTER") (codes "set_master") no_flags (numbers [])
+kind_row kinds.DropMaster = table_row 0x1F (codes "DROP_MASTER") (codes "drop_master") no_flags (numbers [])
 kind_row kinds.PrimeHandleToFd = table_row 0x2D (codes "PRIME_HANDLE_TO_FD") (codes "prime_export") render_allow (numbers (U32 ∷ []))
 kind_row kinds.PrimeFdToHandle = table_row 0x2E (codes "PRIME_FD_TO_HANDLE") (codes "prime_import") render_allow (numbers (U32 ∷ []))
 kind_row kinds.BufCreate = table_row 0x40 (codes "BUF_CREATE") (codes "buf_create") render_allow (numbers (U64 ∷ []))
@@ -74,11 +79,15 @@ kind_row kinds.DestroyDumb = table_row 0xB4 (codes "MODE_DESTROY_DUMB") (codes "
 abbrev pub all_kinds : List CallKind
 all_kinds =
     kinds.Version
+    ∷ kinds.GetMagic
     ∷ kinds.GemClose
     ∷ kinds.GemFlink
     ∷ kinds.GemOpen
     ∷ kinds.GetCap
     ∷ kinds.SetClientCap
+    ∷ kinds.AuthMagic
+    ∷ kinds.SetMaster
+    ∷ kinds.DropMaster
     ∷ kinds.PrimeHandleToFd
     ∷ kinds.PrimeFdToHandle
     ∷ kinds.BufCreate
@@ -93,11 +102,11 @@ all_kinds =
 
 -- the row of each call and its fields in order, on the wire and in a script alike, told by family; none of a call without a row
 unfoldable pub call_row : Call → Option (CallKind × List Field)
-call_row call = option_or (option_or (buffer_row call) (share_row call)) (device_row call)
+call_row call = option_or (option_or (option_or (buffer_row call) (share_row call)) (master_row call)) (device_row call)
 
 -- the call of a row and these fields, if they are a call's
 unfoldable pub call_with : CallKind → List Field → Option Call
-call_with kind fs = option_or (option_or (buffer_call kind fs) (share_call kind fs)) (device_call kind fs)
+call_with kind fs = option_or (option_or (option_or (buffer_call kind fs) (share_call kind fs)) (master_call kind fs)) (device_call kind fs)
 
 -- ---- what follows from it
 

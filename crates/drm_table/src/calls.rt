@@ -19,6 +19,8 @@ pub enum Call {
     BadLayout(u16),
     /// Which version of the interface this is (drm-uapi).
     Version,
+    /// The caller's magic, a number by which a current client of its master can authenticate it (drm(7)).
+    GetMagic,
     /// Give a handle back (drm-gem(7)).
     GemClose { handle: u32 },
     /// Give the object of a handle a global name, or tell the one that it has (drm-gem(7), flink).
@@ -29,6 +31,12 @@ pub enum Call {
     GetCap { cap: u64 },
     /// Set a capability of the caller (drm-uapi, `DRM_IOCTL_SET_CLIENT_CAP`).
     SetClientCap { cap: u64, value: u64 },
+    /// Authenticate the client that has this magic of the caller's master (drm(7)).
+    AuthMagic { magic: u32 },
+    /// Become the device's master (drm(7)).
+    SetMaster,
+    /// Leave the device without a master (drm(7)).
+    DropMaster,
     /// Export the object of a handle: a new token for it (drm-mm, PRIME; tokens for file descriptors are own).
     PrimeHandleToFd { handle: u32 },
     /// Import the object of a token: a handle of it, the same each time (drm-mm, PRIME).
@@ -79,6 +87,7 @@ impl Call {
     {
         self.buffer_row()
             .or_else(|| self.share_row())
+            .or_else(|| self.master_row())
             .or_else(|| self.device_row())
     }
 

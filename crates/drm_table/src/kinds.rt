@@ -15,11 +15,15 @@ use crate::rows::Row;
 #[derive(Clone, Copy, PartialEq, Eq, Debug)]
 pub enum CallKind {
     Version,
+    GetMagic,
     GemClose,
     GemFlink,
     GemOpen,
     GetCap,
     SetClientCap,
+    AuthMagic,
+    SetMaster,
+    DropMaster,
     PrimeHandleToFd,
     PrimeFdToHandle,
     BufCreate,
@@ -49,18 +53,24 @@ const NONE: RowFlags = RowFlags::NONE;
 
 const AUTH: RowFlags = RowFlags::AUTH;
 
+const MASTER: RowFlags = RowFlags::MASTER;
+
 const RENDER: RowFlags = RowFlags::RENDER_ALLOW;
 
 const ROOT: RowFlags = RowFlags::ROOT_ONLY;
 
 /// The table: a line for each call, in the order of the kinds (drm-uapi; 0x40 to 0x45 are own, as are the words).
-static ROWS: [Row; 16] = [
+static ROWS: [Row; 20] = [
     row!(0x00 => "VERSION", b"version", RENDER, Numbers(&[])),
+    row!(0x02 => "GET_MAGIC", b"get_magic", NONE, Numbers(&[])),
     row!(0x09 => "GEM_CLOSE", b"gem_close", RENDER, Numbers(&[U32])),
     row!(0x0A => "GEM_FLINK", b"gem_flink", AUTH, Numbers(&[U32])),
     row!(0x0B => "GEM_OPEN", b"gem_open", AUTH, Numbers(&[U32])),
     row!(0x0C => "GET_CAP", b"get_cap", RENDER, Numbers(&[U64])),
     row!(0x0D => "SET_CLIENT_CAP", b"set_client_cap", NONE, Numbers(&[U64, U64])),
+    row!(0x11 => "AUTH_MAGIC", b"auth_magic", MASTER, Numbers(&[U32])),
+    row!(0x1E => "SET_MASTER", b"set_master", NONE, Numbers(&[])),
+    row!(0x1F => "DROP_MASTER", b"drop_master", NONE, Numbers(&[])),
     row!(0x2D => "PRIME_HANDLE_TO_FD", b"prime_export", RENDER, Numbers(&[U32])),
     row!(0x2E => "PRIME_FD_TO_HANDLE", b"prime_import", RENDER, Numbers(&[U32])),
     row!(0x40 => "BUF_CREATE", b"buf_create", RENDER, Numbers(&[U64])),
@@ -84,13 +94,17 @@ fn rows() -> &'static [Row]
 
 impl CallKind {
     /// All rows, rising by number.
-    pub const ALL: [CallKind; 16] = [
+    pub const ALL: [CallKind; 20] = [
         CallKind::Version,
+        CallKind::GetMagic,
         CallKind::GemClose,
         CallKind::GemFlink,
         CallKind::GemOpen,
         CallKind::GetCap,
         CallKind::SetClientCap,
+        CallKind::AuthMagic,
+        CallKind::SetMaster,
+        CallKind::DropMaster,
         CallKind::PrimeHandleToFd,
         CallKind::PrimeFdToHandle,
         CallKind::BufCreate,
@@ -166,6 +180,7 @@ impl CallKind {
     {
         self.buffer_call(fields)
             .or_else(|| self.share_call(fields))
+            .or_else(|| self.master_call(fields))
             .or_else(|| self.device_call(fields))
     }
 }

@@ -17,6 +17,7 @@ mod laws;
 mod limits;
 mod lists;
 mod lookup;
+mod master_calls;
 mod permits;
 mod refusal_rows;
 mod rows;

@@ -1,24 +1,25 @@
-use Rattle.std.proofs.Common.{sym, ◌≡◌, true, not, Some, refl, ap, ◌∙◌, subst}
+use Rattle.std.proofs.Common.{sym, ◌≡◌, true, not, refl, ap, ◌∙◌, subst}
 use Rattle.std.specs.Option.{is_some}
 use Rattle.drm_table.specs.declared.answers.Answer.TheVariants.{Closed}
 use Rattle.drm_table.specs.declared.events.Event.TheVariants.{Close}
 use Rattle.drm_table.specs.declared.rules.Rule.TheVariants.{NoClient}
 use Rattle.drm_files.specs.Files.{FileLists, of_client, without_client}
 use Rattle.drm_share.specs.Tokens.{TokenList}
-use Rattle.drm_model.specs.Rows.{ClientRow, client_row, is_open}
+use Rattle.drm_model.specs.Rows.{is_open}
 use Rattle.drm_model.specs.Change.{changed, swept}
 use Rattle.drm_model.specs.Clients.{closed}
 use Rattle.drm_model.specs.Reply.{answer_of}
 use Rattle.drm_model.proofs.Closings.{closing_verdict}
 use Rattle.drm_state.specs.declared.state.State.{State}
-use Rattle.drm_state.specs.Parts.{client_row_by, keys_of, token_keys, without_tokens_of}
+use Rattle.drm_masters.specs.Masters.{MasterSet, AreMasters}
+use Rattle.drm_state.specs.Parts.{keys_of, token_keys, without_tokens_of, without_its_master}
 use Rattle.drm_state.specs.Ties.{IsTied, Leaves}
 use Rattle.drm_state.specs.Refinement.{OwesAnswer, Represents}
 use Rattle.drm_state.proofs.Leaving.{names_stay, leaves_trans}
-use Rattle.drm_state.proofs.Represented.{objects_counted, names_held}
+use Rattle.drm_state.proofs.Represented.{objects_counted, names_held, masters_so, none_kept}
 use Rattle.drm_state.proofs.Lookups.{client_row_is, no_client}
 use Rattle.drm_state.proofs.Outcomes.{denied, carried}
-use Rattle.drm_state.proofs.Sweeps.{client_gone, client_gone_tied, keys_without, references_without, some_pass}
+use Rattle.drm_state.proofs.Sweeps.{client_gone, client_gone_tied, without_its, keys_without, references_without, some_pass}
 use Rattle.drm_client_calls.proofs.closings.close.Goals as goal
 
 pub returns-in_default-clause-owes : goal.returns-in_default-clause-owes
@@ -37,7 +38,7 @@ pub release_all-requires-clause-named : goal.release_all-requires-clause-named
 release_all-requires-clause-named c = names_held c.args.state.now c.requires
 
 -- what is left by the tokens and the handles that go
-leaves : (c : goal.After-sweep_masters) → Leaves c.args.state.now.names c.args.state.now.objects (keys_without c.args.state.now c.args.client) (references_without c.args.state.now c.args.client) c.release_all.new.names c.release_all.new.objects
+leaves : (c : goal.After-release_all) → Leaves c.args.state.now.names c.args.state.now.objects (keys_without c.args.state.now c.args.client) (references_without c.args.state.now c.args.client) c.release_all.new.names c.release_all.new.objects
 leaves c =
     let s = c.args.state.now in
     let client = c.args.client in
@@ -52,17 +53,27 @@ leaves c =
     (leaves_trans s.names s.names c.release_all.new.names s.objects middle c.release_all.new.objects keys (keys_without s client) refs (λ n e. some_pass (λ x. not (of_client client x)) s.files.holds n e) closed released)
 
 -- the state without the client
-abbrev now : goal.After-sweep_masters → FileLists → TokenList → State
-now c files tokens = record c.args.state.now { files = files; tokens = tokens; names = c.release_all.new.names; members = c.remove_member.new.members; masters = c.sweep_masters.new.masters; objects = c.release_all.new.objects; device_master = c.master_without-state.result }
+abbrev now : goal.After-release_all → FileLists → TokenList → MasterSet → State
+now c files tokens set = record c.args.state.now { files = files; tokens = tokens; names = c.release_all.new.names; masters = set; objects = c.release_all.new.objects }
 
 -- the state, told by what its client had
-told : (P : State → Type 0) (c : goal.After-sweep_masters) → P (now c (without_client c.args.state.now.files c.args.client) (without_tokens_of c.args.client c.args.state.now.tokens)) → P (now c c.release_all.new.files c.close_tokens.new.tokens)
-told P c h = subst (λ fs. P (now c fs c.close_tokens.new.tokens)) (sym c.release_all.ensures.files) (subst (λ ts. P (now c (without_client c.args.state.now.files c.args.client) ts)) (sym c.close_tokens.ensures.tokens) h)
+told : (P : State → Type 0) (c : goal.After-release_all) → P (without_its c.args.state.now c.args.client c.release_all.new.names c.release_all.new.objects) → P (now c c.release_all.new.files c.close_tokens.new.tokens c.close_master.new.masters)
+told P c h =
+    subst (λ fs. P (now c fs c.close_tokens.new.tokens c.close_master.new.masters)) (sym c.release_all.ensures.files)
+    (subst (λ ts. P (now c (without_client c.args.state.now.files c.args.client) ts c.close_master.new.masters)) (sym c.close_tokens.ensures.tokens)
+    (subst (λ set. P (now c (without_client c.args.state.now.files c.args.client) (without_tokens_of c.args.client c.args.state.now.tokens) set)) (sym c.close_master.ensures) h))
 
-gone_tied : (c : goal.After-sweep_masters) → IsTied (now c (without_client c.args.state.now.files c.args.client) (without_tokens_of c.args.client c.args.state.now.tokens))
-gone_tied c =
-    client_gone_tied c.args.state.now c.args.client c.release_all.new.names c.release_all.new.objects c.remove_member.new.members c.sweep_masters.new.masters c.master_without-state.result c.requires c.remove_member.ensures
-    (rw c.deref-2.ensures.value at c.sweep_masters.ensures) (leaves c)
+are : (c : goal.After-release_all) → AreMasters (without_its_master c.args.client c.args.state.now.masters)
+are c = subst AreMasters c.close_master.ensures c.laws.ensures
+
+gone_tied : (c : goal.After-release_all) → IsTied (without_its c.args.state.now c.args.client c.release_all.new.names c.release_all.new.objects)
+gone_tied c = client_gone_tied c.args.state.now c.args.client c.release_all.new.names c.release_all.new.objects c.requires (are c) (leaves c)
+
+pub close_master-requires-clause-are : goal.close_master-requires-clause-are
+close_master-requires-clause-are c = masters_so c.args.state.now c.requires
+
+pub close_master-requires-clause-kept : goal.close_master-requires-clause-kept
+close_master-requires-clause-kept c = none_kept c.args.state.now c.requires
 
 pub returns-clause-tied : goal.returns-clause-tied
 returns-clause-tied c = told IsTied c (gone_tied c)
@@ -71,12 +82,8 @@ pub returns-clause-owes : goal.returns-clause-owes
 unfolding OwesAnswer changed answer_of
 returns-clause-owes c = λ w h.
     let s = c.args.state.now in
-    let row : ClientRow = client_row_by (record { client = c.args.client; flags = c.in-Some._flags }) c.member_of-member.result in
-    let is : client_row w c.args.client ≡ Some row =
-    client_row_is s w h c.args.client c.in-Some._flags (sym c.in-Some.is ∙ c.flags_of.ensures.flags)
-    ∙ ap (λ m. Some (client_row_by (record { client = c.args.client; flags = c.in-Some._flags }) m)) (sym (rw c.deref.ensures.value at c.member_of-member.ensures)) in
+    let is = client_row_is s w h c.args.client c.in-Some._flags (sym c.in-Some.is ∙ c.flags_of.ensures.flags) in
     let present : is_open w c.args.client ≡ true = ap is_some is in
-    carried (now c c.release_all.new.files c.close_tokens.new.tokens) w (Close c.args.client) Closed (closing_verdict w c.args.client ∙ rw present refl) refl
+    carried (now c c.release_all.new.files c.close_tokens.new.tokens c.close_master.new.masters) w (Close c.args.client) Closed (closing_verdict w c.args.client ∙ rw present refl) refl
     (told (λ t. Represents t (swept (closed w c.args.client))) c
-    (client_gone s w c.args.client row c.release_all.new.names c.release_all.new.objects c.remove_member.new.members c.sweep_masters.new.masters c.master_without-state.result c.requires (gone_tied c) is (leaves c) c.remove_member.ensures
-    (rw c.deref-2.ensures.value at c.sweep_masters.ensures) c.master_without-state.ensures h))
+    (client_gone s w c.args.client c.in-Some._flags c.release_all.new.names c.release_all.new.objects c.requires (are c) is (leaves c) h))

@@ -1,6 +1,5 @@
-use Rattle.std.proofs.Common.{◌≡◌, ℕ, Bool, ◌<◌, true, false, not, [], ◌∷◌, None, Some, Option, refl, sym, ap, ◌∙◌, arith, inl, length, length-append, eq-eqb}
+use Rattle.std.proofs.Common.{◌≡◌, ℕ, Bool, ◌+◌, ◌<◌, true, false, not, [], ◌∷◌, None, Some, Option, refl, sym, ap, subst, ◌∙◌, arith, inl, length, length-append}
 use Rattle.std.proofs.lemmas.Result.{err_from_is_err_and}
-use Rattle.drm_lists.proofs.Lists.{pushed}
 use Rattle.drm_table.specs.declared.answers.Answer.TheVariants.{Opened}
 use Rattle.drm_table.specs.declared.events.Event.TheVariants.{Open}
 use Rattle.drm_table.specs.declared.events.Opening.TheVariants.{Primary}
@@ -11,12 +10,23 @@ use Rattle.drm_model.specs.Verdict.{verdict}
 use Rattle.drm_model.specs.Clients.{opening_checks, opened, opened_primary}
 use Rattle.drm_model.specs.Change.{changed}
 use Rattle.drm_model.specs.Reply.{answer_of}
-use Rattle.drm_state.specs.declared.state.Member.{Member}
-use Rattle.drm_state.specs.Parts.{master_row_of}
-use Rattle.drm_state.specs.Refinement.{Owes}
-use Rattle.drm_state.proofs.Represented.{device_master_is}
-use Rattle.drm_client_calls.proofs.Opened as parts
-use Rattle.drm_client_calls.proofs.Opened.{unopened, unopened_represents, unopened_tied, joined_represents, founded_represents, opened_tied, named_yet, named_more}
+use Rattle.drm_masters.specs.declared.rows.Member.{Member}
+use Rattle.drm_masters.specs.declared.rows.Master.{Master}
+use Rattle.drm_masters.specs.Masters.{MasterSet, AreMasters}
+use Rattle.drm_masters.specs.Calls as masters
+use Rattle.drm_state.specs.Refinement.{Owes, Represents}
+use Rattle.std.specs.Prelude.{nat_le, if◌then◌else◌}
+use Rattle.std.specs.List.{AllByRecursion}
+use Rattle.std.specs.Option.{is_none, is_some}
+use Rattle.drm_files.specs.Files.{FileLists}
+use Rattle.std.proofs.lemmas.Bool.Decides.{nat_tests}
+use Rattle.drm_lists.proofs.Lists.{all_weaker, all_append}
+use Rattle.drm_files.specs.Files.{is_present, without_client}
+use Rattle.drm_state.specs.declared.state.State.{State}
+use Rattle.drm_state.specs.Ties.{IsTied, IsLater}
+use Rattle.drm_state.proofs.Members.{older, found_last}
+use Rattle.drm_state.proofs.Represented.{device_master_is, members_open, masters_so, magics_suffice, none_kept}
+use Rattle.drm_client_calls.proofs.Opened.{closed_again, joined, joined_tied, guest_represents, founder_represents, fewer_members}
 use Rattle.drm_state.proofs.Outcomes.{denied, carried_on, refused, opening_verdict, client_room}
 use Rattle.drm_client_calls.proofs.openings.open_primary.Goals as goal
 
@@ -29,96 +39,98 @@ longer w root None = omega (arith, length-append w.clients (record { client = bi
 longer w root (Some m) = omega (arith, length-append w.clients (record { client = birth w; render = false; root = root; authenticated = root; once_master = false; is_master = false; master = Some m } ∷ []))
 
 abbrev flags : Bool → Bool → FileFlags
-flags root authenticated = record { render = false; root = root; authenticated = authenticated }
-
-abbrev member : ℕ → Bool → Option ℕ → Member
-member b master m = record { client = b; once_master = master; is_master = master; master = m }
+flags root founder = record { render = false; root = root; authenticated = if founder then true else root }
 
 pub returns-then-is_full-clause-owes : goal.returns-then-is_full-clause-owes
 unfolding Owes opening_checks
 returns-then-is_full-clause-owes c = λ w s.
-    let full = client_room c.args.state.now w s.rows ∙ ap not (sym c.is_full.ensures ∙ c.if-is_full.true) in
+    let full = client_room c.args.state.now w s.rows ∙ ap not (sym c.is_full.ensures.full ∙ c.if-is_full.true) in
     denied c.args.state.now w (Open (Primary c.args.root)) Full (opening_verdict w (Primary c.args.root) ∙ rw full refl) s.rows
 
-pub returns-in_err-reserve-clause-owes : goal.returns-in_err-reserve-clause-owes
-unfolding Owes changed opened
-returns-in_err-reserve-clause-owes c = λ w s.
-    let room = client_room c.args.state.now w s.rows ∙ ap not (sym c.is_full.ensures ∙ c.if-is_full.false) in
-    let p = err_from_is_err_and c.from_residual.result c.from_residual.ensures.1 in
-    rw p.1 (refused (unopened c.args.state.now c.args.state.now.files c.reserve.new.self c.args.state.now.masters) w (Open (Primary c.args.root)) p.0 (accepted w c.args.root room) (inl (longer w c.args.root w.device_master))
-    (unopened_represents c.args.state.now w c.args.state.now.files c.reserve.new.self c.args.state.now.masters refl c.in_err-reserve.ensures.items refl s.rows))
-
-pub returns-in_err-reserve-clause-tied : goal.returns-in_err-reserve-clause-tied
-returns-in_err-reserve-clause-tied c = unopened_tied c.args.state.now c.args.state.now.files c.reserve.new.self c.args.state.now.masters refl c.in_err-reserve.ensures.items refl c.requires.tied
-
-pub returns-in_err-reserve-2-clause-owes : goal.returns-in_err-reserve-2-clause-owes
-unfolding Owes changed opened
-returns-in_err-reserve-2-clause-owes c = λ w s.
-    let room = client_room c.args.state.now w s.rows ∙ ap not (sym c.is_full.ensures ∙ c.if-is_full.false) in
-    let p = err_from_is_err_and c.from_residual-in_err-reserve-2.result c.from_residual-in_err-reserve-2.ensures.1 in
-    rw p.1 (refused (unopened c.args.state.now c.args.state.now.files c.reserve.new.self c.reserve-in_default.new.self) w (Open (Primary c.args.root)) p.0 (accepted w c.args.root room) (inl (longer w c.args.root w.device_master))
-    (unopened_represents c.args.state.now w c.args.state.now.files c.reserve.new.self c.reserve-in_default.new.self refl c.in_ok-reserve.ensures.items c.in_err-reserve-2.ensures.items s.rows))
-
-pub returns-in_err-reserve-2-clause-tied : goal.returns-in_err-reserve-2-clause-tied
-returns-in_err-reserve-2-clause-tied c = unopened_tied c.args.state.now c.args.state.now.files c.reserve.new.self c.reserve-in_default.new.self refl c.in_ok-reserve.ensures.items c.in_err-reserve-2.ensures.items c.requires.tied
+not_full : (a b : ℕ) → nat_le a b ≡ false → b < a
+not_full a b h = grind (arith, nat_tests)
 
 pub returns-in_err-open_file-clause-owes : goal.returns-in_err-open_file-clause-owes
 unfolding Owes changed opened
 returns-in_err-open_file-clause-owes c = λ w s.
-    let room = client_room c.args.state.now w s.rows ∙ ap not (sym c.is_full.ensures ∙ c.if-is_full.false) in
-    let p = err_from_is_err_and c.from_residual-in_err-open_file.result c.from_residual-in_err-open_file.ensures.1 in
-    rw p.1 (refused (unopened c.args.state.now c.open_file.new.files c.reserve.new.self c.reserve-in_default.new.self) w (Open (Primary c.args.root)) p.0 (accepted w c.args.root room) (inl (longer w c.args.root w.device_master))
-    (unopened_represents c.args.state.now w c.open_file.new.files c.reserve.new.self c.reserve-in_default.new.self c.in_err-open_file.ensures.err c.in_ok-reserve.ensures.items c.in_ok-reserve-2.ensures.items s.rows))
+    let room = client_room c.args.state.now w s.rows ∙ ap not (sym c.is_full.ensures.full ∙ c.if-is_full.false) in
+    let p = err_from_is_err_and c.from_residual.result c.from_residual.ensures.1 in
+    rw p.1 (refused (record c.args.state.now { files = c.open_file.new.files }) w (Open (Primary c.args.root)) p.0 (accepted w c.args.root room) (inl (longer w c.args.root w.device_master))
+    (subst (λ fs. Represents (record c.args.state.now { files = fs }) w) (sym c.in_err-open_file.ensures.err) s.rows))
 
-pub returns-in_err-open_file-clause-tied : goal.returns-in_err-open_file-clause-tied
-returns-in_err-open_file-clause-tied c = unopened_tied c.args.state.now c.open_file.new.files c.reserve.new.self c.reserve-in_default.new.self c.in_err-open_file.ensures.err c.in_ok-reserve.ensures.items c.in_ok-reserve-2.ensures.items c.requires.tied
+pub on_open-requires-clause-new_client : goal.on_open-requires-clause-new_client
+on_open-requires-clause-new_client c =
+    all_weaker (λ (x : Member). is_present c.args.state.now.files x.client ≡ true) (λ (x : Member). x.client < c.args.birth) (λ x e. older x.client c.args.birth c.args.state.now.files.clients c.requires.later.clients e) c.args.state.now.masters.members (members_open c.args.state.now c.requires.tied)
 
-pub returns-in_err-open_file-2-clause-owes : goal.returns-in_err-open_file-2-clause-owes
+pub on_open-requires-clause-room : goal.on_open-requires-clause-room
+on_open-requires-clause-room c =
+    let few = fewer_members c.args.state.now.masters.members c.args.state.now.files.clients (masters_so c.args.state.now c.requires.tied).members_rise (members_open c.args.state.now c.requires.tied) in
+    let lt = not_full c.args.state.now.files.limit (length c.args.state.now.files.clients) (sym c.is_full.ensures.full ∙ c.if-is_full.false) in
+    let last = magics_suffice c.args.state.now c.requires.tied in
+    omega (arith, few, lt, last)
+
+pub close-rest-requires : goal.close-rest-requires
+close-rest-requires c = record { present = subst (λ fs. is_present fs c.args.birth ≡ true) (sym c.in_ok-open_file.ensures.ok) (found_last (record { client = c.args.birth; flags = flags c.args.root c.is_none-founder.result }) c.args.state.now.files.clients) }
+
+-- all is as it was
+back : (P : State → Type 0) (s : State) (fs : FileLists) (set : MasterSet) → fs ≡ s.files → set ≡ s.masters → P s → P (record s { files = fs; masters = set })
+back P s fs set e f h = subst (λ l. P (record s { files = l; masters = set })) (sym e) (subst (λ l. P (record s { masters = l })) (sym f) h)
+
+pub returns-in-Err-clause-tied : goal.returns-in-Err-clause-tied
+returns-in-Err-clause-tied c =
+    back IsTied c.args.state.now c.close-rest.new.self c.on_open.new.self
+    (c.close-rest.ensures.closed ∙ ap (λ l. without_client l c.args.birth) c.in_ok-open_file.ensures.ok ∙ closed_again c.args.state.now.files c.args.birth (flags c.args.root c.is_none-founder.result) c.is_full.ensures.lists c.requires.later.clients) c.in-Err.ensures.err c.requires.tied
+
+pub returns-in-Err-clause-owes : goal.returns-in-Err-clause-owes
 unfolding Owes changed opened
-returns-in_err-open_file-2-clause-owes c = λ w s.
-    let room = client_room c.args.state.now w s.rows ∙ ap not (sym c.is_full.ensures ∙ c.if-is_full.false) in
-    let p = err_from_is_err_and c.from_residual-in_err-open_file-2.result c.from_residual-in_err-open_file-2.ensures.1 in
-    rw p.1 (refused (unopened c.args.state.now c.open_file-2.new.files c.reserve.new.self c.args.state.now.masters) w (Open (Primary c.args.root)) p.0 (accepted w c.args.root room) (inl (longer w c.args.root w.device_master))
-    (unopened_represents c.args.state.now w c.open_file-2.new.files c.reserve.new.self c.args.state.now.masters c.in_err-open_file-2.ensures.err c.in_ok-reserve.ensures.items refl s.rows))
+returns-in-Err-clause-owes c = λ w s.
+    let room = client_room c.args.state.now w s.rows ∙ ap not (sym c.is_full.ensures.full ∙ c.if-is_full.false) in
+    refused (record c.args.state.now { files = c.close-rest.new.self; masters = c.on_open.new.self }) w (Open (Primary c.args.root)) (record {}) (accepted w c.args.root room) (inl (longer w c.args.root w.device_master))
+    (back (λ t. Represents t w) c.args.state.now c.close-rest.new.self c.on_open.new.self
+    (c.close-rest.ensures.closed ∙ ap (λ l. without_client l c.args.birth) c.in_ok-open_file.ensures.ok ∙ closed_again c.args.state.now.files c.args.birth (flags c.args.root c.is_none-founder.result) c.is_full.ensures.lists c.requires.later.clients) c.in-Err.ensures.err s.rows)
 
-pub returns-in_err-open_file-2-clause-tied : goal.returns-in_err-open_file-2-clause-tied
-returns-in_err-open_file-2-clause-tied c = unopened_tied c.args.state.now c.open_file-2.new.files c.reserve.new.self c.args.state.now.masters c.in_err-open_file-2.ensures.err c.in_ok-reserve.ensures.items refl c.requires.tied
-
-pub returns-in_default-clause-tied : goal.returns-in_default-clause-tied
-returns-in_default-clause-tied c =
-    let m : Member = member c.args.birth true (Some c.args.birth) in
-    opened_tied c.args.state.now c.open_file.new.files (flags c.args.root true) m c.push_reserved-in_default.new.self c.push_reserved.new.self (Some c.args.birth) c.requires.tied c.requires.later c.in_ok-open_file.ensures.ok
-    (pushed m c.push_reserved-in_default.ensures.items c.in_ok-reserve.ensures.items)
-    (rw (pushed c.args.birth c.push_reserved.ensures.items c.in_ok-reserve-2.ensures.items) (named_more c.args.state.now m c.args.birth (eq-eqb c.args.birth c.args.birth refl) c.requires.tied))
-
-pub returns-in_default-clause-owes : goal.returns-in_default-clause-owes
-unfolding Owes changed opened answer_of
-returns-in_default-clause-owes c = λ w s.
-    let room = client_room c.args.state.now w s.rows ∙ ap not (sym c.is_full.ensures ∙ c.if-is_full.false) in
-    let none : w.device_master ≡ None = device_master_is c.args.state.now w s.rows ∙ c.in_default.is in
-    let m : Member = member c.args.birth true (Some c.args.birth) in
-    let master : MasterRow = record { master = birth w; lessor = None; lessee_id = 0; lease_token = None } in
-    let row : ClientRow = record { client = birth w; render = false; root = c.args.root; authenticated = true; once_master = true; is_master = true; master = Some (birth w) } in
-    carried_on (parts.opened c.args.state.now c.open_file.new.files c.push_reserved-in_default.new.self c.push_reserved.new.self (Some c.args.birth)) w (Open (Primary c.args.root)) (Opened c.args.birth) (returns-in_default-clause-tied c) (accepted w c.args.root room) (ap Opened (sym s.birth_is))
-    (rw (ap (opened_primary w c.args.root) none)
-    (founded_represents c.args.state.now w c.open_file.new.files (flags c.args.root true) m c.push_reserved-in_default.new.self c.push_reserved.new.self c.args.birth row master c.requires.tied c.requires.later c.in_ok-open_file.ensures.ok
-    (pushed m c.push_reserved-in_default.ensures.items c.in_ok-reserve.ensures.items) (pushed c.args.birth c.push_reserved.ensures.items c.in_ok-reserve-2.ensures.items)
-    (ap (λ b. record row { client = b; master = Some b }) (sym s.birth_is)) (ap master_row_of (sym s.birth_is)) s.rows))
+-- what an opening leaves of masters is tied
+tied_by : (s : State) (b : ℕ) (g : FileFlags) (new : MasterSet) (d : Option ℕ) → IsTied s → masters.IsNewBirth s.masters b → AreMasters new → masters.Opened s.masters b b d new → IsTied (joined s b g new)
+tied_by s b g new None t newest are h =
+    joined_tied s g (masters.owner b b) new t (ap (λ (v : MasterSet). v.members) h.2) are (subst (λ (v : MasterSet). AllByRecursion (λ (x : Master). x.kept ≡ false) v.masters) (sym h.2) (all_append (λ (x : Master). x.kept ≡ false) s.masters.masters (masters.own_master h.0 b ∷ []) (none_kept s t) (refl, tt)))
+    (ap (λ (v : MasterSet). v.last_magic) h.2)
+tied_by s b g new (Some m) t newest are h =
+    joined_tied s g (masters.guest b m) new t (ap (λ (v : MasterSet). v.members) h) are (subst (λ (v : MasterSet). AllByRecursion (λ (x : Master). x.kept ≡ false) v.masters) (sym h) (none_kept s t)) (ap (λ (v : MasterSet). v.last_magic) h)
 
 pub returns-clause-tied : goal.returns-clause-tied
 returns-clause-tied c =
-    let m : Member = member c.args.birth false (Some c.in-Some.master) in
-    opened_tied c.args.state.now c.open_file-2.new.files (flags c.args.root c.args.root) m c.push_reserved-2.new.self c.args.state.now.masters c.args.state.now.device_master c.requires.tied c.requires.later c.in_ok-open_file-2.ensures.ok
-    (pushed m c.push_reserved-2.ensures.items c.in_ok-reserve.ensures.items) (named_yet c.args.state.now m c.requires.tied)
+    let s = c.args.state.now in
+    let g = flags c.args.root c.is_none-founder.result in
+    subst (λ fs. IsTied (record s { files = fs; masters = c.on_open.new.self })) (sym c.in_ok-open_file.ensures.ok)
+    (tied_by s c.args.birth g c.on_open.new.self s.masters.device_master c.requires.tied c.requires.later.masters c.laws.ensures c.in_default.ensures.ok)
+
+-- and it stands for the rows of an opening
+rows_by : (s : State) (w : Rows) (b : ℕ) (root founder : Bool) (new : MasterSet) (d : Option ℕ) → IsTied s → IsLater s b → w.steps + 1 ≡ b → founder ≡ is_none d → masters.Opened s.masters b b d new → Represents s w → Represents (joined s b (flags root founder) new) (opened_primary w root d)
+rows_by s w b root founder new None t later is f h r =
+    let row : ClientRow = record { client = birth w; render = false; root = root; authenticated = true; once_master = true; is_master = true; master = Some (birth w) } in
+    let master : MasterRow = record { master = birth w; lessor = None; lessee_id = 0; lease_token = None } in
+    subst (λ n. Represents (joined s b (flags root n) new) (opened_primary w root None)) (sym f)
+    (subst (λ v. Represents (joined s b (flags root true) v) (opened_primary w root None)) (sym h.2)
+    (founder_represents s w (flags root true) (masters.owner b b) (masters.own_master h.0 b) row master t later refl (ap (λ n. record row { client = n; master = Some n }) (sym is)) (ap (λ n. record master { master = n }) (sym is)) r))
+rows_by s w b root founder new (Some m) t later is f h r =
+    let row : ClientRow = record { client = birth w; render = false; root = root; authenticated = root; once_master = false; is_master = false; master = Some m } in
+    subst (λ n. Represents (joined s b (flags root n) new) (opened_primary w root (Some m))) (sym f)
+    (subst (λ v. Represents (joined s b (flags root false) v) (opened_primary w root (Some m))) (sym h)
+    (guest_represents s w (flags root false) (masters.guest b m) row t later refl (ap (λ n. record row { client = n }) (sym is)) r))
+
+flipped : (o : Option ℕ) (b : Bool) → is_some o ≡ not b → b ≡ is_none o
+flipped None true h = refl
+flipped None false h = absurd (let e : false ≡ true = h in cc)
+flipped (Some n) true h = absurd (let e : true ≡ false = h in cc)
+flipped (Some n) false h = refl
 
 pub returns-clause-owes : goal.returns-clause-owes
 unfolding Owes changed opened answer_of
 returns-clause-owes c = λ w s.
-    let room = client_room c.args.state.now w s.rows ∙ ap not (sym c.is_full.ensures ∙ c.if-is_full.false) in
-    let some : w.device_master ≡ Some c.in-Some.master = device_master_is c.args.state.now w s.rows ∙ c.in-Some.is in
-    let m : Member = member c.args.birth false (Some c.in-Some.master) in
-    let row : ClientRow = record { client = birth w; render = false; root = c.args.root; authenticated = c.args.root; once_master = false; is_master = false; master = Some c.in-Some.master } in
-    carried_on (parts.opened c.args.state.now c.open_file-2.new.files c.push_reserved-2.new.self c.args.state.now.masters c.args.state.now.device_master) w (Open (Primary c.args.root)) (Opened c.args.birth) (returns-clause-tied c) (accepted w c.args.root room) (ap Opened (sym s.birth_is))
-    (rw (ap (opened_primary w c.args.root) some)
-    (joined_represents c.args.state.now w c.open_file-2.new.files (flags c.args.root c.args.root) m c.push_reserved-2.new.self row c.requires.tied c.requires.later c.in_ok-open_file-2.ensures.ok
-    (pushed m c.push_reserved-2.ensures.items c.in_ok-reserve.ensures.items) (ap (λ b. record row { client = b }) (sym s.birth_is)) s.rows))
+    let room = client_room c.args.state.now w s.rows ∙ ap not (sym c.is_full.ensures.full ∙ c.if-is_full.false) in
+    let device = device_master_is c.args.state.now w s.rows in
+    let founder : c.is_none-founder.result ≡ is_none c.args.state.now.masters.device_master = flipped c.args.state.now.masters.device_master c.is_none-founder.result (ap is_some (sym c.device_master.ensures) ∙ c.is_none-founder.ensures) in
+    carried_on (record c.args.state.now { files = c.open_file.new.files; masters = c.on_open.new.self }) w (Open (Primary c.args.root)) (Opened c.args.birth) (returns-clause-tied c) (accepted w c.args.root room) (ap Opened (sym s.birth_is))
+    (subst (λ d. Represents (record c.args.state.now { files = c.open_file.new.files; masters = c.on_open.new.self }) (opened_primary w c.args.root d)) (sym device)
+    (subst (λ fs. Represents (record c.args.state.now { files = fs; masters = c.on_open.new.self }) (opened_primary w c.args.root c.args.state.now.masters.device_master)) (sym c.in_ok-open_file.ensures.ok)
+    (rows_by c.args.state.now w c.args.birth c.args.root c.is_none-founder.result c.on_open.new.self c.args.state.now.masters.device_master c.requires.tied c.requires.later s.birth_is founder c.in_default.ensures.ok s.rows)))

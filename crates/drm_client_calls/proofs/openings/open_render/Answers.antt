@@ -28,23 +28,23 @@ accepted w room = opening_verdict w Render ∙ rw room refl
 pub returns-then-is_full-clause-owes : goal.returns-then-is_full-clause-owes
 unfolding Owes opening_checks
 returns-then-is_full-clause-owes c = λ w s.
-    let full = client_room c.args.state.now w s.rows ∙ ap not (sym c.is_full.ensures ∙ c.if-is_full.true) in
+    let full = client_room c.args.state.now w s.rows ∙ ap not (sym c.is_full.ensures.full ∙ c.if-is_full.true) in
     denied c.args.state.now w (Open Render) Full (opening_verdict w Render ∙ rw full refl) s.rows
 
 pub returns-in_err-open_file-clause-owes : goal.returns-in_err-open_file-clause-owes
 unfolding Owes changed opened
 returns-in_err-open_file-clause-owes c = λ w s.
-    let room = client_room c.args.state.now w s.rows ∙ ap not (sym c.is_full.ensures ∙ c.if-is_full.false) in
+    let room = client_room c.args.state.now w s.rows ∙ ap not (sym c.is_full.ensures.full ∙ c.if-is_full.false) in
     let p = err_from_is_err_and c.from_residual.result c.from_residual.ensures.1 in
     rw p.1 (refused (record c.args.state.now { files = c.open_file.new.files }) w (Open Render) p.0 (accepted w room) (inl (omega (arith, length-append w.clients (row w ∷ []))))
     (subst (λ fs. Represents (record c.args.state.now { files = fs }) w) (sym c.in_err-open_file.ensures.err) s.rows))
 
 pub returns-clause-tied : goal.returns-clause-tied
-returns-clause-tied c = rendered_tied c.args.state.now c.open_file.new.files c.args.birth flags c.requires.tied c.in_ok-open_file.ensures.ok
+returns-clause-tied c = rendered_tied c.args.state.now c.open_file.new.files c.args.birth flags refl c.requires.tied c.in_ok-open_file.ensures.ok
 
 pub returns-clause-owes : goal.returns-clause-owes
 unfolding Owes changed opened answer_of
 returns-clause-owes c = λ w s.
-    let room = client_room c.args.state.now w s.rows ∙ ap not (sym c.is_full.ensures ∙ c.if-is_full.false) in
+    let room = client_room c.args.state.now w s.rows ∙ ap not (sym c.is_full.ensures.full ∙ c.if-is_full.false) in
     carried_on (record c.args.state.now { files = c.open_file.new.files }) w (Open Render) (Opened c.args.birth) (returns-clause-tied c) (accepted w room) (ap Opened (sym s.birth_is))
     (rendered_represents c.args.state.now w c.open_file.new.files c.args.birth flags (row w) c.requires.tied c.requires.later c.in_ok-open_file.ensures.ok (ap (λ b. record (row w) { client = b }) (sym s.birth_is)) s.rows)

@@ -6,10 +6,13 @@ use Rattle.drm_table.specs.declared.audits.AuditKind.TheVariants as kinds
 use Rattle.drm_model.specs.Rows.{Rows}
 use Rattle.drm_model.specs.Audit.{audit_row, or_zero, client_audit, master_audit, audit_rows, rising_rows}
 use Rattle.drm_state.specs.declared.state.State.{State}
-use Rattle.drm_state.specs.Parts.{client_row_by, client_row_of, master_row_of}
+use Rattle.drm_state.specs.Parts.{client_row_by, client_row_of, master_row_of, magic_row_of}
+use Rattle.drm_masters.specs.declared.rows.Master.{Master}
+use Rattle.std.specs.Option.{option_and_then}
+use Rattle.drm_state.proofs.Magics.{magic_is}
 use Rattle.drm_state.specs.Refinement.{Represents}
 use Rattle.drm_device.specs.Audits.{IsRowAt}
-use Rattle.drm_state.proofs.Represented.{magics_none, grants_none, framebuffers_none, shown_none}
+use Rattle.drm_state.proofs.Represented.{grants_none, framebuffers_none, shown_none}
 use Rattle.drm_device.proofs.AuditRows.{object_row_at, client_rows, master_rows, hold_rows, name_rows, token_rows, device_rows, row_of_item}
 use Rattle.drm_device.proofs.audits.row_at.Goals as goal
 
@@ -20,21 +23,22 @@ there found got items xs place e f g = sym e ∙ f ∙ ap (λ ys. slice_get ys p
 pub returns-in_err-file-in-Client : goal.returns-in_err-file-in-Client
 unfolding IsRowAt
 returns-in_err-file-in-Client c = rw c.in-Client.is (λ w h.
-    c.from_residual.ensures ∙ row_of_item (λ f. client_audit w (client_row_of c.args.state.now.members.items f)) c.args.state.now.files.clients _ c.args.place None (client_rows c.args.state.now c.args.steps w h) (sym c.in_err-file-in-Client.was ∙ c.nth_client.ensures))
+    c.from_residual.ensures ∙ row_of_item (λ f. client_audit w (client_row_of c.args.state.now.masters.members f)) c.args.state.now.files.clients _ c.args.place None (client_rows c.args.state.now c.args.steps w h) (sym c.in_err-file-in-Client.was ∙ c.nth_client.ensures))
 
 pub returns-in_ok-file-in-Client : goal.returns-in_ok-file-in-Client
 unfolding IsRowAt
 returns-in_ok-file-in-Client c = rw c.in-Client.is (λ w h.
-    ap Some (c.client_row.ensures w (magics_none c.args.state.now w h.rows)) ∙ ap (λ m. Some (client_audit w (client_row_by c.in_ok-file-in-Client.file m))) (rw c.deref.ensures.value at c.member_of.ensures)
-    ∙ row_of_item (λ f. client_audit w (client_row_of c.args.state.now.members.items f)) c.args.state.now.files.clients _ c.args.place (Some c.in_ok-file-in-Client.file) (client_rows c.args.state.now c.args.steps w h) (sym c.in_ok-file-in-Client.was ∙ c.nth_client.ensures))
+    let file = c.in_ok-file-in-Client.file in
+    ap Some (c.client_row.ensures w (magic_is c.args.state.now w c.requires h.rows file.client ∙ ap (option_and_then magic_row_of) (sym c.member.ensures.member))) ∙ ap (λ m. Some (client_audit w (client_row_by file m))) c.member.ensures.member
+    ∙ row_of_item (λ f. client_audit w (client_row_of c.args.state.now.masters.members f)) c.args.state.now.files.clients _ c.args.place (Some file) (client_rows c.args.state.now c.args.steps w h) (sym c.in_ok-file-in-Client.was ∙ c.nth_client.ensures))
 
-pub returns-in_err-item_at-in-Master : goal.returns-in_err-item_at-in-Master
+pub returns-in_err-nth_master-in-Master : goal.returns-in_err-nth_master-in-Master
 unfolding IsRowAt
-returns-in_err-item_at-in-Master c = rw c.in-Master.is (λ w h. c.from_residual-in_err-item_at-in-Master.ensures ∙ row_of_item (λ (m : ℕ). master_audit (master_row_of m)) c.args.state.now.masters.items _ c.args.place None (master_rows c.args.state.now c.args.steps w h) (there c.item_at.result None c.args.state.now.masters.items c.deref-in-Master.result.now c.args.place c.in_err-item_at-in-Master.was c.item_at.ensures c.deref-in-Master.ensures.value))
+returns-in_err-nth_master-in-Master c = rw c.in-Master.is (λ w h. c.from_residual-in_err-nth_master-in-Master.ensures ∙ row_of_item (λ (x : Master). master_audit (master_row_of x)) c.args.state.now.masters.masters _ c.args.place None (master_rows c.args.state.now c.args.steps w h) (sym c.in_err-nth_master-in-Master.was ∙ c.nth_master.ensures))
 
-pub returns-in_ok-item_at-in-Master : goal.returns-in_ok-item_at-in-Master
+pub returns-in_ok-nth_master-in-Master : goal.returns-in_ok-nth_master-in-Master
 unfolding IsRowAt
-returns-in_ok-item_at-in-Master c = rw c.in-Master.is (λ w h. ap Some (c.master_row.ensures) ∙ row_of_item (λ (m : ℕ). master_audit (master_row_of m)) c.args.state.now.masters.items _ c.args.place (Some c.in_ok-item_at-in-Master.field-0) (master_rows c.args.state.now c.args.steps w h) (there c.item_at.result (Some c.in_ok-item_at-in-Master.field-0) c.args.state.now.masters.items c.deref-in-Master.result.now c.args.place c.in_ok-item_at-in-Master.was c.item_at.ensures c.deref-in-Master.ensures.value))
+returns-in_ok-nth_master-in-Master c = rw c.in-Master.is (λ w h. ap Some c.master_row.ensures ∙ row_of_item (λ (x : Master). master_audit (master_row_of x)) c.args.state.now.masters.masters _ c.args.place (Some c.in_ok-nth_master-in-Master.field-0) (master_rows c.args.state.now c.args.steps w h) (sym c.in_ok-nth_master-in-Master.was ∙ c.nth_master.ensures))
 
 pub returns-in_err-nth-in-Object : goal.returns-in_err-nth-in-Object
 unfolding IsRowAt
@@ -58,7 +62,7 @@ returns-in-Token c = rw c.in-Token.is (λ w h. c.token_at.ensures.row ∙ ap (λ
 
 pub returns-in-Device : goal.returns-in-Device
 unfolding IsRowAt
-returns-in-Device c = rw c.in-Device.is (λ w h. c.item_at-in-Device.ensures ∙ ap (λ row. slice_get (row ∷ []) c.args.place) (c.device_row.ensures ∙ ap (λ last. audit_row (or_zero c.args.state.now.device_master) (or_zero last) 0 c.args.steps) c.last_given-last_token.ensures.last_given)
+returns-in-Device c = rw c.in-Device.is (λ w h. c.item_at.ensures ∙ ap (λ row. slice_get (row ∷ []) c.args.place) (c.device_row.ensures ∙ (λ i. audit_row (or_zero (c.device_master.ensures i)) (or_zero (c.last_given-last_token.ensures.last_given i)) 0 c.args.steps))
     ∙ sym (ap (λ rows. slice_get rows c.args.place) (device_rows c.args.state.now c.args.steps w h)))
 
 -- the kinds whose rows no call makes yet

@@ -1,4 +1,3 @@
-use Rattle.std.proofs.Common.{ℕ}
 use Rattle.drm_masters.proofs.searches.+owner_of.Given as goal
 
 abbrev pub decreases-owner_of : goal.decreases-owner_of

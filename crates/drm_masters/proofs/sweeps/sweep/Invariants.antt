@@ -1,4 +1,4 @@
-use Rattle.std.proofs.Common.{◌≡◌, ℕ, List, ◌++◌, filter, length}
+use Rattle.std.proofs.Common.{◌≡◌, List, ◌++◌, filter, length}
 use Rattle.drm_masters.specs.declared.rows.Master.{Master}
 use Rattle.drm_masters.specs.Masters.{is_living}
 use Rattle.drm_masters.proofs.sweeps.sweep.Given as goal

@@ -1,4 +1,4 @@
-use Rattle.std.proofs.Common.{◌≡◌, true, false, find, None, subst, refl, sym, ◌∙◌}
+use Rattle.std.proofs.Common.{◌≡◌, true, false, find, None, subst, refl}
 use Rattle.drm_masters.specs.declared.rows.Member.{Member}
 use Rattle.std.specs.Prelude.{slice_get}
 use Rattle.std.specs.Option.{option_map_or}

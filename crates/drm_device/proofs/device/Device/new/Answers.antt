@@ -1,15 +1,15 @@
-use Rattle.std.proofs.Common.{None, refl, sym, ◌∙◌, arith}
+use Rattle.std.proofs.Common.{sym, ◌∙◌, arith}
 use Rattle.drm_device.proofs.Devices.{new_device, some_handles, some_names, some_tokens}
 use Rattle.drm_device.proofs.device.Device.new.Goals as goal
 
 pub new-requires : goal.new-requires
 new-requires c = some_handles c.args.limits (sym c.are_in_range.ensures ∙ c.if-not-are_in_range.false)
 
-pub new-requires-5 : goal.new-requires-5
-new-requires-5 c = some_names c.args.limits (sym c.are_in_range.ensures ∙ c.if-not-are_in_range.false)
+pub new-requires-4 : goal.new-requires-4
+new-requires-4 c = some_names c.args.limits (sym c.are_in_range.ensures ∙ c.if-not-are_in_range.false)
 
-pub new-requires-6 : goal.new-requires-6
-new-requires-6 c = some_tokens c.args.limits (sym c.are_in_range.ensures ∙ c.if-not-are_in_range.false)
+pub new-requires-5 : goal.new-requires-5
+new-requires-5 c = some_tokens c.args.limits (sym c.are_in_range.ensures ∙ c.if-not-are_in_range.false)
 
 pub invariant_of-result : goal.invariant_of-result
 invariant_of-result c =
@@ -18,7 +18,7 @@ invariant_of-result c =
       topology = c.args.topology;
       limits = c.args.limits;
       journal = c.in-Ok.journal;
-      state = record { files = c.new.result; members = c.new-2.result; masters = c.new-3.result; objects = c.new-4.result; names = c.new-5.result; tokens = c.new-6.result; device_master = None };
+      state = record { files = c.new.result; masters = c.new-2.result; objects = c.new-3.result; names = c.new-4.result; tokens = c.new-5.result };
     })
     (sym c.are_in_range.ensures ∙ c.if-not-are_in_range.false) c.in-Ok.ensures.items (omega (arith, c.in-Ok.ensures.exact))
-    (record { files = c.new.ensures; members = c.new-2.ensures.items; masters = c.new-3.ensures.items; objects = c.new-4.ensures; names = c.new-5.ensures; tokens = c.new-6.ensures; device_master = refl })
+    (record { files = c.new.ensures; masters = c.new-2.ensures; objects = c.new-3.ensures; names = c.new-4.ensures; tokens = c.new-5.ensures })

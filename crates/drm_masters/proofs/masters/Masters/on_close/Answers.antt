@@ -1,22 +1,14 @@
-use Rattle.std.proofs.Common.{◌≡◌, ℕ, ◌<◌, ◌==◌, Bool, true, false, not, ◌&&◌, List, [], ◌∷◌, ◌++◌, Option, None, Some, find, map, filter, refl, sym, ap, subst, ◌∙◌, arith, eq-eqb}
-use Rattle.std.specs.Prelude.{if◌then◌else◌, IfSome}
-use Rattle.std.specs.List.{list_any, AllByRecursion}
-use Rattle.std.specs.Option.{is_some, option_map, option_and_then}
-use Rattle.drm_index_array.specs.Least.{least}
-use Rattle.drm_index_array.proofs.Least.{least_some}
-use Rattle.drm_lists.specs.Orders.{InOrder}
-use Rattle.drm_lists.proofs.Lists.{all_append, all_filter}
-use Rattle.drm_lists.proofs.Rising.{any_found}
-use Rattle.drm_masters.specs.declared.rows.Magic.{Magic}
+use Rattle.std.proofs.Common.{◌≡◌, ℕ, true, false, not, List, Option, None, Some, filter, refl, sym, ap, subst, ◌∙◌}
+use Rattle.std.specs.Option.{is_some}
+use Rattle.drm_lists.proofs.Lists.{all_filter}
 use Rattle.drm_masters.specs.declared.rows.Master.{Master}
 use Rattle.drm_masters.specs.declared.rows.Member.{Member}
 use Rattle.drm_masters.specs.Fields.{set_of}
-use Rattle.drm_masters.specs.Masters.{MasterSet, AreMasters, HasOlderLessor, member_of, master_at, key_of, lessor_of, birth_at, is_client, is_birth, is_key, is_option, is_living, has_magic, has_open_magic, is_lessee_of, free_lessee, free_magic, swept}
+use Rattle.drm_masters.specs.Masters.{MasterSet, AreMasters, member_of, master_at, is_client, IsKeyOf, is_living, swept}
 use Rattle.drm_masters.specs.Calls as calls
-use Rattle.drm_masters.proofs.Living.{and_true, not_true, not_false}
-use Rattle.drm_masters.proofs.Pushed.{kept_keyed}
-use Rattle.drm_masters.proofs.Numbered.{number_free}
-use Rattle.drm_masters.proofs.Sound.{Keyed, AreTied, sound, swept_are, ties, device_there, guest_are, founder_are, redeemed_are, device_are, lessee_are, kept_ties, gone_ties, own_are, changed_are, remade_ties, given_are, spent_are, client_found, open_found, master_there, some_is, free_key, of_key}
+use Rattle.drm_masters.proofs.Living.{not_true, not_false}
+use Rattle.drm_masters.proofs.Pushed.{kept_keyed, kept_key}
+use Rattle.drm_masters.proofs.Sound.{Keyed, sound, swept_are, gone_ties, own_are, client_found, master_there, at_birth}
 use Rattle.drm_masters.proofs.masters.Masters.on_close.Goals as goal
 
 pub invariant_of-self : goal.invariant_of-self
@@ -76,5 +68,10 @@ returns c =
     let gone : c.remove_member.new.members.items ≡ filter (λ (u : Member). not (is_client x.client u)) c.self.inside.members.items = c.remove_member.ensures ∙ ap (λ n. filter (λ (u : Member). not (is_client n u)) c.self.inside.members.items) (sym is.0) in
     let new : MasterSet = record { members = c.remove_member.new.members.items; masters = c.set_kept.new.masters.items; device_master = c.device_without-self-inside.result; last_magic = c.self.inside.last_magic; last_lessee = c.self.inside.last_lessee } in
     let found : master_at c.args.self.now.masters x.master ≡ Some c.in-Some.master = sym (ap (λ (w : MasterSet). master_at w.masters x.master) c.self.view_is) ∙ ap (λ l. master_at l x.master) (sym c.deref-2.ensures.value) ∙ sym c.master_at.ensures ∙ c.in-Some.is in
+    let keyed : Keyed c.args.self.now.masters = subst (λ (w : MasterSet). Keyed w.masters) c.self.view_is c.self.invariant.keyed in
+    let num : c.in-Some.master.birth ≡ x.master = (at_birth c.args.self.now.masters x.master c.in-Some.master found).0 in
+    let key = kept_key x.master true c.args.self.now.masters keyed c.in-Some.master (at_birth c.args.self.now.masters x.master c.in-Some.master found).1 in
+    let masters : c.set_kept.new.masters.items ≡ (calls.with_kept x.master true c.args.self.now).masters = c.set_kept.ensures ∙ ap (λ (w : MasterSet). (calls.with_kept x.master true w).masters) c.self.view_is in
+    let own_key : (key : ℕ) × (Some c.in-Some.master.key ≡ Some key) × IsKeyOf new.masters x.master key = (c.in-Some.master.key, refl, subst (λ l. IsKeyOf l x.master c.in-Some.master.key) (sym masters) (subst (λ n. IsKeyOf (calls.with_kept x.master true c.args.self.now).masters n c.in-Some.master.key) num key)) in
     subst (λ o. calls.ClosedBy c.args.self.now o (Some c.in-Some.master.key) new) (sym look) (subst (λ b. calls.ClosedOf c.args.self.now x b (Some c.in-Some.master.key) new) (sym (not_false x.is_master c.if-not-member.false))
-    (sym (ap (option_map (λ (z : Master). z.key)) found), (λ i. record (set_of c.self.inside) { members = gone i; masters = c.set_kept.ensures i; device_master = c.device_without-self-inside.ensures i }) ∙ ap (calls.closed_own x.client x.master) c.self.view_is))
+    (own_key, (λ i. record (set_of c.self.inside) { members = gone i; masters = c.set_kept.ensures i; device_master = c.device_without-self-inside.ensures i }) ∙ ap (calls.closed_own x.client x.master) c.self.view_is))

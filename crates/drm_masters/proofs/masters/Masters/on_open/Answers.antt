@@ -1,14 +1,10 @@
-use Rattle.std.proofs.Common.{◌≡◌, ℕ, ◌<◌, ◌==◌, Bool, true, false, not, ◌&&◌, List, [], ◌∷◌, ◌++◌, Option, None, Some, find, map, filter, refl, sym, ap, subst, ◌∙◌, arith}
-use Rattle.std.specs.List.{AllByRecursion}
-use Rattle.std.specs.Option.{is_some}
-use Rattle.drm_lists.proofs.Lists.{all_append, all_filter}
+use Rattle.std.proofs.Common.{◌≡◌, ℕ, [], ◌∷◌, ◌++◌, None, Some, refl, sym, ap, subst, ◌∙◌}
+use Rattle.drm_lists.proofs.Lists.{all_append}
 use Rattle.drm_masters.specs.declared.rows.Master.{Master}
-use Rattle.drm_masters.specs.declared.rows.Member.{Member}
 use Rattle.drm_masters.specs.Fields.{set_of}
-use Rattle.drm_masters.specs.Masters.{MasterSet, AreMasters, member_of, master_at, is_living, swept}
+use Rattle.drm_masters.specs.Masters.{MasterSet, AreMasters}
 use Rattle.drm_masters.specs.Calls as calls
-use Rattle.drm_masters.proofs.Pushed.{kept_keyed}
-use Rattle.drm_masters.proofs.Sound.{Keyed, AreTied, sound, swept_are, ties, device_there, guest_are, founder_are, redeemed_are, device_are, lessee_are, kept_ties, gone_ties, own_are, changed_are, remade_ties, given_are, spent_are, client_found, some_is, free_key, of_key}
+use Rattle.drm_masters.proofs.Sound.{Keyed, sound, device_there, guest_are, founder_are, free_key}
 use Rattle.drm_masters.proofs.masters.Masters.on_open.Goals as goal
 
 pub invariant_of-self-in-Some : goal.invariant_of-self-in-Some

@@ -1,22 +1,9 @@
-use Rattle.std.proofs.Common.{◌≡◌, ℕ, ◌<◌, ◌==◌, Bool, true, false, not, ◌&&◌, List, [], ◌∷◌, ◌++◌, Option, None, Some, find, map, filter, refl, sym, ap, subst, ◌∙◌, arith, eq-eqb}
-use Rattle.std.specs.Prelude.{if◌then◌else◌, IfSome}
-use Rattle.std.specs.List.{list_any, AllByRecursion}
-use Rattle.std.specs.Option.{is_some, option_map, option_and_then}
-use Rattle.drm_index_array.specs.Least.{least}
-use Rattle.drm_index_array.proofs.Least.{least_some}
-use Rattle.drm_lists.specs.Orders.{InOrder}
-use Rattle.drm_lists.proofs.Lists.{all_append, all_filter}
-use Rattle.drm_lists.proofs.Rising.{any_found}
-use Rattle.drm_masters.specs.declared.rows.Magic.{Magic}
-use Rattle.drm_masters.specs.declared.rows.Master.{Master}
-use Rattle.drm_masters.specs.declared.rows.Member.{Member}
+use Rattle.std.proofs.Common.{◌≡◌, false, [], ◌∷◌, ◌++◌, Some, find, refl, sym, ap, subst, ◌∙◌}
 use Rattle.drm_masters.specs.Fields.{set_of}
-use Rattle.drm_masters.specs.Masters.{MasterSet, AreMasters, HasOlderLessor, member_of, master_at, key_of, lessor_of, birth_at, is_client, is_birth, is_key, is_option, is_living, has_magic, has_open_magic, is_lessee_of, free_lessee, free_magic, swept}
+use Rattle.drm_masters.specs.Masters.{MasterSet, AreMasters, is_key}
 use Rattle.drm_masters.specs.Calls as calls
-use Rattle.drm_masters.proofs.Living.{and_true}
 use Rattle.drm_masters.proofs.Pushed.{kept_keyed}
-use Rattle.drm_masters.proofs.Numbered.{number_free}
-use Rattle.drm_masters.proofs.Sound.{Keyed, AreTied, sound, swept_are, ties, device_there, guest_are, founder_are, redeemed_are, device_are, lessee_are, kept_ties, gone_ties, own_are, changed_are, remade_ties, given_are, spent_are, client_found, open_found, master_there, some_is, free_key, of_key}
+use Rattle.drm_masters.proofs.Sound.{Keyed, sound, redeemed_are, of_key}
 use Rattle.drm_masters.proofs.masters.Masters.on_redeem.Goals as goal
 
 pub invariant_of-self-2 : goal.invariant_of-self-2

@@ -1,0 +1,197 @@
+-- The caller of a call that is admitted.
+use Rattle.std.proofs.Common.{◌≡◌, ℕ, ◌==◌, Bool, true, false, not, cond, ◌||◌, ◌&&◌, List, [], ◌∷◌, filter, find, Option, None, Some, refl, sym, ap, ◌∙◌}
+use Rattle.std.specs.Prelude.{if◌then◌else◌}
+use Rattle.std.specs.List.{AllByRecursion}
+use Rattle.std.proofs.lemmas.Bool.{eqb-true}
+use Rattle.drm_lists.proofs.Lists.{all_each}
+use Rattle.std.specs.Option.{is_some, is_none, option_map, option_map_or, option_and_then}
+use Rattle.drm_lists.proofs.Found.{is_some-find, is_some-map}
+use Rattle.drm_lists.proofs.Rising.{found}
+use Rattle.drm_files.specs.declared.rows.FileClient.{FileClient}
+use Rattle.drm_files.specs.declared.rows.FileFlags.{FileFlags}
+use Rattle.drm_files.specs.Files as files
+use Rattle.drm_table.specs.declared.calls.Call.{Call}
+use Rattle.drm_table.specs.Permit.{Check, check, first_failing, has_flag}
+use Rattle.drm_table.specs.Table.{flags_of}
+use Rattle.drm_masters.specs.declared.rows.Member.{Member}
+use Rattle.drm_masters.specs.Masters as masters
+use Rattle.drm_masters.specs.Masters.{member_of, is_current, is_current_member}
+use Rattle.drm_masters.specs.Calls as calls
+use Rattle.drm_masters.specs.Calls.{drop_checks, set_checks}
+use Rattle.drm_table.specs.declared.rules.Rule.TheVariants.{MasterPerm, MasterBusy, NotCurrent, IsLessee}
+use Rattle.drm_table.specs.declared.permits.Standing.{Standing}
+use Rattle.std.specs.List.{list_any}
+use Rattle.std.proofs.Math.Bool.{and-false}
+use Rattle.drm_index_array.specs.Least.{least}
+use Rattle.drm_lists.specs.Numbers.{is_among}
+use Rattle.drm_lists.proofs.Lists.{list_any-map, list_any_agree}
+use Rattle.drm_lists.proofs.Orders.{same-any}
+use Rattle.drm_masters.specs.declared.rows.Magic.{Magic}
+use Rattle.drm_model.specs.Rows.{MagicRow}
+use Rattle.drm_state.specs.Parts.{magic_row_of, magics_of}
+use Rattle.drm_state.proofs.Magics.{any-filter_map}
+use Rattle.drm_state.proofs.Represented.{limits_are, magics_are}
+use Rattle.drm_model.specs.Magics.{magics_under, free_magic, is_open_magic, magic_client, may_be_master, is_master, drop_master, set_master}
+use Rattle.drm_model.specs.Rows.{Rows, ClientRow, client_row}
+use Rattle.drm_model.specs.Masters.{standing_of, standing_in, master_of, lessor_of, is_lessee}
+use Rattle.drm_table.specs.declared.calls.Call.TheVariants.{SetMaster, DropMaster}
+use Rattle.drm_table.specs.declared.events.Event.TheVariants.{Ask}
+use Rattle.drm_model.specs.Calls.{meaning}
+use Rattle.drm_model.specs.Verdict.{admission_checks, verdict}
+use Rattle.drm_state.proofs.Outcomes.{call_verdict}
+use Rattle.drm_state.specs.declared.state.State.{State}
+use Rattle.drm_state.specs.Parts.{client_row_by, root_of}
+use Rattle.drm_state.specs.Ties.{IsTied, HasMaster}
+use Rattle.drm_state.specs.Refinement.{Represents}
+use Rattle.drm_state.proofs.Represented.{clients_have, masters_are, device_master_is}
+use Rattle.drm_state.proofs.Living.{lessors_are}
+use Rattle.drm_state.proofs.Lookups.{client_row_is, standing_is}
+
+-- each check of those of which none fails holds
+each_holds : (cs : List Check) → first_failing cs ≡ None → AllByRecursion (λ (c : Check). c.holds ≡ true) cs
+each_holds [] h = tt
+each_holds (c ∷ cs) h =
+    (elim c.holds as (λ b. c.holds ≡ b → (if b then first_failing cs else Some c.rule) ≡ None → AllByRecursion (λ (c : Check). c.holds ≡ true) (c ∷ cs)) [
+      | true ↦ λ e k. (e, each_holds cs k)
+      | false ↦ λ e k. absurd (let n : Some c.rule ≡ None = k in cc)
+    ]) refl h
+
+-- the file of a client that is open
+pub file_of : (s : State) (c : ℕ) → files.is_present s.files c ≡ true → (flags : FileFlags) × (find (files.is_client c) s.files.clients ≡ Some (record { client = c; flags = flags }))
+file_of s c h = by_file (find (files.is_client c) s.files.clients) refl h
+  where
+    by_file : (o : Option FileClient) → find (files.is_client c) s.files.clients ≡ o → is_some o ≡ true → (flags : FileFlags) × (find (files.is_client c) s.files.clients ≡ Some (record { client = c; flags = flags }))
+    by_file None e k = absurd (let n : false ≡ true = k in cc)
+    by_file (Some f) e k =
+        let num : f.client ≡ c = eqb-true f.client c (found (files.is_client c) (λ _. Unit {0}) f s.files.clients (all_each (λ _. Unit {0}) (λ _. tt) s.files.clients) e).0 in
+        (f.flags, e ∙ (λ i. Some (record { client = num i; flags = f.flags })))
+
+-- its row
+pub row_is : (s : State) (w : Rows) (c : ℕ) (flags : FileFlags) → Represents s w → find (files.is_client c) s.files.clients ≡ Some (record { client = c; flags = flags }) → client_row w c ≡ Some (client_row_by (record { client = c; flags = flags }) (member_of s.masters.members c))
+row_is s w c flags h e = client_row_is s w h c flags (sym (ap (option_map (λ (f : FileClient). f.flags)) e))
+
+-- a call that isn't for render clients is not admitted where the caller stands to no master
+pub never_admitted : (s : State) (w : Rows) (c : ℕ) (call : Call) → IsTied s → files.is_present s.files c ≡ true → Represents s w → has_flag (flags_of call) 8 ≡ false → member_of s.masters.members c ≡ None → first_failing (admission_checks w c call) ≡ None → ⊥
+unfolding admission_checks
+never_admitted s w c call t there h flag none admitted =
+    let f = file_of s c there in
+    let has : (f.0.render || is_some (member_of s.masters.members c)) ≡ true = (found (files.is_client c) (HasMaster s.masters) (record { client = c; flags = f.0 }) s.files.clients (clients_have s t) f.1).1 in
+    let render : f.0.render ≡ true = no_member f.0.render (ap (λ o. f.0.render || is_some o) (sym none) ∙ has) in
+    let row = row_is s w c f.0 h f.1 in
+    let last = (each_holds (admission_checks w c call) admitted).1.1.1.1.1.1.0 in
+    let fails : (has_flag (flags_of call) 8 || not (standing_of w c).render) ≡ false = ap (λ o. has_flag (flags_of call) 8 || not (standing_in w o).render) row ∙ ap (λ b. has_flag (flags_of call) 8 || not b) render ∙ ap (λ b. b || false) flag in
+    clash _ fails last
+  where
+    no_member : (b : Bool) → (b || false) ≡ true → b ≡ true
+    no_member true k = refl
+    no_member false k = absurd (let n : false ≡ true = k in cc)
+
+    clash : (b : Bool) → b ≡ false → b ≡ true → ⊥
+    clash b e k = cc
+
+-- who is found by a number has it
+pub same_client : (xs : List Member) (c : ℕ) (x : Member) → member_of xs c ≡ Some x → (x.client ≡ c) × (member_of xs x.client ≡ Some x)
+same_client xs c x e =
+    let num : x.client ≡ c = eqb-true x.client c (found (masters.is_client c) (λ _. Unit {0}) x xs (all_each (λ _. Unit {0}) (λ _. tt) xs) e).0 in
+    (num, ap (member_of xs) num ∙ e)
+
+-- ---- what is asked of a caller that stands to a master
+
+module _ (s : State) (w : Rows) (c : ℕ) (flags : FileFlags) (x : Member) (h : Represents s w) (file : find (files.is_client c) s.files.clients ≡ Some (record { client = c; flags = flags })) (look : member_of s.masters.members c ≡ Some x) where
+  caller_row : client_row w c ≡ Some (client_row_by (record { client = c; flags = flags }) (Some x))
+  caller_row = row_is s w c flags h file ∙ ap (λ o. Some (client_row_by (record { client = c; flags = flags }) o)) look
+
+  stands : standing_of w c ≡ record { root = flags.root; render = flags.render; authenticated = flags.authenticated; current = is_current s.masters c }
+  stands = ap (standing_in w) (row_is s w c flags h file) ∙ standing_is s w h c flags
+
+  pub current_is : (standing_of w c).current ≡ is_current_member s.masters x
+  current_is = ap (λ (t : Standing). t.current) stands ∙ ap (λ o. option_map_or (is_current_member s.masters) o false) look
+
+  root_is : (standing_of w c).root ≡ root_of s c
+  root_is = ap (λ (t : Standing). t.root) stands ∙ sym (ap (λ o. option_map_or (λ (f : FileClient). f.flags.root) o false) file)
+
+  pub may_be : may_be_master w c ≡ (x.once_master || root_of s c)
+  may_be = λ i. option_map_or (λ (row : ClientRow). row.once_master) (caller_row i) false || root_is i
+
+  pub master_is : is_master w c ≡ x.is_master
+  master_is = ap (λ o. option_map_or (λ (row : ClientRow). row.is_master) o false) caller_row
+
+  pub its_master : master_of w c ≡ Some x.master
+  its_master = ap (option_and_then (λ (row : ClientRow). row.master)) caller_row
+
+  pub lessee_is : is_lessee w c ≡ masters.is_lessee s.masters.masters x.master
+  lessee_is = ap (λ o. is_some (option_and_then (lessor_of w.masters) o)) its_master ∙ ap (λ rows. is_some (lessor_of rows x.master)) (masters_are s w h) ∙ ap is_some (lessors_are s.masters.masters x.master)
+
+  drop_checks_are : (drop_master w c).checks ≡ calls.drop_checks s.masters x (root_of s c)
+  unfolding drop_checks
+  drop_checks_are = λ i. check MasterPerm (may_be i) ∷ check NotCurrent (current_is i) ∷ check IsLessee (not (lessee_is i)) ∷ []
+
+  -- what DROP_MASTER comes to
+  pub drop_verdict : (root : Bool) → root ≡ root_of s c → first_failing (admission_checks w c DropMaster) ≡ None → verdict w (Ask c DropMaster) ≡ first_failing (calls.drop_checks s.masters x root)
+  unfolding meaning
+  drop_verdict root is admitted = call_verdict w c DropMaster admitted ∙ ap first_failing drop_checks_are ∙ ap (λ b. first_failing (calls.drop_checks s.masters x b)) (sym is)
+
+  none_is : (o : Option ℕ) → is_none o ≡ not (is_some o)
+  none_is None = refl
+  none_is (Some n) = refl
+
+  set_checks_are : (set_master w c).checks ≡ calls.set_checks s.masters x (root_of s c)
+  unfolding set_checks
+  set_checks_are = λ i.
+      check MasterPerm (may_be i)
+      ∷ check MasterBusy (current_is i || (ap is_none (device_master_is s w h) ∙ none_is s.masters.device_master) i)
+      ∷ check IsLessee (current_is i || not (master_is i && lessee_is i))
+      ∷ []
+
+  -- and SET_MASTER
+  pub set_verdict : (root : Bool) → root ≡ root_of s c → first_failing (admission_checks w c SetMaster) ≡ None → verdict w (Ask c SetMaster) ≡ first_failing (calls.set_checks s.masters x root)
+  unfolding meaning
+  set_verdict root is admitted = call_verdict w c SetMaster admitted ∙ ap first_failing set_checks_are ∙ ap (λ b. first_failing (calls.set_checks s.masters x b)) (sym is)
+
+-- ---- the caller's magic
+
+any_filter : {X : Type 0} (p q : X → Bool) → (xs : List X) → list_any q (filter p xs) ≡ list_any (λ x. p x && q x) xs
+any_filter p q [] = refl
+any_filter p q (x ∷ xs) =
+    elim (p x) as (λ b. list_any q (cond b (x ∷ filter p xs) (filter p xs)) ≡ ((b && q x) || list_any (λ x. p x && q x) xs)) [ true ↦ ap (λ b. q x || b) (any_filter p q xs) | false ↦ any_filter p q xs ]
+
+-- whether a client has the number under the master
+number_is : (m n : ℕ) (x : Member) → option_map_or (λ (row : MagicRow). (row.master == m) && (row.number == n)) (magic_row_of x) false ≡ masters.has_magic m n x
+number_is m n x = by_magic x.magic
+  where
+    by_magic : (g : Option Magic) → option_map_or (λ (row : MagicRow). (row.master == m) && (row.number == n)) (option_map (λ (d : Magic). record { master = x.master; number = d.number; client = x.client; spent = d.spent }) g) false ≡ ((x.master == m) && option_map_or (λ (d : Magic). d.number == n) g false)
+    by_magic None = sym (and-false (x.master == m))
+    by_magic (Some d) = refl
+
+taken_is : (s : State) (w : Rows) → Represents s w → (m n : ℕ) → is_among (magics_under w m) n ≡ list_any (masters.has_magic m n) s.masters.members
+taken_is s w h m n =
+    list_any-map (λ k. k == n) (λ (row : MagicRow). row.number) (filter (λ (row : MagicRow). row.master == m) w.magics)
+    ∙ any_filter (λ (row : MagicRow). row.master == m) (λ (row : MagicRow). row.number == n) w.magics
+    ∙ same-any (λ (row : MagicRow). (row.master == m) && (row.number == n)) w.magics (magics_of s) (magics_are s w h)
+    ∙ any-filter_map (λ (row : MagicRow). (row.master == m) && (row.number == n)) magic_row_of s.masters.members
+    ∙ list_any_agree (λ x. option_map_or (λ (row : MagicRow). (row.master == m) && (row.number == n)) (magic_row_of x) false) (masters.has_magic m n) (number_is m n) s.masters.members
+
+pub free_is : (s : State) (w : Rows) → Represents s w → (m : ℕ) → free_magic w m ≡ masters.free_magic s.masters m
+free_is s w h m =
+    ap (λ (test : ℕ → Bool). least test 1 w.limits.clients) (λ i n. not (taken_is s w h m n i)) ∙ ap (λ last. least (λ n. not (list_any (masters.has_magic m n) s.masters.members)) 1 last) (sym (limits_are s w h).5)
+
+-- whether a client has the number under the master unspent
+pub open_is : (m n : ℕ) (x : Member) → option_map_or (is_open_magic m n) (magic_row_of x) false ≡ masters.has_open_magic m n x
+open_is m n x = by_magic x.magic
+  where
+    by_magic : (g : Option Magic) → option_map_or (is_open_magic m n) (option_map (λ (d : Magic). record { master = x.master; number = d.number; client = x.client; spent = d.spent }) g) false ≡ ((x.master == m) && option_map_or (λ (d : Magic). (d.number == n) && not d.spent) g false)
+    by_magic None = sym (and-false (x.master == m))
+    by_magic (Some d) = and_assoc (x.master == m) (d.number == n) (not d.spent)
+      where
+        and_assoc : (a b c : Bool) → ((a && b) && c) ≡ (a && (b && c))
+        and_assoc true b c = refl
+        and_assoc false b c = refl
+
+-- whether AUTH_MAGIC finds a client
+pub opens : (s : State) (w : Rows) → Represents s w → (m n : ℕ) → is_some (magic_client w m n) ≡ is_some (find (masters.has_open_magic m n) s.masters.members)
+opens s w h m n =
+    is_some-map (λ (row : MagicRow). row.client) (find (is_open_magic m n) w.magics) ∙ is_some-find (is_open_magic m n) w.magics
+    ∙ same-any (is_open_magic m n) w.magics (magics_of s) (magics_are s w h)
+    ∙ any-filter_map (is_open_magic m n) magic_row_of s.masters.members
+    ∙ list_any_agree (λ x. option_map_or (is_open_magic m n) (magic_row_of x) false) (masters.has_open_magic m n) (open_is m n) s.masters.members
+    ∙ sym (is_some-find (masters.has_open_magic m n) s.masters.members)

@@ -1,0 +1,6 @@
+mod Callers
+mod Flags
+mod Authenticated
+mod Changed
+mod Spent
+mod Remade

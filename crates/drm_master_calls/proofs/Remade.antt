@@ -1,0 +1,94 @@
+-- A new master of a client, which authenticates it.
+use Rattle.std.proofs.Common.{◌≡◌, ℕ, ◌==◌, true, false, not, cond, List, [], ◌∷◌, ◌++◌, map, filter, None, Some, refl, sym, ap, subst, ◌∙◌}
+use Rattle.std.specs.Prelude.{if◌then◌else◌}
+use Rattle.std.specs.List.{filter_map, cons_option, AllByRecursion}
+use Rattle.std.proofs.lemmas.List.{map-append}
+use Rattle.drm_lists.specs.Orders.{SameRows}
+use Rattle.drm_lists.proofs.Lists.{all_append, all_filter}
+use Rattle.drm_lists.proofs.Orders.{same-filter}
+use Rattle.drm_files.specs.Files.{with_authenticated}
+use Rattle.drm_masters.specs.declared.rows.Master.{Master}
+use Rattle.drm_masters.specs.declared.rows.Member.{Member}
+use Rattle.drm_masters.specs.Masters.{AreMasters, is_client, is_living, member_of}
+use Rattle.drm_masters.specs.Calls.{owner, own_master, with_master, remade}
+use Rattle.drm_model.specs.Rows.{Rows, ClientRow, MasterRow, MagicRow, without}
+use Rattle.drm_model.specs.Masters.{new_master}
+use Rattle.drm_model.specs.Magics as model
+use Rattle.drm_model.specs.Change as change
+use Rattle.drm_model.specs.Change.{swept}
+use Rattle.drm_model.specs.Parts.{Part, Clients, Masters, Magics, Objects, Names, Shown, DeviceMaster}
+use Rattle.drm_state.specs.declared.state.State.{State}
+use Rattle.drm_state.specs.Parts.{clients_of, masters_of, magics_of, magic_row_of, master_row_of}
+use Rattle.drm_state.specs.Ties.{IsTied}
+use Rattle.drm_state.specs.Refinement.{stands_for, Represents}
+use Rattle.drm_state.proofs.Living.{swept_masters}
+use Rattle.drm_state.proofs.Represented.{clients_are, masters_are, magics_are, none_kept}
+use Rattle.drm_state.proofs.Sweeps.{named_by_clients, magics_left, unswept}
+use Rattle.drm_master_calls.proofs.Authenticated.{put, changed_clients, changed_tied, authenticated_tied}
+
+-- who has no magic now is as one that is gone, where magics are told
+magics_put : (y : Member) → magic_row_of y ≡ None → (xs : List Member) → filter_map magic_row_of (filter (λ (z : Member). not (is_client y.client z)) xs) ≡ filter_map magic_row_of (map (put y) xs)
+magics_put y none [] = refl
+magics_put y none (z ∷ zs) =
+    let rest = filter (λ (u : Member). not (is_client y.client u)) zs in
+    elim (z.client == y.client) as (λ b. filter_map magic_row_of (cond (not b) (z ∷ rest) rest) ≡ cons_option (magic_row_of (if b then y else z)) (filter_map magic_row_of (map (put y) zs))) [
+      | true ↦ magics_put y none zs ∙ ap (λ o. cons_option o (filter_map magic_row_of (map (put y) zs))) (sym none)
+      | false ↦ ap (cons_option (magic_row_of z)) (magics_put y none zs)
+    ]
+
+-- the rows where a client has the master of this birth, its own
+abbrev pub own_rows : Rows → ℕ → ℕ → Rows
+own_rows w c b = record w {
+  clients = model.with_master c b w.clients;
+  masters = w.masters ++ new_master b ∷ [];
+  magics = without (λ (row : MagicRow). row.client == c) w.magics;
+  device_master = Some b;
+}
+
+-- the state where it has it, and what it stands for
+module _ (s : State) (x : Member) (key b : ℕ) (t : IsTied s) (are : AreMasters (remade x.client key b s.masters)) where
+  abbrev remade_state : State
+  remade_state = record s { files = with_authenticated s.files x.client; masters = remade x.client key b s.masters }
+
+  abbrev all_masters : List Master
+  all_masters = (with_master (own_master key b) s.masters).masters
+
+  unkept : AllByRecursion (λ (m : Master). m.kept ≡ false) all_masters
+  unkept = all_append (λ (m : Master). m.kept ≡ false) s.masters.masters (own_master key b ∷ []) (none_kept s t) (refl, tt)
+
+  pub remade_tied : IsTied remade_state
+  remade_tied =
+      authenticated_tied (record s { masters = remade x.client key b s.masters }) x.client
+      (changed_tied s (owner x.client b) (remade x.client key b s.masters) t refl are (all_filter (λ (m : Master). m.kept ≡ false) (λ (m : Master). is_living (map (put (owner x.client b)) s.masters.members) all_masters m.birth) all_masters unkept) refl)
+
+  module _ (w : Rows) (look : member_of s.masters.members x.client ≡ Some x) (h : Represents s w) where
+    abbrev remade_rows : Rows
+    remade_rows = own_rows w x.client b
+
+    clients_now : remade_rows.clients ≡ clients_of remade_state
+    unfolding model.with_master
+    clients_now =
+        ap (model.with_master x.client b) (clients_are s w h)
+        ∙ sym (changed_clients x (owner x.client b) (λ (row : ClientRow). record row { authenticated = true; once_master = true; is_master = true; master = Some b }) s.masters.members look refl (λ f. refl) s.files.clients)
+
+    masters_now : filter (λ (row : MasterRow). change.is_living remade_rows row.master) remade_rows.masters ≡ masters_of remade_state
+    masters_now =
+        swept_masters remade_rows all_masters (map (put (owner x.client b)) s.masters.members)
+        (ap (λ l. l ++ new_master b ∷ []) (masters_are s w h) ∙ sym (map-append master_row_of s.masters.masters (own_master key b ∷ []))) unkept
+        (named_by_clients remade_rows remade_state remade_tied clients_now)
+
+    magics_now : SameRows remade_rows.magics (magics_of remade_state)
+    magics_now =
+        subst (SameRows remade_rows.magics) (magics_left x.client s.masters.members ∙ magics_put (owner x.client b) refl s.masters.members)
+        (same-filter (λ (row : MagicRow). not (row.client == x.client)) w.magics (magics_of s) (magics_are s w h))
+
+    pub remade_represents : (part : Part) → stands_for part remade_state (swept remade_rows)
+    unfolding stands_for swept
+    remade_represents Clients = clients_now
+    remade_represents Masters = masters_now
+    remade_represents Magics = magics_now
+    remade_represents Objects = unswept s w t h Objects
+    remade_represents Names = unswept s w t h Names
+    remade_represents Shown = unswept s w t h Shown
+    remade_represents DeviceMaster = refl
+    remade_represents part = h part

@@ -1,0 +1,52 @@
+//! Magics: a client's number under its master, and what it is used for.
+
+ghost use Rattle.std.specs.Prelude.{◌≡◌, true};
+ghost use Rattle.drm_files.specs.Files.{is_present};
+ghost use Rattle.drm_table.specs.declared.calls.Call.TheVariants.{AuthMagic, GetMagic};
+ghost use Rattle.drm_state.specs.Ties.{IsTied};
+ghost use Rattle.drm_state.specs.Refinement.{OwesReply};
+
+use drm_state::State;
+use drm_table::{Answer, Rule};
+
+/// GET_MAGIC: the caller's number under its master, and where it has none the least free one. It takes no memory.
+pub fn get_magic(state: &mut State, client: u32) -> Answer
+    requires tied { IsTied state.old }
+    requires present { is_present state.old.files client ≡ true }
+    ensures owes { OwesReply state.old client GetMagic result state.new }
+    ensures tied { IsTied state.new }
+{
+    let Some(_member) = state.masters.member(client) else {
+        // a render client, whose call is not admitted
+        return Answer::Denied(Rule::RenderAllow);
+    };
+    let Ok(number) = state.masters.magic(client) else {
+        unreachable!()
+    };
+    state.masters.laws();
+    Answer::Number {
+        value: number as u64,
+    }
+}
+
+/// AUTH_MAGIC: the client that has this number under the caller's master is authenticated, and the number is spent. It takes
+/// no memory.
+pub fn auth_magic(state: &mut State, client: u32, number: u32) -> Answer
+    requires tied { IsTied state.old }
+    requires present { is_present state.old.files client ≡ true }
+    ensures owes { OwesReply state.old client (AuthMagic number) result state.new }
+    ensures tied { IsTied state.new }
+{
+    let Some(_member) = state.masters.member(client) else {
+        // a render client, whose call is not admitted
+        return Answer::Denied(Rule::RenderAllow);
+    };
+    match state.masters.auth(client, number) {
+        Ok(authenticated) => {
+            state.files.set_authenticated(authenticated);
+            state.masters.laws();
+            Answer::Done
+        }
+        Err(rule) => Answer::Denied(rule),
+    }
+}
