@@ -147,7 +147,7 @@ def lemma(name, lines):
         for module in sorted({module for module, _ in words}):
             names = ", ".join(word for where, word in words if where == module)
             uses.append(f"use Rattle.{crate}.specs.{module}.{{{names}}}")
-    uses += ["use Rattle.drm_model.specs.Audit.{audit_row}", "use Rattle.drm_model.specs.Rows.{empty_rows}", "use Rattle.drm_model.specs.Topology.{Topology}"]
+    uses += ["use Rattle.drm_model.specs.Audit.{audit_row}", "use Rattle.drm_model.specs.Rows.{empty_rows}", "use Rattle.drm_modes.specs.Topology.{Topology}"]
     listed = lambda terms: "".join(f"    {one} ∷\n" for one in terms) + "    []\n"
     fields = "; ".join(f"{field} = {value}" for field, value in zip(LIMITS, limits))
     body = (

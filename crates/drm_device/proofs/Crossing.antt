@@ -1,21 +1,13 @@
 -- That a device may cross threads.
 use denote.Struct.Declared.{shape}
-use denote.Param.Send.{IsSend, sendable, view_send, recorded_send, struct_send}
+use denote.Param.Send.{IsSend, view_send, recorded_send, struct_send}
 use Rattle.std.proofs.Crossing.{Vec-send}
-use Rattle.arrayvec.proofs.array_vec.ArrayVec.TheSendSync as list
 use Rattle.drm_table.proofs.events.Event.TheSendSync as event
 use Rattle.drm_table.proofs.limits.Limits.TheSendSync as limits
+use Rattle.drm_modes.proofs.Crossing.{topology_send}
 use Rattle.drm_state.proofs.Crossing.{state_send}
 use Rattle.drm_device.specs.contracts.device.Device as device
 use Rattle.drm_device.specs.contracts.device.Device.TheInside as inside
-use Rattle.drm_device.specs.contracts.topologies.Topology as topology
-use Rattle.drm_device.specs.contracts.topologies.Topology.TheInside as topology_inside
-
-topology_send : IsSend topology.the_row
-topology_send =
-    view_send topology_inside.the_row _ _ _ _
-    (recorded_send topology_inside.the_field.row _ _ topology_inside.the_type.to_one
-    (struct_send (shape topology_inside.the_type) (search sendable depth 20, (search (list.the_send, sendable) depth 20, (search (list.the_send, sendable) depth 20, (search (list.the_send, sendable) depth 20, tt))))))
 
 inside_send : IsSend inside.the_row
 inside_send =

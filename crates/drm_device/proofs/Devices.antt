@@ -24,7 +24,7 @@ use Rattle.drm_table.specs.Limits.{are_in_range, is_between}
 use Rattle.drm_share.specs.Names.{NameList, empty_names}
 use Rattle.drm_share.specs.Tokens.{TokenList, empty_tokens}
 use Rattle.drm_model.specs.Rows.{Rows, ClientRow, MasterRow, ObjectRow, empty_rows}
-use Rattle.drm_model.specs.Topology.{Topology}
+use Rattle.drm_modes.specs.Topology.{Topology}
 use Rattle.drm_model.specs.Change.{after}
 use Rattle.drm_model.specs.Run.{FoundRoom, places_left, run, rows_of, no_room, start_of}
 use Rattle.drm_model.proofs.Births.{births_rise}
@@ -99,6 +99,7 @@ next_device d event journal s h room items len capacity t r =
       found_room = subst (FoundRoom (start_of (history_of d))) (sym items) (next_room d event h room);
       places = omega arith;
       reserved = omega (arith, h.reserved);
+      in_range = h.in_range;
       journal_fits = h.journal_fits;
     }
 
@@ -107,7 +108,7 @@ pub same_device : (d : Inside) (s : State) → IsDevice d → IsTied s → Repre
 same_device d s h t r =
     let now = represented_count s (rows_of (history_of d)) r in
     let before = represented_count d.state (rows_of (history_of d)) h.rows in
-    record { rows = r; tied = t; found_room = h.found_room; places = omega (arith, h.places); reserved = h.reserved; journal_fits = h.journal_fits }
+    record { rows = r; tied = t; found_room = h.found_room; places = omega (arith, h.places); reserved = h.reserved; in_range = h.in_range; journal_fits = h.journal_fits }
 
 -- a number that is tested for its range is at most the greatest
 at_most : (low high n : ℕ) → is_between low high n ≡ true → n ≤ high
@@ -194,6 +195,7 @@ new_device d good e room is =
       found_room = subst (FoundRoom (empty_rows d.topology d.limits)) (sym e) tt;
       places = omega arith;
       reserved = room;
+      in_range = good;
       journal_fits = journal_fits d.limits good;
     }
 

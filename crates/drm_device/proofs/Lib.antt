@@ -1,4 +1,3 @@
-pub mod Ids
 pub mod Devices
 pub mod AuditRows
 pub mod Crossing

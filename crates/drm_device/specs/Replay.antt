@@ -3,7 +3,7 @@ use Rattle.std.specs.Prelude.{◌≡◌, ℕ, ◌+◌, ◌<◌, false, List, Res
 use Rattle.drm_table.specs.declared.apart.Apart.{Apart}
 use Rattle.drm_table.specs.declared.events.Event.{Event}
 use Rattle.drm_table.specs.declared.limits.Limits.{Limits}
-use Rattle.drm_model.specs.Topology.{Topology}
+use Rattle.drm_modes.specs.Topology.{Topology}
 use Rattle.drm_model.specs.Run.{History, FoundRoom, rows_of, start_of, Step}
 use Rattle.drm_device.specs.declared.device.NewFault.TheVariants.{BadLimits, NoMemory}
 use Rattle.drm_device.specs.declared.replays.ReplayFault.{ReplayFault}

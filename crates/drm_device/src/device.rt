@@ -1,16 +1,16 @@
 //! The device.
 
-ghost use Rattle.std.specs.Prelude.{◌≡◌, ◌+◌, ◌^◌, ◌<◌, ◌≤◌, ◌↔◌, false, not, [], length, Err, IfOk, OnOk, OnErr};
+ghost use Rattle.std.specs.Prelude.{◌≡◌, ◌+◌, ◌^◌, ◌<◌, ◌≤◌, ◌↔◌, false, true, not, [], length, Err, IfOk, OnOk, OnErr};
 ghost use Rattle.drm_table.specs.Limits.{are_in_range};
 ghost use Rattle.drm_model.specs.Audit.{audit_page, audit_rows, rising_rows};
 ghost use Rattle.drm_model.specs.Run.{Step, FoundRoom, no_room, noted_in, rows_of, start_of};
 
 use crate::audits::page_of;
 use crate::events::advance;
-use crate::topologies::Topology;
 use drm_files::Files;
 use drm_gem::Objects;
 use drm_masters::Masters;
+use drm_modes::Topology;
 use drm_share::{Names, Tokens};
 use drm_state::State;
 use drm_table::{Answer, Apart, AuditKind, AuditPage, Event, Limits, are_in_range};
@@ -81,6 +81,8 @@ impl Device {
         ensures step { Step (rows_of self.old) event result (rows_of self.new) }
         ensures ok { OnOk result (self.new ≡ noted_in self.old event) }
         ensures err { OnErr result (self.new ≡ self.old) }
+        ensures in_range { are_in_range self.new.limits ≡ true }
+        ensures found_room { FoundRoom (start_of self.new) self.new.journal }
         ensures within { length self.new.journal ≤ self.new.limits.journal }
         ensures bounded { self.new.limits.journal ≤ 100000 }
     {

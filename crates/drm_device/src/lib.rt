@@ -7,12 +7,11 @@ mod capabilities;
 mod device;
 mod events;
 mod replays;
-mod topologies;
 
 pub use device::{Device, NewFault};
+pub use drm_modes::Topology;
 pub use drm_table::Limits;
 pub use replays::{ReplayFault, replay};
-pub use topologies::Topology;
 
 #[cfg(test)]
 mod buffer_tests;

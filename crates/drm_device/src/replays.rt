@@ -5,7 +5,7 @@ ghost use Rattle.drm_table.specs.Limits.{are_in_range};
 ghost use Rattle.drm_device.specs.Replay.{IsReplay};
 
 use crate::device::{Device, NewFault};
-use crate::topologies::Topology;
+use drm_modes::Topology;
 use drm_table::{Apart, Event, Limits};
 use std::alloc::Global;
 

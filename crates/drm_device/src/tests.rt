@@ -227,28 +227,6 @@ fn limits_out_of_range(rt: HostRuntime) -> Result<(), Fail> {
     Ok(())
 }
 
-#[test]
-fn topologies(rt: HostRuntime) {
-    let none = [0; 57];
-    assert!(&rt; test_topology().is_some());
-    assert!(&rt; Topology::new(8, &none[..56], &[], &[]).is_some());
-    assert!(&rt; Topology::new(8, &none, &[], &[]).is_none(), "65 objects");
-    assert!(&rt; Topology::new(0, &[], &[], &[]).is_none(), "no CRTC");
-    assert!(&rt; Topology::new(9, &[], &[], &[]).is_none(), "9 CRTCs");
-    assert!(&rt;
-        Topology::new(2, &[4], &[], &[]).is_none(),
-        "a plane of CRTC 3"
-    );
-    assert!(&rt;
-        Topology::new(2, &[], &[4], &[]).is_none(),
-        "an encoder of CRTC 3"
-    );
-    for encoder in [4, 7] {
-        let made = Topology::new(2, &[1, 2], &[3, 2], &[encoder]);
-        assert!(&rt; made.is_none(), "a connector of encoder {encoder}");
-    }
-}
-
 pub(crate) fn check_rows(rt: &impl Abort, device: &Device, kind: AuditKind, rows: &[AuditRow]) {
     assert_eq!(rt; device.audit(kind, 0).rows(), rows);
 }

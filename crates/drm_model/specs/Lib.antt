@@ -1,5 +1,4 @@
 pub mod Numbers
-pub mod Topology
 pub mod Rows
 pub mod Parts
 pub mod Births

@@ -5,7 +5,7 @@ use Rattle.std.specs.Option.{is_some, option_map, option_map_or}
 use Rattle.drm_lists.specs.Numbers.{is_among}
 use Rattle.drm_table.specs.declared.limits.Limits.{Limits}
 use Rattle.drm_index_array.specs.Least.{least}
-use Rattle.drm_model.specs.Topology.{Topology}
+use Rattle.drm_modes.specs.Topology.{Topology}
 
 -- an open client; a render client's master is none (drm-uapi: primary and render nodes)
 pub record ClientRow : Type 0 where

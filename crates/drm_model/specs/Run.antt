@@ -7,7 +7,7 @@ use Rattle.drm_table.specs.declared.events.Event.{Event}
 use Rattle.drm_table.specs.declared.events.Event.TheVariants.{Open, Ask, Close}
 use Rattle.drm_table.specs.declared.limits.Limits.{Limits}
 use Rattle.drm_model.specs.Rows.{Rows, empty_rows, is_open}
-use Rattle.drm_model.specs.Topology.{Topology}
+use Rattle.drm_modes.specs.Topology.{Topology}
 use Rattle.drm_model.specs.Verdict.{verdict}
 use Rattle.drm_model.specs.Change.{changed, after}
 use Rattle.drm_model.specs.Reply.{reply}

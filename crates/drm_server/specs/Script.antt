@@ -6,7 +6,7 @@ use Rattle.drm_table.specs.declared.apart.Apart.{Apart}
 use Rattle.drm_table.specs.declared.events.Event.{Event}
 use Rattle.drm_table.specs.declared.events.Event.TheVariants as events
 use Rattle.drm_table.specs.declared.limits.Limits.{Limits}
-use Rattle.drm_model.specs.Topology.{Topology}
+use Rattle.drm_modes.specs.Topology.{Topology}
 use Rattle.drm_model.specs.Rows.{Rows, empty_rows}
 use Rattle.drm_model.specs.Run.{Step, Answers}
 use Rattle.drm_script.specs.declared.commands.Command.{Command}

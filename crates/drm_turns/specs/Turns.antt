@@ -1,9 +1,10 @@
 -- What one call does to the device that it has locked.
-use Rattle.std.specs.Prelude.{◌≡◌, Result, Ok, Err}
+use Rattle.std.specs.Prelude.{◌≡◌, true, Result, Ok, Err}
 use Rattle.drm_table.specs.declared.answers.Answer.{Answer}
 use Rattle.drm_table.specs.declared.apart.Apart.{Apart}
 use Rattle.drm_table.specs.declared.events.Event.{Event}
-use Rattle.drm_model.specs.Run.{History, Step, noted_in, rows_of}
+use Rattle.drm_table.specs.Limits.{are_in_range}
+use Rattle.drm_model.specs.Run.{History, FoundRoom, Step, noted_in, rows_of, start_of}
 
 -- what is answered is noted, and what stands apart leaves the device as it was
 abbrev pub history_after : History → Event → Result Answer Apart → History
@@ -15,8 +16,11 @@ pub record Steps (old : History) (event : Event) (result : Result Answer Apart) 
   pub step : Step (rows_of old) event result (rows_of new)
   pub history : new ≡ history_after old event result
 
--- Some device that was locked answered the event, and was let go as the step left it.
+-- Some device that was locked answered the event, and was let go as the step left it: its limits are in their ranges, and each
+-- event of its journal found room.
 pub record Turn (event : Event) (result : Result Answer Apart) : Type 0 where
   pub before : History
   pub after : History
   pub steps : Steps before event result after
+  pub in_range : are_in_range after.limits ≡ true
+  pub found_room : FoundRoom (start_of after) after.journal

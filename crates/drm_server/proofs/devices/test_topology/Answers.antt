@@ -1,6 +1,6 @@
 use Rattle.std.proofs.Common.{◌≡◌, false, true, refl}
-use Rattle.drm_model.specs.Numbers.{numbers_from}
-use Rattle.drm_model.specs.Topology.{is_topology}
+use Rattle.drm_modes.specs.Numbers.{numbers_from}
+use Rattle.drm_modes.specs.Topology.{is_topology}
 use Rattle.drm_server.proofs.devices.test_topology.Goals as goal
 
 pub unreachable-requires : goal.unreachable-requires

@@ -50,3 +50,6 @@ pub returns-in-Ok-clause-within : goal.returns-in-Ok-clause-within
 returns-in-Ok-clause-within c =
     let room = not-true _ (sym c.has_room.ensures ∙ c.if-not-has_room.false) in
     within_after c.self.inside c.args.event c.push_reserved.new.self c.self.invariant (rw (ap rows_of c.self.view_is) room) c.push_reserved.ensures.len
+
+pub returns-in-Ok-clause-found_room : goal.returns-in-Ok-clause-found_room
+returns-in-Ok-clause-found_room c = (invariant_of-self c).found_room

@@ -1,0 +1,84 @@
+-- What is so of each topology.
+use Rattle.std.proofs.Common.{◌≡◌, ℕ, zero, suc, ◌+◌, ◌≤◌, ◌<◌, ◌&&◌, Bool, true, false, cond, List, [], ◌∷◌, length, filter, nat_lt, refl, sym, ◌∙◌, arith}
+use Rattle.std.specs.Prelude.{nat_le}
+use Rattle.std.specs.List.{list_all, AllByRecursion}
+use Rattle.std.proofs.lemmas.Bool.{false≢true}
+use Rattle.std.proofs.lemmas.Bool.Decides.{nat_tests}
+use Rattle.drm_lists.proofs.Lists.{all_filter}
+use Rattle.drm_lists.proofs.Rising.{each_is_there}
+use Rattle.drm_index_array.specs.Rows.{InOrder}
+use Rattle.drm_lists.specs.Numbers.{is_among}
+use Rattle.drm_modes.specs.Numbers.{numbers_from}
+use Rattle.drm_modes.specs.Topology.{Topology, is_topology, IsTopology, object_count, is_mask, is_encoder, is_crtc, crtc_ids, AreCrtcs}
+use Rattle.drm_modes.proofs.Ids.{is_among-numbers_from}
+
+both : (a b : Bool) → (a && b) ≡ true → (a ≡ true) × (b ≡ true)
+both true b h = (refl, h)
+both false b h = absurd (false≢true h)
+
+at_most : (a b : ℕ) → nat_le a b ≡ true → a ≤ b
+at_most a b h = grind (arith, nat_tests)
+
+pub topology_is : (t : Topology) → is_topology t ≡ true → IsTopology t
+unfolding is_topology
+topology_is t h =
+    let counts = nat_le 1 t.crtcs && nat_le t.crtcs 8 in
+    let few = counts && nat_le (object_count t) 64 in
+    let planes = few && list_all (is_mask t) t.planes in
+    let encoders = planes && list_all (is_mask t) t.encoders in
+    let are = both few (list_all (is_mask t) t.planes) (both planes (list_all (is_mask t) t.encoders) (both encoders (list_all (is_encoder t) t.connectors) h).0).0 in
+    let fits = both counts (nat_le (object_count t) 64) are.0 in
+    let ends = both (nat_le 1 t.crtcs) (nat_le t.crtcs 8) fits.0 in
+    record { is = h; some = at_most _ _ ends.0; few_crtcs = at_most _ _ ends.1; few = at_most _ _ fits.1 }
+
+pub within : (first count x : ℕ) → is_among (numbers_from first count) x ≡ true → (first ≤ x) × (x < first + count)
+within first count x h =
+    let between = sym (is_among-numbers_from first count x) ∙ h in
+    let ends = both _ _ between in
+    (at_most _ _ ends.0, let less = ends.1 in grind (arith, nat_tests))
+
+-- numbers that rise from one on to another are no more than those between
+few_rising : (low high : ℕ) (xs : List ℕ) → AllByRecursion (λ x. (low ≤ x) × (x < high)) xs → InOrder nat_lt xs → low ≤ high → low + length xs ≤ high
+few_rising low high [] all rise le = omega (arith, le)
+few_rising low high (x ∷ xs) all rise le =
+    let rest = few_rising (x + 1) high xs (above x high xs rise.0 all.1) rise.1 (omega (arith, all.0.1)) in
+    omega (arith, rest, all.0.0)
+  where
+    above : (x high : ℕ) → (xs : List ℕ) → AllByRecursion (λ y. nat_lt x y ≡ true) xs → AllByRecursion (λ y. (low ≤ y) × (y < high)) xs → AllByRecursion (λ y. (x + 1 ≤ y) × (y < high)) xs
+    above x high [] lts all = tt
+    above x high (y ∷ ys) lts all = ((let lt = lts.0 in grind (arith, nat_tests), all.0.1), above x high ys lts.1 all.1)
+
+ranged : (t : Topology) (xs : List ℕ) → AllByRecursion (λ x. is_crtc t x ≡ true) xs → AllByRecursion (λ x. (1 ≤ x) × (x < 1 + t.crtcs)) xs
+ranged t [] all = tt
+ranged t (x ∷ xs) all = (within 1 t.crtcs x all.0, ranged t xs all.1)
+
+pub few_seen : (t : Topology) (xs : List ℕ) → IsTopology t → AreCrtcs t xs → length xs ≤ 8
+few_seen t xs is are =
+    let few = few_rising 1 (1 + t.crtcs) xs (ranged t xs are.each) are.rise (omega arith) in
+    omega (arith, few, is.few_crtcs)
+
+-- CRTCs that are picked out of all of them
+module _ (p : ℕ → Bool) where
+  picked_above : (x first count : ℕ) → x < first → AllByRecursion (λ y. nat_lt x y ≡ true) (filter p (numbers_from first count))
+  unfolding numbers_from
+  picked_above x first zero lt = tt
+  picked_above x first (suc count) lt = add (p first) (filter p (numbers_from (first + 1) count)) (picked_above x (first + 1) count (omega (arith, lt)))
+    where
+      add : (b : Bool) (rest : List ℕ) → AllByRecursion (λ y. nat_lt x y ≡ true) rest → AllByRecursion (λ y. nat_lt x y ≡ true) (cond b (first ∷ rest) rest)
+      add true rest all = (grind (arith, nat_tests), all)
+      add false rest all = all
+
+  picked_rise : (first count : ℕ) → InOrder nat_lt (filter p (numbers_from first count))
+  unfolding numbers_from
+  picked_rise first zero = tt
+  picked_rise first (suc count) = add (p first) (filter p (numbers_from (first + 1) count)) (picked_above first (first + 1) count (omega arith)) (picked_rise (first + 1) count)
+    where
+      add : (b : Bool) (rest : List ℕ) → AllByRecursion (λ y. nat_lt first y ≡ true) rest → InOrder nat_lt rest → InOrder nat_lt (cond b (first ∷ rest) rest)
+      add true rest above rise = (above, rise)
+      add false rest above rise = rise
+
+  picked_each : (all : List ℕ) → (xs : List ℕ) → AllByRecursion (λ x. is_among all x ≡ true) xs → AllByRecursion (λ x. is_among all x ≡ true) (filter p xs)
+  picked_each all xs each = all_filter (λ x. is_among all x ≡ true) p xs each
+
+  pub picked_crtcs : (t : Topology) → AreCrtcs t (filter p (crtc_ids t))
+  picked_crtcs t = record { each = picked_each (crtc_ids t) (crtc_ids t) (each_is_there (λ x. x) (crtc_ids t)); rise = picked_rise 1 t.crtcs }

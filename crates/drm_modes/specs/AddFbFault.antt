@@ -1,0 +1,7 @@
+-- Why no framebuffer was made.
+use Rattle.drm_modes.specs.declared.faults.AddFbFault.{AddFbFault}
+use Rattle.drm_modes.specs.declared.faults.AddFbFault.TheVariants.{Full, NoMemory}
+
+abbrev pub IsFull : AddFbFault → Type 0
+IsFull Full = Unit {0}
+IsFull NoMemory = ⊥

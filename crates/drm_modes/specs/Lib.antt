@@ -1,0 +1,6 @@
+pub mod Numbers
+pub mod Topology
+pub mod Topologies
+pub mod Modes
+pub mod Tables
+pub mod AddFbFault

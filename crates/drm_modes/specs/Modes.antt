@@ -1,0 +1,108 @@
+-- Framebuffers, and what CRTCs and planes show (drm-uapi, mode setting), as flat lists.
+use Rattle.std.specs.Prelude.{◌≡◌, ℕ, ◌+◌, ◌-◌, ◌==◌, ◌≤◌, Bool, true, not, ◌&&◌, ◌||◌, nat_lt, if◌then◌else◌, List, [], ◌∷◌, map, filter, length, replicate, slice_index_or, slice_set, Option}
+use Rattle.std.specs.List.{AllByRecursion, list_any}
+use Rattle.drm_lists.specs.Numbers.{is_among}
+use Rattle.drm_index_array.specs.Least.{least}
+use Rattle.drm_index_array.specs.Rows.{placed, InOrder}
+use Rattle.drm_modes.specs.Topology.{Topology, IsTopology, object_count}
+use Rattle.drm_modes.specs.declared.rows.Shape.{Shape}
+use Rattle.drm_modes.specs.declared.rows.Framebuffer.{Framebuffer}
+use Rattle.drm_modes.specs.declared.rows.Shown.{Shown}
+
+-- The framebuffers rise by their ids, which end at `last`. `screens` has what each CRTC and then each plane shows, a
+-- framebuffer or 0 where it is dark, so that the first is that of id 1.
+pub record ModeSet : Type 0 where
+  pub topology : Topology
+  pub framebuffers : List Framebuffer
+  pub screens : List ℕ
+  pub last : ℕ
+
+-- how many CRTCs and planes there are, with ids from 1
+abbrev pub screen_count : Topology → ℕ
+screen_count t = t.crtcs + length t.planes
+
+-- ids of framebuffers follow those of the fixed objects
+abbrev pub first_framebuffer : Topology → ℕ
+first_framebuffer t = object_count t + 1
+
+-- no framebuffer, of so many that there may be; all is dark
+abbrev pub empty_modes : Topology → ℕ → ModeSet
+empty_modes t framebuffers = record { topology = t; framebuffers = []; screens = replicate (screen_count t) 0; last = object_count t + framebuffers }
+
+abbrev pub is_framebuffer : ℕ → Framebuffer → Bool
+is_framebuffer f row = row.framebuffer == f
+
+abbrev pub is_made_by : ℕ → Framebuffer → Bool
+is_made_by c row = row.client == c
+
+abbrev pub is_framebuffer_of : ℕ → ℕ → Framebuffer → Bool
+is_framebuffer_of c f row = (row.framebuffer == f) && (row.client == c)
+
+abbrev pub framebuffer_before : Framebuffer → Framebuffer → Bool
+framebuffer_before x y = nat_lt x.framebuffer y.framebuffer
+
+abbrev pub framebuffer : ℕ → ℕ → Shape → ℕ → Framebuffer
+framebuffer f c shape k = record { framebuffer = f; client = c; shape = shape; object = k }
+
+abbrev pub has_framebuffer : ModeSet → ℕ → Bool
+has_framebuffer set f = list_any (is_framebuffer f) set.framebuffers
+
+abbrev pub is_free : ModeSet → ℕ → Bool
+is_free set f = not (is_among (map (λ row. row.framebuffer) set.framebuffers) f)
+
+-- the least id that no framebuffer has (the kernel's IDR gives the least; the limit is own)
+abbrev pub free_framebuffer : ModeSet → Option ℕ
+free_framebuffer set = least (is_free set) (first_framebuffer set.topology) set.last
+
+abbrev pub with_framebuffer : ModeSet → Framebuffer → ModeSet
+with_framebuffer set row = record set { framebuffers = placed framebuffer_before row set.framebuffers }
+
+abbrev pub dark_of : ℕ → ℕ → ℕ
+dark_of f screen = if screen == f then 0 else screen
+
+-- what shows it goes dark
+abbrev pub without_framebuffer : ModeSet → ℕ → ModeSet
+without_framebuffer set f = record set { framebuffers = filter (λ row. not (is_framebuffer f row)) set.framebuffers; screens = map (dark_of f) set.screens }
+
+-- what can be shown: a framebuffer, and 0 for none
+abbrev pub can_show : ModeSet → ℕ → Bool
+can_show set f = (f == 0) || has_framebuffer set f
+
+-- what a CRTC or a plane shows; 0 where it is dark, and of anything else
+abbrev pub shown_by : ModeSet → ℕ → ℕ
+shown_by set x = if x == 0 then 0 else slice_index_or set.screens (x - 1) 0
+
+abbrev pub with_shown : ModeSet → ℕ → ℕ → ModeSet
+with_shown set x f = record set { screens = slice_set set.screens (x - 1) f }
+
+abbrev pub shown : ℕ → ℕ → Shown
+shown x f = record { shower = x; framebuffer = f }
+
+-- what shows what, where the first has this id
+abbrev pub screen_rows : ℕ → List ℕ → List Shown
+screen_rows x [] = []
+screen_rows x (f ∷ fs) = shown x f ∷ screen_rows (x + 1) fs
+
+abbrev pub is_lit : Shown → Bool
+is_lit row = not (row.framebuffer == 0)
+
+abbrev pub lit_rows : ℕ → List ℕ → List Shown
+lit_rows x screens = filter is_lit (screen_rows x screens)
+
+-- the CRTCs and planes that show something, rising
+abbrev pub shown_rows : ModeSet → List Shown
+shown_rows set = lit_rows 1 set.screens
+
+pub record IsFramebufferFrom (first last : ℕ) (row : Framebuffer) : Type 0 where
+  pub low : first ≤ row.framebuffer
+  pub high : row.framebuffer ≤ last
+
+-- what is so at all times: no framebuffer stands twice, since they rise, and what is shown is there
+pub record AreModes (set : ModeSet) : Type 0 where
+  pub topology : IsTopology set.topology
+  pub last_low : first_framebuffer set.topology ≤ set.last
+  pub last_high : set.last ≤ object_count set.topology + 64
+  pub framebuffers_rise : InOrder framebuffer_before set.framebuffers
+  pub framebuffers_are : AllByRecursion (IsFramebufferFrom (first_framebuffer set.topology) set.last) set.framebuffers
+  pub each_has_a_screen : length set.screens ≡ screen_count set.topology
+  pub screens_are : AllByRecursion (λ f. can_show set f ≡ true) set.screens

@@ -1,0 +1,118 @@
+-- The fixed mode objects (drm-uapi, mode setting): CRTCs, planes, encoders and connectors, with ids from 1 in that order.
+use Rattle.std.specs.Prelude.{◌≡◌, ℕ, ◌+◌, ◌-◌, ◌*◌, ◌^◌, ◌≤◌, ◌==◌, Bool, true, false, ◌&&◌, nat_le, nat_lt, if◌then◌else◌, List, [], ◌∷◌, length, slice_get, slice_index_or, Option, None, Some}
+use Rattle.std.specs.Option.{option_map_or}
+use Rattle.std.specs.Int.{bit_at}
+use Rattle.std.specs.List.{list_all, AllByRecursion}
+use Rattle.drm_index_array.specs.Rows.{InOrder}
+use Rattle.drm_lists.specs.Numbers.{is_among}
+use Rattle.drm_modes.specs.Numbers.{numbers_from}
+use Rattle.drm_modes.specs.declared.kinds.Kind.{Kind}
+use Rattle.drm_modes.specs.declared.kinds.Kind.TheVariants.{Crtc, Plane, Encoder, Connector}
+
+-- so many CRTCs; of each plane and encoder the mask of possible CRTCs, whose bit i is CRTC i + 1; of each connector its encoder
+pub record Topology : Type 0 where
+  pub crtcs : ℕ
+  pub planes : List ℕ
+  pub encoders : List ℕ
+  pub connectors : List ℕ
+
+abbrev pub first_plane : Topology → ℕ
+first_plane t = t.crtcs + 1
+
+abbrev pub first_encoder : Topology → ℕ
+first_encoder t = first_plane t + length t.planes
+
+abbrev pub first_connector : Topology → ℕ
+first_connector t = first_encoder t + length t.encoders
+
+abbrev pub crtc_ids : Topology → List ℕ
+crtc_ids t = numbers_from 1 t.crtcs
+
+abbrev pub plane_ids : Topology → List ℕ
+plane_ids t = numbers_from (first_plane t) (length t.planes)
+
+abbrev pub encoder_ids : Topology → List ℕ
+encoder_ids t = numbers_from (first_encoder t) (length t.encoders)
+
+abbrev pub connector_ids : Topology → List ℕ
+connector_ids t = numbers_from (first_connector t) (length t.connectors)
+
+abbrev pub is_crtc : Topology → ℕ → Bool
+is_crtc t x = is_among (crtc_ids t) x
+
+abbrev pub is_plane : Topology → ℕ → Bool
+is_plane t x = is_among (plane_ids t) x
+
+abbrev pub is_encoder : Topology → ℕ → Bool
+is_encoder t x = is_among (encoder_ids t) x
+
+abbrev pub is_connector : Topology → ℕ → Bool
+is_connector t x = is_among (connector_ids t) x
+
+-- what a mode object is, if it is one
+abbrev pub kind_of : Topology → ℕ → Option Kind
+kind_of t x = if is_crtc t x then Some Crtc else if is_plane t x then Some Plane else if is_encoder t x then Some Encoder else if is_connector t x then Some Connector else None
+
+abbrev pub is_of_kind : Topology → Kind → ℕ → Bool
+is_of_kind t Crtc x = is_crtc t x
+is_of_kind t Plane x = is_plane t x
+is_of_kind t Encoder x = is_encoder t x
+is_of_kind t Connector x = is_connector t x
+
+-- how many fixed objects there are
+abbrev pub object_count : Topology → ℕ
+object_count t = t.crtcs + length t.planes + length t.encoders + length t.connectors
+
+-- whether a mask names CRTCs that are there, and no others
+abbrev pub is_mask : Topology → ℕ → Bool
+is_mask t mask = nat_lt mask (2 ^ t.crtcs)
+
+-- 1 to 8 CRTCs and at most 64 objects (own); each mask and each encoder names what is there
+unfoldable pub is_topology : Topology → Bool
+is_topology t =
+    nat_le 1 t.crtcs
+    && nat_le t.crtcs 8
+    && nat_le (object_count t) 64
+    && list_all (is_mask t) t.planes
+    && list_all (is_mask t) t.encoders
+    && list_all (is_encoder t) t.connectors
+
+-- what is so of each topology
+pub record IsTopology (t : Topology) : Type 0 where
+  pub is : is_topology t ≡ true
+  pub some : 1 ≤ t.crtcs
+  pub few_crtcs : t.crtcs ≤ 8
+  pub few : object_count t ≤ 64
+
+-- the mask of a plane or an encoder, whose bit i is CRTC i + 1; 0 of anything else
+abbrev pub possible_crtcs : Topology → ℕ → ℕ
+possible_crtcs t x =
+    if is_plane t x then slice_index_or t.planes (x - first_plane t) 0
+    else if is_encoder t x then slice_index_or t.encoders (x - first_encoder t) 0
+    else 0
+
+-- whether the CRTC is a possible one of the plane or the encoder
+abbrev pub drives : Topology → ℕ → ℕ → Bool
+drives t x crtc = is_crtc t crtc && (bit_at (possible_crtcs t x) (crtc - 1) == 1)
+
+-- the encoder of a connector
+abbrev pub encoder_of : Topology → ℕ → Option ℕ
+encoder_of t x = if is_connector t x then slice_get t.connectors (x - first_connector t) else None
+
+-- whether the CRTC is a possible one of the connector's encoder
+abbrev pub reaches : Topology → ℕ → ℕ → Bool
+reaches t connector crtc = option_map_or (λ encoder. drives t encoder crtc) (encoder_of t connector) false
+
+-- a list of CRTCs that rise
+pub record AreCrtcs (t : Topology) (crtcs : List ℕ) : Type 0 where
+  pub each : AllByRecursion (λ x. is_crtc t x ≡ true) crtcs
+  pub rise : InOrder nat_lt crtcs
+
+-- the number whose bit i tells of the i-th element whether it passes
+abbrev pub bits_of : (ℕ → Bool) → List ℕ → ℕ
+bits_of p [] = 0
+bits_of p (x ∷ xs) = (if p x then 1 else 0) + 2 * bits_of p xs
+
+-- the mask of a plane or an encoder over the CRTCs that are seen: bit i is the i-th of them
+abbrev pub mask_over : Topology → ℕ → List ℕ → ℕ
+mask_over t x crtcs = bits_of (drives t x) crtcs

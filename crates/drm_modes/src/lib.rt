@@ -1,0 +1,19 @@
+//! The mode objects of a display device: the fixed ones, framebuffers, and what CRTCs and planes show (drm-uapi, mode
+//! setting).
+#![tactic(auto)]
+
+mod faults;
+mod kinds;
+mod modes;
+mod rows;
+mod screens;
+mod topologies;
+
+pub use faults::AddFbFault;
+pub use kinds::Kind;
+pub use modes::Modes;
+pub use rows::{Framebuffer, Shape, Shown};
+pub use topologies::Topology;
+
+#[cfg(test)]
+mod tests;

@@ -1,0 +1,280 @@
+//! Framebuffers, and what is shown.
+
+ghost use Rattle.std.specs.Prelude.{◌≡◌, ℕ, ◌==◌, false, ◌≤◌, ◌+◌, ◌↔◌, Some, None, find, slice_get, is_some, true, IsTrue, OnSome, OnErr, IfOk, IfErr, IfSome, IfNone, option_map};
+ghost use Rattle.std.specs.Int.{bit_at};
+ghost use Rattle.std.specs.Option.{option_map_or};
+ghost use Rattle.drm_modes.specs.Topology.{kind_of, is_of_kind, encoder_of, reaches, drives, possible_crtcs, mask_over, is_crtc, is_plane, is_encoder, AreCrtcs};
+ghost use Rattle.drm_modes.specs.Modes.{AreModes, empty_modes, has_framebuffer, is_framebuffer, is_framebuffer_of, is_made_by, framebuffer, free_framebuffer, with_framebuffer, without_framebuffer, can_show, shown_by, with_shown, shown_rows, screen_count, first_framebuffer};
+ghost use Rattle.drm_modes.specs.AddFbFault.{IsFull};
+ghost use Rattle.drm_modes.specs.Tables.{framebuffer_row, framebuffers_in};
+
+use crate::faults::AddFbFault;
+use crate::kinds::Kind;
+use crate::rows::{Framebuffer, Shape, Shown};
+use crate::screens;
+use crate::topologies::Topology;
+use arrayvec::ArrayVec;
+use drm_gem::ObjectKey;
+use drm_id_alloc::{AddFault, IdTable};
+use drm_table::ShownList;
+use std::alloc::Global;
+use std::marker::Model;
+
+// What a framebuffer is, beside its id.
+#[derive(Clone, Copy)]
+pub(crate) struct Pixels {
+    pub(crate) client: u32,
+    pub(crate) shape: Shape,
+    pub(crate) object: ObjectKey,
+}
+
+/// The fixed mode objects, the framebuffers, and what CRTCs and planes show (drm-uapi, mode setting). Contracts see the
+/// topology, and flat lists.
+#[derive(Drop)]
+pub struct Modes {
+    topology: Topology,
+    framebuffers: IdTable<Pixels>,
+    // What each CRTC and then each plane shows, 0 where it is dark.
+    screens: ArrayVec<u32, 64>,
+}
+
+impl Model for Modes {
+    ghost use Rattle.drm_modes.specs.Modes.{ModeSet};
+    ghost use Rattle.drm_modes.specs.Tables.{mode_set, HasModes};
+
+    ghost Value = { ModeSet };
+
+    ghost view = { λ modes. mode_set modes.topology modes.framebuffers modes.screens.items };
+
+    ghost invariant = { λ modes. HasModes modes.topology modes.framebuffers modes.screens.items };
+}
+
+impl Modes {
+    /// No framebuffer, of so many that there may be; all is dark. Their ids follow those of the fixed objects. It takes no
+    /// memory.
+    pub fn new(alloc: Global, topology: Topology, framebuffers: u32) -> Modes
+        requires some { 1 ≤ framebuffers }
+        requires few { framebuffers ≤ 64 }
+        ensures { result ≡ empty_modes topology framebuffers }
+    {
+        topology.laws();
+        let objects = topology.object_count();
+        let count = topology.screen_count();
+        Modes {
+            topology,
+            framebuffers: IdTable::new(alloc, objects + 1, objects + framebuffers),
+            screens: screens::dark(count),
+        }
+    }
+
+    /// What is so at all times. It does nothing.
+    pub fn laws(&self)
+        ensures { AreModes self.now }
+    {
+        let _ = &self.framebuffers;
+    }
+
+    /// What an id is, if it is that of a fixed mode object (drm-uapi, mode setting). It takes no memory.
+    pub fn kind(&self, id: u32) -> Option<Kind>
+        ensures kind { result ≡ kind_of self.now.topology id }
+        ensures is { IfSome result (λ kind. is_of_kind self.now.topology kind id ≡ true) }
+    {
+        self.topology.kind(id)
+    }
+
+    /// The encoder of a connector (drm-uapi, mode setting; that a connector has one is own); none where the id is no
+    /// connector's. It takes no memory.
+    pub fn encoder_of(&self, connector: u32) -> Option<u32>
+        ensures { result ≡ encoder_of self.now.topology connector }
+    {
+        self.topology.encoder_of(connector)
+    }
+
+    /// The possible CRTCs of a plane or an encoder: bit i is CRTC i + 1. It is 0 where the id is neither. It takes no
+    /// memory.
+    pub fn possible_crtcs(&self, id: u32) -> u32
+        ensures { result ≡ possible_crtcs self.now.topology id }
+    {
+        self.topology.possible_crtcs(id)
+    }
+
+    /// Whether a CRTC is a possible one of a plane or an encoder: false where the ids are none of these. It takes no
+    /// memory.
+    pub fn drives(&self, id: u32, crtc: u32) -> bool
+        ensures { result ≡ drives self.now.topology id crtc }
+    {
+        self.topology.drives(id, crtc)
+    }
+
+    /// Whether a CRTC is a possible one of a connector's encoder: false where the ids are none of these. It takes no
+    /// memory.
+    pub fn reaches(&self, connector: u32, crtc: u32) -> bool
+        ensures { result ≡ reaches self.now.topology connector crtc }
+    {
+        self.topology.reaches(connector, crtc)
+    }
+
+    /// The possible CRTCs of a plane or an encoder among those that are seen: bit i is the i-th of `visible` (drm-uapi,
+    /// leases; for planes own). It is 0 where the id is neither. It takes no memory.
+    pub fn mask(&self, id: u32, visible: &ShownList) -> u32
+        requires { AreCrtcs self.now.topology visible.now }
+        ensures mask { result ≡ mask_over self.now.topology id visible.now }
+        ensures bits { (i : ℕ) → (bit_at result i == 1) ≡ option_map_or (drives self.now.topology id) (slice_get visible.now i) false }
+        ensures other { is_plane self.now.topology id ≡ false → is_encoder self.now.topology id ≡ false → result ≡ 0 }
+    {
+        self.topology.mask(id, visible)
+    }
+
+    /// Makes a framebuffer of a client over an object, at the least free id (the kernel's IDR gives the least). It is
+    /// refused as full where no id is free, and then, as without memory, nothing changes.
+    pub fn addfb(&mut self, client: u32, shape: Shape, object: ObjectKey) -> Result<u32, AddFbFault>
+        ensures given { IfOk result (λ f. free_framebuffer self.old ≡ Some f) }
+        ensures low { IfOk result (λ f. first_framebuffer self.old.topology ≤ f) }
+        ensures high { IfOk result (λ f. f ≤ self.old.last) }
+        ensures ok { IfOk result (λ f. self.new ≡ with_framebuffer self.old (framebuffer f client shape object)) }
+        ensures err { OnErr result (self.new ≡ self.old) }
+        ensures full { IfErr result (λ fault. IsFull fault ↔ (free_framebuffer self.old ≡ None)) }
+    {
+        let framebuffer = match self.framebuffers.add(Pixels {
+            client,
+            shape,
+            object,
+        }) {
+            Ok(framebuffer) => framebuffer,
+            Err(AddFault::Full(_)) => return Err(AddFbFault::Full),
+            Err(AddFault::NoMemory(_)) => return Err(AddFbFault::NoMemory),
+        };
+        Ok(framebuffer)
+    }
+
+    /// Whether no id is free. It takes no memory.
+    pub fn is_full(&self) -> bool
+        ensures { IsTrue result ↔ (free_framebuffer self.now ≡ None) }
+    {
+        self.framebuffers.is_full()
+    }
+
+    /// The framebuffer of an id, if there is one. It takes no memory.
+    pub fn fb(&self, id: u32) -> Option<Framebuffer>
+        ensures found { result ≡ find (is_framebuffer id) self.now.framebuffers }
+        ensures there { is_some result ≡ has_framebuffer self.now id }
+    {
+        let pixels = *self.framebuffers.get(id)?;
+        Some(row(id, pixels))
+    }
+
+    /// Removes a framebuffer of a client, and gives its object. What shows it goes dark (drm-uapi, mode setting). Where
+    /// there is no such framebuffer, or another client made it, nothing changes. It takes no memory.
+    pub fn rmfb(&mut self, client: u32, framebuffer: u32) -> Option<ObjectKey>
+        ensures object { result ≡ option_map (λ row. row.object) (find (is_framebuffer_of client framebuffer) self.old.framebuffers) }
+        ensures removed { OnSome result (self.new ≡ without_framebuffer self.old framebuffer) }
+        ensures none { IfNone result (self.new ≡ self.old) }
+    {
+        let pixels = *self.framebuffers.get(framebuffer)?;
+        if pixels.client != client {
+            return None;
+        }
+        self.take_away(framebuffer);
+        Some(pixels.object)
+    }
+
+    /// Removes the framebuffer with the least id of a client, and gives its id and its object. What shows it goes dark.
+    /// There is none exactly where the client has no framebuffer. It takes no memory, and goes through the framebuffers.
+    pub fn take_first_fb_of(&mut self, client: u32) -> Option<(u32, ObjectKey)>
+        ensures first { result ≡ option_map (λ row. (row.framebuffer, row.object)) (find (is_made_by client) self.old.framebuffers) }
+        ensures removed { IfSome result (λ taken. self.new ≡ without_framebuffer self.old taken.0) }
+        ensures none { IfNone result (self.new ≡ self.old) }
+    {
+        let first = first_of(&self.framebuffers, client)?;
+        self.take_away(first.framebuffer);
+        Some((first.framebuffer, first.object))
+    }
+
+    fn take_away(&mut self, framebuffer: u32)
+        ensures { self.new ≡ without_framebuffer self.old framebuffer }
+    {
+        let _pixels = self.framebuffers.remove(framebuffer);
+        screens::darken(self.screens.as_mut_slice(), framebuffer);
+    }
+
+    /// Has a CRTC show a framebuffer, or nothing where that is 0 (drm-uapi, mode setting). It takes no memory.
+    pub fn setcrtc(&mut self, crtc: u32, framebuffer: u32)
+        requires crtc { is_crtc self.old.topology crtc ≡ true }
+        requires there { can_show self.old framebuffer ≡ true }
+        ensures { self.new ≡ with_shown self.old crtc framebuffer }
+    {
+        self.show(crtc, framebuffer);
+    }
+
+    /// Has a plane show a framebuffer, or nothing where that is 0 (drm-uapi, mode setting). It takes no memory.
+    pub fn setplane(&mut self, plane: u32, framebuffer: u32)
+        requires plane { is_plane self.old.topology plane ≡ true }
+        requires there { can_show self.old framebuffer ≡ true }
+        ensures { self.new ≡ with_shown self.old plane framebuffer }
+    {
+        self.show(plane, framebuffer);
+    }
+
+    fn show(&mut self, shower: u32, framebuffer: u32)
+        requires low { 1 ≤ shower }
+        requires high { shower ≤ screen_count self.old.topology }
+        requires there { can_show self.old framebuffer ≡ true }
+        ensures { self.new ≡ with_shown self.old shower framebuffer }
+    {
+        self.screens.as_mut_slice()[shower as usize - 1] = framebuffer;
+    }
+
+    /// The framebuffer that a CRTC or a plane shows; 0 where it is dark, and of any other id. It takes no memory.
+    pub fn shown(&self, id: u32) -> u32
+        ensures { result ≡ shown_by self.now id }
+    {
+        if id == 0 || id as usize > self.screens.len() {
+            return 0;
+        }
+        self.screens[id as usize - 1]
+    }
+
+    /// The framebuffer at a place of the list of framebuffers, where 0 is the first. It takes no memory.
+    pub fn nth_framebuffer(&self, place: usize) -> Option<Framebuffer>
+        ensures { result ≡ slice_get self.now.framebuffers place }
+    {
+        let framebuffer = self.framebuffers.nth(place)?;
+        self.fb(framebuffer)
+    }
+
+    /// The one at a place of the list of the CRTCs and planes that show something, where 0 is the first. It takes no
+    /// memory, and goes through the CRTCs and planes.
+    pub fn nth_shown(&self, place: usize) -> Option<Shown>
+        ensures { result ≡ slice_get (shown_rows self.now) place }
+    {
+        screens::nth_lit(self.screens.as_slice(), place)
+    }
+}
+
+fn row(framebuffer: u32, pixels: Pixels) -> Framebuffer
+    ensures { result ≡ framebuffer_row (framebuffer, pixels) }
+{
+    Framebuffer {
+        framebuffer,
+        client: pixels.client,
+        shape: pixels.shape,
+        object: pixels.object,
+    }
+}
+
+// The framebuffer of a client with the least id.
+fn first_of(framebuffers: &IdTable<Pixels>, client: u32) -> Option<Framebuffer>
+    ensures { result ≡ find (is_made_by client) (framebuffers_in framebuffers.now.slots) }
+{
+    let mut from = 0;
+    while let Some(framebuffer) = framebuffers.next(from) {
+        let Some(pixels) = framebuffers.get(framebuffer) else {
+            unreachable!();
+        };
+        if pixels.client == client {
+            return Some(row(framebuffer, *pixels));
+        }
+        from = framebuffer.checked_add(1)?;
+    }
+    None
+}

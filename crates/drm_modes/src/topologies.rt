@@ -1,0 +1,288 @@
+//! The fixed mode objects.
+
+ghost use Rattle.std.specs.Prelude.{◌≡◌, ℕ, ◌==◌, true, false, slice_get, ◌<◌, ◌≤◌, ◌+◌, ◌^◌, ◌↔◌, ◌&&◌, nat_le, nat_lt, length, IsTrue, IsSome, IfSome};
+ghost use Rattle.std.specs.Bool.{OnTrue};
+ghost use Rattle.std.specs.Int.{bit_at};
+ghost use Rattle.std.specs.Option.{option_map_or};
+ghost use Rattle.std.specs.List.{list_all};
+ghost use Rattle.drm_modes.specs.Topology as fixed;
+ghost use Rattle.drm_modes.specs.Topology.{IsTopology, AreCrtcs};
+ghost use Rattle.drm_modes.specs.Numbers.{numbers_from};
+ghost use Rattle.drm_lists.specs.Numbers.{is_among};
+ghost use Rattle.drm_modes.specs.Topologies.{topology_of};
+ghost use Rattle.drm_modes.specs.Modes.{screen_count};
+
+use crate::kinds::Kind;
+use arrayvec::ArrayVec;
+use drm_table::ShownList;
+use std::marker::Model;
+
+/// CRTCs, planes, encoders and connectors, with ids from 1 in that order (drm-uapi, mode setting).
+#[derive(Drop)]
+pub struct Topology {
+    crtcs: u32,
+    planes: ArrayVec<u32, 64>,
+    encoders: ArrayVec<u32, 64>,
+    connectors: ArrayVec<u32, 64>,
+}
+
+impl Model for Topology {
+    ghost use Rattle.std.specs.Prelude.{◌≡◌, true};
+    ghost use Rattle.drm_modes.specs.Topology.{Topology as Fixed};
+    ghost use Rattle.drm_modes.specs.Topology.{is_topology};
+
+    ghost Value = { Fixed };
+
+    ghost use Rattle.drm_modes.specs.Topologies.{topology_of};
+
+    ghost view = { λ t. topology_of t.crtcs t.planes.items t.encoders.items t.connectors.items };
+
+    ghost invariant = { λ t. is_topology (topology_of t.crtcs t.planes.items t.encoders.items t.connectors.items) ≡ true };
+}
+
+impl Topology {
+    /// So many CRTCs; for each plane and each encoder the mask of the CRTCs that it may drive, in which bit i is CRTC
+    /// i + 1 (0 is allowed); for each connector the id of its encoder. None where there aren't 1 to 8 CRTCs, where there
+    /// are more than 64 objects (both own), and where a mask or a connector names what isn't there. Takes no memory.
+    pub fn new(crtcs: u32, planes: &[u32], encoders: &[u32], connectors: &[u32]) -> Option<Topology>
+        ensures made { IsSome result ↔ IsTrue (fixed.is_topology (topology_of crtcs planes.now encoders.now connectors.now)) }
+        ensures value { IfSome result (λ topology. topology ≡ topology_of crtcs planes.now encoders.now connectors.now) }
+    {
+        if !is_topology(crtcs, planes, encoders, connectors) {
+            return None;
+        }
+        Some(Topology {
+            crtcs,
+            planes: list_of(planes),
+            encoders: list_of(encoders),
+            connectors: list_of(connectors),
+        })
+    }
+
+    /// What is so of each topology. It does nothing.
+    pub fn laws(&self)
+        ensures { IsTopology self.now }
+    {
+        let _ = &self.crtcs;
+    }
+
+    /// What an id is, if it is that of a fixed mode object. Takes no memory.
+    pub fn kind(&self, id: u32) -> Option<Kind>
+        ensures kind { result ≡ fixed.kind_of self.now id }
+        ensures is { IfSome result (λ kind. fixed.is_of_kind self.now kind id ≡ true) }
+    {
+        self.laws();
+        if is_in(1, self.crtcs, id) {
+            return Some(Kind::Crtc);
+        }
+        if is_in(self.first_plane(), self.planes.len() as u32, id) {
+            return Some(Kind::Plane);
+        }
+        if is_in(self.first_encoder(), self.encoders.len() as u32, id) {
+            return Some(Kind::Encoder);
+        }
+        if is_in(self.first_connector(), self.connectors.len() as u32, id) {
+            return Some(Kind::Connector);
+        }
+        None
+    }
+
+    /// How many fixed mode objects there are.
+    pub fn object_count(&self) -> u32
+        ensures count { result ≡ fixed.object_count self.now }
+        ensures few { result ≤ 64 }
+    {
+        self.laws();
+        self.crtcs
+            + self.planes.len() as u32
+            + self.encoders.len() as u32
+            + self.connectors.len() as u32
+    }
+
+    /// How many CRTCs and planes there are.
+    pub fn screen_count(&self) -> u32
+        ensures count { result ≡ screen_count self.now }
+        ensures few { result ≤ 64 }
+    {
+        self.laws();
+        self.crtcs + self.planes.len() as u32
+    }
+
+    /// The id of the first plane, or of what comes next where there is none.
+    fn first_plane(&self) -> u32
+        ensures first { result ≡ fixed.first_plane self.now }
+        ensures few { result + length self.now.planes ≤ 65 }
+    {
+        self.laws();
+        self.crtcs + 1
+    }
+
+    /// The id of the first encoder, or of what comes next where there is none.
+    fn first_encoder(&self) -> u32
+        ensures first { result ≡ fixed.first_encoder self.now }
+        ensures few { result + length self.now.encoders ≤ 65 }
+    {
+        self.laws();
+        self.crtcs + 1 + self.planes.len() as u32
+    }
+
+    /// The id of the first connector, or of what comes next where there is none.
+    fn first_connector(&self) -> u32
+        ensures first { result ≡ fixed.first_connector self.now }
+        ensures few { result + length self.now.connectors ≤ 65 }
+    {
+        self.laws();
+        self.crtcs + 1 + self.planes.len() as u32 + self.encoders.len() as u32
+    }
+
+    /// The possible CRTCs of a plane or an encoder: bit i is CRTC i + 1. It is 0 where the id is neither. Takes no memory.
+    pub fn possible_crtcs(&self, id: u32) -> u32
+        ensures { result ≡ fixed.possible_crtcs self.now id }
+    {
+        self.laws();
+        let plane = self.first_plane();
+        if is_in(plane, self.planes.len() as u32, id) {
+            return self.planes[(id - plane) as usize];
+        }
+        let encoder = self.first_encoder();
+        if is_in(encoder, self.encoders.len() as u32, id) {
+            return self.encoders[(id - encoder) as usize];
+        }
+        0
+    }
+
+    /// Whether a CRTC is a possible one of a plane or an encoder: false where the ids are none of these. Takes no memory.
+    pub fn drives(&self, id: u32, crtc: u32) -> bool
+        ensures { result ≡ fixed.drives self.now id crtc }
+    {
+        self.laws();
+        if !is_in(1, self.crtcs, crtc) {
+            return false;
+        }
+        (self.possible_crtcs(id) >> (crtc - 1)) & 1 == 1
+    }
+
+    /// The encoder of a connector; none where the id is no connector's. Takes no memory.
+    pub fn encoder_of(&self, connector: u32) -> Option<u32>
+        ensures { result ≡ fixed.encoder_of self.now connector }
+    {
+        self.laws();
+        let first = self.first_connector();
+        if !is_in(first, self.connectors.len() as u32, connector) {
+            return None;
+        }
+        Some(self.connectors[(connector - first) as usize])
+    }
+
+    /// Whether a connector can show what a CRTC does: the CRTC is a possible one of the connector's encoder. It is false
+    /// where the ids are none of these. Takes no memory.
+    pub fn reaches(&self, connector: u32, crtc: u32) -> bool
+        ensures { result ≡ fixed.reaches self.now connector crtc }
+    {
+        let Some(encoder) = self.encoder_of(connector) else {
+            return false;
+        };
+        self.drives(encoder, crtc)
+    }
+
+    /// The possible CRTCs of a plane or an encoder among those that are seen: bit i is the i-th of `visible` (drm-uapi,
+    /// leases). It is 0 where the id is neither. Takes no memory.
+    pub fn mask(&self, id: u32, visible: &ShownList) -> u32
+        requires { AreCrtcs self.now visible.now }
+        ensures mask { result ≡ fixed.mask_over self.now id visible.now }
+        ensures bits { (i : ℕ) → (bit_at result i == 1) ≡ option_map_or (fixed.drives self.now id) (slice_get visible.now i) false }
+        ensures other { fixed.is_plane self.now id ≡ false → fixed.is_encoder self.now id ≡ false → result ≡ 0 }
+    {
+        self.mask_of(id, visible.ids())
+    }
+
+    fn mask_of(&self, id: u32, crtcs: &[u32]) -> u32
+        requires { AreCrtcs self.now crtcs.now }
+        ensures { result ≡ fixed.mask_over self.now id crtcs.now }
+    {
+        self.laws();
+        let mut mask = 0;
+        let mut bit = 1;
+        for crtc in crtcs {
+            if self.drives(id, *crtc) {
+                mask += bit;
+            }
+            bit *= 2;
+        }
+        mask
+    }
+}
+
+/// Whether an id is one of so many, from the first on.
+fn is_in(first: u32, count: u32, id: u32) -> bool
+    ensures test { result ≡ is_among (numbers_from first count) id }
+    ensures within { OnTrue result ((first ≤ id) × (id < first + count)) }
+{
+    first <= id && id - first < count
+}
+
+/// Whether the counts are in range, and masks and connectors name what is there.
+#[tactic(auto, unfolding(crate::specs::Topology::is_topology))]
+fn is_topology(crtcs: u32, planes: &[u32], encoders: &[u32], connectors: &[u32]) -> bool
+    ensures value { result ≡ fixed.is_topology (topology_of crtcs planes.now encoders.now connectors.now) }
+    ensures few { OnTrue result (length planes.now + length encoders.now + length connectors.now ≤ 64) }
+{
+    if !are_counts(crtcs, planes.len(), encoders.len(), connectors.len()) {
+        return false;
+    }
+    let first_encoder = crtcs + 1 + planes.len() as u32;
+    are_masks(crtcs, planes)
+        && are_masks(crtcs, encoders)
+        && are_encoders(first_encoder, encoders.len() as u32, connectors)
+}
+
+/// Whether there are 1 to 8 CRTCs and at most 64 objects.
+fn are_counts(crtcs: u32, planes: usize, encoders: usize, connectors: usize) -> bool
+    ensures { result ≡ (nat_le 1 crtcs && nat_le crtcs 8 && nat_le (crtcs + planes + encoders + connectors) 64) }
+{
+    1 <= crtcs
+        && crtcs <= 8
+        && planes <= 64
+        && encoders <= 64
+        && connectors <= 64
+        && crtcs as usize + planes + encoders + connectors <= 64
+}
+
+/// Whether each mask names CRTCs that are there, and no others.
+#[tactic(auto, using(std::proofs::lemmas::Nat::one_shl))]
+fn are_masks(crtcs: u32, masks: &[u32]) -> bool
+    requires { crtcs ≤ 8 }
+    ensures { result ≡ list_all (λ mask. nat_lt mask (2 ^ crtcs)) masks.now }
+{
+    for mask in masks {
+        if *mask >= 1 << crtcs {
+            return false;
+        }
+    }
+    true
+}
+
+/// Whether each connector's encoder is one of so many, with ids from the first on.
+fn are_encoders(first: u32, count: u32, connectors: &[u32]) -> bool
+    requires { first + count ≤ 65 }
+    ensures { result ≡ list_all (λ encoder. nat_le first encoder && nat_lt encoder (first + count)) connectors.now }
+{
+    for encoder in connectors {
+        if *encoder < first || *encoder >= first + count {
+            return false;
+        }
+    }
+    true
+}
+
+/// The same numbers, in a list of fixed size.
+fn list_of(numbers: &[u32]) -> ArrayVec<u32, 64>
+    requires { length numbers.now ≤ 64 }
+    ensures { result.items ≡ numbers.now }
+{
+    let mut list = ArrayVec::new();
+    for number in numbers {
+        list.push(*number);
+    }
+    list
+}
