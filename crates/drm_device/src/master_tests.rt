@@ -13,7 +13,7 @@ const fn get_magic(client: u32) -> Event {
     Event::Ask(client, Call::GetMagic)
 }
 
-const fn auth_magic(client: u32, magic: u32) -> Event {
+pub(crate) const fn auth_magic(client: u32, magic: u32) -> Event {
     Event::Ask(client, Call::AuthMagic { magic })
 }
 

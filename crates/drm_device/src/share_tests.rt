@@ -7,7 +7,7 @@ use drm_table::{Answer, Apart, AuditKind, Call, Event, Limits, Rule};
 use std::process::Abort;
 use std::test::Fail;
 
-const fn gem_flink(client: u32, handle: u32) -> Event {
+pub(crate) const fn gem_flink(client: u32, handle: u32) -> Event {
     Event::Ask(client, Call::GemFlink { handle })
 }
 

@@ -1,5 +1,7 @@
 ghost use Rattle.std.specs.Prelude.{◌≤◌};
 
+use crate::master_tests::auth_magic;
+use crate::share_tests::gem_flink;
 use crate::{Device, Limits, NewFault, ReplayFault, Topology, replay};
 use drm_table::{Answer, Apart, AuditKind, AuditRow, Call, Event, Opening, Rule};
 use std::process::Abort;
@@ -237,9 +239,9 @@ fn audit_is_for_root(rt: HostRuntime) -> Result<(), Fail> {
     let rows = [
         (CARD, Ok(Answer::Opened { client: 1 })),
         (CARD, Ok(Answer::Opened { client: 2 })),
+        (gem_flink(2, 1), denied(Rule::Auth)),
         (version(2), Ok(VERSION)),
-        (version(2), Ok(VERSION)),
-        (version(2), Ok(VERSION)),
+        (auth_magic(2, 1), denied(Rule::Master)),
         (audit(2, AuditKind::Client, 0), denied(Rule::RootOnly)),
         (ROOT, Ok(Answer::Opened { client: 7 })),
     ];
