@@ -34,8 +34,19 @@ CALLS = {
     "token_close": (0x43, "I"),
     "list_handles": (0x44, "I"),
     "audit": (0x45, "II"),
+    "getresources": (0xA0, ""),
+    "getcrtc": (0xA1, "I"),
+    "setcrtc": (0xA2, "III"),
+    "getencoder": (0xA6, "I"),
+    "getconnector": (0xA7, "I"),
+    "getfb": (0xAD, "I"),
+    "addfb": (0xAE, "IIIII"),
+    "rmfb": (0xAF, "I"),
     "create_dumb": (0xB2, "III"),
     "destroy_dumb": (0xB4, "I"),
+    "getplaneresources": (0xB5, ""),
+    "getplane": (0xB6, "I"),
+    "setplane": (0xB7, "III"),
 }
 
 # the answers with fields of a fixed number
@@ -46,12 +57,18 @@ ANSWERS = {
     0x1003: ("number", "Q"),
     0x1004: ("dumb", "IIQ"),
     0x1005: ("buffer", "IQ"),
+    0x1008: ("plane", "II"),
+    0x1009: ("framebuffer", "IIIII"),
     0x100C: ("closed", ""),
 }
+RESOURCES = 0x1006
 LIST = 0x1007
 AUDIT = 0x100B
 DENIED = 0x2000
 APART = 0x2001
+
+# the lists of resources, in their order
+LISTS = ("crtcs", "connectors", "encoders", "framebuffers")
 
 RULES = {
     1: "Unknown", 2: "Layout", 3: "NoClient", 11: "RootOnly", 12: "Auth", 13: "Master", 14: "RenderAllow",
@@ -89,14 +106,26 @@ def request(line):
         raise Mistake(f"not a call: {line.strip()} ({error})") from error
 
 
+def ids(fields):
+    """The list at the front in a script's words, and the fields behind it."""
+    count, = struct.unpack_from("<I", fields)
+    numbers = struct.unpack_from(f"<{count}I", fields, 4)
+    return ",".join(map(str, numbers)) or "-", fields[4 + 4 * count:]
+
+
 def words(number, fields):
     """An answer in a script's words."""
     if number in ANSWERS:
         name, layout = ANSWERS[number]
         return " ".join([name, *map(str, struct.unpack("<" + layout, fields))])
+    if number == RESOURCES:
+        said = []
+        for name in LISTS:
+            shown, fields = ids(fields)
+            said += [name, shown]
+        return " ".join(said)
     if number == LIST:
-        count, *ids = struct.unpack(f"<{len(fields) // 4}I", fields)
-        return "list " + (",".join(map(str, ids)) or "-")
+        return "list " + ids(fields)[0]
     if number == AUDIT:
         count, = struct.unpack_from("<I", fields)
         rows = struct.iter_unpack("<4Q", fields[4:])

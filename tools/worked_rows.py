@@ -12,6 +12,7 @@ MODEL = pathlib.Path("crates/drm_model")
 TABLE = pathlib.Path("crates/drm_table/specs")
 ARRAYS = pathlib.Path("crates/drm_index_array/specs")
 LISTS = pathlib.Path("crates/drm_lists/specs")
+MODES = pathlib.Path("crates/drm_modes/specs")
 # the word of each answer that is told by numbers, and the variant that stands for it
 ANSWERS = {
     "done": "Done",
@@ -21,6 +22,8 @@ ANSWERS = {
     "number": "Number",
     "dumb": "Dumb",
     "buffer": "Buffer",
+    "plane": "Plane",
+    "framebuffer": "Framebuffer",
 }
 # the kinds of an audit, by number from 1
 KINDS = "Client Master Object Name Token Hold Grant Framebuffer Shown Device".split()
@@ -65,6 +68,11 @@ def term(name, *arguments):
     return f"({' '.join([name, *arguments])})" if arguments else name
 
 
+def listed_ids(text):
+    ids = [] if text == "-" else text.split(",")
+    return "(" + "".join(f"{one} ∷ " for one in ids) + "[])"
+
+
 def answer(text, denials):
     word, *rest = text.split()
     if word == "apart":
@@ -75,8 +83,9 @@ def answer(text, denials):
         rows = [term("audit_row", *row.split()) for row in text.split(" | ")[1:]]
         return term("Ok", term("AuditIs", "(" + "".join(f"{row} ∷ " for row in rows) + "[])"))
     if word == "list":
-        ids = [] if rest[0] == "-" else rest[0].split(",")
-        return term("Ok", term("ListIs", "(" + "".join(f"{one} ∷ " for one in ids) + "[])"))
+        return term("Ok", term("ListIs", listed_ids(rest[0])))
+    if word == "crtcs":
+        return term("Ok", term("Resources", *(listed_ids(ids) for ids in rest[::2])))
     return term("Ok", term(ANSWERS[word], *rest))
 
 
@@ -127,12 +136,13 @@ def lemma(name, lines):
     opened = unfoldables(MODEL / "specs")
     table = unfoldables(TABLE)
     lists = unfoldables(LISTS)
+    modes = [(module, word) for module, word in unfoldables(MODES) if module == "Numbers"]
     least = [(module, word) for module, word in unfoldables(ARRAYS) if module == "Least"]
     denials = ", ".join(f"{rule} as Denied{rule}" for rule in sorted(set(rules().values())))
     uses = [
         "use Rattle.std.proofs.Common.{◌≡◌, true, false, List, [], ◌∷◌, Result, Ok, Err, refl}",
         "use Rattle.drm_table.specs.declared.answers.Answer.{Answer}",
-        "use Rattle.drm_table.specs.declared.answers.Answer.TheVariants.{Done, Opened, Version as VersionIs, Number, Dumb, Buffer, List as ListIs, Audit as AuditIs, Closed, Denied}",
+        "use Rattle.drm_table.specs.declared.answers.Answer.TheVariants.{Done, Opened, Version as VersionIs, Number, Dumb, Buffer, Resources, Plane, Framebuffer, List as ListIs, Audit as AuditIs, Closed, Denied}",
         "use Rattle.drm_table.specs.declared.apart.Apart.{Apart}",
         "use Rattle.drm_table.specs.declared.apart.Apart.TheVariants.{JournalFull}",
         f"use Rattle.drm_table.specs.declared.rules.Rule.TheVariants.{{{denials}}}",
@@ -143,7 +153,7 @@ def lemma(name, lines):
         "use Rattle.drm_table.specs.declared.limits.Limits.{Limits}",
         "use Rattle.drm_table.specs.declared.audits.AuditKind.TheVariants.{" + ", ".join(f"{kind} as Of{kind}" for kind in KINDS) + "}",
     ]
-    for crate, words in (("drm_index_array", least), ("drm_lists", lists), ("drm_table", table), ("drm_model", opened)):
+    for crate, words in (("drm_index_array", least), ("drm_lists", lists), ("drm_modes", modes), ("drm_table", table), ("drm_model", opened)):
         for module in sorted({module for module, _ in words}):
             names = ", ".join(word for where, word in words if where == module)
             uses.append(f"use Rattle.{crate}.specs.{module}.{{{names}}}")
@@ -157,7 +167,7 @@ def lemma(name, lines):
         + f"\nabbrev events : List Event\nevents =\n{listed(events)}"
         + f"\nabbrev answers : List (Result Answer Apart)\nanswers =\n{listed(answers)}"
         + f"\npub {name} : results (empty_rows test_topology limits) events ≡ answers\n"
-        + f"unfolding {' '.join(word for _, word in least + lists + table + opened)}\n{name} = refl\n"
+        + f"unfolding {' '.join(word for _, word in least + lists + modes + table + opened)}\n{name} = refl\n"
     )
     head = f"-- Made by tools/worked_rows.py: the worked row {name}, as the definitions compute it.\n"
     return head + "".join(used(line, body) for line in uses) + "\n" + body

@@ -8,7 +8,7 @@ ghost use Rattle.drm_state.specs.Ties.{IsTied, IsReady};
 ghost use Rattle.drm_state.specs.Refinement.{OwesCall, OwesReply, MakesBuffer};
 
 use drm_gem::CreateFault;
-use drm_state::{State, release};
+use drm_state::{State, bytes_per_pixel, is_dumb_shape, release};
 use drm_table::{Answer, Rule};
 use std::alloc::AllocError;
 
@@ -35,7 +35,7 @@ pub fn create_dumb(
     ensures owes { OwesCall state.old birth client (CreateDumb pixels.width pixels.height pixels.bpp) result state.new }
     ensures tied { IsTied state.new }
 {
-    if !is_dumb_shape(pixels) {
+    if !is_dumb_shape(pixels.width, pixels.height, pixels.bpp) {
         return Ok(Answer::Denied(Rule::BadSize));
     }
     let pitch = dumb_pitch(pixels.width, pixels.bpp);
@@ -102,18 +102,6 @@ fn new_buffer(
     Ok(Some(handle))
 }
 
-/// Whether a dumb buffer may have this shape.
-fn is_dumb_shape(pixels: Pixels) -> bool
-    ensures { result ≡ model.is_dumb_shape pixels.width pixels.height pixels.bpp }
-{
-    1 <= pixels.width
-        && pixels.width <= 65535
-        && 1 <= pixels.height
-        && pixels.height <= 65535
-        && 1 <= pixels.bpp
-        && pixels.bpp <= 64
-}
-
 /// The bytes of a row of pixels.
 fn dumb_pitch(width: u32, bpp: u32) -> u32
     requires narrow { width ≤ 65535 }
@@ -121,7 +109,7 @@ fn dumb_pitch(width: u32, bpp: u32) -> u32
     ensures value { result ≡ model.dumb_pitch width bpp }
     ensures small { result ≤ 524288 }
 {
-    (width * ((bpp + 7) / 8) + 63) / 64 * 64
+    (width * bytes_per_pixel(bpp) + 63) / 64 * 64
 }
 
 /// The bytes of a buffer of so many rows of this pitch.

@@ -1,3 +1,4 @@
+pub mod Fewer
 pub mod Files
 pub mod Opened
 pub mod Closed

@@ -5,19 +5,20 @@ ghost use Rattle.std.specs.List.{AllByRecursion};
 ghost use Rattle.drm_masters.specs.Masters.{AreMasters};
 ghost use Rattle.drm_table.specs.declared.events.Event.TheVariants.{Close};
 ghost use Rattle.drm_files.specs.Files.{is_present, without_client};
-ghost use Rattle.drm_state.specs.Parts.{keys_of, token_keys, without_tokens_of, without_its_master};
+ghost use Rattle.drm_state.specs.Parts.{keys_of, token_keys, framebuffer_keys, without_tokens_of, LosesFramebuffersOf, without_its_master};
 ghost use Rattle.drm_state.specs.Ties.{IsTied, AreTied, AreNamed, AreThoseNamed, Leaves};
 ghost use Rattle.drm_state.specs.Refinement.{OwesAnswer};
 
 use drm_files::Files;
 use drm_gem::Objects;
 use drm_masters::Masters;
+use drm_modes::Modes;
 use drm_share::{Names, Tokens};
 use drm_state::{State, release};
 use drm_table::{Answer, Rule};
 
-/// Closes a client: its tokens, its magic and its handles go, the names of objects that no handle names any more, and the
-/// objects that nothing else refers to; its master goes where nobody else names it, and the device's master where that was the
+/// Closes a client: its framebuffers go, and the CRTCs and planes that show them go dark; its tokens, its magic and its handles
+/// go, the names of objects that no handle names any more, and the objects that nothing else refers to; its master goes where nobody else names it, and the device's master where that was the
 /// client's own. It takes no memory and asks for no limit.
 pub fn close(state: &mut State, client: u32) -> Answer
     requires { IsTied state.old }
@@ -30,6 +31,8 @@ pub fn close(state: &mut State, client: u32) -> Answer
     close_master(&mut state.masters, client);
     state.masters.laws();
     close_tokens(&mut state.tokens, &mut state.objects, client);
+    close_framebuffers(&mut state.modes, &mut state.objects, client);
+    state.modes.laws();
     release_all(
         &mut state.files,
         &mut state.names,
@@ -53,13 +56,28 @@ fn close_master(masters: &mut Masters, client: u32)
 
 /// A client's tokens go, and the objects that they alone referred to, whatever handles name.
 fn close_tokens(tokens: &mut Tokens, objects: &mut Objects, client: u32)
-    requires { (keys : List ℕ) × AreTied keys (token_keys tokens.old.tokens) objects.old.objects }
+    requires { (keys others : List ℕ) × AreTied keys (token_keys tokens.old.tokens ++ others) objects.old.objects }
     ensures tokens { tokens.new ≡ without_tokens_of client tokens.old }
-    ensures tied { (keys : List ℕ) → AreTied keys (token_keys tokens.old.tokens) objects.old.objects → AreTied keys (token_keys tokens.new.tokens) objects.new.objects }
-    ensures those { (keys : List ℕ) → AreTied keys (token_keys tokens.old.tokens) objects.old.objects → AreThoseNamed objects.old.objects (keys ++ token_keys tokens.new.tokens) objects.new.objects }
+    ensures tied { (keys others : List ℕ) → AreTied keys (token_keys tokens.old.tokens ++ others) objects.old.objects → AreTied keys (token_keys tokens.new.tokens ++ others) objects.new.objects }
+    ensures those { (keys others : List ℕ) → AreTied keys (token_keys tokens.old.tokens ++ others) objects.old.objects → AreThoseNamed objects.old.objects (keys ++ (token_keys tokens.new.tokens ++ others)) objects.new.objects }
     ensures limit { objects.new.limit ≡ objects.old.limit }
 {
     while let Some(taken) = tokens.take_first_of(client) {
+        let _dead = objects.unrefer(taken.1);
+    }
+}
+
+/// A client's framebuffers go, what shows them goes dark, and the objects go that they alone referred to.
+fn close_framebuffers(modes: &mut Modes, objects: &mut Objects, client: u32)
+    requires { (keys others : List ℕ) × AreTied keys (others ++ framebuffer_keys modes.old.framebuffers) objects.old.objects }
+    ensures loses { LosesFramebuffersOf client modes.old modes.new }
+    ensures tied { (keys others : List ℕ) → AreTied keys (others ++ framebuffer_keys modes.old.framebuffers) objects.old.objects → AreTied keys (others ++ framebuffer_keys modes.new.framebuffers) objects.new.objects }
+    ensures those { (keys others : List ℕ) → AreTied keys (others ++ framebuffer_keys modes.old.framebuffers) objects.old.objects → AreThoseNamed objects.old.objects (keys ++ (others ++ framebuffer_keys modes.new.framebuffers)) objects.new.objects }
+    ensures limit { objects.new.limit ≡ objects.old.limit }
+{
+    modes.laws();
+    while let Some(taken) = modes.take_first_fb_of(client) {
+        modes.laws();
         let _dead = objects.unrefer(taken.1);
     }
 }

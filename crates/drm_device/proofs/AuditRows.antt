@@ -1,18 +1,22 @@
 -- The rows of an audit, by the parts that stand for them.
-use Rattle.std.proofs.Common.{◌≡◌, ℕ, zero, suc, ◌+◌, ◌==◌, ◌<◌, Bool, true, List, ◌++◌, filter, length, [], ◌∷◌, map, find, Option, Some, None, refl, sym, ◌∙◌, ap, subst, arith, eq-eqb}
+use Rattle.std.proofs.Common.{◌≡◌, ℕ, zero, suc, ◌+◌, ◌==◌, ◌<◌, ◌≤◌, Bool, true, false, cond, not, List, ◌++◌, filter, length, [], ◌∷◌, map, find, Option, Some, None, refl, sym, ◌∙◌, ap, subst, arith, eq-eqb}
 use Rattle.std.specs.Prelude.{slice_get}
+use Rattle.std.specs.List.{AllByRecursion}
 use Rattle.std.specs.Option.{option_map, option_map_or}
 use Rattle.std.proofs.lemmas.Bool.Decides.{nat_tests}
 use Rattle.std.proofs.lemmas.Option.{slice_get-map}
 use Rattle.std.proofs.lemmas.Bool.{or_left}
 use Rattle.drm_lists.specs.Orders.{InOrder, SameRows, sorted_by}
 use Rattle.drm_index_array.specs.Rows as rows
+use Rattle.drm_modes.specs.declared.rows.Framebuffer.{Framebuffer}
+use Rattle.drm_modes.specs.declared.rows.Shown.{Shown}
+use Rattle.drm_modes.specs.Modes.{framebuffer_before, shown, lit_rows, shown_rows}
 use Rattle.drm_share.specs.declared.rows.SharedName.{SharedName}
 use Rattle.drm_share.specs.declared.rows.SharedToken.{SharedToken}
 use Rattle.drm_share.specs.Names.{AreNames, name_before}
 use Rattle.drm_share.specs.Tokens.{AreTokens, token_before}
 use Rattle.drm_lists.specs.Numbers.{is_among, count}
-use Rattle.drm_lists.proofs.Lists.{map-map}
+use Rattle.drm_lists.proofs.Lists.{map-map, all_weaker}
 use Rattle.drm_lists.proofs.Found.{all_at}
 use Rattle.drm_lists.proofs.Numbers.{among-left, among-right, among-more, count_of, count-append}
 use Rattle.drm_lists.proofs.Orders.{RisesTo, sorted-as_is, sorted-same, same-map, in_order_map, in_order_weaker}
@@ -24,14 +28,14 @@ use Rattle.drm_files.specs.declared.rows.FileHold.{FileHold}
 use Rattle.drm_files.specs.Files.{hold_before}
 use Rattle.drm_model.specs.Rows.{Rows, TokenRow, FramebufferRow}
 use Rattle.drm_model.specs.Births.{MadeInTurn}
-use Rattle.drm_model.specs.Audit.{audit_row, or_zero, is_before, client_audit, master_audit, object_audit, hold_audit, name_audit, token_audit, hold_count, reference_count, audit_rows, rising_rows}
+use Rattle.drm_model.specs.Audit.{audit_row, or_zero, is_before, client_audit, master_audit, object_audit, hold_audit, name_audit, token_audit, framebuffer_audit, shown_audit, hold_count, reference_count, audit_rows, rising_rows}
 use Rattle.drm_model.proofs.Orders.{is_row, order_of_rows}
 use Rattle.drm_masters.specs.declared.rows.Master.{Master}
 use Rattle.drm_state.specs.declared.state.State.{State}
-use Rattle.drm_state.specs.Parts.{client_row_of, master_row_of, object_row_of, hold_row_of, holds_of, name_row_of, names_of, token_row_of, tokens_of, birth_at, keys_of, referring_keys}
+use Rattle.drm_state.specs.Parts.{client_row_of, master_row_of, object_row_of, hold_row_of, holds_of, name_row_of, names_of, token_row_of, tokens_of, framebuffer_row_of, framebuffers_of, shown_row_of, shown_of, birth_at, keys_of, referring_keys}
 use Rattle.drm_state.specs.Ties.{IsTied, Counts}
 use Rattle.drm_device.specs.Audits.{StandsAfter}
-use Rattle.drm_state.proofs.Represented.{clients_are, masters_are, holds_are, objects_are, names_are, tokens_are, framebuffers_none, device_master_is, last_token_is, last_lease_token_none, holds_rise, objects_counted}
+use Rattle.drm_state.proofs.Represented.{clients_are, masters_are, holds_are, objects_are, names_are, tokens_are, framebuffers_are, shown_are, modes_so, device_master_is, last_token_is, last_lease_token_none, holds_rise, objects_counted}
 use Rattle.drm_state.proofs.Naming.{references, references_by, holds_counted, count_numbers}
 
 before-less : (x y : AuditRow) → x.a < y.a → is_before x y ≡ true
@@ -73,7 +77,7 @@ object_is s w place x steps t h e =
     let numbers = λ (some : List ℕ) (sub : (n : ℕ) → is_among some n ≡ true → is_among (keys ++ refs) n ≡ true).
     all_at (λ (x : Object). count (map (birth_at s.objects.objects) some) x.birth ≡ count some x.key) s.objects.objects place x (count_numbers keys refs s.objects.objects tied some sub) e in
     let holds : hold_count w x.birth ≡ x.holds = holds_counted w.holds s.objects.objects s.files.holds x.birth (holds_are s w h.rows) ∙ numbers keys (λ n k. among-left keys refs n k) ∙ sym counts.0 in
-    let others : reference_count w x.birth ≡ x.refs = references_counted w x.birth ∙ references_by w s.objects.objects s.tokens.tokens (tokens_are s w h.rows) (framebuffers_none s w h.rows) (λ n. n == x.birth) ∙ numbers refs (λ n k. among-right keys refs n k) ∙ sym counts.1 in
+    let others : reference_count w x.birth ≡ x.refs = references_counted w x.birth ∙ references_by w s.objects.objects s.tokens.tokens s.modes.framebuffers (tokens_are s w h.rows) (framebuffers_are s w h.rows) (λ n. n == x.birth) ∙ numbers refs (λ n k. among-right keys refs n k) ∙ sym counts.1 in
     ap (λ m. audit_row x.birth x.size m x.refs) (sym holds) ∙ ap (audit_row x.birth x.size (hold_count w x.birth)) (sym others)
 
 -- the row of the object at a place
@@ -120,6 +124,36 @@ unfolding audit_rows
 token_rows s steps w are h =
     rising_by token_audit (token_row_of s.objects.objects) (λ x y. token_before x y ≡ true) (token-rises s) w.tokens s.tokens.tokens (as_order token_before s.tokens.tokens are.tokens_rise) (tokens_are s w h.rows)
 
+framebuffer-rises : (s : State) (x y : Framebuffer) → framebuffer_before x y ≡ true → RisesTo is_before (framebuffer_audit (framebuffer_row_of s.objects.objects x)) (framebuffer_audit (framebuffer_row_of s.objects.objects y))
+framebuffer-rises s x y h = (grind (arith, nat_tests), grind (arith, nat_tests))
+
+pub framebuffer_rows : (s : State) (steps : ℕ) (w : Rows) → IsTied s → StandsAfter s steps w → rising_rows (audit_rows w kinds.Framebuffer) ≡ map framebuffer_audit (framebuffers_of s)
+unfolding audit_rows
+framebuffer_rows s steps w t h =
+    rising_by framebuffer_audit (framebuffer_row_of s.objects.objects) (λ x y. framebuffer_before x y ≡ true) (framebuffer-rises s) w.framebuffers s.modes.framebuffers (as_order framebuffer_before s.modes.framebuffers (modes_so s t).framebuffers_rise) (framebuffers_are s w h.rows)
+
+-- what is shown rises by what shows it
+lit_above : (x y : ℕ) → x ≤ y → (screens : List ℕ) → AllByRecursion (λ (row : Shown). x ≤ row.shower) (lit_rows y screens)
+lit_above x y h [] = tt
+lit_above x y h (f ∷ fs) =
+    let rest = lit_above x (y + 1) (omega (arith, h)) fs in
+    elim (f == 0) as (λ b. AllByRecursion (λ (row : Shown). x ≤ row.shower) (cond (not b) (shown y f ∷ lit_rows (y + 1) fs) (lit_rows (y + 1) fs))) [ true ↦ rest | false ↦ (h, rest) ]
+
+lit_rise : (x : ℕ) → (screens : List ℕ) → InOrder (λ (a b : Shown). a.shower < b.shower) (lit_rows x screens)
+lit_rise x [] = tt
+lit_rise x (f ∷ fs) =
+    elim (f == 0) as (λ b. InOrder (λ (a b : Shown). a.shower < b.shower) (cond (not b) (shown x f ∷ lit_rows (x + 1) fs) (lit_rows (x + 1) fs))) [
+      | true ↦ lit_rise (x + 1) fs
+      | false ↦ (all_weaker (λ (row : Shown). x + 1 ≤ row.shower) (λ (row : Shown). x < row.shower) (λ row h. omega (arith, h)) (lit_rows (x + 1) fs) (lit_above (x + 1) (x + 1) (omega arith) fs), lit_rise (x + 1) fs)
+    ]
+
+shown-rises : (x y : Shown) → x.shower < y.shower → RisesTo is_before (shown_audit (shown_row_of x)) (shown_audit (shown_row_of y))
+shown-rises x y h = (grind (arith, nat_tests), grind (arith, nat_tests))
+
+pub shown_audits : (s : State) (steps : ℕ) (w : Rows) → StandsAfter s steps w → rising_rows (audit_rows w kinds.Shown) ≡ map shown_audit (shown_of s)
+unfolding audit_rows
+shown_audits s steps w h = rising_by shown_audit shown_row_of (λ x y. x.shower < y.shower) shown-rises w.shown (shown_rows s.modes) (lit_rise 1 s.modes.screens) (shown_are s w h.rows)
+
 pub device_rows : (s : State) (steps : ℕ) (w : Rows) → StandsAfter s steps w → rising_rows (audit_rows w kinds.Device) ≡ audit_row (or_zero s.masters.device_master) (or_zero s.tokens.last_given) 0 steps ∷ []
 unfolding audit_rows sorted_by
 device_rows s steps w h = rw (device_master_is s w h.rows, last_token_is s w h.rows, last_lease_token_none s w h.rows, h.steps_are) refl
@@ -141,7 +175,7 @@ hold_there objects hs i x n place e k p =
     ap (λ m. Some (audit_row x.client x.handle m place)) (sym (birth_of (find (is_key x.object) objects) n k)) ∙ ap (λ d. Some (audit_row x.client x.handle (birth_at objects x.object) d)) p
     ∙ sym (slice_get-map hold_audit (map (hold_row_of objects) hs) i ∙ ap (option_map hold_audit) (slice_get-map (hold_row_of objects) hs i ∙ ap (option_map (hold_row_of objects)) e))
 
--- ---- of a name or a token at a place
+-- ---- of a name, a token, a framebuffer or what is shown at a place
 
 pub name_there : (objects : List Object) (ns : List SharedName) (i : ℕ) (x : SharedName) (n : ℕ) → slice_get ns i ≡ Some x → option_map (λ (x : Object). x.birth) (find (is_key x.object) objects) ≡ Some n →
     Some (audit_row x.name n 0 0) ≡ slice_get (map name_audit (map (name_row_of objects) ns)) i
@@ -154,3 +188,12 @@ pub token_there : (objects : List Object) (ts : List SharedToken) (i : ℕ) (x :
 token_there objects ts i x n e k =
     ap (λ m. Some (audit_row x.token x.client m 0)) (sym (birth_of (find (is_key x.object) objects) n k))
     ∙ sym (slice_get-map token_audit (map (token_row_of objects) ts) i ∙ ap (option_map token_audit) (slice_get-map (token_row_of objects) ts i ∙ ap (option_map (token_row_of objects)) e))
+
+pub framebuffer_there : (objects : List Object) (fs : List Framebuffer) (i : ℕ) (x : Framebuffer) (n : ℕ) → slice_get fs i ≡ Some x → option_map (λ (x : Object). x.birth) (find (is_key x.object) objects) ≡ Some n →
+    Some (audit_row x.framebuffer x.client n 0) ≡ slice_get (map framebuffer_audit (map (framebuffer_row_of objects) fs)) i
+framebuffer_there objects fs i x n e k =
+    ap (λ m. Some (audit_row x.framebuffer x.client m 0)) (sym (birth_of (find (is_key x.object) objects) n k))
+    ∙ sym (slice_get-map framebuffer_audit (map (framebuffer_row_of objects) fs) i ∙ ap (option_map framebuffer_audit) (slice_get-map (framebuffer_row_of objects) fs i ∙ ap (option_map (framebuffer_row_of objects)) e))
+
+pub shown_there : (xs : List Shown) (i : ℕ) (x : Shown) → slice_get xs i ≡ Some x → Some (audit_row x.shower x.framebuffer 0 0) ≡ slice_get (map shown_audit (map shown_row_of xs)) i
+shown_there xs i x e = sym (slice_get-map shown_audit (map shown_row_of xs) i ∙ ap (option_map shown_audit) (slice_get-map shown_row_of xs i ∙ ap (option_map shown_row_of) e))

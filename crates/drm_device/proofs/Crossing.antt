@@ -4,7 +4,6 @@ use denote.Param.Send.{IsSend, view_send, recorded_send, struct_send}
 use Rattle.std.proofs.Crossing.{Vec-send}
 use Rattle.drm_table.proofs.events.Event.TheSendSync as event
 use Rattle.drm_table.proofs.limits.Limits.TheSendSync as limits
-use Rattle.drm_modes.proofs.Crossing.{topology_send}
 use Rattle.drm_state.proofs.Crossing.{state_send}
 use Rattle.drm_device.specs.contracts.device.Device as device
 use Rattle.drm_device.specs.contracts.device.Device.TheInside as inside
@@ -16,7 +15,7 @@ inside_send =
     _
     _
     inside.the_type.to_one
-    (struct_send (shape inside.the_type) (topology_send, (limits.the_field_send, (Vec-send _ event.the_send, (state_send, tt)))))
+    (struct_send (shape inside.the_type) (limits.the_field_send, (Vec-send _ event.the_send, (state_send, tt))))
 
 pub device_send : IsSend device.the_row
 device_send = view_send inside.the_row _ _ _ _ inside_send

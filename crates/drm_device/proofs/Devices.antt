@@ -1,5 +1,5 @@
 -- What is true of a device's fields, and of the fields after a step.
-use Rattle.std.proofs.Common.{◌≡◌, ℕ, ◌+◌, ◌-◌, ◌<◌, ◌≤◌, ◌&&◌, true, false, not, refl, sym, ap, ◌∙◌, arith, subst, length, map, [], ◌∷◌, ◌++◌, nat_le, nat_lt, None, Some, filter}
+use Rattle.std.proofs.Common.{◌≡◌, ℕ, zero, suc, replicate, Ok, ◌+◌, ◌-◌, ◌<◌, ◌≤◌, ◌&&◌, true, false, not, refl, sym, ap, ◌∙◌, arith, subst, length, map, [], ◌∷◌, ◌++◌, nat_le, nat_lt, None, Some, filter}
 use Rattle.std.specs.List.{filter_map, AllByRecursion}
 use Rattle.std.specs.Vec.{vec_len, vec_capacity}
 use Rattle.std.specs.Global.{Vec}
@@ -24,23 +24,27 @@ use Rattle.drm_table.specs.Limits.{are_in_range, is_between}
 use Rattle.drm_share.specs.Names.{NameList, empty_names}
 use Rattle.drm_share.specs.Tokens.{TokenList, empty_tokens}
 use Rattle.drm_model.specs.Rows.{Rows, ClientRow, MasterRow, ObjectRow, empty_rows}
-use Rattle.drm_modes.specs.Topology.{Topology}
+use Rattle.drm_modes.specs.Topology.{Topology, IsTopology}
+use Rattle.drm_table.specs.Results.{IsFew}
+use Rattle.drm_model.specs.Reply.{reply}
+use Rattle.drm_model.proofs.FewIds.{few_reply}
+use Rattle.drm_modes.specs.Modes.{ModeSet, AreModes, empty_modes, screen_count, lit_rows, shown_rows}
 use Rattle.drm_model.specs.Change.{after}
-use Rattle.drm_model.specs.Run.{FoundRoom, places_left, run, rows_of, no_room, start_of}
+use Rattle.drm_model.specs.Run.{FoundRoom, places_left, run, rows_of, noted_in, no_room, start_of}
 use Rattle.drm_model.proofs.Births.{births_rise}
 use Rattle.drm_model.proofs.Counts.{few_rows}
-use Rattle.drm_model.proofs.Journals.{found_room_push, rows_noted, after-steps, rows_of-limits, rows_of-steps, room_after}
+use Rattle.drm_model.proofs.Journals.{found_room_push, rows_noted, after-topology, after-steps, rows_of-topology, rows_of-limits, rows_of-steps, room_after}
 use Rattle.drm_device.specs.declared.device.Device.TheInside.{Inside}
 use Rattle.drm_masters.specs.declared.rows.Master.{Master}
 use Rattle.drm_masters.specs.declared.rows.Member.{Member}
 use Rattle.drm_masters.specs.Masters.{MasterSet, AreMasters}
 use Rattle.drm_state.specs.declared.state.State.{State}
 use Rattle.drm_device.specs.Device.{history_of, IsDevice}
-use Rattle.drm_state.specs.Parts.{client_row_of, master_row_of, magic_row_of, object_row_of, hold_row_of, holds_of, name_row_of, token_row_of, tokens_of, keys_of, token_keys, referring_keys}
-use Rattle.drm_state.specs.Ties.{Tie, MembersOpen, ClientsHave, MastersAre, NoneKept, MagicsSuffice, HasMaster, HoldsRise, ObjectsCounted, NamesHeld, is_tied, IsTied, IsLater, IsReady, AreTied, AreNamed}
-use Rattle.drm_model.specs.Parts.{Part, Bounds, Masters, Magics, Holds, Clients, Objects, Names, Tokens, DeviceMaster, LastToken, count_in}
+use Rattle.drm_state.specs.Parts.{client_row_of, master_row_of, magic_row_of, object_row_of, hold_row_of, holds_of, name_row_of, token_row_of, tokens_of, framebuffer_row_of, framebuffers_of, shown_row_of, keys_of, token_keys, framebuffer_keys, referring, referring_keys}
+use Rattle.drm_state.specs.Ties.{Tie, MembersOpen, ClientsHave, MastersAre, NoneKept, MagicsSuffice, ModesAre, HasMaster, HoldsRise, ObjectsCounted, NamesHeld, is_tied, IsTied, IsLater, IsReady, AreTied, AreNamed}
+use Rattle.drm_model.specs.Parts.{Part, Bounds, Masters, Magics, Holds, Clients, Objects, Names, Tokens, Framebuffers, Shown, DeviceMaster, LastToken, count_in}
 use Rattle.drm_state.specs.Refinement.{stands_for, Represents, Stands}
-use Rattle.drm_state.proofs.Represented.{clients_are, masters_are, holds_are, objects_are, tokens_are}
+use Rattle.drm_state.proofs.Represented.{bounds_are, clients_are, masters_are, holds_are, objects_are, tokens_are, framebuffers_are, modes_so}
 use Rattle.drm_state.proofs.Outcomes.{represented_count}
 use Rattle.drm_state.proofs.Lookups.{is_open_is}
 
@@ -77,10 +81,24 @@ pub has_place : (d : Inside) (event : Event) → IsDevice d → no_room (rows_of
 has_place d event h room = omega (arith, fits_after d event h room, h.reserved)
 
 -- the fields after an event that was noted
-pub next_rows : (d : Inside) (event : Event) (journal : Vec Event) (s : State) → journal.items ≡ d.journal.items ++ event ∷ [] →
-    rows_of (history_of (record { topology = d.topology; limits = d.limits; journal = journal; state = s })) ≡ after (rows_of (history_of d)) event
-next_rows d event journal s e =
-    ap (λ j. rows_of (record { topology = d.topology; limits = d.limits; journal = j })) e ∙ rows_noted (history_of d) event
+pub next_history : (d : Inside) (event : Event) (journal : Vec Event) (s : State) → journal.items ≡ d.journal.items ++ event ∷ [] → s.modes.topology ≡ d.state.modes.topology →
+    history_of (record { limits = d.limits; journal = journal; state = s }) ≡ noted_in (history_of d) event
+next_history d event journal s e fixed = λ i. record { topology = fixed i; limits = d.limits; journal = e i }
+
+pub next_rows : (d : Inside) (event : Event) (journal : Vec Event) (s : State) → journal.items ≡ d.journal.items ++ event ∷ [] → s.modes.topology ≡ d.state.modes.topology →
+    rows_of (history_of (record { limits = d.limits; journal = journal; state = s })) ≡ after (rows_of (history_of d)) event
+next_rows d event journal s e fixed = ap rows_of (next_history d event journal s e fixed) ∙ rows_noted (history_of d) event
+
+-- the same history, of another state
+pub same_history : (d : Inside) (s : State) → s.modes.topology ≡ d.state.modes.topology → history_of (record { limits = d.limits; journal = d.journal; state = s }) ≡ history_of d
+same_history d s fixed = λ i. record { topology = fixed i; limits = d.limits; journal = d.journal.items }
+
+-- the fixed mode objects stay
+pub topology_same : (d : Inside) (s : State) (w : Rows) → Represents s w → w.topology ≡ (rows_of (history_of d)).topology → s.modes.topology ≡ d.state.modes.topology
+topology_same d s w r e = (bounds_are s w r).7 ∙ e ∙ rows_of-topology (history_of d)
+
+pub topology_after : (d : Inside) (event : Event) (s : State) → Represents s (after (rows_of (history_of d)) event) → s.modes.topology ≡ d.state.modes.topology
+topology_after d event s r = topology_same d s (after (rows_of (history_of d)) event) r (after-topology (rows_of (history_of d)) event)
 
 -- each event of the longer journal found room
 next_room : (d : Inside) (event : Event) → IsDevice d → no_room (rows_of (history_of d)) event ≡ false → FoundRoom (start_of (history_of d)) (d.journal.items ++ event ∷ [])
@@ -89,14 +107,15 @@ next_room d event h room = found_room_push (start_of (history_of d)) d.journal.i
 
 pub next_device : (d : Inside) (event : Event) (journal : Vec Event) (s : State) → IsDevice d → no_room (rows_of (history_of d)) event ≡ false →
     journal.items ≡ d.journal.items ++ event ∷ [] → vec_len journal ≡ vec_len d.journal + 1 → vec_capacity journal ≡ vec_capacity d.journal →
-    IsTied s → Represents s (after (rows_of (history_of d)) event) → IsDevice (record { topology = d.topology; limits = d.limits; journal = journal; state = s })
+    IsTied s → Represents s (after (rows_of (history_of d)) event) → IsDevice (record { limits = d.limits; journal = journal; state = s })
 next_device d event journal s h room items len capacity t r =
     let count = represented_count s (after (rows_of (history_of d)) event) r in
     let enough = fits_after d event h room in
+    let fixed = topology_after d event s r in
     record {
-      rows = subst (Represents s) (sym (next_rows d event journal s items)) r;
+      rows = subst (Represents s) (sym (next_rows d event journal s items fixed)) r;
       tied = t;
-      found_room = subst (FoundRoom (start_of (history_of d))) (sym items) (next_room d event h room);
+      found_room = subst (λ t. FoundRoom (empty_rows t d.limits) journal.items) (sym fixed) (subst (FoundRoom (start_of (history_of d))) (sym items) (next_room d event h room));
       places = omega arith;
       reserved = omega (arith, h.reserved);
       in_range = h.in_range;
@@ -104,11 +123,14 @@ next_device d event journal s h room items len capacity t r =
     }
 
 -- the fields after an event for which memory was short
-pub same_device : (d : Inside) (s : State) → IsDevice d → IsTied s → Represents s (rows_of (history_of d)) → IsDevice (record { topology = d.topology; limits = d.limits; journal = d.journal; state = s })
+pub same_device : (d : Inside) (s : State) → IsDevice d → IsTied s → Represents s (rows_of (history_of d)) → IsDevice (record { limits = d.limits; journal = d.journal; state = s })
 same_device d s h t r =
     let now = represented_count s (rows_of (history_of d)) r in
     let before = represented_count d.state (rows_of (history_of d)) h.rows in
-    record { rows = r; tied = t; found_room = h.found_room; places = omega (arith, h.places); reserved = h.reserved; in_range = h.in_range; journal_fits = h.journal_fits }
+    let fixed = topology_same d s (rows_of (history_of d)) r refl in
+    let rows = subst (λ t. Represents s (rows_of (record { topology = t; limits = d.limits; journal = d.journal.items }))) (sym fixed) r in
+    let found = subst (λ t. FoundRoom (empty_rows t d.limits) d.journal.items) (sym fixed) h.found_room in
+    record { rows = rows; tied = t; found_room = found; places = omega (arith, h.places); reserved = h.reserved; in_range = h.in_range; journal_fits = h.journal_fits }
 
 -- a number that is tested for its range is at most the greatest
 at_most : (low high n : ℕ) → is_between low high n ≡ true → n ≤ high
@@ -130,6 +152,20 @@ before_objects limits h =
     let before_framebuffers = (and_parts _ _ before_lessees).0 in
     (and_parts _ _ before_framebuffers).0
 
+-- `&&` groups to the left here too
+framebuffers_between : (limits : Limits) → are_in_range limits ≡ true → is_between 1 64 limits.framebuffers ≡ true
+unfolding are_in_range
+framebuffers_between limits h =
+    let before_journal = (and_parts _ _ h).0 in
+    let before_lessees = (and_parts _ _ before_journal).0 in
+    (and_parts _ (is_between 1 64 limits.framebuffers) before_lessees).1
+
+pub some_framebuffers : (limits : Limits) → are_in_range limits ≡ true → 1 ≤ limits.framebuffers
+some_framebuffers limits h = at_least 1 64 limits.framebuffers (framebuffers_between limits h)
+
+pub few_framebuffers_allowed : (limits : Limits) → are_in_range limits ≡ true → limits.framebuffers ≤ 64
+few_framebuffers_allowed limits h = at_most 1 64 limits.framebuffers (framebuffers_between limits h)
+
 pub some_tokens : (limits : Limits) → are_in_range limits ≡ true → 1 ≤ limits.tokens
 some_tokens limits h = at_least 1 65535 limits.tokens (and_parts _ (is_between 1 65535 limits.tokens) (before_objects limits h)).1
 
@@ -145,16 +181,23 @@ abbrev no_masters : ℕ → ℕ → MasterSet
 no_masters clients lessees = record { members = []; masters = []; device_master = None; last_magic = clients; last_lessee = lessees }
 
 -- its parts are empty
-pub record IsStart (s : State) (limits : Limits) : Type 0 where
+pub record IsStart (s : State) (t : Topology) (limits : Limits) : Type 0 where
   pub files : s.files ≡ empty_files limits.clients limits.handles
   pub masters : s.masters ≡ no_masters limits.clients limits.lessees
   pub objects : s.objects ≡ record { limit = limits.objects; objects = [] }
   pub names : s.names ≡ empty_names limits.names
   pub tokens : s.tokens ≡ empty_tokens limits.tokens
+  pub modes : s.modes ≡ empty_modes t limits.framebuffers
+  pub modes_are : AreModes s.modes
 
-start_represents : (t : Topology) (limits : Limits) (s : State) → IsStart s limits → (part : Part) → stands_for part s (empty_rows t limits)
+-- all is dark
+all_dark : (x n : ℕ) → lit_rows x (replicate n 0) ≡ []
+all_dark x zero = refl
+all_dark x (suc n) = all_dark (x + 1) n
+
+start_represents : (t : Topology) (limits : Limits) (s : State) → IsStart s t limits → (part : Part) → stands_for part s (empty_rows t limits)
 unfolding stands_for
-start_represents t limits s is Bounds = (ap (λ (f : FileLists). f.limit) is.files, ap (λ (f : FileLists). f.last_handle) is.files, ap (λ (o : ObjectSet). o.limit) is.objects, ap (λ (l : NameList). l.last) is.names, ap (λ (l : TokenList). l.last) is.tokens, ap (λ (v : MasterSet). v.last_magic) is.masters)
+start_represents t limits s is Bounds = (ap (λ (f : FileLists). f.limit) is.files, ap (λ (f : FileLists). f.last_handle) is.files, ap (λ (o : ObjectSet). o.limit) is.objects, ap (λ (l : NameList). l.last) is.names, ap (λ (l : TokenList). l.last) is.tokens, ap (λ (v : MasterSet). v.last_magic) is.masters, ap (λ (set : ModeSet). set.last) is.modes, ap (λ (set : ModeSet). set.topology) is.modes)
 start_represents t limits s is Clients = sym (ap (λ (f : FileLists). map (client_row_of s.masters.members) f.clients) is.files)
 start_represents t limits s is Masters = sym (ap (λ (v : MasterSet). map master_row_of v.masters) is.masters)
 start_represents t limits s is Magics = λ test. sym (ap (λ (v : MasterSet). length (filter test (filter_map magic_row_of v.members))) is.masters)
@@ -162,6 +205,8 @@ start_represents t limits s is Holds = λ test. sym (ap (λ (f : FileLists). len
 start_represents t limits s is Objects = sym (ap (λ (o : ObjectSet). map object_row_of o.objects) is.objects)
 start_represents t limits s is Names = λ test. sym (ap (λ (l : NameList). length (filter test (map (name_row_of s.objects.objects) l.names))) is.names)
 start_represents t limits s is Tokens = λ test. sym (ap (λ (l : TokenList). length (filter test (map (token_row_of s.objects.objects) l.tokens))) is.tokens)
+start_represents t limits s is Framebuffers = λ test. sym (ap (λ (set : ModeSet). length (filter test (map (framebuffer_row_of s.objects.objects) set.framebuffers))) is.modes)
+start_represents t limits s is Shown = λ test. sym (ap (λ (set : ModeSet). length (filter test (map shown_row_of (shown_rows set)))) is.modes ∙ ap (λ l. length (filter test (map shown_row_of l))) (all_dark 1 (screen_count t)))
 start_represents t limits s is LastToken = sym (ap (λ (l : TokenList). unwrap_or l.last_given 0) is.tokens)
 start_represents t limits s is DeviceMaster = sym (ap (λ (v : MasterSet). v.device_master) is.masters)
 start_represents t limits s is part = refl
@@ -169,30 +214,33 @@ start_represents t limits s is part = refl
 nobody : (clients lessees : ℕ) → AreMasters (no_masters clients lessees)
 nobody clients lessees = record { members_rise = tt; masters_rise = tt; lessors_older = tt; masters_there = tt; device_own = λ m e. absurd (let n : None ≡ Some m = e in cc); used = tt; magics_differ = tt; few = omega arith }
 
-start_tied : (limits : Limits) (s : State) → IsStart s limits → (tie : Tie) → is_tied tie s
+start_tied : (t : Topology) (limits : Limits) (s : State) → IsStart s t limits → (tie : Tie) → is_tied tie s
 unfolding is_tied
-start_tied limits s is MembersOpen = subst (λ (v : MasterSet). AllByRecursion (λ (x : Member). is_present s.files x.client ≡ true) v.members) (sym is.masters) tt
-start_tied limits s is ClientsHave = subst (λ (f : FileLists). AllByRecursion (HasMaster s.masters) f.clients) (sym is.files) tt
-start_tied limits s is MastersAre = subst AreMasters (sym is.masters) (nobody limits.clients limits.lessees)
-start_tied limits s is NoneKept = subst (λ (v : MasterSet). AllByRecursion (λ (x : Master). x.kept ≡ false) v.masters) (sym is.masters) tt
-start_tied limits s is MagicsSuffice = ap (λ (v : MasterSet). v.last_magic) is.masters ∙ sym (ap (λ (f : FileLists). f.limit) is.files)
-start_tied limits s is HoldsRise = subst (λ (f : FileLists). InOrder (λ (x y : FileHold). hold_before x y ≡ true) f.holds) (sym is.files) tt
-start_tied limits s is ObjectsCounted =
+start_tied t limits s is MembersOpen = subst (λ (v : MasterSet). AllByRecursion (λ (x : Member). is_present s.files x.client ≡ true) v.members) (sym is.masters) tt
+start_tied t limits s is ClientsHave = subst (λ (f : FileLists). AllByRecursion (HasMaster s.masters) f.clients) (sym is.files) tt
+start_tied t limits s is MastersAre = subst AreMasters (sym is.masters) (nobody limits.clients limits.lessees)
+start_tied t limits s is NoneKept = subst (λ (v : MasterSet). AllByRecursion (λ (x : Master). x.kept ≡ false) v.masters) (sym is.masters) tt
+start_tied t limits s is MagicsSuffice = ap (λ (v : MasterSet). v.last_magic) is.masters ∙ sym (ap (λ (f : FileLists). f.limit) is.files)
+start_tied t limits s is ModesAre = is.modes_are
+start_tied t limits s is HoldsRise = subst (λ (f : FileLists). InOrder (λ (x y : FileHold). hold_before x y ≡ true) f.holds) (sym is.files) tt
+start_tied t limits s is ObjectsCounted =
     subst (λ (f : FileLists). AreTied (keys_of f.holds) (referring_keys s) s.objects.objects) (sym is.files)
-    (subst (λ (l : TokenList). AreTied [] (token_keys l.tokens) s.objects.objects) (sym is.tokens)
-    (subst (λ (o : ObjectSet). AreTied [] [] o.objects) (sym is.objects) (record { there = λ n h. absurd (let k : false ≡ true = h in cc); counted = tt; used = tt; keys_differ = tt; births_differ = tt })))
-start_tied limits s is NamesHeld = subst (λ (l : NameList). AreNamed (keys_of s.files.holds) l.names) (sym is.names) tt
+    (subst (λ (l : TokenList). AreTied [] (referring l.tokens s.modes.framebuffers) s.objects.objects) (sym is.tokens)
+    (subst (λ (set : ModeSet). AreTied [] (framebuffer_keys set.framebuffers) s.objects.objects) (sym is.modes)
+    (subst (λ (o : ObjectSet). AreTied [] [] o.objects) (sym is.objects) (record { there = λ n h. absurd (let k : false ≡ true = h in cc); counted = tt; used = tt; keys_differ = tt; births_differ = tt }))))
+start_tied t limits s is NamesHeld = subst (λ (l : NameList). AreNamed (keys_of s.files.holds) l.names) (sym is.names) tt
 
-pub new_device : (d : Inside) → are_in_range d.limits ≡ true → d.journal.items ≡ [] → d.limits.journal ≤ vec_capacity d.journal → IsStart d.state d.limits → IsDevice d
+pub new_device : (d : Inside) (t : Topology) → are_in_range d.limits ≡ true → d.journal.items ≡ [] → d.limits.journal ≤ vec_capacity d.journal → IsStart d.state t d.limits → IsDevice d
 unfolding rows_of run FoundRoom
-new_device d good e room is =
-    let start : rows_of (history_of d) ≡ empty_rows d.topology d.limits = ap (run (empty_rows d.topology d.limits)) e in
+new_device d t good e room is =
+    let fixed : d.state.modes.topology ≡ t = ap (λ (set : ModeSet). set.topology) is.modes in
+    let start : rows_of (history_of d) ≡ empty_rows t d.limits = ap (run (empty_rows d.state.modes.topology d.limits)) e ∙ ap (λ t. empty_rows t d.limits) fixed in
     let journal : vec_len d.journal ≡ 0 = d.journal.ok.0 ∙ ap length e in
     let clients : length d.state.files.clients ≡ 0 = ap (λ (f : FileLists). length f.clients) is.files in
     record {
-      rows = subst (Represents d.state) (sym start) (start_represents d.topology d.limits d.state is);
-      tied = start_tied d.limits d.state is;
-      found_room = subst (FoundRoom (empty_rows d.topology d.limits)) (sym e) tt;
+      rows = subst (Represents d.state) (sym start) (start_represents t d.limits d.state is);
+      tied = start_tied t d.limits d.state is;
+      found_room = subst (FoundRoom (empty_rows d.state.modes.topology d.limits)) (sym e) tt;
       places = omega arith;
       reserved = room;
       in_range = good;
@@ -204,7 +252,7 @@ new_device d good e room is =
 not_later : (n last : ℕ) → n ≤ last → n < last + 1
 not_later n last h = omega (arith, h)
 
--- a step makes one handle and one token at most
+-- a step makes one handle, one token and one framebuffer at most
 few_holds : (d : Inside) → length (rows_of (history_of d)).holds ≤ (rows_of (history_of d)).steps
 unfolding count_in
 few_holds d = few_rows (history_of d) Holds
@@ -212,6 +260,13 @@ few_holds d = few_rows (history_of d) Holds
 few_tokens : (d : Inside) → length (rows_of (history_of d)).tokens ≤ (rows_of (history_of d)).steps
 unfolding count_in
 few_tokens d = few_rows (history_of d) Tokens
+
+few_framebuffers : (d : Inside) → length (rows_of (history_of d)).framebuffers ≤ (rows_of (history_of d)).steps
+unfolding count_in
+few_framebuffers d = few_rows (history_of d) Framebuffers
+
+framebuffers_many : (s : State) (w : Rows) → Represents s w → length w.framebuffers ≡ length s.modes.framebuffers
+framebuffers_many s w h = same-length w.framebuffers (framebuffers_of s) (framebuffers_are s w h) ∙ length-map s.modes.framebuffers (framebuffer_row_of s.objects.objects)
 
 holds_many : (s : State) (w : Rows) → Represents s w → length w.holds ≡ length s.files.holds
 holds_many s w h = same-length w.holds (holds_of s) (holds_are s w h) ∙ length-map s.files.holds (hold_row_of s.objects.objects)
@@ -231,8 +286,18 @@ ready d n h e =
       masters = all_weaker (λ (x : Master). x.birth ≤ w.steps) (λ (x : Master). x.birth < w.steps + 1) (λ x k. not_later x.birth w.steps k) d.state.masters.masters (all_of_map (λ (row : MasterRow). row.master ≤ w.steps) master_row_of d.state.masters.masters (subst (AllByRecursion (λ (row : MasterRow). row.master ≤ w.steps)) (masters_are d.state w h.rows) births.1.1));
       holds = not_later (length d.state.files.holds) w.steps (subst (λ n. n ≤ w.steps) (holds_many d.state w h.rows) (few_holds d));
       tokens = not_later (length d.state.tokens.tokens) w.steps (subst (λ n. n ≤ w.steps) (tokens_many d.state w h.rows) (few_tokens d));
+      framebuffers = not_later (length d.state.modes.framebuffers) w.steps (subst (λ n. n ≤ w.steps) (framebuffers_many d.state w h.rows) (few_framebuffers d));
     } in
     record { tied = h.tied; later = subst (λ last. IsLater d.state (last + 1)) steps later; first = omega arith; fits = let places = h.places in let journal = h.journal_fits in omega (arith, e, places, journal) }
+
+-- ---- what is answered
+
+-- an answer holds few ids
+pub few_answer : (d : Inside) (event : Event) → IsDevice d → IsFew (Ok (reply (rows_of (history_of d)) event))
+few_answer d event h =
+    let w = rows_of (history_of d) in
+    let are = modes_so d.state h.tied in
+    few_reply w event (subst IsTopology ((bounds_are d.state w h.rows).7) are.topology) (subst (λ n. n ≤ 64) (sym (framebuffers_many d.state w h.rows)) are.few)
 
 -- ---- room in the journal
 

@@ -8,7 +8,7 @@ use Rattle.drm_state.specs.Ties.{IsTied}
 use Rattle.drm_state.specs.Refinement.{Represents}
 
 abbrev pub history_of : Inside → History
-history_of d = record { topology = d.topology; limits = d.limits; journal = d.journal.items }
+history_of d = record { topology = d.state.modes.topology; limits = d.limits; journal = d.journal.items }
 
 -- the state stands for the rows of the journal; each of its events found room, and it has places for the closings of the
 -- open clients; its storage is there, and the limits are in their ranges, small enough to count with

@@ -1,3 +1,4 @@
 pub mod Audits
+pub mod Calls
 pub mod Device
 pub mod Replay

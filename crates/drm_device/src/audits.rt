@@ -6,10 +6,11 @@ ghost use Rattle.drm_model.specs.Rows.{Rows};
 ghost use Rattle.drm_model.specs.Audit as model;
 ghost use Rattle.std.specs.Option.{option_map, option_map_or, option_and_then};
 ghost use Rattle.drm_model.specs.Rows.{magic_row};
-ghost use Rattle.drm_model.specs.Audit.{audit_row, client_audit, hold_audit, master_audit, name_audit, token_audit};
+ghost use Rattle.drm_model.specs.Audit.{audit_row, client_audit, framebuffer_audit, hold_audit, master_audit, name_audit, shown_audit, token_audit};
 ghost use Rattle.drm_share.specs.Names.{AreNames};
 ghost use Rattle.drm_share.specs.Tokens.{AreTokens};
-ghost use Rattle.drm_state.specs.Parts.{client_row_by, magic_row_of, master_row_of, holds_of, names_of, tokens_of};
+ghost use Rattle.drm_modes.specs.Modes.{shown_rows};
+ghost use Rattle.drm_state.specs.Parts.{client_row_by, magic_row_of, master_row_of, framebuffers_of, holds_of, names_of, shown_row_of, tokens_of};
 ghost use Rattle.drm_state.specs.Ties.{IsTied};
 ghost use Rattle.drm_state.specs.Refinement.{OwesCall};
 ghost use Rattle.drm_device.specs.Audits.{IsPage, IsRowAt};
@@ -17,6 +18,7 @@ ghost use Rattle.drm_device.specs.Audits.{IsPage, IsRowAt};
 use drm_files::FileClient;
 use drm_gem::Object;
 use drm_masters::{Magic, Master, Member};
+use drm_modes::Modes;
 use drm_state::State;
 use drm_table::{Answer, AuditKind, AuditPage, AuditRow};
 
@@ -64,6 +66,8 @@ fn row_at(state: &State, steps: u32, kind: AuditKind, place: usize) -> Option<Au
         AuditKind::Name => name_at(state, place),
         AuditKind::Token => token_at(state, place),
         AuditKind::Hold => hold_at(state, place),
+        AuditKind::Framebuffer => framebuffer_at(state, place),
+        AuditKind::Shown => shown_at(&state.modes, place),
         AuditKind::Device => {
             let last_token = state.tokens.last_given();
             item_at(
@@ -72,7 +76,7 @@ fn row_at(state: &State, steps: u32, kind: AuditKind, place: usize) -> Option<Au
             )
         }
         // no call makes these yet
-        AuditKind::Grant | AuditKind::Framebuffer | AuditKind::Shown => None,
+        AuditKind::Grant => None,
     }
 }
 
@@ -218,6 +222,33 @@ fn token_at(state: &State, place: usize) -> Option<AuditRow>
         a: shared.token as u64,
         b: shared.client as u64,
         c: state.objects.birth(shared.object) as u64,
+        d: 0,
+    })
+}
+
+/// What is told of the framebuffer at a place, from 0, in the order of ids; none past the last.
+fn framebuffer_at(state: &State, place: usize) -> Option<AuditRow>
+    requires { IsTied state.now }
+    ensures { result ≡ slice_get (map framebuffer_audit (framebuffers_of state.now)) place }
+{
+    let made = state.modes.nth_framebuffer(place)?;
+    Some(AuditRow {
+        a: made.framebuffer as u64,
+        b: made.client as u64,
+        c: state.objects.birth(made.object) as u64,
+        d: 0,
+    })
+}
+
+/// What is told of the CRTC or plane at a place, from 0, of those that show something, in the order of ids; none past the last.
+fn shown_at(modes: &Modes, place: usize) -> Option<AuditRow>
+    ensures { result ≡ slice_get (map shown_audit (map shown_row_of (shown_rows modes.now))) place }
+{
+    let shown = modes.nth_shown(place)?;
+    Some(AuditRow {
+        a: shown.shower as u64,
+        b: shown.framebuffer as u64,
+        c: 0,
         d: 0,
     })
 }

@@ -13,7 +13,7 @@ pub(crate) const fn gem_close(client: u32, handle: u32) -> Event {
     Event::Ask(client, Call::GemClose { handle })
 }
 
-const fn destroy_dumb(client: u32, handle: u32) -> Event {
+pub(crate) const fn destroy_dumb(client: u32, handle: u32) -> Event {
     Event::Ask(client, Call::DestroyDumb { handle })
 }
 

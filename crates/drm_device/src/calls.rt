@@ -9,6 +9,7 @@ ghost use Rattle.drm_state.specs.Refinement.{Owes, OwesCall, IsAdmission};
 
 use crate::audits::audit;
 use crate::capabilities::{get_cap, set_client_cap, version};
+use crate::mode_calls::mode_call;
 use drm_buffer_calls::{
     Pixels, buf_create, create_dumb, gem_close, list_handles, stamp_read, stamp_write,
 };
@@ -108,5 +109,16 @@ fn carry_out(state: &mut State, birth: u32, client: u32, call: &Call) -> Result<
             create_dumb(state, birth, client, pixels)
         }
         Call::DestroyDumb { handle } => Ok(gem_close(state, client, *handle)),
+        Call::GetResources
+        | Call::GetPlaneResources
+        | Call::GetCrtc { .. }
+        | Call::GetEncoder { .. }
+        | Call::GetConnector { .. }
+        | Call::GetPlane { .. }
+        | Call::SetCrtc { .. }
+        | Call::SetPlane { .. }
+        | Call::GetFb { .. }
+        | Call::AddFb { .. }
+        | Call::RmFb { .. } => mode_call(state, birth, client, call),
     }
 }

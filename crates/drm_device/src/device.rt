@@ -2,6 +2,7 @@
 
 ghost use Rattle.std.specs.Prelude.{◌≡◌, ◌+◌, ◌^◌, ◌<◌, ◌≤◌, ◌↔◌, false, true, not, [], length, Err, IfOk, OnOk, OnErr};
 ghost use Rattle.drm_table.specs.Limits.{are_in_range};
+ghost use Rattle.drm_table.specs.Results.{IsFew};
 ghost use Rattle.drm_model.specs.Audit.{audit_page, audit_rows, rising_rows};
 ghost use Rattle.drm_model.specs.Run.{Step, FoundRoom, no_room, noted_in, rows_of, start_of};
 
@@ -10,7 +11,7 @@ use crate::events::advance;
 use drm_files::Files;
 use drm_gem::Objects;
 use drm_masters::Masters;
-use drm_modes::Topology;
+use drm_modes::{Modes, Topology};
 use drm_share::{Names, Tokens};
 use drm_state::State;
 use drm_table::{Answer, Apart, AuditKind, AuditPage, Event, Limits, are_in_range};
@@ -21,7 +22,6 @@ use std::marker::Model;
 /// its rows those that the journal leaves of empty ones.
 #[derive(Drop)]
 pub struct Device {
-    topology: Topology,
     limits: Limits,
     journal: Vec<Event>,
     state: State,
@@ -61,8 +61,9 @@ impl Device {
         let Ok(journal) = Vec::with_capacity(alloc, limits.journal as usize) else {
             return Err(NewFault::NoMemory);
         };
+        let modes = Modes::new(alloc, topology, limits.framebuffers);
+        modes.laws();
         Ok(Device {
-            topology,
             limits,
             journal,
             state: State {
@@ -71,14 +72,16 @@ impl Device {
                 objects: Objects::new(alloc, limits.objects),
                 names: Names::new(alloc, limits.names),
                 tokens: Tokens::new(alloc, limits.tokens),
+                modes,
             },
         })
     }
 
     /// Answers one event. A denial is an answer: it names the first rule that fails, and is noted. What stands apart, a
-    /// full journal (own) and want of memory, leaves the device as it was and isn't noted.
+    /// full journal (own) and want of memory, leaves the device as it was and isn't noted. What is answered fits one frame.
     pub fn step(&mut self, event: Event) -> Result<Answer, Apart>
         ensures step { Step (rows_of self.old) event result (rows_of self.new) }
+        ensures few { IsFew result }
         ensures ok { OnOk result (self.new ≡ noted_in self.old event) }
         ensures err { OnErr result (self.new ≡ self.old) }
         ensures in_range { are_in_range self.new.limits ≡ true }

@@ -6,6 +6,7 @@ mod calls;
 mod capabilities;
 mod device;
 mod events;
+mod mode_calls;
 mod replays;
 
 pub use device::{Device, NewFault};
@@ -17,6 +18,8 @@ pub use replays::{ReplayFault, replay};
 mod buffer_tests;
 #[cfg(test)]
 mod master_tests;
+#[cfg(test)]
+mod mode_tests;
 #[cfg(test)]
 mod share_tests;
 #[cfg(test)]

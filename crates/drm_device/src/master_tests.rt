@@ -5,9 +5,9 @@ use crate::tests::{CARD, RENDER, ROOT, answers, audit_row, check_rows, denied, d
 use drm_table::{Answer, Apart, AuditKind, Call, Event, Limits, Rule};
 use std::test::Fail;
 
-const DONE: Result<Answer, Apart> = Ok(Answer::Done);
+pub(crate) const DONE: Result<Answer, Apart> = Ok(Answer::Done);
 
-const CLOSED: Result<Answer, Apart> = Ok(Answer::Closed);
+pub(crate) const CLOSED: Result<Answer, Apart> = Ok(Answer::Closed);
 
 const fn get_magic(client: u32) -> Event {
     Event::Ask(client, Call::GetMagic)
@@ -21,11 +21,11 @@ const fn set_master(client: u32) -> Event {
     Event::Ask(client, Call::SetMaster)
 }
 
-const fn drop_master(client: u32) -> Event {
+pub(crate) const fn drop_master(client: u32) -> Event {
     Event::Ask(client, Call::DropMaster)
 }
 
-const fn opened(client: u32) -> Result<Answer, Apart> {
+pub(crate) const fn opened(client: u32) -> Result<Answer, Apart> {
     Ok(Answer::Opened { client })
 }
 

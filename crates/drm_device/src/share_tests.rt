@@ -11,11 +11,11 @@ pub(crate) const fn gem_flink(client: u32, handle: u32) -> Event {
     Event::Ask(client, Call::GemFlink { handle })
 }
 
-const fn gem_open(client: u32, name: u32) -> Event {
+pub(crate) const fn gem_open(client: u32, name: u32) -> Event {
     Event::Ask(client, Call::GemOpen { name })
 }
 
-const fn prime_export(client: u32, handle: u32) -> Event {
+pub(crate) const fn prime_export(client: u32, handle: u32) -> Event {
     Event::Ask(client, Call::PrimeHandleToFd { handle })
 }
 

@@ -1,6 +1,7 @@
 ghost use Rattle.std.specs.Prelude.{◌≤◌};
 
 use crate::master_tests::auth_magic;
+use crate::mode_tests::set_crtc;
 use crate::share_tests::gem_flink;
 use crate::{Device, Limits, NewFault, ReplayFault, Topology, replay};
 use drm_table::{Answer, Apart, AuditKind, AuditRow, Call, Event, Opening, Rule};
@@ -23,7 +24,7 @@ const fn version(client: u32) -> Event {
     Event::Ask(client, Call::Version)
 }
 
-const fn create_dumb(client: u32, width: u32, height: u32, bpp: u32) -> Event {
+pub(crate) const fn create_dumb(client: u32, width: u32, height: u32, bpp: u32) -> Event {
     Event::Ask(client, Call::CreateDumb { width, height, bpp })
 }
 
@@ -39,7 +40,7 @@ pub(crate) const fn audit_row(a: u64, b: u64, c: u64, d: u64) -> AuditRow {
     AuditRow { a, b, c, d }
 }
 
-const fn dumb(handle: u32, pitch: u32, size: u64) -> Result<Answer, Apart> {
+pub(crate) const fn dumb(handle: u32, pitch: u32, size: u64) -> Result<Answer, Apart> {
     Ok(Answer::Dumb {
         handle,
         pitch,
@@ -240,7 +241,7 @@ fn audit_is_for_root(rt: HostRuntime) -> Result<(), Fail> {
         (CARD, Ok(Answer::Opened { client: 1 })),
         (CARD, Ok(Answer::Opened { client: 2 })),
         (gem_flink(2, 1), denied(Rule::Auth)),
-        (version(2), Ok(VERSION)),
+        (set_crtc(2, 1, 0, 0), denied(Rule::Master)),
         (auth_magic(2, 1), denied(Rule::Master)),
         (audit(2, AuditKind::Client, 0), denied(Rule::RootOnly)),
         (ROOT, Ok(Answer::Opened { client: 7 })),

@@ -1,17 +1,17 @@
 -- A result's frame is a frame, and the result is found in it.
-use Rattle.std.proofs.Common.{◌≡◌, ℕ, ◌^◌, ◌<◌, ◌+◌, ◌*◌, ◌≤◌, List, ◌++◌, All, length, drop, true, Some, Ok, Err, refl, sym, ap, ◌∙◌, arith}
+use Rattle.std.proofs.Common.{◌≡◌, ℕ, ◌^◌, ◌<◌, ◌+◌, ◌*◌, ◌≤◌, List, [], ◌++◌, All, length, drop, true, Some, Ok, Err, refl, sym, ap, ◌∙◌, arith}
 use Rattle.std.specs.Prelude.{nat_le, map}
 use Rattle.std.specs.List.{flat_map}
 use Rattle.std.proofs.lemmas.Bool.Decides.{nat_tests}
 use Rattle.std.proofs.lemmas.Bool.{eq-eqb}
-use Rattle.std.proofs.lemmas.List.{drop_at, length-map}
+use Rattle.std.proofs.lemmas.List.{append-nil, drop_at, length-map}
 use Rattle.drm_table.specs.declared.answers.Answer.{Answer}
-use Rattle.drm_table.specs.declared.answers.Answer.TheVariants.{List as Listed, Audit, Denied}
+use Rattle.drm_table.specs.declared.answers.Answer.TheVariants.{List as Listed, Resources, Audit, Denied}
 use Rattle.drm_table.specs.declared.answer_kinds.AnswerKind.{AnswerKind}
 use Rattle.drm_table.specs.declared.fields.Width.{Width}
 use Rattle.drm_table.specs.declared.fields.Field.{Field}
 use Rattle.drm_table.specs.Answers.{answer_kind_row, Told, answer_number, answer_widths, answer_kind_of, answer_with, told, TellsBack, HasToldWidths}
-use Rattle.drm_table.specs.Answers.Told.{row, list, page, denial}
+use Rattle.drm_table.specs.Answers.Told.{row, resources, list, page, denial}
 use Rattle.drm_table.specs.Fields.{FitsField, width_of}
 use Rattle.drm_table.proofs.AnswerRows.{number-small, few-widths, kind-found, tells-back, has-widths}
 use Rattle.drm_table.specs.declared.apart.Apart.{Apart}
@@ -21,15 +21,15 @@ use Rattle.drm_table.specs.Rules.{rule_number, rule_errno, apart_number, apart_e
 use Rattle.drm_frames.specs.Number.{u32, u32_in}
 use Rattle.drm_frames.specs.Grammar.{Packet, packet, IsPacket}
 use Rattle.drm_frames.specs.Fields.{field_text, numbers_in}
-use Rattle.drm_frames.specs.Answers.{Outcome, told_packet, FitsTold, answer_packet, FitsFields, IsAnswer, rule_of, apart_of, denied, refused, list_in, audit_in, denied_in, refused_in, answer_in}
-use Rattle.drm_frames.specs.Lists.{list_text, FitsList, ids_in}
+use Rattle.drm_frames.specs.Answers.{Outcome, told_packet, FitsTold, answer_packet, FitsFields, IsAnswer, rule_of, apart_of, denied, refused, resources_in, list_in, audit_in, denied_in, refused_in, answer_in}
+use Rattle.drm_frames.specs.Lists.{list_text, FitsList, FitsResources, front_list, behind_list}
 use Rattle.drm_frames.specs.Pages.{row_text, page_text, FitsPage, rows_in}
 use Rattle.drm_frames.proofs.Numbers.{u32_in-u32, length-u32}
 use Rattle.drm_frames.proofs.FieldLaws.{two-bytes, length-two, last-of-two}
 use Rattle.drm_table.proofs.RefusalRows.{rule-small, apart-small}
 use Rattle.drm_frames.proofs.RuleLaws.{rule-found, apart-found}
 use Rattle.drm_frames.proofs.FieldTexts.{length-fields, fields-bytes, numbers-read}
-use Rattle.drm_frames.proofs.ListLaws.{ids_in-ids, length-list, list-bytes}
+use Rattle.drm_frames.proofs.ListLaws.{length-list, list-bytes, front-found, four-apart, length-four, four-bytes}
 use Rattle.drm_frames.proofs.PageLaws.{rows_in-rows, length-page, page-bytes}
 
 -- ---- a result's frame is a frame
@@ -39,6 +39,11 @@ told-fits (row kind fs) widths h = record {
   number = number-small kind;
   short = omega (arith, length-fields fs, length-map fs width_of, ap length widths, few-widths kind);
   bytes = fields-bytes fs;
+}
+told-fits (resources crtcs connectors encoders framebuffers) widths h = record {
+  number = omega arith;
+  short = let few = h.few in omega (arith, length-four crtcs connectors encoders framebuffers);
+  bytes = four-bytes crtcs connectors encoders framebuffers;
 }
 told-fits (list ids) widths h = record {
   number = omega arith;
@@ -74,9 +79,9 @@ refused_in-two number errno a b = rw (eq-eqb _ 8 (length-two number errno), u32_
 
 -- the numbers of the others are no row's
 others-own : (fields : List ℕ) → (answer_in (packet 0x1007 fields) ≡ list_in fields) × (answer_in (packet 0x100B fields) ≡ audit_in fields)
-    × (answer_in (packet 0x2000 fields) ≡ denied_in fields) × (answer_in (packet 0x2001 fields) ≡ refused_in fields)
+    × (answer_in (packet 0x2000 fields) ≡ denied_in fields) × (answer_in (packet 0x2001 fields) ≡ refused_in fields) × (answer_in (packet 0x1006 fields) ≡ resources_in fields)
 unfolding answer_in answer_kind_of answer_kind_row
-others-own fields = (refl, refl, refl, refl)
+others-own fields = (refl, refl, refl, refl, refl)
 
 denied-found : (rule : Rule) → answer_in (packet 0x2000 (u32 (rule_number rule) ++ u32 (rule_errno rule))) ≡ Some (Ok (Denied rule))
 denied-found rule = (others-own (u32 (rule_number rule) ++ u32 (rule_errno rule))).2 ∙ denied_in-two (rule_number rule) (rule_errno rule) (rule-small rule).0 (rule-small rule).1 ∙ ap denied (rule-found rule)
@@ -84,19 +89,38 @@ denied-found rule = (others-own (u32 (rule_number rule) ++ u32 (rule_errno rule)
 refused-found : (apart : Apart) → answer_in (packet 0x2001 (u32 (apart_number apart) ++ u32 (apart_errno apart))) ≡ Some (Err apart)
 refused-found apart = (others-own (u32 (apart_number apart) ++ u32 (apart_errno apart))).3 ∙ refused_in-two (apart_number apart) (apart_errno apart) (apart-small apart).0 (apart-small apart).1 ∙ ap refused (apart-found apart)
 
-list_in-ids : (count : ℕ) (fields : List ℕ) → count ≤ 64 → length fields ≡ 4 + 4 * count → u32_in fields ≡ count → list_in fields ≡ Some (Ok (Listed (ids_in count (drop 4 fields))))
-list_in-ids count fields few len says =
-    let long : nat_le 4 (length fields) ≡ true = grind (arith, nat_tests) in
-    let most : nat_le count 64 ≡ true = grind (arith, nat_tests) in
-    rw (long, says, most, eq-eqb (length fields) (4 + 4 * count) len) refl
+list_in-behind : (fields : List ℕ) → behind_list fields ≡ Some [] → list_in fields ≡ Some (Ok (Listed (front_list fields)))
+list_in-behind fields e = rw e refl
 
 list-found : (ids : List ℕ) → FitsList ids → answer_in (packet 0x1007 (list_text ids)) ≡ Some (Ok (Listed ids))
 list-found ids fits =
-    let few = fits.few in
-    let behind : drop 4 (list_text ids) ≡ flat_map u32 ids = drop_at (u32 (length ids)) (flat_map u32 ids) 4 (length-u32 (length ids)) in
+    let text = list_text ids ++ [] in
+    let front = front-found ids [] fits in
     (others-own (list_text ids)).0
-    ∙ list_in-ids (length ids) (list_text ids) few (length-list ids) (u32_in-u32 (length ids) (flat_map u32 ids) (omega arith))
-    ∙ ap (λ (xs : List ℕ). Some (Ok (Listed xs))) (ap (ids_in (length ids)) behind ∙ ids_in-ids ids fits.each)
+    ∙ ap list_in (sym (append-nil (list_text ids)))
+    ∙ list_in-behind text front.0
+    ∙ ap (λ (xs : List ℕ). Some (Ok (Listed xs))) front.1
+
+resources_in-lists : (first second third fourth : List ℕ) → behind_list first ≡ Some second → behind_list second ≡ Some third → behind_list third ≡ Some fourth → behind_list fourth ≡ Some []
+    → resources_in first ≡ Some (Ok (Resources (front_list first) (front_list second) (front_list third) (front_list fourth)))
+resources_in-lists first second third fourth a b c d = rw (a, b, c, d) refl
+
+resources-found : (crtcs connectors encoders framebuffers : List ℕ) → FitsResources crtcs connectors encoders framebuffers
+    → answer_in (packet 0x1006 (list_text crtcs ++ list_text connectors ++ list_text encoders ++ list_text framebuffers)) ≡ Some (Ok (Resources crtcs connectors encoders framebuffers))
+resources-found crtcs connectors encoders framebuffers fits =
+    let fourth = list_text framebuffers ++ [] in
+    let third = list_text encoders ++ fourth in
+    let second = list_text connectors ++ third in
+    let first = list_text crtcs ++ second in
+    let a = front-found crtcs second fits.each_crtc in
+    let b = front-found connectors third fits.each_connector in
+    let c = front-found encoders fourth fits.each_encoder in
+    let d = front-found framebuffers [] fits.each_framebuffer in
+    let lists : Resources (front_list first) (front_list second) (front_list third) (front_list fourth) ≡ Resources crtcs connectors encoders framebuffers = rw (a.1, b.1, c.1, d.1) refl in
+    (others-own (list_text crtcs ++ list_text connectors ++ list_text encoders ++ list_text framebuffers)).4
+    ∙ ap resources_in (four-apart (list_text crtcs) (list_text connectors) (list_text encoders) (list_text framebuffers))
+    ∙ resources_in-lists first second third fourth a.0 b.0 c.0 d.0
+    ∙ ap (λ (answer : Answer). Some (Ok answer)) lists
 
 audit_in-page : (count : ℕ) (fields : List ℕ) → count ≤ 16 → length fields ≡ 4 + 32 * count → u32_in fields ≡ count → audit_in fields ≡ Some (Ok (Audit (rows_in count (drop 4 fields))))
 audit_in-page count fields few len says =
@@ -122,6 +146,7 @@ row-found answer kind fs back widths each =
 
 told-found : (answer : Answer) (t : Told) → TellsBack answer t → HasToldWidths t → FitsTold t → answer_in (told_packet t) ≡ Some (Ok answer)
 told-found answer (row kind fs) back widths h = row-found answer kind fs back widths h
+told-found answer (resources crtcs connectors encoders framebuffers) back widths h = resources-found crtcs connectors encoders framebuffers h ∙ ap (λ (a : Answer). Some (Ok a)) (sym back)
 told-found answer (list ids) back widths h = list-found ids h ∙ ap (λ (a : Answer). Some (Ok a)) (sym back)
 told-found answer (page rows) back widths h = audit-found rows h ∙ ap (λ (a : Answer). Some (Ok a)) (sym back)
 told-found answer (denial rule) back widths h = denied-found rule ∙ ap (λ (a : Answer). Some (Ok a)) (sym back)

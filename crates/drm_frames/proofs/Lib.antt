@@ -12,6 +12,7 @@ pub mod CallLaws
 pub mod RowLaws
 pub mod HelloLaws
 pub mod RuleLaws
+pub mod AnswerLists
 pub mod AnswerTexts
 pub mod AnswerLaws
 pub mod ReadBack

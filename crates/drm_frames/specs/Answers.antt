@@ -1,12 +1,12 @@
 -- What a result is as a frame (own).
-use Rattle.std.specs.Prelude.{◌≡◌, ℕ, ◌+◌, ◌*◌, ◌&&◌, if◌then◌else◌, nat_eq, nat_le, List, [], ◌∷◌, ◌++◌, All, length, drop, Option, Some, None, Result, Ok, Err}
+use Rattle.std.specs.Prelude.{◌≡◌, ℕ, ◌+◌, ◌*◌, ◌&&◌, if◌then◌else◌, nat_eq, nat_le, List, ◌++◌, All, length, drop, Option, Some, None, Result, Ok, Err}
 use Rattle.drm_table.specs.declared.answers.Answer.{Answer}
-use Rattle.drm_table.specs.declared.answers.Answer.TheVariants.{List as Listed, Audit, Denied}
+use Rattle.drm_table.specs.declared.answers.Answer.TheVariants.{List as Listed, Resources, Audit, Denied}
 use Rattle.drm_table.specs.declared.answer_kinds.AnswerKind.{AnswerKind}
 use Rattle.drm_table.specs.declared.apart.Apart.{Apart}
 use Rattle.drm_table.specs.declared.rules.Rule.{Rule}
 use Rattle.drm_table.specs.Answers.{Told, answer_number, answer_widths, answer_kind_of, answer_with, told}
-use Rattle.drm_table.specs.Answers.Told.{row, list, page, denial}
+use Rattle.drm_table.specs.Answers.Told.{row, resources, list, page, denial}
 use Rattle.drm_table.specs.Fields.{FitsField}
 use Rattle.drm_table.specs.Rules.{rule_number, rule_errno, rule_of_number, apart_number, apart_errno, apart_of_number}
 use Rattle.std.specs.List.{flat_map}
@@ -14,7 +14,7 @@ use Rattle.std.specs.Option.{option_map, option_and_then}
 use Rattle.drm_frames.specs.Number.{u32, u32_in}
 use Rattle.drm_frames.specs.Grammar.{Packet, packet, frame_text}
 use Rattle.drm_frames.specs.Fields.{field_text, numbers_in}
-use Rattle.drm_frames.specs.Lists.{list_text, FitsList, ids_in}
+use Rattle.drm_frames.specs.Lists.{list_text, FitsList, FitsResources, front_list, behind_list}
 use Rattle.drm_frames.specs.Pages.{page_text, FitsPage, rows_in}
 
 -- what the device gives back: an answer, or what stands apart
@@ -23,9 +23,10 @@ Outcome = Result Answer Apart
 
 -- ---- the grammar
 
--- the fields of an answer one behind the other, a list, a page, or the rule's number and errno
+-- the fields of an answer one behind the other, four lists, a list, a page, or the rule's number and errno
 abbrev pub told_packet : Told → Packet
 told_packet (row kind fs) = packet (answer_number kind) (flat_map field_text fs)
+told_packet (resources crtcs connectors encoders framebuffers) = packet 0x1006 (list_text crtcs ++ list_text connectors ++ list_text encoders ++ list_text framebuffers)
 told_packet (list ids) = packet 0x1007 (list_text ids)
 told_packet (page rows) = packet 0x100B (page_text rows)
 told_packet (denial rule) = packet 0x2000 (u32 (rule_number rule) ++ u32 (rule_errno rule))
@@ -38,6 +39,7 @@ answer_packet (Err apart) = packet 0x2001 (u32 (apart_number apart) ++ u32 (apar
 -- The numbers that are told fit their fields.
 abbrev pub FitsTold : Told → Type 0
 FitsTold (row kind fs) = All FitsField fs
+FitsTold (resources crtcs connectors encoders framebuffers) = FitsResources crtcs connectors encoders framebuffers
 FitsTold (list ids) = FitsList ids
 FitsTold (page rows) = FitsPage rows
 FitsTold (denial rule) = Unit {0}
@@ -62,10 +64,22 @@ answer_text outcome = frame_text (answer_packet outcome)
 
 -- ---- the same as a function
 
--- what a count of at most 64 and so many ids say, and nothing behind them
+-- what a list says, where it ends the fields
+abbrev pub list_from : List ℕ → List ℕ → Option Outcome
+list_from fields behind = if nat_eq (length behind) 0 then Some (Ok (Listed (front_list fields))) else None
+
+-- what a list says, and nothing behind it
 abbrev pub list_in : List ℕ → Option Outcome
-list_in fields =
-    if nat_le 4 (length fields) && nat_le (u32_in fields) 64 && nat_eq (length fields) (4 + 4 * u32_in fields) then Some (Ok (Listed (ids_in (u32_in fields) (drop 4 fields)))) else None
+list_in fields = option_and_then (list_from fields) (behind_list fields)
+
+-- what four lists say, where the last ends the fields
+abbrev pub resources_from : List ℕ → List ℕ → List ℕ → List ℕ → List ℕ → Option Outcome
+resources_from crtcs connectors encoders framebuffers behind =
+    if nat_eq (length behind) 0 then Some (Ok (Resources (front_list crtcs) (front_list connectors) (front_list encoders) (front_list framebuffers))) else None
+
+-- what four lists say, and nothing behind them
+abbrev pub resources_in : List ℕ → Option Outcome
+resources_in fields = option_and_then (λ second. option_and_then (λ third. option_and_then (λ fourth. option_and_then (resources_from fields second third fourth) (behind_list fourth)) (behind_list third)) (behind_list second)) (behind_list fields)
 
 -- what a count of at most 16 and so many rows say, and nothing behind them
 abbrev pub audit_in : List ℕ → Option Outcome
@@ -109,7 +123,8 @@ row_in kind fields = option_map Ok (option_and_then (answer_with kind) (numbers_
 abbrev pub result_in : Option AnswerKind → Packet → Option Outcome
 result_in (Some kind) f = row_in kind f.fields
 result_in None f =
-    if nat_eq f.number 0x1007 then list_in f.fields
+    if nat_eq f.number 0x1006 then resources_in f.fields
+    else if nat_eq f.number 0x1007 then list_in f.fields
     else if nat_eq f.number 0x100B then audit_in f.fields
     else if nat_eq f.number 0x2000 then denied_in f.fields
     else if nat_eq f.number 0x2001 then refused_in f.fields

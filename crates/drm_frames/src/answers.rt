@@ -1,12 +1,13 @@
 //! What a result is as a frame.
-ghost use Rattle.std.specs.Prelude.{◌≡◌, ◌<◌, ◌≤◌, [], ◌++◌, length};
+ghost use Rattle.std.specs.Prelude.{◌≡◌, ◌<◌, ◌≤◌, [], ◌++◌, length, Ok};
 ghost use Rattle.drm_frames.specs.Answers.{FitsFields, FitsTold, answer_packet, answer_text, told_packet};
 ghost use Rattle.drm_frames.specs.Grammar.{packet};
 ghost use Rattle.drm_frames.specs.Number.{u32};
 ghost use Rattle.drm_table.specs.Answers.{told};
+ghost use Rattle.drm_table.specs.Results.{IsFew};
 
 use crate::fields::push_numbers;
-use crate::lists::push_list;
+use crate::lists::{push_list, push_resources};
 use crate::pages::push_page;
 use crate::text::{FrameBytes, framed};
 use drm_table::{Answer, Apart, Told};
@@ -23,7 +24,8 @@ fn push_refusal(text: &mut FrameBytes, number: u32, errno: u32)
 
 // Writes the fields of an answer, and gives the number of its frame.
 fn push_answer(text: &mut FrameBytes, answer: &Answer) -> u16
-    requires { text.old ≡ [] }
+    requires empty { text.old ≡ [] }
+    requires few { IsFew (Ok answer.now) }
     ensures text { packet result text.new ≡ told_packet (told answer.now) }
     ensures fits { FitsTold (told answer.now) }
     ensures length { length text.new ≤ 1022 }
@@ -32,6 +34,15 @@ fn push_answer(text: &mut FrameBytes, answer: &Answer) -> u16
         Told::Fields(kind, fields) => {
             push_numbers(text, fields.as_slice());
             kind.number()
+        }
+        Told::Resources {
+            crtcs,
+            connectors,
+            encoders,
+            framebuffers,
+        } => {
+            push_resources(text, crtcs, connectors, encoders, framebuffers);
+            0x1006
         }
         Told::List(list) => {
             push_list(text, list);
@@ -50,7 +61,8 @@ fn push_answer(text: &mut FrameBytes, answer: &Answer) -> u16
 
 // Writes the fields of a result, and gives the number of its frame.
 fn push_outcome(text: &mut FrameBytes, outcome: &Result<Answer, Apart>) -> u16
-    requires { text.old ≡ [] }
+    requires empty { text.old ≡ [] }
+    requires few { IsFew outcome.now }
     ensures text { packet result text.new ≡ answer_packet outcome.now }
     ensures fits { FitsFields outcome.now }
     ensures length { length text.new ≤ 1022 }
@@ -64,9 +76,11 @@ fn push_outcome(text: &mut FrameBytes, outcome: &Result<Answer, Apart>) -> u16
     }
 }
 
-/// The bytes of a result's frame (own).
+/// The bytes of a result's frame (own). The four lists of resources hold 251 ids at most together: more wouldn't stand in
+/// one frame.
 #[tactic(auto, unfolding(crate::specs::Answers::answer_text))]
 pub fn encode_answer(outcome: &Result<Answer, Apart>) -> FrameBytes
+    requires { IsFew outcome.now }
     ensures text { result ≡ answer_text outcome.now }
     ensures fits { FitsFields outcome.now }
     ensures some { 0 < length result }

@@ -1,5 +1,7 @@
 //! Frames against their bytes as the table of calls and answers has them.
 
+ghost use Rattle.drm_table.specs.Results.{IsFew};
+
 use crate::{
     Decoded, Frame, Hello, answer_of, call_of, decode, encode_answer, encode_call, encode_hello,
     hello_of,
@@ -153,7 +155,9 @@ fn frames_that_are_no_audit(rt: HostRuntime) {
     }
 }
 
-pub(crate) fn check_answer(rt: &impl Abort, bytes: &[u8], outcome: Result<Answer, Apart>) {
+pub(crate) fn check_answer(rt: &impl Abort, bytes: &[u8], outcome: Result<Answer, Apart>)
+    requires { IsFew outcome }
+{
     assert_eq!(rt; encode_answer(&outcome).as_slice(), bytes);
     assert_eq!(rt; answer_in(bytes), Some(outcome));
 }
@@ -223,7 +227,9 @@ fn frames_that_are_no_result(rt: HostRuntime) {
 }
 
 /// The page of the first 16 of these rows.
-fn page_of(rows: &[AuditRow]) -> Result<Answer, Apart> {
+fn page_of(rows: &[AuditRow]) -> Result<Answer, Apart>
+    ensures { IsFew result }
+{
     let mut page = AuditPage::new();
     for row in rows {
         if page.rows().len() < 16 {

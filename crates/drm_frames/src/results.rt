@@ -1,10 +1,10 @@
 //! Which result a frame is.
 ghost use Rattle.std.specs.Prelude.{◌≡◌};
-ghost use Rattle.drm_frames.specs.Answers.{answer_in, audit_in, denied_in, list_in, refused_in, row_in};
+ghost use Rattle.drm_frames.specs.Answers.{answer_in, audit_in, denied_in, list_in, refused_in, resources_in, row_in};
 
 use crate::fields::numbers_in;
 use crate::frame::Frame;
-use crate::lists::list_of;
+use crate::lists::{behind_list, front_list};
 use crate::number::u32_in;
 use crate::pages::page_of;
 use crate::refusals::{apart_of, rule_of};
@@ -12,9 +12,6 @@ use drm_table::{Answer, AnswerKind, Apart};
 
 /// How many rows of an audit a page has at most (own).
 const MOST_ROWS: usize = 16;
-
-/// How many ids a list has at most (own).
-const MOST_IDS: usize = 64;
 
 /// The answer of a kind, if the fields are one's.
 fn row(kind: AnswerKind, fields: &[u8]) -> Option<Result<Answer, Apart>>
@@ -25,19 +22,32 @@ fn row(kind: AnswerKind, fields: &[u8]) -> Option<Result<Answer, Apart>>
     Some(Ok(answer))
 }
 
+fn resources(fields: &[u8]) -> Option<Result<Answer, Apart>>
+    ensures { result ≡ resources_in fields.now }
+{
+    let second = behind_list(fields)?;
+    let third = behind_list(second)?;
+    let fourth = behind_list(third)?;
+    let behind = behind_list(fourth)?;
+    if !behind.is_empty() {
+        return None;
+    }
+    Some(Ok(Answer::Resources {
+        crtcs: front_list(fields),
+        connectors: front_list(second),
+        encoders: front_list(third),
+        framebuffers: front_list(fourth),
+    }))
+}
+
 fn list(fields: &[u8]) -> Option<Result<Answer, Apart>>
     ensures { result ≡ list_in fields.now }
 {
-    if fields.len() < 4 {
+    if !behind_list(fields)?.is_empty() {
         return None;
     }
-    let count = u32_in(fields) as usize;
-    if count > MOST_IDS || fields.len() != 4 + 4 * count {
-        return None;
-    }
-    let (_, ids) = fields.split_at(4);
     Some(Ok(Answer::List {
-        list: list_of(count, ids),
+        list: front_list(fields),
     }))
 }
 
@@ -95,6 +105,7 @@ pub fn answer_of(frame: &Frame) -> Option<Result<Answer, Apart>>
         return row(kind, fields);
     }
     match frame.number() {
+        0x1006 => resources(fields),
         0x1007 => list(fields),
         0x100B => audit(fields),
         0x2000 => denied(fields),

@@ -1,4 +1,6 @@
 //! Frames of numbers and lists against their bytes.
+ghost use Rattle.std.specs.Prelude.{◌+◌, ◌≤◌, length};
+ghost use Rattle.drm_table.specs.Results.{IsFew};
 ghost use Rattle.drm_frames.specs.Requests.{IsOfRow};
 
 use crate::frame_tests::{answer_in, call_in, check_answer, frame_in};
@@ -107,8 +109,83 @@ fn masters_and_magics_have_their_bytes(rt: HostRuntime) {
 }
 
 #[test]
+fn calls_that_show_modes_have_their_bytes(rt: HostRuntime) {
+    check_call(&rt, &[2, 0, 0, 0, 0xA0, 0], Call::GetResources);
+    check_call(
+        &rt,
+        &[6, 0, 0, 0, 0xA1, 0, 1, 0, 0, 0],
+        Call::GetCrtc { crtc: 1 },
+    );
+    check_call(
+        &rt,
+        &[6, 0, 0, 0, 0xA6, 0, 5, 0, 0, 0],
+        Call::GetEncoder { encoder: 5 },
+    );
+    check_call(
+        &rt,
+        &[6, 0, 0, 0, 0xA7, 0, 255, 255, 255, 255],
+        Call::GetConnector {
+            connector: 4_294_967_295,
+        },
+    );
+    check_call(
+        &rt,
+        &[6, 0, 0, 0, 0xAD, 0, 0, 0, 1, 0],
+        Call::GetFb {
+            framebuffer: 65_536,
+        },
+    );
+    check_call(&rt, &[2, 0, 0, 0, 0xB5, 0], Call::GetPlaneResources);
+    check_call(
+        &rt,
+        &[6, 0, 0, 0, 0xB6, 0, 3, 0, 0, 1],
+        Call::GetPlane { plane: 16_777_219 },
+    );
+}
+
+#[test]
+fn calls_that_set_modes_have_their_bytes(rt: HostRuntime) {
+    check_call(
+        &rt,
+        &[14, 0, 0, 0, 0xA2, 0, 1, 0, 0, 0, 2, 1, 0, 0, 7, 0, 0, 0],
+        Call::SetCrtc {
+            crtc: 1,
+            framebuffer: 258,
+            connector: 7,
+        },
+    );
+    check_call(
+        &rt,
+        &[
+            22, 0, 0, 0, 0xAE, 0, 64, 0, 0, 0, 32, 0, 0, 0, 0, 1, 0, 0, 24, 0, 0, 0, 9, 0, 0, 0,
+        ],
+        Call::AddFb {
+            width: 64,
+            height: 32,
+            pitch: 256,
+            bpp: 24,
+            handle: 9,
+        },
+    );
+    check_call(
+        &rt,
+        &[6, 0, 0, 0, 0xAF, 0, 2, 1, 0, 0],
+        Call::RmFb { framebuffer: 258 },
+    );
+    check_call(
+        &rt,
+        &[14, 0, 0, 0, 0xB7, 0, 3, 0, 0, 0, 1, 0, 0, 0, 2, 1, 0, 0],
+        Call::SetPlane {
+            plane: 3,
+            crtc: 1,
+            framebuffer: 258,
+        },
+    );
+}
+
+#[test]
 fn calls_without_fields_have_another_layout_with_some(rt: HostRuntime) {
-    for number in [0x00, 0x02, 0x1E, 0x1F] {
+    for number in [0x00, 0x02, 0x1E, 0x1F, 0xA0, 0xB5] {
         for size in 1..8usize {
             let frame = Frame::new(number, &[0; 8][..size]);
             assert_eq!(&rt; call_of(&frame), Call::BadLayout(number));
@@ -131,26 +208,60 @@ fn other_sizes_have_another_layout(rt: HostRuntime) {
         (0x42, [3, 5]),
         (0x43, [3, 5]),
         (0x44, [3, 5]),
+        (0xA1, [3, 5]),
+        (0xA2, [11, 13]),
+        (0xA6, [3, 5]),
+        (0xA7, [3, 5]),
+        (0xAD, [3, 5]),
+        (0xAE, [19, 21]),
+        (0xAF, [3, 5]),
         (0xB4, [3, 5]),
+        (0xB6, [3, 5]),
+        (0xB7, [11, 13]),
     ];
-    let zeros = [0; 17];
+    let zeros = [0; 21];
     for (number, sizes) in rows {
         for size in sizes {
-            let frame = Frame::new(number, &zeros[..size.min(17)]);
+            let frame = Frame::new(number, &zeros[..size.min(21)]);
             assert_eq!(&rt; call_of(&frame), Call::BadLayout(number));
         }
     }
 }
 
-/// The list of the first 64 of these ids.
-fn list_of(ids: &[u32]) -> Result<Answer, Apart> {
+/// The first 64 of these ids.
+fn shown(ids: &[u32]) -> ShownList
+    ensures { length result ≤ length ids.now }
+{
     let mut list = ShownList::new();
     for id in ids {
         if list.ids().len() < 64 {
             list.push(*id);
         }
     }
-    Ok(Answer::List { list })
+    list
+}
+
+fn list_of(ids: &[u32]) -> Result<Answer, Apart>
+    ensures { IsFew result }
+{
+    Ok(Answer::List { list: shown(ids) })
+}
+
+fn resources_of(
+    crtcs: &[u32],
+    connectors: &[u32],
+    encoders: &[u32],
+    framebuffers: &[u32],
+) -> Result<Answer, Apart>
+    requires { length crtcs.now + length connectors.now + length encoders.now + length framebuffers.now ≤ 251 }
+    ensures { IsFew result }
+{
+    Ok(Answer::Resources {
+        crtcs: shown(crtcs),
+        connectors: shown(connectors),
+        encoders: shown(encoders),
+        framebuffers: shown(framebuffers),
+    })
 }
 
 #[test]
@@ -177,6 +288,32 @@ fn numbers_buffers_and_lists_have_their_bytes(rt: HostRuntime) {
             14, 0, 0, 0, 7, 16, 2, 0, 0, 0, 1, 0, 0, 0, 255, 255, 255, 255,
         ],
         list_of(&[1, 4_294_967_295]),
+    );
+}
+
+#[test]
+fn planes_and_framebuffers_have_their_bytes(rt: HostRuntime) {
+    check_answer(
+        &rt,
+        &[10, 0, 0, 0, 8, 16, 2, 1, 0, 0, 3, 0, 0, 0],
+        Ok(Answer::Plane {
+            framebuffer: 258,
+            mask: 3,
+        }),
+    );
+    check_answer(
+        &rt,
+        &[
+            22, 0, 0, 0, 9, 16, 64, 0, 0, 0, 32, 0, 0, 0, 0, 1, 0, 0, 24, 0, 0, 0, 255, 255, 255,
+            255,
+        ],
+        Ok(Answer::Framebuffer {
+            width: 64,
+            height: 32,
+            pitch: 256,
+            bpp: 24,
+            handle: 4_294_967_295,
+        }),
     );
 }
 
@@ -220,12 +357,97 @@ fn frames_that_are_no_list(rt: HostRuntime) {
 }
 
 #[test]
+fn resources_have_their_bytes(rt: HostRuntime) {
+    check_answer(
+        &rt,
+        &[
+            18, 0, 0, 0, 6, 16, 0, 0, 0, 0, 0, 0, 0, 0, 0, 0, 0, 0, 0, 0, 0, 0,
+        ],
+        resources_of(&[], &[], &[], &[]),
+    );
+    check_answer(
+        &rt,
+        &[
+            42, 0, 0, 0, 6, 16, 2, 0, 0, 0, 1, 0, 0, 0, 2, 0, 0, 0, 2, 0, 0, 0, 7, 0, 0, 0, 8, 0,
+            0, 0, 2, 0, 0, 0, 5, 0, 0, 0, 6, 0, 0, 0, 0, 0, 0, 0,
+        ],
+        resources_of(&[1, 2], &[7, 8], &[5, 6], &[]),
+    );
+    check_answer(
+        &rt,
+        &[
+            30, 0, 0, 0, 6, 16, 0, 0, 0, 0, 1, 0, 0, 0, 8, 0, 0, 0, 0, 0, 0, 0, 2, 0, 0, 0, 2, 1,
+            0, 0, 255, 255, 255, 255,
+        ],
+        resources_of(&[], &[8], &[], &[258, 4_294_967_295]),
+    );
+}
+
+#[test]
+fn resources_of_251_ids_have_their_bytes(rt: HostRuntime) {
+    let mut ids = [0; 64];
+    let mut bytes = [0; 1026];
+    bytes[0] = 254;
+    bytes[1] = 3;
+    bytes[4] = 6;
+    bytes[5] = 16;
+    bytes[6] = 64;
+    bytes[266] = 64;
+    bytes[526] = 64;
+    bytes[786] = 59;
+    for number in 0..64u8 {
+        let place = usize::from(number);
+        ids[place] = u32::from(number) + 1;
+        bytes[10 + 4 * place] = number + 1;
+        bytes[270 + 4 * place] = number + 1;
+        bytes[530 + 4 * place] = number + 1;
+        if number < 59 {
+            bytes[790 + 4 * place] = number + 1;
+        }
+    }
+    check_answer(&rt, &bytes, resources_of(&ids, &ids, &ids, &ids[..59]));
+}
+
+#[test]
+fn frames_that_are_no_resources(rt: HostRuntime) {
+    let mut many = [0; 282];
+    many[0] = 22;
+    many[1] = 1;
+    many[4] = 6;
+    many[5] = 16;
+    many[6] = 65;
+    let frames: [&[u8]; 6] = [
+        &many,
+        &[2, 0, 0, 0, 6, 16],
+        &[14, 0, 0, 0, 6, 16, 0, 0, 0, 0, 0, 0, 0, 0, 0, 0, 0, 0],
+        &[
+            17, 0, 0, 0, 6, 16, 0, 0, 0, 0, 0, 0, 0, 0, 0, 0, 0, 0, 0, 0, 0,
+        ],
+        &[
+            19, 0, 0, 0, 6, 16, 0, 0, 0, 0, 0, 0, 0, 0, 0, 0, 0, 0, 0, 0, 0, 0, 0,
+        ],
+        &[
+            21, 0, 0, 0, 6, 16, 0, 0, 0, 0, 0, 0, 0, 0, 0, 0, 0, 0, 1, 0, 0, 0, 9, 0, 0,
+        ],
+    ];
+    for bytes in frames {
+        assert!(&rt; frame_in(bytes).is_some());
+        assert_eq!(&rt; answer_in(bytes), None);
+    }
+}
+
+#[test]
 fn other_sizes_are_no_answer(rt: HostRuntime) {
-    let rows = [(0x1003, [7, 9]), (0x1005, [11, 13])];
-    let zeros = [0; 13];
+    let rows = [
+        (0x1003, [7, 9]),
+        (0x1005, [11, 13]),
+        (0x1008, [7, 9]),
+        (0x1009, [19, 21]),
+    ];
+    let zeros = [0; 21];
     for (number, sizes) in rows {
         for size in sizes {
-            let frame = Frame::new(number, &zeros[..size.min(13)]);
+            let frame = Frame::new(number, &zeros[..size.min(21)]);
             assert_eq!(&rt; answer_of(&frame), None);
         }
     }

@@ -30,7 +30,7 @@ use Rattle.drm_masters.specs.declared.rows.Magic.{Magic}
 use Rattle.drm_model.specs.Rows.{MagicRow}
 use Rattle.drm_state.specs.Parts.{magic_row_of, magics_of}
 use Rattle.drm_state.proofs.Magics.{any-filter_map}
-use Rattle.drm_state.proofs.Represented.{limits_are, magics_are}
+use Rattle.drm_state.proofs.Represented.{bounds_are, magics_are}
 use Rattle.drm_model.specs.Magics.{magics_under, free_magic, is_open_magic, magic_client, may_be_master, is_master, drop_master, set_master}
 use Rattle.drm_model.specs.Rows.{Rows, ClientRow, client_row}
 use Rattle.drm_model.specs.Masters.{standing_of, standing_in, master_of, lessor_of, is_lessee}
@@ -173,7 +173,7 @@ taken_is s w h m n =
 
 pub free_is : (s : State) (w : Rows) → Represents s w → (m : ℕ) → free_magic w m ≡ masters.free_magic s.masters m
 free_is s w h m =
-    ap (λ (test : ℕ → Bool). least test 1 w.limits.clients) (λ i n. not (taken_is s w h m n i)) ∙ ap (λ last. least (λ n. not (list_any (masters.has_magic m n) s.masters.members)) 1 last) (sym (limits_are s w h).5)
+    ap (λ (test : ℕ → Bool). least test 1 w.limits.clients) (λ i n. not (taken_is s w h m n i)) ∙ ap (λ last. least (λ n. not (list_any (masters.has_magic m n) s.masters.members)) 1 last) (sym (bounds_are s w h).5)
 
 -- whether a client has the number under the master unspent
 pub open_is : (m n : ℕ) (x : Member) → option_map_or (is_open_magic m n) (magic_row_of x) false ≡ masters.has_open_magic m n x

@@ -92,6 +92,17 @@ impl Masters {
         Some(master_at(&self.masters, lessor)?.key)
     }
 
+    /// Whether a client's master has a lessor (drm-uapi, leases). It is false of a client that stands to no master. It takes
+    /// no memory.
+    pub fn is_lessee(&self, client: u32) -> bool
+        ensures { result ≡ option_map_or (λ x. sets.is_lessee self.now.masters x.master) (sets.member_of self.now.members client) false }
+    {
+        match member_of(&self.members, client) {
+            Some(member) => lessor_of(&self.masters, member.master).is_some(),
+            None => false,
+        }
+    }
+
     /// The device's master, by the number of the step that made it.
     pub fn device_master(&self) -> Option<u32>
         ensures { result ≡ self.now.device_master }

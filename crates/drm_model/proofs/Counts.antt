@@ -1,12 +1,12 @@
 -- A step adds one row at most to each list.
 use Rattle.std.proofs.Common.{ℕ, ◌+◌, ◌≤◌, Bool, true, false, List, [], ◌∷◌, ◌++◌, map, filter, length, length-append, Option, None, Some, sym, subst, arith}
-use Rattle.std.specs.Prelude.{unwrap_or}
+use Rattle.std.specs.Prelude.{◌==◌, unwrap_or, if◌then◌else◌}
 use Rattle.std.proofs.lemmas.List.{length-map}
 use Rattle.drm_lists.proofs.Lists.{filter-shorter}
 use Rattle.drm_table.specs.declared.audits.AuditKind.{AuditKind}
 use Rattle.drm_table.specs.declared.audits.AuditKind.TheVariants as kinds
 use Rattle.drm_table.specs.declared.calls.Call.{Call}
-use Rattle.drm_table.specs.declared.calls.Call.TheVariants.{GetMagic, GemClose, GemFlink, GemOpen, AuthMagic, SetMaster, DropMaster, PrimeHandleToFd, PrimeFdToHandle, BufCreate, StampWrite, TokenClose, CreateDumb, DestroyDumb}
+use Rattle.drm_table.specs.declared.calls.Call.TheVariants.{GetMagic, GemClose, GemFlink, GemOpen, AuthMagic, SetMaster, DropMaster, PrimeHandleToFd, PrimeFdToHandle, BufCreate, StampWrite, TokenClose, SetCrtc, GetFb, AddFb, RmFb, CreateDumb, DestroyDumb, SetPlane}
 use Rattle.drm_table.specs.declared.events.Event.{Event}
 use Rattle.drm_table.specs.declared.events.Event.TheVariants.{Open, Ask, Close}
 use Rattle.drm_table.specs.declared.events.Opening.TheVariants.{Primary, Render, Lease}
@@ -14,11 +14,12 @@ use Rattle.drm_table.specs.declared.rules.Rule.{Rule}
 use Rattle.drm_model.specs.Parts.{Part, Clients, Masters, Magics, Holds, Objects, Names, Tokens, Grants, Framebuffers, Shown, count_in}
 use Rattle.drm_model.specs.Births.{FewRows}
 use Rattle.drm_model.specs.Audit.{audit_rows}
-use Rattle.drm_model.specs.Rows.{Rows, ClientRow, birth, empty_rows, client_row, object_of}
+use Rattle.drm_model.specs.Rows.{Rows, ClientRow, birth, empty_rows, client_row, object_of, with_hold}
 use Rattle.drm_model.specs.Leases.{ended}
 use Rattle.drm_model.specs.Buffers.{with_object, with_stamp}
 use Rattle.drm_model.specs.Sharing.{name_of, named, exported_object, prime_handle, imported, with_place}
 use Rattle.drm_model.specs.Magics.{own_master, magic_of, with_magic, is_current, is_master, mastered, with_authenticated, with_spent, with_master}
+use Rattle.drm_model.specs.Modes.{gives_handle, framebuffer_object}
 use Rattle.drm_model.specs.Clients.{opened, opened_primary, opened_lease, closed, ended_own, ended_if}
 use Rattle.drm_model.specs.Calls.{meaning}
 use Rattle.drm_model.specs.Verdict.{verdict}
@@ -31,6 +32,11 @@ few-filter p xs most h = let f = filter-shorter p xs in omega (arith, f, h)
 
 few-push : {X : Type 0} (xs : List X) (x : X) (most : ℕ) → length xs ≤ most → length (xs ++ x ∷ []) ≤ most + 1
 few-push xs x most h = let l = length-append xs (x ∷ []) in omega (arith, l, h)
+
+-- one more or none
+few-may_push : {X : Type 0} (xs : List X) (x : X) (none : Bool) (most : ℕ) → length xs ≤ most → length (xs ++ (if none then [] else x ∷ [])) ≤ most + 1
+few-may_push xs x true most h = let l = length-append xs [] in omega (arith, l, h)
+few-may_push xs x false most h = few-push xs x most h
 
 few-map : {X : Type 0} (f : X → X) (xs : List X) (most : ℕ) → length xs ≤ most → length (map f xs) ≤ most
 few-map f xs most h = let l = length-map xs f in omega (arith, l, h)
@@ -97,6 +103,10 @@ mastered-few w c false true h Clients = later w w.steps h Clients
 mastered-few w c false true h part = later w w.steps h part
 mastered-few w c false false h part = later w w.steps h part
 
+given-few : (w : Rows) (c o : ℕ) (gives : Bool) → length w.holds ≤ w.steps → length (if gives then with_hold w c o None else w.holds) ≤ birth w
+given-few w c o true h = few-push w.holds _ w.steps h
+given-few w c o false h = more _ w.steps h
+
 -- a call that is not told here makes no list longer or shorter
 asked-few : (w : Rows) (c : ℕ) (call : Call) → FewRows w.steps w → (part : Part) → count_in part (meaning w c call).rows ≤ birth w
 unfolding meaning with_object with_stamp with_place with_authenticated with_spent count_in
@@ -118,6 +128,11 @@ asked-few w c (BufCreate size) h Objects = few-push w.objects _ w.steps (h Objec
 asked-few w c (CreateDumb width height bpp) h Holds = few-push w.holds _ w.steps (h Holds)
 asked-few w c (CreateDumb width height bpp) h Objects = few-push w.objects _ w.steps (h Objects)
 asked-few w c (StampWrite handle stamp) h Objects = more _ w.steps (few-map _ w.objects w.steps (h Objects))
+asked-few w c (SetCrtc crtc f connector) h Shown = few-may_push _ _ (f == 0) w.steps (few-filter _ w.shown w.steps (h Shown))
+asked-few w c (SetPlane plane crtc f) h Shown = few-may_push _ _ (f == 0) w.steps (few-filter _ w.shown w.steps (h Shown))
+asked-few w c (GetFb f) h Holds = given-few w c (framebuffer_object w f) (gives_handle w c) (h Holds)
+asked-few w c (AddFb width height pitch bpp handle) h Framebuffers = few-push w.framebuffers _ w.steps (h Framebuffers)
+asked-few w c (RmFb f) h Framebuffers = more _ w.steps (few-filter _ w.framebuffers w.steps (h Framebuffers))
 asked-few w c call h part = later w w.steps h part
 
 leased-few : (w : Rows) (token : ℕ) (root : Bool) → FewRows w.steps w → (part : Part) → count_in part (opened_lease w token root) ≤ birth w

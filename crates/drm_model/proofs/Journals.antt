@@ -1,4 +1,4 @@
--- What each step leaves of limits, steps and open clients, so that the journal has places for their closings.
+-- What each step leaves of mode objects, limits, steps and open clients, so that the journal has places for their closings.
 use Rattle.std.proofs.Common.{◌≡◌, ℕ, suc, ◌+◌, ◌≤◌, nat_lt, Bool, true, false, cond, not, ◌&&◌, List, [], ◌∷◌, ◌++◌, length, find, map, Option, None, Some, refl, sym, ◌∙◌, ap, arith, length-append}
 use Rattle.std.specs.Option.{is_some}
 use Rattle.std.proofs.lemmas.Bool.{ltb-false}
@@ -38,43 +38,49 @@ pub rows_noted : (h : History) (event : Event) → rows_of (noted_in h event) �
 unfolding rows_of
 rows_noted h event = run_push (empty_rows h.topology h.limits) h.journal event
 
--- a change keeps the limits and the number of steps
+-- a change keeps the fixed mode objects, the limits and the number of steps
 record IsKept (w v : Rows) : Type 0 where
+  topology : v.topology ≡ w.topology
   limits : v.limits ≡ w.limits
   steps : v.steps ≡ w.steps
 
 ended_if-kept : (w : Rows) (b : Bool) (m : Option ℕ) → IsKept w (ended_if w b m)
 unfolding ended
-ended_if-kept w true (Some m) = record { limits = refl; steps = refl }
-ended_if-kept w true None = record { limits = refl; steps = refl }
-ended_if-kept w false m = record { limits = refl; steps = refl }
+ended_if-kept w true (Some m) = record { topology = refl; limits = refl; steps = refl }
+ended_if-kept w true None = record { topology = refl; limits = refl; steps = refl }
+ended_if-kept w false m = record { topology = refl; limits = refl; steps = refl }
 
 ended_own-kept : (w : Rows) (row : Option ClientRow) → IsKept w (ended_own w row)
-ended_own-kept w None = record { limits = refl; steps = refl }
+ended_own-kept w None = record { topology = refl; limits = refl; steps = refl }
 ended_own-kept w (Some row) = ended_if-kept w row.is_master row.master
 
 opened_primary-kept : (w : Rows) (root : Bool) (m : Option ℕ) → IsKept w (opened_primary w root m)
-opened_primary-kept w root None = record { limits = refl; steps = refl }
-opened_primary-kept w root (Some m) = record { limits = refl; steps = refl }
+opened_primary-kept w root None = record { topology = refl; limits = refl; steps = refl }
+opened_primary-kept w root (Some m) = record { topology = refl; limits = refl; steps = refl }
 
 mastered-kept : (w : Rows) (c : ℕ) (current master : Bool) → IsKept w (mastered w c current master)
-mastered-kept w c true master = record { limits = refl; steps = refl }
-mastered-kept w c false true = record { limits = refl; steps = refl }
-mastered-kept w c false false = record { limits = refl; steps = refl }
+mastered-kept w c true master = record { topology = refl; limits = refl; steps = refl }
+mastered-kept w c false true = record { topology = refl; limits = refl; steps = refl }
+mastered-kept w c false false = record { topology = refl; limits = refl; steps = refl }
 
 asked-kept : (w : Rows) (c : ℕ) (call : Call) → IsKept w (meaning w c call).rows
 unfolding meaning with_object
-asked-kept w c Version = record { limits = refl; steps = refl }
+asked-kept w c Version = record { topology = refl; limits = refl; steps = refl }
 asked-kept w c SetMaster = mastered-kept w c (is_current w c) (is_master w c)
-asked-kept w c _ = record { limits = refl; steps = refl }
+asked-kept w c _ = record { topology = refl; limits = refl; steps = refl }
 
 changed-kept : (w : Rows) (event : Event) → IsKept w (changed w event)
 unfolding changed opened closed
 changed-kept w (Open (Primary root)) = opened_primary-kept w root w.device_master
-changed-kept w (Open Render) = record { limits = refl; steps = refl }
-changed-kept w (Open (Lease token root)) = record { limits = refl; steps = refl }
+changed-kept w (Open Render) = record { topology = refl; limits = refl; steps = refl }
+changed-kept w (Open (Lease token root)) = record { topology = refl; limits = refl; steps = refl }
 changed-kept w (Ask c call) = asked-kept w c call
-changed-kept w (Close c) = let k = ended_own-kept w (client_row w c) in record { limits = k.limits; steps = k.steps }
+changed-kept w (Close c) = let k = ended_own-kept w (client_row w c) in record { topology = k.topology; limits = k.limits; steps = k.steps }
+
+after_verdict-topology : (w : Rows) (event : Event) (v : Option Rule) → (after_verdict v w event).topology ≡ w.topology
+unfolding swept
+after_verdict-topology w event None = (changed-kept w event).topology
+after_verdict-topology w event (Some rule) = refl
 
 after_verdict-limits : (w : Rows) (event : Event) (v : Option Rule) → (after_verdict v w event).limits ≡ w.limits
 unfolding swept
@@ -86,6 +92,10 @@ unfolding swept
 after_verdict-steps w event None = ap (λ n. n + 1) (changed-kept w event).steps
 after_verdict-steps w event (Some rule) = refl
 
+pub after-topology : (w : Rows) (event : Event) → (after w event).topology ≡ w.topology
+unfolding after
+after-topology w event = after_verdict-topology w event (verdict w event)
+
 pub after-limits : (w : Rows) (event : Event) → (after w event).limits ≡ w.limits
 unfolding after
 after-limits w event = after_verdict-limits w event (verdict w event)
@@ -93,6 +103,11 @@ after-limits w event = after_verdict-limits w event (verdict w event)
 pub after-steps : (w : Rows) (event : Event) → (after w event).steps ≡ w.steps + 1
 unfolding after
 after-steps w event = after_verdict-steps w event (verdict w event)
+
+run-topology : (w : Rows) (events : List Event) → (run w events).topology ≡ w.topology
+unfolding run
+run-topology w [] = refl
+run-topology w (e ∷ es) = run-topology (after w e) es ∙ after-topology w e
 
 pub run-limits : (w : Rows) (events : List Event) → (run w events).limits ≡ w.limits
 unfolding run
@@ -103,6 +118,10 @@ pub run-steps : (w : Rows) (events : List Event) → (run w events).steps ≡ w.
 unfolding run
 run-steps w [] = omega arith
 run-steps w (e ∷ es) = let a = run-steps (after w e) es in let b = after-steps w e in omega arith
+
+pub rows_of-topology : (h : History) → (rows_of h).topology ≡ h.topology
+unfolding rows_of
+rows_of-topology h = run-topology (empty_rows h.topology h.limits) h.journal
 
 pub rows_of-limits : (h : History) → (rows_of h).limits ≡ h.limits
 unfolding rows_of

@@ -4,6 +4,7 @@ pub mod Orders
 pub mod Births
 pub mod Counts
 pub mod Runs
+pub mod FewIds
 pub mod WorkedBufferIsMadeAndClosed
 pub mod WorkedDumbShapes
 pub mod WorkedFullJournal
@@ -33,3 +34,17 @@ pub mod WorkedNewMasterTakesTheMagic
 pub mod WorkedAuditsOfMastersAndMagics
 pub mod WorkedOldMagicIsNotAccepted
 pub mod WorkedRootMayBeMaster
+pub mod WorkedFramebuffersAreShownOnCrtcs
+pub mod WorkedModeObjectsAndWhatPlanesShow
+pub mod WorkedModeObjectsAreOfTheirKinds
+pub mod WorkedModeObjectsOfGuestsAndRenderClients
+pub mod WorkedFramebuffersAreTheirClientsToRemove
+pub mod WorkedWhatIsShownGoesDark
+pub mod WorkedPlanesGoDarkOnAnyCrtc
+pub mod WorkedCrtcsWantAFramebufferAndAConnector
+pub mod WorkedFramebuffersFitTheirObjects
+pub mod WorkedFramebufferIdsAreTheLowestFree
+pub mod WorkedFramebuffersKeepObjects
+pub mod WorkedFramebuffersAreLimited
+pub mod WorkedFramebuffersGiveHandlesToCurrentAndRootClients
+pub mod WorkedAuditsOfFramebuffersAndWhatIsShown

@@ -12,6 +12,7 @@ use Rattle.drm_table.specs.declared.limits.Limits.{Limits}
 use Rattle.drm_index_array.specs.Least.{first_passing, least}
 use Rattle.drm_lists.specs.Chains.{chain_within}
 use Rattle.drm_lists.specs.Orders.{sorted_by}
+use Rattle.drm_modes.specs.Numbers.{numbers_from}
 use Rattle.drm_table.specs.Answers.{answer_kind_row, told, answer_with, answer_kind_of}
 use Rattle.drm_table.specs.Audits.{kind_number, kind_of, kind_name}
 use Rattle.drm_table.specs.Limits.{are_in_range}
@@ -28,6 +29,7 @@ use Rattle.drm_model.specs.Parts.{count_in}
 use Rattle.drm_model.specs.Reply.{answer_of, reply}
 use Rattle.drm_model.specs.Results.{results}
 use Rattle.drm_model.specs.Run.{no_room, run, rows_of}
+use Rattle.drm_model.specs.Sees.{sees}
 use Rattle.drm_model.specs.Sharing.{with_place, prime_handle}
 use Rattle.drm_model.specs.Verdict.{admission_checks, checks, verdict}
 use Rattle.drm_model.specs.Rows.{empty_rows}
@@ -60,5 +62,5 @@ answers =
     []
 
 pub masters_and_magics_are_not_for_render_clients : results (empty_rows test_topology limits) events ≡ answers
-unfolding first_passing least chain_within sorted_by answer_kind_row told answer_with answer_kind_of kind_number kind_of kind_name are_in_range rule_of_number apart_of_number kind_row call_row call_with call_kind_of call_kind_of_word row_of call_number flags_of audit_rows audit_page dumb_pitch dumb_size buffer_size with_object with_stamp meaning changed swept after opening_checks opened closed ended with_spent with_authenticated with_master count_in answer_of reply results no_room run rows_of with_place prime_handle admission_checks checks verdict
+unfolding first_passing least chain_within sorted_by numbers_from answer_kind_row told answer_with answer_kind_of kind_number kind_of kind_name are_in_range rule_of_number apart_of_number kind_row call_row call_with call_kind_of call_kind_of_word row_of call_number flags_of audit_rows audit_page dumb_pitch dumb_size buffer_size with_object with_stamp meaning changed swept after opening_checks opened closed ended with_spent with_authenticated with_master count_in answer_of reply results no_room run rows_of sees with_place prime_handle admission_checks checks verdict
 masters_and_magics_are_not_for_render_clients = refl

@@ -49,6 +49,12 @@ name_audit row = audit_row row.name row.object 0 0
 abbrev pub token_audit : TokenRow → AuditRow
 token_audit row = audit_row row.token row.client row.object 0
 
+abbrev pub framebuffer_audit : FramebufferRow → AuditRow
+framebuffer_audit row = audit_row row.framebuffer row.client row.object 0
+
+abbrev pub shown_audit : ShownRow → AuditRow
+shown_audit row = audit_row row.shower row.framebuffer 0 0
+
 -- the rows of a kind
 unfoldable pub audit_rows : Rows → AuditKind → List AuditRow
 audit_rows w Client = map (client_audit w) w.clients
@@ -58,8 +64,8 @@ audit_rows w Name = map name_audit w.names
 audit_rows w Token = map token_audit w.tokens
 audit_rows w Hold = map hold_audit w.holds
 audit_rows w Grant = map (λ (row : GrantRow). audit_row row.master row.mode_object 0 0) w.grants
-audit_rows w Framebuffer = map (λ (row : FramebufferRow). audit_row row.framebuffer row.client row.object 0) w.framebuffers
-audit_rows w Shown = map (λ (row : ShownRow). audit_row row.shower row.framebuffer 0 0) w.shown
+audit_rows w Framebuffer = map framebuffer_audit w.framebuffers
+audit_rows w Shown = map shown_audit w.shown
 audit_rows w Device = audit_row (or_zero w.device_master) w.last_token w.last_lease_token w.steps ∷ []
 
 -- rows rise by a, then by b

@@ -3,12 +3,14 @@ pub mod Rows
 pub mod Parts
 pub mod Births
 pub mod Masters
+pub mod Sees
 pub mod Leases
 pub mod Meaning
 pub mod Capabilities
 pub mod Audit
 pub mod Buffers
 pub mod Sharing
+pub mod Modes
 pub mod Magics
 pub mod Calls
 pub mod Clients

@@ -38,7 +38,7 @@ within first count x h =
     (at_most _ _ ends.0, let less = ends.1 in grind (arith, nat_tests))
 
 -- numbers that rise from one on to another are no more than those between
-few_rising : (low high : ℕ) (xs : List ℕ) → AllByRecursion (λ x. (low ≤ x) × (x < high)) xs → InOrder nat_lt xs → low ≤ high → low + length xs ≤ high
+pub few_rising : (low high : ℕ) (xs : List ℕ) → AllByRecursion (λ x. (low ≤ x) × (x < high)) xs → InOrder nat_lt xs → low ≤ high → low + length xs ≤ high
 few_rising low high [] all rise le = omega (arith, le)
 few_rising low high (x ∷ xs) all rise le =
     let rest = few_rising (x + 1) high xs (above x high xs rise.0 all.1) rise.1 (omega (arith, all.0.1)) in

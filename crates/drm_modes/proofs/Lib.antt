@@ -1,5 +1,6 @@
 pub mod Ids
 pub mod Fixed
+pub mod Listed
 mod Masks
 mod Mapped
 mod Numbered

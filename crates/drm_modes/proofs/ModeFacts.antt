@@ -1,5 +1,5 @@
 -- The lists that the table and the screens stand for, and how they change.
-use Rattle.std.proofs.Common.{◌≡◌, ℕ, zero, suc, ◌+◌, ◌≤◌, ◌==◌, eqb, Bool, true, false, cond, ◌||◌, find, is_some, List, [], ◌∷◌, replicate, map, set, Option, Some, None, option_map, option_and_then, refl, sym, ap, ◌∙◌, arith, nat_cmp}
+use Rattle.std.proofs.Common.{◌≡◌, ℕ, zero, suc, ◌+◌, ◌≤◌, ◌<◌, ◌==◌, eqb, nat_lt, length, Bool, true, false, cond, ◌||◌, find, is_some, List, [], ◌∷◌, replicate, map, set, Option, Some, None, option_map, option_and_then, refl, sym, ap, ◌∙◌, arith, nat_cmp}
 use Rattle.std.proofs.lemmas.List.{length-map, length-set, length-replicate}
 use Rattle.std.specs.List.{AllByRecursion, list_any}
 use Rattle.std.specs.FinMap as fin
@@ -12,8 +12,10 @@ use Rattle.drm_id_alloc.proofs.TableLemmas.{IsWithin-empty, IsWithin-insert, IsW
 use Rattle.drm_modes.specs.declared.rows.Framebuffer.{Framebuffer}
 use Rattle.drm_modes.specs.declared.modes.Pixels.{Pixels}
 use Rattle.drm_modes.specs.Topology.{Topology, IsTopology, object_count}
-use Rattle.drm_modes.specs.Modes.{ModeSet, AreModes, IsFramebufferFrom, empty_modes, is_framebuffer, is_framebuffer_of, is_made_by, free_framebuffer, with_framebuffer, without_framebuffer, dark_of, screen_count, first_framebuffer}
+use Rattle.drm_modes.specs.Modes.{ModeSet, AreModes, IsFramebufferFrom, empty_modes, is_framebuffer, is_framebuffer_of, is_made_by, framebuffer_before, free_framebuffer, with_framebuffer, without_framebuffer, dark_of, screen_count, first_framebuffer}
 use Rattle.drm_modes.specs.Tables.{framebuffer_row, framebuffers_in, mode_set, is_screen, HasModes}
+use Rattle.drm_index_array.specs.Rows.{InOrder}
+use Rattle.drm_modes.proofs.Fixed.{few_rising}
 use Rattle.drm_modes.proofs.Numbered.{find_number, find_also, rows_added, rows_removed, rows_rise, least_free_is, rows_all, no_rows}
 
 abbrev number : Framebuffer → ℕ
@@ -36,6 +38,24 @@ still_there : (z b : Bool) (v : Pixels) (x : Option Pixels) → (z || is_some x)
 still_there true b v x h = refl
 still_there false true v x h = refl
 still_there false false v x h = h
+
+-- framebuffers that rise are no more than the ids that they may have
+few_between : (low last : ℕ) → low ≤ last + 1 → (fs : List Framebuffer) → AllByRecursion (IsFramebufferFrom low last) fs → InOrder framebuffer_before fs → low + length fs ≤ last + 1
+few_between low last le fs between rise =
+    let few = few_rising low (last + 1) (map number fs) (ranged fs between) (numbers_rise fs rise) le in
+    omega (arith, few, length-map fs number)
+  where
+    ranged : (fs : List Framebuffer) → AllByRecursion (IsFramebufferFrom low last) fs → AllByRecursion (λ x. (low ≤ x) × (x < last + 1)) (map number fs)
+    ranged [] all = tt
+    ranged (x ∷ xs) all = ((all.0.low, omega (arith, all.0.high)), ranged xs all.1)
+
+    above : (x : Framebuffer) → (fs : List Framebuffer) → AllByRecursion (λ y. framebuffer_before x y ≡ true) fs → AllByRecursion (λ n. nat_lt x.framebuffer n ≡ true) (map number fs)
+    above x [] all = tt
+    above x (y ∷ ys) all = (all.0, above x ys all.1)
+
+    numbers_rise : (fs : List Framebuffer) → InOrder framebuffer_before fs → InOrder nat_lt (map number fs)
+    numbers_rise [] rise = tt
+    numbers_rise (x ∷ xs) rise = (above x xs rise.0, numbers_rise xs rise.1)
 
 module _ (t : Topology) (table : Table Pixels) (screens : List ℕ) where
   pub free_is : table.first ≡ first_framebuffer t → free_framebuffer (mode_set t table screens) ≡ least_free table
@@ -67,16 +87,25 @@ module _ (t : Topology) (table : Table Pixels) (screens : List ℕ) where
   removed n = λ i. record { topology = t; framebuffers = rows_removed framebuffer_row number (λ e. refl) table.slots n i; screens = map (dark_of n) screens; last = table.last }
 
   module _ (has : HasModes t table screens) where
+    framebuffers_between : AllByRecursion (IsFramebufferFrom (first_framebuffer t) table.last) (framebuffers_in table.slots)
+    framebuffers_between = rows_all framebuffer_row table.slots (IsFramebufferFrom (first_framebuffer t) table.last) (λ n v found. record {
+      low = omega (arith, has.first_is, has.within.low n (ap is_some found));
+      high = has.within.high n (ap is_some found);
+    })
+
+    few_framebuffers : length (framebuffers_in table.slots) ≤ 64
+    few_framebuffers =
+        let fits = few_between (first_framebuffer t) table.last (omega (arith, has.first_is, has.within.in_order)) (framebuffers_in table.slots) framebuffers_between (rows_rise framebuffer_row number (λ e. refl) table.slots) in
+        omega (arith, fits, has.last_high)
+
     pub modes_are : AreModes (mode_set t table screens)
     modes_are = record {
       topology = has.topology;
       last_low = omega (arith, has.first_is, has.within.in_order);
       last_high = has.last_high;
       framebuffers_rise = rows_rise framebuffer_row number (λ e. refl) table.slots;
-      framebuffers_are = rows_all framebuffer_row table.slots (IsFramebufferFrom (first_framebuffer t) table.last) (λ n v found. record {
-        low = omega (arith, has.first_is, has.within.low n (ap is_some found));
-        high = has.within.high n (ap is_some found);
-      });
+      few = few_framebuffers;
+      framebuffers_are = framebuffers_between;
       each_has_a_screen = has.each_has_a_screen;
       screens_are = all_weaker (λ f. is_screen table.slots f ≡ true) (λ f. ((f == 0) || list_any (is_framebuffer f) (framebuffers_in table.slots)) ≡ true) (λ f h. ap (λ b. (f == 0) || b) (has_is f) ∙ h) screens has.screens_are;
     }

@@ -38,6 +38,10 @@ is_made_by c row = row.client == c
 abbrev pub is_framebuffer_of : ℕ → ℕ → Framebuffer → Bool
 is_framebuffer_of c f row = (row.framebuffer == f) && (row.client == c)
 
+-- the ids of a client's framebuffers
+abbrev pub framebuffers_of : ModeSet → ℕ → List ℕ
+framebuffers_of set c = map (λ (row : Framebuffer). row.framebuffer) (filter (is_made_by c) set.framebuffers)
+
 abbrev pub framebuffer_before : Framebuffer → Framebuffer → Bool
 framebuffer_before x y = nat_lt x.framebuffer y.framebuffer
 
@@ -103,6 +107,7 @@ pub record AreModes (set : ModeSet) : Type 0 where
   pub last_low : first_framebuffer set.topology ≤ set.last
   pub last_high : set.last ≤ object_count set.topology + 64
   pub framebuffers_rise : InOrder framebuffer_before set.framebuffers
+  pub few : length set.framebuffers ≤ 64
   pub framebuffers_are : AllByRecursion (IsFramebufferFrom (first_framebuffer set.topology) set.last) set.framebuffers
   pub each_has_a_screen : length set.screens ≡ screen_count set.topology
   pub screens_are : AllByRecursion (λ f. can_show set f ≡ true) set.screens

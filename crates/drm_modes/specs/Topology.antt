@@ -59,6 +59,13 @@ is_of_kind t Plane x = is_plane t x
 is_of_kind t Encoder x = is_encoder t x
 is_of_kind t Connector x = is_connector t x
 
+-- the ids of the objects of a kind, rising
+abbrev pub ids_of_kind : Topology → Kind → List ℕ
+ids_of_kind t Crtc = crtc_ids t
+ids_of_kind t Plane = plane_ids t
+ids_of_kind t Encoder = encoder_ids t
+ids_of_kind t Connector = connector_ids t
+
 -- how many fixed objects there are
 abbrev pub object_count : Topology → ℕ
 object_count t = t.crtcs + length t.planes + length t.encoders + length t.connectors

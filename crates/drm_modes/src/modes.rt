@@ -3,8 +3,8 @@
 ghost use Rattle.std.specs.Prelude.{◌≡◌, ℕ, ◌==◌, false, ◌≤◌, ◌+◌, ◌↔◌, Some, None, find, slice_get, is_some, true, IsTrue, OnSome, OnErr, IfOk, IfErr, IfSome, IfNone, option_map};
 ghost use Rattle.std.specs.Int.{bit_at};
 ghost use Rattle.std.specs.Option.{option_map_or};
-ghost use Rattle.drm_modes.specs.Topology.{kind_of, is_of_kind, encoder_of, reaches, drives, possible_crtcs, mask_over, is_crtc, is_plane, is_encoder, AreCrtcs};
-ghost use Rattle.drm_modes.specs.Modes.{AreModes, empty_modes, has_framebuffer, is_framebuffer, is_framebuffer_of, is_made_by, framebuffer, free_framebuffer, with_framebuffer, without_framebuffer, can_show, shown_by, with_shown, shown_rows, screen_count, first_framebuffer};
+ghost use Rattle.drm_modes.specs.Topology.{kind_of, ids_of_kind, is_of_kind, encoder_of, reaches, drives, possible_crtcs, mask_over, is_crtc, is_plane, is_encoder, AreCrtcs};
+ghost use Rattle.drm_modes.specs.Modes.{AreModes, empty_modes, has_framebuffer, is_framebuffer, is_framebuffer_of, is_made_by, framebuffers_of, framebuffer, free_framebuffer, with_framebuffer, without_framebuffer, can_show, shown_by, with_shown, shown_rows, screen_count, first_framebuffer};
 ghost use Rattle.drm_modes.specs.AddFbFault.{IsFull};
 ghost use Rattle.drm_modes.specs.Tables.{framebuffer_row, framebuffers_in};
 
@@ -80,6 +80,21 @@ impl Modes {
         ensures is { IfSome result (λ kind. is_of_kind self.now.topology kind id ≡ true) }
     {
         self.topology.kind(id)
+    }
+
+    /// Whether an id is that of a fixed mode object of a kind (drm-uapi, mode setting). It takes no memory.
+    pub fn is_of_kind(&self, kind: Kind, id: u32) -> bool
+        ensures { result ≡ is_of_kind self.now.topology kind id }
+    {
+        self.topology.is_of_kind(kind, id)
+    }
+
+    /// The ids of the fixed mode objects of a kind, rising (drm-uapi, mode setting; that they rise is own). It takes no
+    /// memory.
+    pub fn ids(&self, kind: Kind) -> ShownList
+        ensures { result ≡ ids_of_kind self.now.topology kind }
+    {
+        self.topology.ids(kind)
     }
 
     /// The encoder of a connector (drm-uapi, mode setting; that a connector has one is own); none where the id is no
@@ -161,6 +176,23 @@ impl Modes {
     {
         let pixels = *self.framebuffers.get(id)?;
         Some(row(id, pixels))
+    }
+
+    /// The ids of a client's framebuffers, rising (drm-uapi, mode setting; that they rise is own). It takes no memory, and
+    /// goes through the framebuffers.
+    pub fn framebuffers_of(&self, client: u32) -> ShownList
+        ensures { result ≡ framebuffers_of self.now client }
+    {
+        self.laws();
+        let mut list = ShownList::new();
+        let mut place = 0;
+        while let Some(row) = self.nth_framebuffer(place) {
+            if row.client == client {
+                list.push(row.framebuffer);
+            }
+            place += 1;
+        }
+        list
     }
 
     /// Removes a framebuffer of a client, and gives its object. What shows it goes dark (drm-uapi, mode setting). Where

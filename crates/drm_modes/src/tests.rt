@@ -105,6 +105,18 @@ fn fixed_objects(rt: HostRuntime) -> Result<(), Fail> {
 }
 
 #[test]
+fn ids_of_kinds(rt: HostRuntime) -> Result<(), Fail> {
+    let modes = test_modes(&rt, 4)?;
+    assert_eq!(rt; modes.ids(Kind::Crtc).ids(), [1, 2].as_slice());
+    assert_eq!(rt; modes.ids(Kind::Plane).ids(), [3, 4].as_slice());
+    assert_eq!(rt; modes.ids(Kind::Encoder).ids(), [5, 6].as_slice());
+    assert_eq!(rt; modes.ids(Kind::Connector).ids(), [7, 8].as_slice());
+    assert!(rt; modes.is_of_kind(Kind::Plane, 4));
+    assert!(rt; !modes.is_of_kind(Kind::Plane, 5));
+    Ok(())
+}
+
+#[test]
 #[tactic(auto, unfolding(crate::specs::Numbers::numbers_from))]
 fn masks_over_what_is_seen(rt: HostRuntime) -> Result<(), Fail> {
     let modes = test_modes(&rt, 4)?;
@@ -134,6 +146,8 @@ fn framebuffers_of_clients(rt: HostRuntime) -> Result<(), Fail> {
     assert_eq!(rt; modes.addfb(1, SHAPE, second), Ok(11));
     assert!(rt; modes.is_full());
     assert_eq!(rt; modes.addfb(1, SHAPE, first), Err(AddFbFault::Full));
+    assert_eq!(rt; modes.framebuffers_of(1).ids(), [9, 11].as_slice());
+    assert!(rt; modes.framebuffers_of(3).ids().is_empty());
     assert_eq!(rt; modes.fb(10), Some(made(10, 2, second)));
     assert_eq!(rt; modes.fb(8), None);
     assert_eq!(rt; modes.rmfb(1, 10), None);

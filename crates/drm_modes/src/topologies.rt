@@ -87,6 +87,32 @@ impl Topology {
         None
     }
 
+    /// Whether an id is that of an object of a kind. Takes no memory.
+    pub fn is_of_kind(&self, kind: Kind, id: u32) -> bool
+        ensures { result ≡ fixed.is_of_kind self.now kind id }
+    {
+        self.laws();
+        match kind {
+            Kind::Crtc => is_in(1, self.crtcs, id),
+            Kind::Plane => is_in(self.first_plane(), self.planes.len() as u32, id),
+            Kind::Encoder => is_in(self.first_encoder(), self.encoders.len() as u32, id),
+            Kind::Connector => is_in(self.first_connector(), self.connectors.len() as u32, id),
+        }
+    }
+
+    /// The ids of the objects of a kind, rising. Takes no memory.
+    pub fn ids(&self, kind: Kind) -> ShownList
+        ensures { result ≡ fixed.ids_of_kind self.now kind }
+    {
+        self.laws();
+        match kind {
+            Kind::Crtc => ids_from(1, self.crtcs),
+            Kind::Plane => ids_from(self.first_plane(), self.planes.len() as u32),
+            Kind::Encoder => ids_from(self.first_encoder(), self.encoders.len() as u32),
+            Kind::Connector => ids_from(self.first_connector(), self.connectors.len() as u32),
+        }
+    }
+
     /// How many fixed mode objects there are.
     pub fn object_count(&self) -> u32
         ensures count { result ≡ fixed.object_count self.now }
@@ -211,6 +237,19 @@ impl Topology {
         }
         mask
     }
+}
+
+/// So many ids, from the first on.
+fn ids_from(first: u32, count: u32) -> ShownList
+    requires low { 1 ≤ first }
+    requires high { first + count ≤ 65 }
+    ensures { result ≡ numbers_from first count }
+{
+    let mut ids = ShownList::new();
+    for id in first..first + count {
+        ids.push(id);
+    }
+    ids
 }
 
 /// Whether an id is one of so many, from the first on.

@@ -1,7 +1,9 @@
-//! The worked rows that cross crates: sessions at once, in threads and over real sockets.
+//! The worked rows that cross crates: a session of frames, sessions at once in threads, and sessions over real sockets.
 #![tactic(auto)]
 
 #[cfg(test)]
 mod jobs;
+#[cfg(test)]
+mod mode_frames;
 #[cfg(test)]
 mod sockets;

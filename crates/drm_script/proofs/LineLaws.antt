@@ -11,7 +11,7 @@ use Rattle.drm_table.specs.declared.answer_kinds.AnswerKind.{AnswerKind}
 use Rattle.drm_table.specs.declared.answer_kinds.AnswerKind.TheVariants as kinds
 use Rattle.drm_table.specs.declared.fields.Field.{Field}
 use Rattle.drm_table.specs.Answers.{answer_kind_row, Told, answer_word, told}
-use Rattle.drm_table.specs.Answers.Told.{row, list, page, denial}
+use Rattle.drm_table.specs.Answers.Told.{row, resources, list, page, denial}
 use Rattle.drm_table.specs.Fields.{number_in}
 use Rattle.drm_table.specs.declared.apart.Apart.{Apart}
 use Rattle.drm_table.specs.declared.apart.Apart.TheVariants as aparts
@@ -19,7 +19,7 @@ use Rattle.drm_table.specs.declared.rules.Rule.{Rule}
 use Rattle.drm_table.specs.declared.rules.Rule.TheVariants as rules
 use Rattle.drm_table.specs.Rules.{rule_name, apart_name}
 use Rattle.drm_table.specs.declared.audits.AuditRow.{AuditRow}
-use Rattle.drm_script.specs.Lines.{number_behind, row_behind, page_words, id_behind, list_words, told_words, answer_words}
+use Rattle.drm_script.specs.Lines.{number_behind, row_behind, page_words, id_behind, joined_ids, resources_words, told_words, answer_words}
 
 -- no byte of the text is a line end
 abbrev is_bare : List ℕ → Bool
@@ -68,9 +68,12 @@ ids_bare : (ids : List ℕ) → is_bare (flat_map id_behind ids) ≡ true
 ids_bare [] = refl
 ids_bare (id ∷ ids) = list_all-append (λ b. not (eqb b 10)) (id_behind id) (flat_map id_behind ids) ∙ both_true (decimal_bare id) (ids_bare ids)
 
-list_bare : (ids : List ℕ) → is_bare (list_words ids) ≡ true
-list_bare [] = refl
-list_bare (id ∷ ids) = simp (list_all-append, decimal_bare, ids_bare)
+joined_bare : (ids : List ℕ) → is_bare (joined_ids ids) ≡ true
+joined_bare [] = refl
+joined_bare (id ∷ ids) = simp (list_all-append, decimal_bare, ids_bare)
+
+resources_bare : (crtcs connectors encoders framebuffers : List ℕ) → is_bare (resources_words crtcs connectors encoders framebuffers) ≡ true
+resources_bare crtcs connectors encoders framebuffers = simp (list_all-append, joined_bare)
 
 word_bare : (kind : AnswerKind) → is_bare (answer_word kind) ≡ true
 unfolding answer_kind_row
@@ -83,7 +86,8 @@ fields_bare (f ∷ fs) = list_all-append (λ b. not (eqb b 10)) (number_behind f
 
 told_bare : (t : Told) → is_bare (told_words t) ≡ true
 told_bare (row kind fs) = list_all-append (λ b. not (eqb b 10)) (answer_word kind) (flat_map number_behind fs) ∙ both_true (word_bare kind) (fields_bare fs)
-told_bare (list ids) = list_bare ids
+told_bare (resources crtcs connectors encoders framebuffers) = resources_bare crtcs connectors encoders framebuffers
+told_bare (list ids) = joined_bare ids
 told_bare (page rows) = page_bare rows
 told_bare (denial rule) = simp (list_all-append, decimal_bare, rule_name_bare)
 

@@ -8,7 +8,7 @@ use Rattle.drm_table.specs.declared.apart.Apart.{Apart}
 use Rattle.drm_table.specs.declared.audits.AuditKind.{AuditKind}
 use Rattle.drm_table.specs.declared.audits.AuditRow.{AuditRow}
 use Rattle.drm_table.specs.Answers.{Told, answer_word, told}
-use Rattle.drm_table.specs.Answers.Told.{row, list, page, denial}
+use Rattle.drm_table.specs.Answers.Told.{row, resources, list, page, denial}
 use Rattle.drm_table.specs.Audits.{kind_name}
 use Rattle.drm_table.specs.Fields.{number_in}
 use Rattle.drm_table.specs.Rules.{rule_number, rule_name, rule_errno, apart_number, apart_name, apart_errno}
@@ -30,6 +30,11 @@ joined_ids (id ∷ ids) = decimal id ++ flat_map id_behind ids
 abbrev pub list_words : List ℕ → List ℕ
 list_words ids = codes "list " ++ joined_ids ids
 
+-- the ids of CRTCs, connectors, encoders and framebuffers
+abbrev pub resources_words : (crtcs connectors encoders framebuffers : List ℕ) → List ℕ
+resources_words crtcs connectors encoders framebuffers =
+    codes "crtcs " ++ joined_ids crtcs ++ codes " connectors " ++ joined_ids connectors ++ codes " encoders " ++ joined_ids encoders ++ codes " framebuffers " ++ joined_ids framebuffers
+
 -- the four numbers of a row of an audit
 abbrev pub row_numbers : AuditRow → List ℕ
 row_numbers r = decimal r.a ++ codes " " ++ decimal r.b ++ codes " " ++ decimal r.c ++ codes " " ++ decimal r.d
@@ -50,9 +55,10 @@ denied_words rule = codes "denied " ++ decimal (rule_number rule) ++ codes " " +
 abbrev pub apart_words : Apart → List ℕ
 apart_words apart = codes "apart " ++ decimal (apart_number apart) ++ codes " " ++ apart_name apart ++ codes " " ++ decimal (apart_errno apart)
 
--- the word of an answer and its fields in order, a list, a page, or a denial
+-- the word of an answer and its fields in order, the lists of resources, a list, a page, or a denial
 abbrev pub told_words : Told → List ℕ
 told_words (row kind fs) = answer_word kind ++ flat_map number_behind fs
+told_words (resources crtcs connectors encoders framebuffers) = resources_words crtcs connectors encoders framebuffers
 told_words (list ids) = list_words ids
 told_words (page rows) = page_words rows
 told_words (denial rule) = denied_words rule

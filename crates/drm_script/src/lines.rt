@@ -8,7 +8,7 @@ ghost use Rattle.drm_table.specs.Rules.{rule_name, apart_name};
 ghost use Rattle.drm_script.specs.Lines.{answer_line, answer_words, apart_words, denied_words, number_behind, told_words};
 
 use crate::audits::push_page;
-use crate::lists::push_list;
+use crate::lists::{push_list, push_resources};
 use crate::texts::{LINE, LineText, push_number};
 use arrayvec::ArrayString;
 use drm_table::{Answer, Apart, Field, Rule, Told};
@@ -86,6 +86,12 @@ fn push_answer(text: &mut ArrayString<LINE>, answer: &Answer)
             text.push_str(kind.word());
             push_fields(text, fields.as_slice());
         }
+        Told::Resources {
+            crtcs,
+            connectors,
+            encoders,
+            framebuffers,
+        } => push_resources(text, crtcs, connectors, encoders, framebuffers),
         Told::List(list) => push_list(text, list),
         Told::Page(page) => push_page(text, page),
         Told::Denial(rule) => push_denied(text, rule),

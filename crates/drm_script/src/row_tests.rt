@@ -140,6 +140,119 @@ fn masters_and_magics_with_other_fields_are_malformed(rt: HostRuntime) {
 }
 
 #[test]
+fn calls_that_show_modes_are_read(rt: HostRuntime) -> Result<(), Fail> {
+    let a = Label::from_letter(b'a').ok_or("a letter")?;
+    asks(&rt, b"a getresources", a, Call::GetResources);
+    asks(&rt, b"a getcrtc 1", a, Call::GetCrtc { crtc: 1 });
+    asks(&rt, b"a getencoder 5", a, Call::GetEncoder { encoder: 5 });
+    asks(
+        &rt,
+        b"a getconnector 8",
+        a,
+        Call::GetConnector { connector: 8 },
+    );
+    asks(
+        &rt,
+        b"a getfb 4294967295",
+        a,
+        Call::GetFb {
+            framebuffer: u32::MAX,
+        },
+    );
+    asks(&rt, b"a getplaneresources", a, Call::GetPlaneResources);
+    asks(&rt, b" a  getplane  3 ", a, Call::GetPlane { plane: 3 });
+    Ok(())
+}
+
+#[test]
+fn calls_that_set_modes_are_read(rt: HostRuntime) -> Result<(), Fail> {
+    let a = Label::from_letter(b'a').ok_or("a letter")?;
+    asks(
+        &rt,
+        b"a setcrtc 1 9 7",
+        a,
+        Call::SetCrtc {
+            crtc: 1,
+            framebuffer: 9,
+            connector: 7,
+        },
+    );
+    asks(
+        &rt,
+        b"a addfb 64 32 256 24 1",
+        a,
+        Call::AddFb {
+            width: 64,
+            height: 32,
+            pitch: 256,
+            bpp: 24,
+            handle: 1,
+        },
+    );
+    asks(&rt, b"a rmfb 9", a, Call::RmFb { framebuffer: 9 });
+    asks(
+        &rt,
+        b"a setplane 3 1 9",
+        a,
+        Call::SetPlane {
+            plane: 3,
+            crtc: 1,
+            framebuffer: 9,
+        },
+    );
+    Ok(())
+}
+
+#[test]
+fn bare_numbers_of_modes_are_read(rt: HostRuntime) -> Result<(), Fail> {
+    let a = Label::from_letter(b'a').ok_or("a letter")?;
+    asks(&rt, b"a raw 160", a, Call::BadLayout(160));
+    asks(&rt, b"a raw 161", a, Call::BadLayout(161));
+    asks(&rt, b"a raw 162", a, Call::BadLayout(162));
+    asks(&rt, b"a raw 166", a, Call::BadLayout(166));
+    asks(&rt, b"a raw 167", a, Call::BadLayout(167));
+    asks(&rt, b"a raw 173", a, Call::BadLayout(173));
+    asks(&rt, b"a raw 174", a, Call::BadLayout(174));
+    asks(&rt, b"a raw 175", a, Call::BadLayout(175));
+    asks(&rt, b"a raw 181", a, Call::BadLayout(181));
+    asks(&rt, b"a raw 182", a, Call::BadLayout(182));
+    asks(&rt, b"a raw 183", a, Call::BadLayout(183));
+    asks(&rt, b"a raw 159", a, Call::Unknown(159));
+    asks(&rt, b"a raw 163", a, Call::Unknown(163));
+    asks(&rt, b"a raw 184", a, Call::Unknown(184));
+    Ok(())
+}
+
+#[test]
+fn modes_with_other_fields_are_malformed(rt: HostRuntime) {
+    let lines: [&[u8]; 20] = [
+        b"a getresources 1",
+        b"a mode_getresources",
+        b"a getcrtc",
+        b"a getcrtc 1 1",
+        b"a getcrtc 4294967296",
+        b"a setcrtc 1 9",
+        b"a setcrtc 1 9 7 0",
+        b"a setcrtc 1 9 4294967296",
+        b"a getencoder",
+        b"a getconnector 8 1",
+        b"a getfb",
+        b"a addfb 64 32 256 24",
+        b"a addfb 64 32 256 24 1 1",
+        b"a rmfb",
+        b"a rmfb 1 1",
+        b"a getplaneresources 1",
+        b"a getplaneresource",
+        b"a getplane -1",
+        b"a setplane 3 1",
+        b"a setplane 3 1 9 0",
+    ];
+    for line in lines {
+        assert_eq!(rt; read_line(line), Reading::Malformed);
+    }
+}
+
+#[test]
 fn names_and_tokens_with_other_fields_are_malformed(rt: HostRuntime) {
     let lines: [&[u8]; 18] = [
         b"a gem_flink",
@@ -189,15 +302,19 @@ fn other_fields_are_malformed(rt: HostRuntime) {
     }
 }
 
-/// The list of the first 64 of these ids.
-fn list_of(ids: &[u32]) -> Result<Answer, Apart> {
+/// The first 64 of these ids.
+fn shown(ids: &[u32]) -> ShownList {
     let mut list = ShownList::new();
     for id in ids {
         if list.ids().len() < 64 {
             list.push(*id);
         }
     }
-    Ok(Answer::List { list })
+    list
+}
+
+fn list_of(ids: &[u32]) -> Result<Answer, Apart> {
+    Ok(Answer::List { list: shown(ids) })
 }
 
 fn writes(rt: &impl Abort, outcome: Result<Answer, Apart>, line: &[u8]) {
@@ -225,4 +342,71 @@ fn numbers_buffers_and_lists_have_their_lines(rt: HostRuntime) {
     writes(&rt, list_of(&[1, 3]), b"list 1,3\n");
     let greatest = line_of(&list_of(&[u32::MAX; 64]));
     assert_eq!(rt; greatest.as_bytes().len(), 709);
+}
+
+#[test]
+fn planes_and_framebuffers_have_their_lines(rt: HostRuntime) {
+    writes(
+        &rt,
+        Ok(Answer::Plane {
+            framebuffer: 9,
+            mask: 1,
+        }),
+        b"plane 9 1\n",
+    );
+    writes(
+        &rt,
+        Ok(Answer::Plane {
+            framebuffer: 0,
+            mask: u32::MAX,
+        }),
+        b"plane 0 4294967295\n",
+    );
+    writes(
+        &rt,
+        Ok(Answer::Framebuffer {
+            width: 64,
+            height: 32,
+            pitch: 256,
+            bpp: 24,
+            handle: 1,
+        }),
+        b"framebuffer 64 32 256 24 1\n",
+    );
+}
+
+fn resources_of(
+    crtcs: &[u32],
+    connectors: &[u32],
+    encoders: &[u32],
+    framebuffers: &[u32],
+) -> Result<Answer, Apart> {
+    Ok(Answer::Resources {
+        crtcs: shown(crtcs),
+        connectors: shown(connectors),
+        encoders: shown(encoders),
+        framebuffers: shown(framebuffers),
+    })
+}
+
+#[test]
+fn resources_have_their_lines(rt: HostRuntime) {
+    writes(
+        &rt,
+        resources_of(&[], &[], &[], &[]),
+        b"crtcs - connectors - encoders - framebuffers -\n",
+    );
+    writes(
+        &rt,
+        resources_of(&[1, 2], &[7, 8], &[5, 6], &[]),
+        b"crtcs 1,2 connectors 7,8 encoders 5,6 framebuffers -\n",
+    );
+    writes(
+        &rt,
+        resources_of(&[], &[8], &[], &[9, 4_294_967_295]),
+        b"crtcs - connectors 8 encoders - framebuffers 9,4294967295\n",
+    );
+    let ids = [u32::MAX; 64];
+    let greatest = line_of(&resources_of(&ids, &ids, &ids, &ids));
+    assert_eq!(rt; greatest.as_bytes().len(), 2855);
 }

@@ -1,4 +1,5 @@
-//! Scripts of buffers, stamps, handles, capabilities, names, tokens, masters and magics, with their published answers.
+//! Scripts of buffers, stamps, handles, capabilities, names, tokens, masters, magics, mode objects and framebuffers, with
+//! their published answers.
 
 use crate::run::ScriptEnd;
 use crate::tests::check_script;
@@ -111,12 +112,95 @@ fn masters(rt: HostRuntime) {
             b"client 1\nclient 2\nclient 3\ndenied 26 MasterPerm 13\ndenied 28 NotCurrent 22\ndone\ndenied 26 MasterPerm 13\ndone\ndone\ndenied 26 MasterPerm 13\n",
         ),
         (
-            b"open a card\nopen b card\nb gem_flink 1\nb version\nb auth_magic 1\nb audit 1 0\nopen q root\nq audit 1 0\n",
-            b"client 1\nclient 2\ndenied 12 Auth 13\nversion 1 0 0\ndenied 13 Master 13\ndenied 11 RootOnly 13\nclient 7\nrows 3 | 1 28 1 0 | 2 0 1 0 | 7 6 1 0\n",
+            b"open a card\nopen b card\nb gem_flink 1\nb setcrtc 1 0 0\nb auth_magic 1\nb audit 1 0\nopen q root\nq audit 1 0\n",
+            b"client 1\nclient 2\ndenied 12 Auth 13\ndenied 13 Master 13\ndenied 13 Master 13\ndenied 11 RootOnly 13\nclient 7\nrows 3 | 1 28 1 0 | 2 0 1 0 | 7 6 1 0\n",
         ),
         (
             b"open q root\nopen b card\nb get_magic\nq audit 1 0\nq auth_magic 1\nq audit 1 0\nq drop_master\nq audit 10 0\nb set_master\nopen r root\nq set_master\nq audit 2 0\nclose r\nq audit 10 0\nq set_master\nq audit 10 0\nclose b\nq audit 1 0\n",
             b"client 1\nclient 2\nnumber 1\nrows 2 | 1 30 1 0 | 2 0 1 1\ndone\nrows 2 | 1 30 1 0 | 2 36 1 1\ndone\nrows 1 | 0 0 0 7\ndenied 26 MasterPerm 13\nclient 10\ndenied 27 MasterBusy 16\nrows 2 | 1 0 0 0 | 10 0 0 0\nclosed\nrows 1 | 0 0 0 13\ndone\nrows 1 | 1 0 0 15\nclosed\nrows 1 | 1 30 1 0\n",
+        ),
+    ];
+    for (script, answers) in rows {
+        check_script(&rt, rt.alloc(), script, ScriptEnd::Done, answers);
+    }
+}
+
+#[test]
+fn mode_objects(rt: HostRuntime) {
+    let rows: [(&[u8], &[u8]); 3] = [
+        (
+            b"open a card\na getresources\na getplaneresources\na getencoder 6\na getconnector 7\na getcrtc 7\na create_dumb 64 64 32\na addfb 64 64 256 32 1\na setplane 3 1 9\na getplane 3\na destroy_dumb 1\na getplane 3\na setplane 3 99 0\na getplane 3\n",
+            b"client 1\ncrtcs 1,2 connectors 7,8 encoders 5,6 framebuffers -\nlist 3,4\nnumber 2\nnumber 5\ndenied 30 NoModeObject 2\ndumb 1 256 16384\nnumber 9\ndone\nplane 9 1\ndone\nplane 9 1\ndone\nplane 0 1\n",
+        ),
+        (
+            b"open a card\na getcrtc 0\na getcrtc 3\na getplane 2\na getplane 5\na getencoder 4\na getencoder 7\na getconnector 6\na getconnector 9\na getplane 4\na getencoder 5\na getconnector 8\na getcrtc 2\n",
+            b"client 1\ndenied 30 NoModeObject 2\ndenied 30 NoModeObject 2\ndenied 30 NoModeObject 2\ndenied 30 NoModeObject 2\ndenied 30 NoModeObject 2\ndenied 30 NoModeObject 2\ndenied 30 NoModeObject 2\ndenied 30 NoModeObject 2\nplane 0 2\nnumber 3\nnumber 6\nnumber 0\n",
+        ),
+        (
+            b"open a card\nopen b card\nopen r render\nb getresources\nb getplaneresources\nb getencoder 5\nb getcrtc 2\nb setcrtc 2 0 0\nb setplane 3 1 0\nr getresources\nr getfb 9\nr addfb 1 1 4 32 1\nr setplane 3 1 0\na drop_master\na setcrtc 2 0 0\na getplaneresources\n",
+            b"client 1\nclient 2\nclient 3\ncrtcs 1,2 connectors 7,8 encoders 5,6 framebuffers -\nlist 3,4\nnumber 3\nnumber 0\ndenied 13 Master 13\ndenied 13 Master 13\ndenied 14 RenderAllow 13\ndenied 14 RenderAllow 13\ndenied 14 RenderAllow 13\ndenied 13 Master 13\ndone\ndenied 13 Master 13\nlist 3,4\n",
+        ),
+    ];
+    for (script, answers) in rows {
+        check_script(&rt, rt.alloc(), script, ScriptEnd::Done, answers);
+    }
+}
+
+#[test]
+fn framebuffers(rt: HostRuntime) {
+    let rows: [(&[u8], &[u8]); 6] = [
+        (
+            b"open a card\nopen b card\nb create_dumb 1 1 32\nb addfb 1 1 4 32 1\na rmfb 9\na getresources\nb getresources\nb rmfb 8\nb rmfb 10\nb rmfb 9\nb rmfb 9\nb getresources\n",
+            b"client 1\nclient 2\ndumb 1 64 4096\nnumber 9\ndenied 38 NoFb 2\ncrtcs 1,2 connectors 7,8 encoders 5,6 framebuffers -\ncrtcs 1,2 connectors 7,8 encoders 5,6 framebuffers 9\ndenied 38 NoFb 2\ndenied 38 NoFb 2\ndone\ndenied 38 NoFb 2\ncrtcs 1,2 connectors 7,8 encoders 5,6 framebuffers -\n",
+        ),
+        (
+            b"open a card\na create_dumb 64 64 32\na addfb 64 64 255 32 1\na addfb 64 65 256 32 1\na addfb 64 64 257 32 1\na addfb 0 64 256 32 1\na addfb 64 0 256 32 1\na addfb 64 64 256 0 1\na addfb 1 1 16 65 1\na addfb 65536 1 65536 8 1\na addfb 0 0 0 0 2\na addfb 64 64 256 25 1\na addfb 64 64 255 24 1\na getfb 10\na addfb 16384 1 16384 8 1\na addfb 1 16384 1 1 1\n",
+            b"client 1\ndumb 1 256 16384\ndenied 39 BadSize 22\ndenied 39 BadSize 22\ndenied 39 BadSize 22\ndenied 39 BadSize 22\ndenied 39 BadSize 22\ndenied 39 BadSize 22\ndenied 39 BadSize 22\ndenied 39 BadSize 22\ndenied 21 NoHandle 2\nnumber 9\nnumber 10\nframebuffer 64 64 255 24 2\nnumber 11\nnumber 12\n",
+        ),
+        (
+            b"open a card\na create_dumb 1 1 32\na addfb 1 1 4 32 1\na addfb 1 1 4 32 1\na addfb 1 1 4 32 1\na rmfb 9\na getresources\na addfb 1 1 4 32 1\na getresources\na addfb 1 1 4 32 1\n",
+            b"client 1\ndumb 1 64 4096\nnumber 9\nnumber 10\nnumber 11\ndone\ncrtcs 1,2 connectors 7,8 encoders 5,6 framebuffers 10,11\nnumber 9\ncrtcs 1,2 connectors 7,8 encoders 5,6 framebuffers 9,10,11\nnumber 12\n",
+        ),
+        (
+            b"open q root\nq create_dumb 64 64 32\nq gem_flink 1\nq addfb 64 64 256 32 1\nq gem_close 1\nq gem_open 1\nq audit 3 0\nq getfb 9\nq stamp_write 1 77\nq gem_close 1\nq getfb 9\nq stamp_read 1\nq gem_close 1\nq rmfb 9\nq audit 3 0\n",
+            b"client 1\ndumb 1 256 16384\nnumber 1\nnumber 9\ndone\ndenied 23 NoName 2\nrows 1 | 2 16384 0 1\nframebuffer 64 64 256 32 1\ndone\ndone\nframebuffer 64 64 256 32 1\nnumber 77\ndone\ndone\nrows 0\n",
+        ),
+        (
+            b"limits 4 2 8 8 8 2 4 50\nopen a card\nopen b card\na create_dumb 1 1 32\nb create_dumb 1 1 32\na addfb 1 1 4 32 1\nb addfb 1 1 4 32 1\na addfb 1 1 4 32 1\na addfb 1 1 3 32 1\nb rmfb 10\na addfb 1 1 4 32 1\na getfb 9\na getfb 9\na getfb 11\nb create_dumb 1 1 32\nb getfb 9\n",
+            b"client 1\nclient 2\ndumb 1 64 4096\ndumb 1 64 4096\nnumber 9\nnumber 10\ndenied 43 Full 28\ndenied 39 BadSize 22\ndone\nnumber 10\nframebuffer 1 1 4 32 2\ndenied 43 Full 28\ndenied 38 NoFb 2\ndumb 2 64 4096\nframebuffer 1 1 4 32 0\n",
+        ),
+        (
+            b"open a card\nopen b card\nopen q root\nb create_dumb 1 1 32\nb stamp_write 1 5\nb addfb 1 1 4 32 1\nb getfb 9\nb list_handles 0\nq getfb 9\nq getfb 9\nq stamp_read 2\na getfb 9\na drop_master\na getfb 9\na list_handles 0\nq getfb 9\n",
+            b"client 1\nclient 2\nclient 3\ndumb 1 64 4096\ndone\nnumber 9\nframebuffer 1 1 4 32 0\nlist 1\nframebuffer 1 1 4 32 1\nframebuffer 1 1 4 32 2\nnumber 5\nframebuffer 1 1 4 32 1\ndone\nframebuffer 1 1 4 32 0\nlist 1\nframebuffer 1 1 4 32 3\n",
+        ),
+    ];
+    for (script, answers) in rows {
+        check_script(&rt, rt.alloc(), script, ScriptEnd::Done, answers);
+    }
+}
+
+#[test]
+fn what_is_shown(rt: HostRuntime) {
+    let rows: [(&[u8], &[u8]); 5] = [
+        (
+            b"open a card\na create_dumb 64 64 32\na addfb 64 64 256 32 1\na addfb 64 65 256 32 1\na setcrtc 1 9 7\na setcrtc 1 9 8\na getcrtc 1\na gem_close 1\nopen b card\nb getfb 9\na getfb 9\nb rmfb 9\na setplane 4 1 9\na rmfb 9\na getcrtc 1\na getfb 9\n",
+            b"client 1\ndumb 1 256 16384\nnumber 9\ndenied 39 BadSize 22\ndone\ndenied 40 BadRoute 22\nnumber 9\ndone\nclient 9\nframebuffer 64 64 256 32 0\nframebuffer 64 64 256 32 1\ndenied 38 NoFb 2\ndenied 40 BadRoute 22\ndone\nnumber 0\ndenied 38 NoFb 2\n",
+        ),
+        (
+            b"open a card\nopen b card\nb create_dumb 64 64 32\nb addfb 64 64 256 32 1\nb addfb 64 64 256 32 1\na setcrtc 1 9 7\na setcrtc 2 10 8\na setplane 3 1 9\na setplane 4 2 10\nb rmfb 9\na getcrtc 1\na getplane 3\na getcrtc 2\na getplane 4\nclose b\na getcrtc 2\na getplane 4\na getfb 10\n",
+            b"client 1\nclient 2\ndumb 1 256 16384\nnumber 9\nnumber 10\ndone\ndone\ndone\ndone\ndone\nnumber 0\nplane 0 1\nnumber 10\nplane 10 2\nclosed\nnumber 0\nplane 0 2\ndenied 38 NoFb 2\n",
+        ),
+        (
+            b"open a card\na create_dumb 64 64 32\na addfb 64 64 256 32 1\na setplane 3 1 9\na setplane 3 99 9\na setplane 3 99 77\na setplane 3 2 77\na setplane 3 2 9\na setplane 1 1 9\na setplane 9 1 0\na getplane 3\na setplane 3 99 0\na getplane 3\na setplane 3 1 0\na setplane 4 2 9\na setplane 4 2 9\na getplane 4\n",
+            b"client 1\ndumb 1 256 16384\nnumber 9\ndone\ndenied 30 NoModeObject 2\ndenied 30 NoModeObject 2\ndenied 38 NoFb 2\ndenied 40 BadRoute 22\ndenied 30 NoModeObject 2\ndenied 30 NoModeObject 2\nplane 9 1\ndone\nplane 0 1\ndone\ndone\ndone\nplane 9 2\n",
+        ),
+        (
+            b"open a card\na create_dumb 64 64 32\na addfb 64 64 256 32 1\na setcrtc 7 0 0\na setcrtc 1 77 99\na setcrtc 1 77 8\na setcrtc 1 77 0\na setcrtc 1 9 8\na setcrtc 1 9 0\na setcrtc 1 0 99\na setcrtc 1 0 7\na getcrtc 1\na setcrtc 1 9 7\na setcrtc 2 9 7\na getcrtc 2\na setcrtc 1 0 0\na getcrtc 1\na getcrtc 2\n",
+            b"client 1\ndumb 1 256 16384\nnumber 9\ndenied 30 NoModeObject 2\ndenied 30 NoModeObject 2\ndenied 38 NoFb 2\ndenied 38 NoFb 2\ndenied 40 BadRoute 22\ndenied 40 BadRoute 22\ndenied 30 NoModeObject 2\ndenied 40 BadRoute 22\nnumber 0\ndone\ndone\nnumber 9\ndone\nnumber 0\nnumber 9\n",
+        ),
+        (
+            b"open q root\nopen b card\nb create_dumb 1 1 32\nq create_dumb 1 1 32\nb addfb 1 1 4 32 1\nq addfb 1 1 4 32 1\nq prime_export 1\nq setplane 4 2 9\nq setcrtc 2 10 8\nq setcrtc 1 9 7\nq audit 8 0\nq audit 9 0\nq audit 9 1\nq audit 3 0\nclose b\nq audit 8 0\nq audit 9 0\nq audit 3 0\n",
+            b"client 1\nclient 2\ndumb 1 64 4096\ndumb 1 64 4096\nnumber 9\nnumber 10\nnumber 1\ndone\ndone\ndone\nrows 2 | 9 2 3 0 | 10 1 4 0\nrows 3 | 1 9 0 0 | 2 10 0 0 | 4 9 0 0\nrows 2 | 2 10 0 0 | 4 9 0 0\nrows 2 | 3 4096 1 1 | 4 4096 1 2\nclosed\nrows 1 | 10 1 4 0\nrows 1 | 2 10 0 0\nrows 1 | 4 4096 1 2\n",
         ),
     ];
     for (script, answers) in rows {

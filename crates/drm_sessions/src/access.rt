@@ -1,6 +1,7 @@
 //! What a session works on.
 
 ghost use Rattle.drm_table.specs.declared.events.Event.{Event as AnEvent};
+ghost use Rattle.drm_table.specs.Results.{IsFew};
 ghost use Rattle.drm_frames.specs.Answers.{Outcome};
 ghost use Rattle.drm_sessions.specs.Opening.{AnswersOpening};
 
@@ -11,10 +12,12 @@ pub trait Access {
     /// The values before and after a call with this event that gave this result.
     ghost answers: { Self → AnEvent → Outcome → Self → Type 0 };
 
-    /// Answers one event. An opening is answered by a client, a denial, or what stands apart.
+    /// Answers one event. An opening is answered by a client, a denial, or what stands apart. Resources are few enough for
+    /// one frame.
     fn call(&mut self, event: Event) -> Result<Answer, Apart>
         ensures answers { answers self.old event result self.new }
-        ensures opening { AnswersOpening event result };
+        ensures opening { AnswersOpening event result }
+        ensures few { IsFew result };
 }
 
 /// What is called before each request of a client is carried out.

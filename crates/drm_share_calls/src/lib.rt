@@ -1,7 +1,6 @@
 //! The calls that share objects: by global names, and by PRIME tokens.
 #![tactic(auto)]
 
-mod handles;
 mod names;
 mod tokens;
 

@@ -6,9 +6,8 @@ ghost use Rattle.drm_table.specs.declared.calls.Call.TheVariants.{PrimeHandleToF
 ghost use Rattle.drm_state.specs.Ties.{IsTied, IsReady};
 ghost use Rattle.drm_state.specs.Refinement.{OwesCall, OwesReply};
 
-use crate::handles::new_handle;
 use drm_share::ShareFault;
-use drm_state::State;
+use drm_state::{State, new_handle};
 use drm_table::{Answer, Rule};
 use std::alloc::AllocError;
 

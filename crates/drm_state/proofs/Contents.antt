@@ -19,6 +19,7 @@ use Rattle.drm_files.specs.declared.rows.FileHold.{FileHold}
 use Rattle.drm_files.specs.Files as files
 use Rattle.drm_files.specs.Files.{FileLists, of_client, left_by, without_hold, without_client}
 use Rattle.drm_share.specs.Names.{NameList}
+use Rattle.drm_modes.specs.declared.rows.Framebuffer.{Framebuffer}
 use Rattle.drm_model.specs.Rows.{Rows, HoldRow, ObjectRow, is_hold, hold_row, object_of, object_row, handles_of}
 use Rattle.drm_model.specs.Numbers.{rising}
 use Rattle.drm_model.specs.Buffers.{with_stamp}
@@ -26,11 +27,11 @@ use Rattle.drm_model.specs.Sharing.{size_of}
 use Rattle.drm_state.specs.declared.state.State.{State}
 use Rattle.drm_share.specs.declared.rows.SharedName.{SharedName}
 use Rattle.drm_share.specs.declared.rows.SharedToken.{SharedToken}
-use Rattle.drm_state.specs.Parts.{birth_at, hold_row_by, hold_row_of, name_row_by, name_row_of, token_row_by, token_row_of, object_row_of, holds_of, keys_of, referring_keys}
+use Rattle.drm_state.specs.Parts.{birth_at, hold_row_by, hold_row_of, name_row_by, name_row_of, token_row_by, token_row_of, framebuffer_row_by, framebuffer_row_of, object_row_of, holds_of, keys_of, referring_keys}
 use Rattle.drm_state.specs.Ties.{Tie, HoldsRise, ObjectsCounted, NamesHeld, is_tied, IsTied, AreTied, AreNamed, Counts, Leaves}
-use Rattle.drm_model.specs.Parts.{Part, Holds, Objects, Names, Tokens}
+use Rattle.drm_model.specs.Parts.{Part, Holds, Objects, Names, Tokens, Framebuffers}
 use Rattle.drm_state.specs.Refinement.{stands_for, Represents}
-use Rattle.drm_state.proofs.Represented.{holds_are, objects_are, names_are, tokens_are, holds_rise, objects_counted, names_held}
+use Rattle.drm_state.proofs.Represented.{holds_are, objects_are, names_are, tokens_are, framebuffers_are, holds_rise, objects_counted, names_held}
 use Rattle.drm_state.proofs.Counting.{IsStep, at_key, is_found, changed_tied, same_tied, fewer_step, handle_fewer, reference_fewer}
 use Rattle.drm_state.proofs.Sweeps.{without_handle, named_left}
 use Rattle.drm_state.proofs.Naming.{same_numbers, key_by_number}
@@ -99,6 +100,9 @@ holds_stamped key stamp objects hs = same_numbers hold_row_by (λ (x : FileHold)
 tokens_stamped : (key stamp : ℕ) (objects : List Object) → (ts : List SharedToken) → map (token_row_of (at_key key (stamped stamp) objects)) ts ≡ map (token_row_of objects) ts
 tokens_stamped key stamp objects ts = same_numbers token_row_by (λ (x : SharedToken). x.object) objects (at_key key (stamped stamp) objects) ts (λ n e. number_stamped n key stamp objects)
 
+framebuffers_stamped : (key stamp : ℕ) (objects : List Object) → (fs : List Framebuffer) → map (framebuffer_row_of (at_key key (stamped stamp) objects)) fs ≡ map (framebuffer_row_of objects) fs
+framebuffers_stamped key stamp objects fs = same_numbers framebuffer_row_by (λ (x : Framebuffer). x.object) objects (at_key key (stamped stamp) objects) fs (λ n e. number_stamped n key stamp objects)
+
 names_stamped : (key stamp : ℕ) (objects : List Object) → (ns : List SharedName) → map (name_row_of (at_key key (stamped stamp) objects)) ns ≡ map (name_row_of objects) ns
 names_stamped key stamp objects ns = same_numbers name_row_by (λ (x : SharedName). x.object) objects (at_key key (stamped stamp) objects) ns (λ n e. number_stamped n key stamp objects)
 
@@ -125,6 +129,7 @@ stamped_represents s w key stamp t e h Objects =
     let number = birth_at s.objects.objects key in
     ap (with_stamp number stamp) (objects_are s w h) ∙ rows_stamped key stamp number s.objects.objects (key_by_number (keys_of s.files.holds) (referring_keys s) s.objects.objects key (objects_counted s t) (among-left (keys_of s.files.holds) (referring_keys s) key e))
 stamped_represents s w key stamp t e h Tokens = subst (SameRows w.tokens) (sym (tokens_stamped key stamp s.objects.objects s.tokens.tokens)) (tokens_are s w h)
+stamped_represents s w key stamp t e h Framebuffers = subst (SameRows w.framebuffers) (sym (framebuffers_stamped key stamp s.objects.objects s.modes.framebuffers)) (framebuffers_are s w h)
 stamped_represents s w key stamp t e h Names = subst (SameRows w.names) (sym (names_stamped key stamp s.objects.objects s.names.names)) (names_are s w h)
 stamped_represents s w key stamp t e h part = h part
 

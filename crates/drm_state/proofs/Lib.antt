@@ -2,6 +2,7 @@ pub mod Counting
 pub mod Members
 pub mod Represented
 pub mod Naming
+pub mod Frames
 pub mod Holding
 pub mod Living
 pub mod Sweeps
@@ -16,3 +17,8 @@ pub mod Crossing
 pub mod Leaving
 pub mod Taken
 pub mod Magics
+pub mod Held
+pub mod Added
+pub mod Framing
+pub mod Seeing
+pub mod Screens

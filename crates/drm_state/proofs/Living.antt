@@ -10,7 +10,7 @@ use Rattle.drm_masters.specs.declared.rows.Master.{Master}
 use Rattle.drm_masters.specs.declared.rows.Member.{Member}
 use Rattle.drm_masters.specs.Masters as masters
 use Rattle.drm_model.specs.Rows.{Rows, ClientRow, MasterRow, is_option}
-use Rattle.drm_model.specs.Masters.{lessor_of, owner_of, is_owner, is_under}
+use Rattle.drm_model.specs.Masters.{lessor_of, is_owner, is_under}
 use Rattle.drm_model.specs.Change.{is_held, is_living}
 use Rattle.drm_state.specs.Parts.{master_row_of}
 

@@ -17,7 +17,7 @@ use Rattle.drm_state.proofs.Living.{current_is}
 use Rattle.drm_table.specs.declared.permits.Standing.{Standing}
 use Rattle.drm_masters.specs.declared.rows.Member.{Member}
 
-client_found : (s : State) (w : Rows) → Represents s w → (c : ℕ) → client_row w c ≡ option_map (client_row_of s.masters.members) (find (files.is_client c) s.files.clients)
+pub client_found : (s : State) (w : Rows) → Represents s w → (c : ℕ) → client_row w c ≡ option_map (client_row_of s.masters.members) (find (files.is_client c) s.files.clients)
 client_found s w h c = ap (find (is_client c)) (clients_are s w h) ∙ find-map (is_client c) (client_row_of s.masters.members) s.files.clients
 
 pub is_open_is : (s : State) (w : Rows) → Represents s w → (c : ℕ) → is_open w c ≡ files.is_present s.files c

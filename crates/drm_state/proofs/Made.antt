@@ -20,16 +20,17 @@ use Rattle.drm_files.specs.Files as files
 use Rattle.drm_files.specs.Files.{hold_before, placed, with_hold, hold}
 use Rattle.drm_index_array.specs.Least.{least}
 use Rattle.drm_index_array.proofs.Least.{least-same}
+use Rattle.drm_modes.specs.declared.rows.Framebuffer.{Framebuffer}
 use Rattle.drm_model.specs.Rows.{Rows, HoldRow, hold_row, is_hold, handles_of, free_handle, birth}
 use Rattle.drm_model.specs.Buffers.{with_object}
 use Rattle.drm_state.specs.declared.state.State.{State}
 use Rattle.drm_share.specs.declared.rows.SharedName.{SharedName}
 use Rattle.drm_share.specs.declared.rows.SharedToken.{SharedToken}
-use Rattle.drm_state.specs.Parts.{birth_at, hold_row_by, hold_row_of, name_row_by, name_row_of, token_row_by, token_row_of, object_row_of, holds_of, keys_of, token_keys, referring_keys}
+use Rattle.drm_state.specs.Parts.{birth_at, hold_row_by, hold_row_of, name_row_by, name_row_of, token_row_by, token_row_of, framebuffer_row_by, framebuffer_row_of, object_row_of, holds_of, keys_of, token_keys, framebuffer_keys, referring_keys}
 use Rattle.drm_state.specs.Ties.{Tie, HoldsRise, ObjectsCounted, NamesHeld, is_tied, IsTied, AreNamed}
-use Rattle.drm_model.specs.Parts.{Part, Holds, Objects, Names, Tokens}
+use Rattle.drm_model.specs.Parts.{Part, Holds, Objects, Names, Tokens, Framebuffers}
 use Rattle.drm_state.specs.Refinement.{stands_for, Represents, Stands}
-use Rattle.drm_state.proofs.Represented.{limits_are, holds_are, objects_are, names_are, tokens_are, holds_rise, objects_counted, names_held}
+use Rattle.drm_state.proofs.Represented.{bounds_are, holds_are, objects_are, names_are, tokens_are, framebuffers_are, holds_rise, objects_counted, names_held}
 use Rattle.drm_state.proofs.Counting.{is_found, same_tied, created_tied}
 use Rattle.drm_state.proofs.Naming.{same_numbers}
 use Rattle.drm_state.proofs.Holding.{same_placed, in_order_placed, free_is_new}
@@ -72,7 +73,7 @@ handles_are s w h c n =
 pub free_handle_is : (s : State) (w : Rows) → Represents s w → (c : ℕ) → free_handle w c ≡ files.free_handle s.files c
 free_handle_is s w h c =
     least-same (λ n. not (is_among (handles_of w c) n)) (λ n. not (is_among (files.handles_of s.files c) n)) 1 w.limits.handles (λ n _ _. ap not (handles_are s w h c n))
-    ∙ ap (least (λ n. not (is_among (files.handles_of s.files c) n)) 1) (sym (limits_are s w h).1)
+    ∙ ap (least (λ n. not (is_among (files.handles_of s.files c) n)) 1) (sym (bounds_are s w h).1)
 
 -- ---- numbers with one more object
 
@@ -88,9 +89,12 @@ number_kept k y xs h =
 holds_kept : (y : Object) (objects : List Object) → (hs : List FileHold) → ((n : ℕ) → is_among (keys_of hs) n ≡ true → is_some (find (is_key n) objects) ≡ true) → map (hold_row_of (objects ++ y ∷ [])) hs ≡ map (hold_row_of objects) hs
 holds_kept y objects hs f = same_numbers hold_row_by (λ (x : FileHold). x.object) objects (objects ++ y ∷ []) hs (λ n e. number_kept n y objects (f n e))
 
--- names and tokens name what they named
+-- names, tokens and framebuffers name what they named
 tokens_kept : (y : Object) (objects : List Object) → (ts : List SharedToken) → ((n : ℕ) → is_among (token_keys ts) n ≡ true → is_some (find (is_key n) objects) ≡ true) → map (token_row_of (objects ++ y ∷ [])) ts ≡ map (token_row_of objects) ts
 tokens_kept y objects ts f = same_numbers token_row_by (λ (x : SharedToken). x.object) objects (objects ++ y ∷ []) ts (λ n e. number_kept n y objects (f n e))
+
+framebuffers_kept : (y : Object) (objects : List Object) → (fs : List Framebuffer) → ((n : ℕ) → is_among (framebuffer_keys fs) n ≡ true → is_some (find (is_key n) objects) ≡ true) → map (framebuffer_row_of (objects ++ y ∷ [])) fs ≡ map (framebuffer_row_of objects) fs
+framebuffers_kept y objects fs f = same_numbers framebuffer_row_by (λ (x : Framebuffer). x.object) objects (objects ++ y ∷ []) fs (λ n e. number_kept n y objects (f n e))
 
 held_names : (keys : List ℕ) → (ns : List SharedName) (n : ℕ) → AreNamed keys ns → is_among (map (λ (x : SharedName). x.object) ns) n ≡ true → is_among keys n ≡ true
 held_names keys [] n h e = absurd (let k : false ≡ true = e in cc)
@@ -130,7 +134,10 @@ made s w c handle key b size t h fresh free Holds =
     let new : numbered ≡ record { client = c; handle = unwrap_or (free_handle w c) 0; object = birth w; place = None } = ap (λ n. record { client = c; handle = unwrap_or (free_handle w c) 0; object = n; place = None }) (sym h.birth_is) in
     let longer = ap (λ (r : HoldRow). w.holds ++ r ∷ []) (first ∙ new) in
     subst (λ rows. SameRows rows (map (hold_row_of objects) (placed hold_before y s.files.holds))) longer more
-made s w c handle key b size t h fresh free Tokens = subst (SameRows w.tokens) (sym (tokens_kept (new_object key b size) s.objects.objects s.tokens.tokens (λ n e. (objects_counted s t).there n (among-right (keys_of s.files.holds) (referring_keys s) n e)))) (tokens_are s w h.rows)
+made s w c handle key b size t h fresh free Tokens =
+    subst (SameRows w.tokens) (sym (tokens_kept (new_object key b size) s.objects.objects s.tokens.tokens (λ n e. (objects_counted s t).there n (among-right (keys_of s.files.holds) (referring_keys s) n (among-left (token_keys s.tokens.tokens) (framebuffer_keys s.modes.framebuffers) n e))))) (tokens_are s w h.rows)
+made s w c handle key b size t h fresh free Framebuffers =
+    subst (SameRows w.framebuffers) (sym (framebuffers_kept (new_object key b size) s.objects.objects s.modes.framebuffers (λ n e. (objects_counted s t).there n (among-right (keys_of s.files.holds) (referring_keys s) n (among-right (token_keys s.tokens.tokens) (framebuffer_keys s.modes.framebuffers) n e))))) (framebuffers_are s w h.rows)
 made s w c handle key b size t h fresh free Names =
     subst (SameRows w.names) (sym (names_kept (new_object key b size) s.objects.objects (keys_of s.files.holds) s.names.names (names_held s t) (λ n e. (objects_counted s t).there n (among-left (keys_of s.files.holds) (referring_keys s) n e)))) (names_are s w h.rows)
 made s w c handle key b size t h fresh free part = h.rows part

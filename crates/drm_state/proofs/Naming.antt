@@ -1,21 +1,23 @@
 -- Which objects keys name, by the numbers of the objects.
-use Rattle.std.proofs.Common.{◌≡◌, ℕ, suc, ◌==◌, Bool, true, false, cond, not, List, [], ◌∷◌, ◌++◌, map, filter, find, length, Some, None, refl, sym, ap, ◌∙◌, subst, eq-eqb}
+use Rattle.std.proofs.Common.{◌≡◌, ℕ, suc, ◌+◌, ◌==◌, Bool, true, false, cond, not, List, [], ◌∷◌, ◌++◌, map, filter, find, length, Some, None, refl, sym, ap, ◌∙◌, subst, eq-eqb, arith}
 use Rattle.std.specs.List.{list_any, AllByRecursion}
 use Rattle.std.specs.Prelude.{⊤}
 use Rattle.std.specs.Option.{is_some, option_map_or}
 use Rattle.std.proofs.lemmas.Bool.{eqb-true}
 use Rattle.drm_lists.specs.Orders.{SameRows, InOrder}
 use Rattle.drm_lists.specs.Numbers.{is_among, count}
-use Rattle.drm_lists.proofs.Lists.{all_weaker, map-map, list_any-map, all_both, all_each}
+use Rattle.drm_lists.proofs.Lists.{all_weaker, map-map, length-filter_append, list_any-map, all_both, all_each}
 use Rattle.drm_lists.proofs.Numbers.{flipped, among-more, count-none, among-first, count_of}
 use Rattle.drm_lists.proofs.Orders.{same-any, same-map}
+use Rattle.std.proofs.lemmas.List.{map-append}
 use Rattle.drm_gem.specs.declared.object.Object.{Object}
 use Rattle.drm_gem.specs.Objects.{is_key}
 use Rattle.drm_files.specs.declared.rows.FileHold.{FileHold}
 use Rattle.drm_share.specs.declared.rows.SharedName.{SharedName}
 use Rattle.drm_share.specs.declared.rows.SharedToken.{SharedToken}
+use Rattle.drm_modes.specs.declared.rows.Framebuffer.{Framebuffer}
 use Rattle.drm_model.specs.Rows.{Rows, HoldRow, TokenRow, FramebufferRow}
-use Rattle.drm_state.specs.Parts.{birth_at, hold_row_by, hold_row_of, name_row_by, name_row_of, token_row_by, token_row_of, object_row_of, keys_of, token_keys}
+use Rattle.drm_state.specs.Parts.{birth_at, hold_row_by, hold_row_of, name_row_by, name_row_of, token_row_by, token_row_of, framebuffer_row_by, framebuffer_row_of, object_row_of, keys_of, token_keys, framebuffer_keys, referring}
 use Rattle.drm_state.specs.Ties.{AreTied, AreThoseNamed, core}
 use Rattle.drm_state.proofs.Counting.{is_found}
 
@@ -50,9 +52,12 @@ same_numbers row key objects now (x ∷ xs) f =
 pub holds_as_before : (objects now : List Object) (keys : List ℕ) (hs : List FileHold) → AreThoseNamed objects keys now → ((n : ℕ) → is_among (keys_of hs) n ≡ true → is_among keys n ≡ true) → map (hold_row_of now) hs ≡ map (hold_row_of objects) hs
 holds_as_before objects now keys hs h f = same_numbers hold_row_by (λ (x : FileHold). x.object) objects now hs (λ n e. birth_kept objects keys now n h (f n e))
 
--- and so do tokens and names
+-- and so do tokens, framebuffers and names
 pub tokens_as_before : (objects now : List Object) (keys : List ℕ) (ts : List SharedToken) → AreThoseNamed objects keys now → ((n : ℕ) → is_among (token_keys ts) n ≡ true → is_among keys n ≡ true) → map (token_row_of now) ts ≡ map (token_row_of objects) ts
 tokens_as_before objects now keys ts h f = same_numbers token_row_by (λ (x : SharedToken). x.object) objects now ts (λ n e. birth_kept objects keys now n h (f n e))
+
+pub framebuffers_as_before : (objects now : List Object) (keys : List ℕ) (fs : List Framebuffer) → AreThoseNamed objects keys now → ((n : ℕ) → is_among (framebuffer_keys fs) n ≡ true → is_among keys n ≡ true) → map (framebuffer_row_of now) fs ≡ map (framebuffer_row_of objects) fs
+framebuffers_as_before objects now keys fs h f = same_numbers framebuffer_row_by (λ (x : Framebuffer). x.object) objects now fs (λ n e. birth_kept objects keys now n h (f n e))
 
 pub names_as_before : (objects now : List Object) (keys : List ℕ) (ns : List SharedName) → AreThoseNamed objects keys now → ((n : ℕ) → is_among (map (λ (x : SharedName). x.object) ns) n ≡ true → is_among keys n ≡ true) → map (name_row_of now) ns ≡ map (name_row_of objects) ns
 names_as_before objects now keys ns h f = same_numbers name_row_by (λ (x : SharedName). x.object) objects now ns (λ n e. birth_kept objects keys now n h (f n e))
@@ -151,14 +156,28 @@ one_key keys refs objects k m h e f =
 abbrev pub references : Rows → List ℕ
 references w = map (λ (row : TokenRow). row.object) w.tokens ++ map (λ (row : FramebufferRow). row.object) w.framebuffers
 
-append_none : (xs : List ℕ) → xs ++ [] ≡ xs
-append_none [] = refl
-append_none (x ∷ xs) = ap (λ l. x ∷ l) (append_none xs)
+-- rows one behind the other
+pub same-append : {X : Type 0} (xs ys us vs : List X) → SameRows xs ys → SameRows us vs → SameRows (xs ++ us) (ys ++ vs)
+same-append xs ys us vs h k = λ test. length-filter_append test xs us ∙ ap (λ n. n + length (filter test us)) (h test) ∙ ap (λ n. length (filter test ys) + n) (k test) ∙ sym (length-filter_append test ys vs)
+
+-- a row between others, and before them
+pub same-middle : {X : Type 0} (x : X) (xs ys : List X) → SameRows (xs ++ x ∷ ys) (x ∷ (xs ++ ys))
+same-middle x xs ys = λ test.
+    let longer = length-filter_append test xs (x ∷ ys) in
+    let shorter = length-filter_append test xs ys in
+    elim (test x) as (λ b. length (filter test (xs ++ x ∷ ys)) ≡ length (filter test xs) + length (cond b (x ∷ filter test ys) (filter test ys)) → length (filter test (xs ++ x ∷ ys)) ≡ length (cond b (x ∷ filter test (xs ++ ys)) (filter test (xs ++ ys))))
+    [ true ↦ λ h. omega (arith, h, shorter) | false ↦ λ h. omega (arith, h, shorter) ] longer
+
+-- the numbers that rows name, by the keys of what they stand for
+numbers_named : {X Y : Type 0} (named : Y → ℕ) (row : X → Y) (key : X → ℕ) (objects : List Object) (rows : List Y) (xs : List X) → ((x : X) → named (row x) ≡ birth_at objects (key x)) → SameRows rows (map row xs) → SameRows (map named rows) (map (birth_at objects) (map key xs))
+numbers_named named row key objects rows xs is h =
+    subst (SameRows (map named rows)) (map-map named row xs ∙ ap (λ f. map f xs) (λ i x. is x i) ∙ sym (map-map (birth_at objects) key xs)) (same-map named rows (map row xs) h)
 
 -- told by keys
-pub references_by : (v : Rows) (objects : List Object) (ts : List SharedToken) → SameRows v.tokens (map (token_row_of objects) ts) → v.framebuffers ≡ [] → SameRows (references v) (map (birth_at objects) (token_keys ts))
-references_by v objects ts h none =
-    let named = λ (row : TokenRow). row.object in
-    let left : map named v.tokens ≡ references v = sym (ap (λ rows. map named v.tokens ++ map (λ (row : FramebufferRow). row.object) rows) none ∙ append_none (map named v.tokens)) in
-    let right : map named (map (token_row_of objects) ts) ≡ map (birth_at objects) (token_keys ts) = map-map named (token_row_of objects) ts ∙ sym (map-map (birth_at objects) (λ (x : SharedToken). x.object) ts) in
-    subst (λ l. SameRows l (map (birth_at objects) (token_keys ts))) left (subst (SameRows (map named v.tokens)) right (same-map named v.tokens (map (token_row_of objects) ts) h))
+pub references_by : (v : Rows) (objects : List Object) (ts : List SharedToken) (fs : List Framebuffer) → SameRows v.tokens (map (token_row_of objects) ts) → SameRows v.framebuffers (map (framebuffer_row_of objects) fs) →
+    SameRows (references v) (map (birth_at objects) (referring ts fs))
+references_by v objects ts fs h k =
+    subst (SameRows (references v)) (sym (map-append (birth_at objects) (token_keys ts) (framebuffer_keys fs)))
+    (same-append (map (λ (row : TokenRow). row.object) v.tokens) (map (birth_at objects) (token_keys ts)) (map (λ (row : FramebufferRow). row.object) v.framebuffers) (map (birth_at objects) (framebuffer_keys fs))
+    (numbers_named (λ (row : TokenRow). row.object) (token_row_of objects) (λ (x : SharedToken). x.object) objects v.tokens ts (λ x. refl) h)
+    (numbers_named (λ (row : FramebufferRow). row.object) (framebuffer_row_of objects) (λ (x : Framebuffer). x.object) objects v.framebuffers fs (λ x. refl) k))

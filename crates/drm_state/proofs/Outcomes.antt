@@ -29,7 +29,7 @@ use Rattle.drm_state.specs.Parts.{client_row_of, object_row_of}
 use Rattle.drm_state.specs.Ties.{IsTied}
 use Rattle.drm_model.specs.Parts.{Part, Clients}
 use Rattle.drm_state.specs.Refinement.{stands_for, Represents, Outcome, MadeBuffer, OwesCall, OwesReply, Owes, OwesAnswer}
-use Rattle.drm_state.proofs.Represented.{limits_are, clients_are, objects_are}
+use Rattle.drm_state.proofs.Represented.{bounds_are, clients_are, objects_are}
 use Rattle.drm_state.proofs.Sweeps.{unswept}
 
 noted_represents : (s : State) (w : Rows) → Represents s w → (part : Part) → stands_for part s (noted w)
@@ -109,13 +109,13 @@ not_most n most = grind (arith, nat_tests)
 
 -- whether one more client may be open
 pub client_room : (s : State) (w : Rows) → Represents s w → has_client_room w ≡ not (nat_le s.files.limit (length s.files.clients))
-client_room s w h = ap (λ n. nat_lt n w.limits.clients) (client_count s w h) ∙ ap (nat_lt (length s.files.clients)) (sym (limits_are s w h).0) ∙ not_most (length s.files.clients) s.files.limit
+client_room s w h = ap (λ n. nat_lt n w.limits.clients) (client_count s w h) ∙ ap (nat_lt (length s.files.clients)) (sym (bounds_are s w h).0) ∙ not_most (length s.files.clients) s.files.limit
 
 object_count : (s : State) (w : Rows) → Represents s w → length w.objects ≡ length s.objects.objects
 object_count s w h = ap length (objects_are s w h) ∙ length-map s.objects.objects object_row_of
 
 object_room_is : (s : State) (w : Rows) → Represents s w → has_object_room w ≡ nat_lt (length s.objects.objects) s.objects.limit
-object_room_is s w h = ap (λ n. nat_lt n w.limits.objects) (object_count s w h) ∙ ap (nat_lt (length s.objects.objects)) (sym (limits_are s w h).2)
+object_room_is s w h = ap (λ n. nat_lt n w.limits.objects) (object_count s w h) ∙ ap (nat_lt (length s.objects.objects)) (sym (bounds_are s w h).2)
 
 pub no_object_room : (s : State) (w : Rows) → Represents s w → s.objects.limit ≤ length s.objects.objects → has_object_room w ≡ false
 no_object_room s w h many = object_room_is s w h ∙ le-ltb (length s.objects.objects) s.objects.limit many

@@ -8,16 +8,17 @@ use Rattle.drm_model.specs.Rows.{Rows}
 use Rattle.drm_masters.specs.declared.rows.Master.{Master}
 use Rattle.drm_masters.specs.declared.rows.Member.{Member}
 use Rattle.drm_masters.specs.Masters.{AreMasters}
+use Rattle.drm_modes.specs.Modes.{AreModes}
 use Rattle.drm_state.specs.declared.state.State.{State}
-use Rattle.drm_state.specs.Parts.{clients_of, masters_of, magics_of, holds_of, objects_of, names_of, tokens_of, last_token_of, keys_of, referring_keys}
-use Rattle.drm_state.specs.Ties.{MembersOpen, ClientsHave, MastersAre, NoneKept, MagicsSuffice, HoldsRise, ObjectsCounted, NamesHeld, is_tied, IsTied, AreTied, AreNamed, HasMaster}
+use Rattle.drm_state.specs.Parts.{clients_of, masters_of, magics_of, holds_of, objects_of, names_of, tokens_of, framebuffers_of, shown_of, last_token_of, keys_of, referring_keys}
+use Rattle.drm_state.specs.Ties.{MembersOpen, ClientsHave, MastersAre, NoneKept, MagicsSuffice, ModesAre, HoldsRise, ObjectsCounted, NamesHeld, is_tied, IsTied, AreTied, AreNamed, HasMaster}
 use Rattle.drm_model.specs.Parts.{Bounds, Clients, Masters, Magics, Holds, Objects, Names, Tokens, Grants, Framebuffers, Shown, DeviceMaster, LastToken, LastLeaseToken}
-use Rattle.drm_state.specs.Refinement.{stands_for, Represents, HaveLimits}
+use Rattle.drm_state.specs.Refinement.{stands_for, Represents, HaveBounds}
 
 module _ (s : State) (w : Rows) (h : Represents s w) where
-  pub limits_are : HaveLimits s w.limits
+  pub bounds_are : HaveBounds s w
   unfolding stands_for
-  limits_are = h Bounds
+  bounds_are = h Bounds
 
   pub clients_are : w.clients ≡ clients_of s
   unfolding stands_for
@@ -51,13 +52,13 @@ module _ (s : State) (w : Rows) (h : Represents s w) where
   unfolding stands_for
   grants_none = h Grants
 
-  pub framebuffers_none : w.framebuffers ≡ []
+  pub framebuffers_are : SameRows w.framebuffers (framebuffers_of s)
   unfolding stands_for
-  framebuffers_none = h Framebuffers
+  framebuffers_are = h Framebuffers
 
-  pub shown_none : w.shown ≡ []
+  pub shown_are : SameRows w.shown (shown_of s)
   unfolding stands_for
-  shown_none = h Shown
+  shown_are = h Shown
 
   pub device_master_is : w.device_master ≡ s.masters.device_master
   unfolding stands_for
@@ -91,6 +92,10 @@ module _ (s : State) (t : IsTied s) where
   pub magics_suffice : s.masters.last_magic ≡ s.files.limit
   unfolding is_tied
   magics_suffice = t MagicsSuffice
+
+  pub modes_so : AreModes s.modes
+  unfolding is_tied
+  modes_so = t ModesAre
 
   pub holds_rise : InOrder (λ (x y : FileHold). hold_before x y ≡ true) s.files.holds
   unfolding is_tied

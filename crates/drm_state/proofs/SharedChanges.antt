@@ -1,11 +1,11 @@
 -- What a handle of an object that is there, a name, a token and the end of a token leave of the parts.
-use Rattle.std.proofs.Common.{◌≡◌, ℕ, ◌==◌, ◌<◌, ◌≤◌, Bool, true, false, not, cond, ◌&&◌, ◌||◌, List, [], ◌∷◌, ◌++◌, map, filter, find, length, Option, Some, None, refl, sym, ap, ◌∙◌, subst, arith}
+use Rattle.std.proofs.Common.{◌≡◌, ℕ, ◌+◌, ◌==◌, ◌<◌, ◌≤◌, Bool, true, false, not, cond, ◌&&◌, ◌||◌, List, [], ◌∷◌, ◌++◌, map, filter, find, length, Option, Some, None, refl, sym, ap, ◌∙◌, subst, arith}
 use Rattle.std.specs.Prelude.{nat_lt, unwrap_or, if◌then◌else◌}
 use Rattle.std.specs.List.{AllByRecursion}
 use Rattle.std.specs.Option.{option_map, option_map_or, option_or}
 use Rattle.std.proofs.lemmas.Bool.{eqb-true, or_right, lt-ltb}
 use Rattle.std.proofs.lemmas.Bool.Decides.{nat_tests}
-use Rattle.std.proofs.lemmas.List.{length-map}
+use Rattle.std.proofs.lemmas.List.{length-map, length-append}
 use Rattle.drm_lists.specs.Orders.{SameRows}
 use Rattle.drm_lists.specs.Numbers.{is_among, count}
 use Rattle.drm_lists.proofs.Lists.{filter_all, filter-shorter, all_weaker}
@@ -23,37 +23,40 @@ use Rattle.drm_share.specs.declared.rows.SharedToken.{SharedToken}
 use Rattle.drm_share.specs.Names.{name_before, shared_name, with_name}
 use Rattle.drm_share.specs.Tokens as tokens
 use Rattle.drm_share.specs.Tokens.{AreTokens, token, token_before, is_token, with_token, without_token}
+use Rattle.drm_modes.specs.declared.rows.Framebuffer.{Framebuffer}
 use Rattle.drm_model.specs.Rows.{Rows, HoldRow, NameRow, TokenRow, is_hold, free_handle, with_hold, birth, without}
 use Rattle.drm_model.specs.Sharing as model
 use Rattle.drm_model.specs.Sharing.{with_place, free_name, new_token}
 use Rattle.drm_model.specs.Change.{swept}
 use Rattle.drm_state.specs.declared.state.State.{State}
-use Rattle.drm_state.specs.Parts.{birth_at, hold_row_of, name_row_of, token_row_of, holds_of, keys_of, token_keys, referring_keys}
+use Rattle.drm_state.specs.Parts.{birth_at, hold_row_of, name_row_of, token_row_of, holds_of, keys_of, token_keys, framebuffer_keys, referring, referring_keys}
 use Rattle.drm_state.specs.Ties.{IsTied, AreTied, AreNamed, Counts}
 use Rattle.drm_state.specs.Refinement.{Represents}
-use Rattle.drm_state.proofs.Represented.{holds_are, names_are, tokens_are, last_token_is, holds_rise, objects_counted, names_held}
+use Rattle.drm_state.proofs.Represented.{holds_are, names_are, tokens_are, framebuffers_are, last_token_is, holds_rise, objects_counted, names_held}
 use Rattle.drm_state.proofs.Counting.{IsStep, is_found, all_named, same_tied, same_references, handle_more, reference_more, more_named}
 use Rattle.drm_state.proofs.Holding.{placed_same, all_placed, in_order_placed, free_is_new}
 use Rattle.drm_state.proofs.Made.{free_handle_is, named_yet}
+use Rattle.drm_state.proofs.Naming.{same-append}
+use Rattle.drm_state.proofs.Frames.{shown_yet}
 use Rattle.drm_state.proofs.Sweeps.{moved, moved_tied, names_known, opened_left, some_opened}
 
 -- one more row, told by one more item
-pushed_same : {X Y : Type 0} (f : X → Y) (before : X → X → Bool) (rows : List Y) (row : Y) (x : X) (xs : List X) → row ≡ f x → SameRows rows (map f xs) → SameRows (rows ++ row ∷ []) (map f (placed before x xs))
+pub pushed_same : {X Y : Type 0} (f : X → Y) (before : X → X → Bool) (rows : List Y) (row : Y) (x : X) (xs : List X) → row ≡ f x → SameRows rows (map f xs) → SameRows (rows ++ row ∷ []) (map f (placed before x xs))
 pushed_same f before rows row x xs e h =
     same-trans (rows ++ row ∷ []) (row ∷ rows) (map f (placed before x xs)) (last_first rows row)
     (same-trans (row ∷ rows) (row ∷ map f xs) (map f (placed before x xs)) (same-cons row rows (map f xs) h)
     (subst (λ y. SameRows (y ∷ map f xs) (map f (placed before x xs))) (sym e) (same-map f (x ∷ xs) (placed before x xs) (placed_same before x xs))))
 
 -- a key more among keys that are known
-known_too : (keys known : List ℕ) (k n : ℕ) → is_among known k ≡ true → (is_among keys n ≡ true → is_among known n ≡ true) → (k == n || is_among keys n) ≡ true → is_among known n ≡ true
+pub known_too : (keys known : List ℕ) (k n : ℕ) → is_among known k ≡ true → (is_among keys n ≡ true → is_among known n ≡ true) → (k == n || is_among keys n) ≡ true → is_among known n ≡ true
 known_too keys known k n h f e =
     elim (k == n) as (λ b. (k == n) ≡ b → (b || is_among keys n) ≡ true → is_among known n ≡ true) [ true ↦ λ is j. ap (is_among known) (sym (eqb-true k n is)) ∙ h | false ↦ λ is j. f j ] refl e
 
-either : (xs ys : List ℕ) (n : ℕ) (b : Bool) → (is_among xs n ≡ true → b ≡ true) → (is_among ys n ≡ true → b ≡ true) → is_among (xs ++ ys) n ≡ true → b ≡ true
+pub either : (xs ys : List ℕ) (n : ℕ) (b : Bool) → (is_among xs n ≡ true → b ≡ true) → (is_among ys n ≡ true → b ≡ true) → is_among (xs ++ ys) n ≡ true → b ≡ true
 either xs ys n b f g e =
     elim (is_among xs n) as (λ d. is_among xs n ≡ d → (d || is_among ys n) ≡ true → b ≡ true) [ true ↦ λ is j. f is | false ↦ λ is j. g j ] refl (sym (among-append xs ys n) ∙ e)
 
-fewer_than : (n m last : ℕ) → n ≤ m → m < last → last ≤ 4294967295 → n < 4294967295
+fewer_than : (n m last : ℕ) → n ≤ m → m < last → last ≤ 100001 → n < 4294967295
 fewer_than n m last h k l = omega (arith, h, k, l)
 
 -- ---- a handle of an object that is there
@@ -103,6 +106,8 @@ module _ (s : State) (c h key : ℕ) (place : Option ℕ) (t : IsTied s) (known 
       (record {
         holds = pushed_same (hold_row_of s.objects.objects) hold_before w.holds row (hold c h key place) s.files.holds told (holds_are s w r);
         tokens = tokens_are s w r;
+        framebuffers = framebuffers_are s w r;
+        shown = shown_yet s w t r;
         names = names_are s w r;
         known = more_known;
         known_names = names_known s t;
@@ -111,20 +116,24 @@ module _ (s : State) (c h key : ℕ) (place : Option ℕ) (t : IsTied s) (known 
       }) refl (last_token_is s w r)
 
 -- the object of a key can count one more handle
-pub can_hold : (s : State) (key last : ℕ) → IsTied s → is_among (keys_of s.files.holds ++ referring_keys s) key ≡ true → length s.files.holds < last → last ≤ 4294967295 → passes (λ x. nat_lt x.holds 4294967295) s.objects key ≡ true
+pub can_hold : (s : State) (key last : ℕ) → IsTied s → is_among (keys_of s.files.holds ++ referring_keys s) key ≡ true → length s.files.holds < last → last ≤ 100001 → passes (λ x. nat_lt x.holds 4294967295) s.objects key ≡ true
 can_hold s key last t known few fits =
     let keys = keys_of s.files.holds in
     let it = is_found key s.objects.objects ((objects_counted s t).there key known) (Counts keys (referring_keys s)) (objects_counted s t).counted in
     let most : count keys it.0.key ≤ length s.files.holds = let a = filter-shorter (λ k. k == it.0.key) keys in let b = length-map s.files.holds (λ (x : FileHold). x.object) in omega (arith, a, b) in
     ap (λ o. option_map_or (λ (x : Object). nat_lt x.holds 4294967295) o false) it.1 ∙ lt-ltb it.0.holds 4294967295 (fewer_than it.0.holds (length s.files.holds) last (let e = it.3.0 in omega (arith, e, most)) few fits)
 
--- and one more token
-pub can_refer : (s : State) (key last : ℕ) → IsTied s → is_among (keys_of s.files.holds ++ referring_keys s) key ≡ true → length s.tokens.tokens < last → last ≤ 4294967295 → passes (λ x. nat_lt x.refs 4294967295) s.objects key ≡ true
-can_refer s key last t known few fits =
+-- and one more token or framebuffer
+pub can_refer : (s : State) (key last : ℕ) → IsTied s → is_among (keys_of s.files.holds ++ referring_keys s) key ≡ true → length s.tokens.tokens < last → length s.modes.framebuffers < last → last ≤ 100001 → passes (λ x. nat_lt x.refs 4294967295) s.objects key ≡ true
+can_refer s key last t known few framed fits =
     let refs = referring_keys s in
     let it = is_found key s.objects.objects ((objects_counted s t).there key known) (Counts (keys_of s.files.holds) refs) (objects_counted s t).counted in
-    let most : count refs it.0.key ≤ length s.tokens.tokens = let a = filter-shorter (λ k. k == it.0.key) refs in let b = length-map s.tokens.tokens (λ (x : SharedToken). x.object) in omega (arith, a, b) in
-    ap (λ o. option_map_or (λ (x : Object). nat_lt x.refs 4294967295) o false) it.1 ∙ lt-ltb it.0.refs 4294967295 (fewer_than it.0.refs (length s.tokens.tokens) last (let e = it.3.1 in omega (arith, e, most)) few fits)
+    let many : length refs ≡ length s.tokens.tokens + length s.modes.framebuffers =
+    length-append (token_keys s.tokens.tokens) (framebuffer_keys s.modes.framebuffers) ∙ ap (λ n. n + length (framebuffer_keys s.modes.framebuffers)) (length-map s.tokens.tokens (λ (x : SharedToken). x.object))
+    ∙ ap (λ n. length s.tokens.tokens + n) (length-map s.modes.framebuffers (λ (x : Framebuffer). x.object)) in
+    let counted = it.3.1 in
+    let fewer = filter-shorter (λ k. k == it.0.key) refs in
+    ap (λ o. option_map_or (λ (x : Object). nat_lt x.refs 4294967295) o false) it.1 ∙ lt-ltb it.0.refs 4294967295 (omega (arith, counted, fewer, many, few, framed, fits))
 
 -- ---- a name
 
@@ -146,6 +155,8 @@ module _ (s : State) (n key : ℕ) (t : IsTied s) (named : is_among (keys_of s.f
       (record {
         holds = holds_are s w r;
         tokens = tokens_are s w r;
+        framebuffers = framebuffers_are s w r;
+        shown = shown_yet s w t r;
         names = pushed_same (name_row_of s.objects.objects) name_before w.names row (shared_name n key) s.names.names told (names_are s w r);
         known = λ m j. j;
         known_names = all_weaker (λ (x : SharedName). is_among (keys_of s.files.holds) x.object ≡ true) (λ (x : SharedName). is_among (keys_of s.files.holds ++ referring_keys s) x.object ≡ true) (λ x j. among-left (keys_of s.files.holds) (referring_keys s) x.object j) names_more all_held;
@@ -208,31 +219,37 @@ module _ (s : State) (c h key place n : ℕ) (t : IsTied s) (named : is_among (k
   same_keys : keys_of holds_placed ≡ keys_of s.files.holds
   same_keys = objects_stay c h place s.files.holds
 
-  token_keys_more : SameRows (key ∷ referring_keys s) (token_keys tokens_more)
-  token_keys_more = same-map (λ (x : SharedToken). x.object) (token n c key ∷ s.tokens.tokens) tokens_more (placed_same token_before (token n c key) s.tokens.tokens)
+  abbrev refs_more : List ℕ
+  refs_more = referring tokens_more s.modes.framebuffers
 
-  among_tokens : (m : ℕ) → is_among (token_keys tokens_more) m ≡ (key == m || is_among (referring_keys s) m)
-  among_tokens m = sym (same-any (λ k. k == m) (key ∷ referring_keys s) (token_keys tokens_more) token_keys_more)
+  one_reference_more : SameRows (key ∷ referring_keys s) refs_more
+  one_reference_more =
+      let frames = framebuffer_keys s.modes.framebuffers in
+      same-append (key ∷ token_keys s.tokens.tokens) (token_keys tokens_more) frames frames
+      (same-map (λ (x : SharedToken). x.object) (token n c key ∷ s.tokens.tokens) tokens_more (placed_same token_before (token n c key) s.tokens.tokens)) (same-refl frames)
 
-  tokens_known : (m : ℕ) → is_among (keys_of holds_placed ++ token_keys tokens_more) m ≡ true → is_among (keys_of s.files.holds ++ referring_keys s) m ≡ true
+  among_tokens : (m : ℕ) → is_among refs_more m ≡ (key == m || is_among (referring_keys s) m)
+  among_tokens m = sym (same-any (λ k. k == m) (key ∷ referring_keys s) refs_more one_reference_more)
+
+  tokens_known : (m : ℕ) → is_among (keys_of holds_placed ++ refs_more) m ≡ true → is_among (keys_of s.files.holds ++ referring_keys s) m ≡ true
   tokens_known m e =
       let keys = keys_of s.files.holds in
       let refs = referring_keys s in
-      either (keys_of holds_placed) (token_keys tokens_more) m (is_among (keys ++ refs) m) (λ j. among-left keys refs m (ap (λ l. is_among l m) (sym same_keys) ∙ j))
+      either (keys_of holds_placed) refs_more m (is_among (keys ++ refs) m) (λ j. among-left keys refs m (ap (λ l. is_among l m) (sym same_keys) ∙ j))
       (λ j. known_too refs (keys ++ refs) key m (among-left keys refs key named) (λ k. among-right keys refs m k) (sym (among_tokens m) ∙ j)) e
 
-  known_yet : (m : ℕ) → is_among (keys_of s.files.holds ++ referring_keys s) m ≡ true → is_among (keys_of holds_placed ++ token_keys tokens_more) m ≡ true
+  known_yet : (m : ℕ) → is_among (keys_of s.files.holds ++ referring_keys s) m ≡ true → is_among (keys_of holds_placed ++ refs_more) m ≡ true
   known_yet m e =
       let keys = keys_of s.files.holds in
       let refs = referring_keys s in
-      either keys refs m (is_among (keys_of holds_placed ++ token_keys tokens_more) m) (λ j. among-left (keys_of holds_placed) (token_keys tokens_more) m (ap (λ l. is_among l m) same_keys ∙ j))
-      (λ j. among-right (keys_of holds_placed) (token_keys tokens_more) m (among_tokens m ∙ or_right (key == m) (is_among refs m) j)) e
+      either keys refs m (is_among (keys_of holds_placed ++ refs_more) m) (λ j. among-left (keys_of holds_placed) refs_more m (ap (λ l. is_among l m) same_keys ∙ j))
+      (λ j. among-right (keys_of holds_placed) refs_more m (among_tokens m ∙ or_right (key == m) (is_among refs m) j)) e
 
-  export_tied : AreTied (keys_of holds_placed) (token_keys tokens_more) (changed_at key referred s.objects).objects
+  export_tied : AreTied (keys_of holds_placed) refs_more (changed_at key referred s.objects).objects
   export_tied =
       let keys = keys_of s.files.holds in
-      subst (λ l. AreTied l (token_keys tokens_more) (changed_at key referred s.objects).objects) (sym same_keys)
-      (same_references keys (key ∷ referring_keys s) (token_keys tokens_more) _ token_keys_more (reference_more key keys (referring_keys s) s.objects.objects (among-left keys (referring_keys s) key named) (objects_counted s t)))
+      subst (λ l. AreTied l refs_more (changed_at key referred s.objects).objects) (sym same_keys)
+      (same_references keys (key ∷ referring_keys s) refs_more _ one_reference_more (reference_more key keys (referring_keys s) s.objects.objects (among-left keys (referring_keys s) key named) (objects_counted s t)))
 
   names_yet : AreNamed (keys_of holds_placed) s.names.names
   names_yet = subst (λ l. AreNamed l s.names.names) (sym same_keys) (names_held s t)
@@ -251,11 +268,13 @@ module _ (s : State) (c h key place n : ℕ) (t : IsTied s) (named : is_among (k
       (record {
         holds = subst (SameRows (with_place c h (birth w) w.holds)) (rows_placed s.objects.objects c h (birth w) place at s.files.holds) (with_place_same c h (birth w) w.holds (holds_of s) (holds_are s w r));
         tokens = pushed_same (token_row_of s.objects.objects) token_before w.tokens row (token n c key) s.tokens.tokens told (tokens_are s w r);
+        framebuffers = framebuffers_are s w r;
+        shown = shown_yet s w t r;
         names = names_are s w r;
         known = tokens_known;
         known_names = names_known s t;
         left_names = sym (filter_all (λ (x : SharedName). is_among (keys_of holds_placed) x.object) s.names.names names_yet);
-        those = more_named key referred (keys_of s.files.holds) (referring_keys s) (keys_of holds_placed ++ token_keys tokens_more) s.objects.objects (λ x. refl) known_yet (objects_counted s t);
+        those = more_named key referred (keys_of s.files.holds) (referring_keys s) (keys_of holds_placed ++ refs_more) s.objects.objects (λ x. refl) known_yet (objects_counted s t);
       }) refl number
 
 -- ---- the end of a token
@@ -330,13 +349,20 @@ module _ (s : State) (c n key : ℕ) (t : IsTied s) (are : AreTokens s.tokens) (
   others = (without_token s.tokens n).tokens
 
   -- the references, of which one goes
-  pub token_tied : AreTied (keys_of s.files.holds) (key ∷ token_keys others) s.objects.objects
+  pub token_tied : AreTied (keys_of s.files.holds) (key ∷ referring others s.modes.framebuffers) s.objects.objects
   token_tied =
       let it = behind_token (find (tokens.is_token_of c n) s.tokens.tokens) key of in
       let goes = one_token_goes n it.0 s.tokens.tokens are.tokens_rise (found_of_client c n s.tokens.tokens are.tokens_rise it.0 it.1) in
-      same_references (keys_of s.files.holds) (referring_keys s) (key ∷ token_keys others) s.objects.objects (subst (λ k. SameRows (referring_keys s) (k ∷ token_keys others)) it.2 goes) (objects_counted s t)
+      let frames = framebuffer_keys s.modes.framebuffers in
+      let one : SameRows (token_keys s.tokens.tokens) (key ∷ token_keys others) = subst (λ k. SameRows (token_keys s.tokens.tokens) (k ∷ token_keys others)) it.2 goes in
+      same_references (keys_of s.files.holds) (referring_keys s) (key ∷ referring others s.modes.framebuffers) s.objects.objects (same-append (token_keys s.tokens.tokens) (key ∷ token_keys others) frames frames one (same-refl frames)) (objects_counted s t)
 
-  module _ (set : ObjectSet) (step : IsStep s.objects.objects (keys_of s.files.holds) (token_keys others) set) (limit : set.limit ≡ s.objects.limit) where
+  fewer_tokens : (m : ℕ) → is_among (referring others s.modes.framebuffers) m ≡ true → is_among (referring_keys s) m ≡ true
+  fewer_tokens m j =
+      either (token_keys others) (framebuffer_keys s.modes.framebuffers) m (is_among (referring_keys s) m) (λ k. among-left (token_keys s.tokens.tokens) (framebuffer_keys s.modes.framebuffers) m (some_opened (λ (x : SharedToken). not (is_token n x)) s.tokens.tokens m k))
+      (λ k. among-right (token_keys s.tokens.tokens) (framebuffer_keys s.modes.framebuffers) m k) j
+
+  module _ (set : ObjectSet) (step : IsStep s.objects.objects (keys_of s.files.holds) (referring others s.modes.framebuffers) set) (limit : set.limit ≡ s.objects.limit) where
     pub closed_tied : IsTied (without_open s n set)
     closed_tied = moved_tied s s.files.holds others s.tokens.last_given s.names.names set t (holds_rise s t) step.tied (names_held s t)
 
@@ -349,9 +375,11 @@ module _ (s : State) (c n key : ℕ) (t : IsTied s) (are : AreTokens s.tokens) (
         (record {
           holds = holds_are s w r;
           tokens = subst (λ l. SameRows (without (model.is_token_of c n) w.tokens) (map (token_row_of s.objects.objects) l)) same (opened_left w.tokens (λ row. not (model.is_token_of c n row)) s.objects.objects s.tokens.tokens (tokens_are s w r));
+          framebuffers = framebuffers_are s w r;
+          shown = shown_yet s w t r;
           names = names_are s w r;
-          known = λ m e. either (keys_of s.files.holds) (token_keys others) m (is_among (keys_of s.files.holds ++ referring_keys s) m) (λ j. among-left (keys_of s.files.holds) (referring_keys s) m j)
-              (λ j. among-right (keys_of s.files.holds) (referring_keys s) m (some_opened (λ (x : SharedToken). not (is_token n x)) s.tokens.tokens m j)) e;
+          known = λ m e. either (keys_of s.files.holds) (referring others s.modes.framebuffers) m (is_among (keys_of s.files.holds ++ referring_keys s) m) (λ j. among-left (keys_of s.files.holds) (referring_keys s) m j)
+              (λ j. among-right (keys_of s.files.holds) (referring_keys s) m (fewer_tokens m j)) e;
           known_names = names_known s t;
           left_names = sym (filter_all (λ (x : SharedName). is_among (keys_of s.files.holds) x.object) s.names.names (names_held s t));
           those = step.named;

@@ -25,10 +25,10 @@ use Rattle.drm_share.specs.Tokens.{AreTokens, is_token, token_before}
 use Rattle.drm_model.specs.Rows.{Rows, HoldRow, NameRow, TokenRow, is_option}
 use Rattle.drm_model.specs.Sharing as model
 use Rattle.drm_state.specs.declared.state.State.{State}
-use Rattle.drm_state.specs.Parts.{birth_at, hold_row_of, name_row_of, token_row_of, holds_of, names_of, tokens_of, keys_of, referring_keys}
+use Rattle.drm_state.specs.Parts.{birth_at, hold_row_of, name_row_of, token_row_of, holds_of, names_of, tokens_of, keys_of, token_keys, framebuffer_keys, referring_keys}
 use Rattle.drm_state.specs.Ties.{IsTied}
 use Rattle.drm_state.specs.Refinement.{Represents}
-use Rattle.drm_state.proofs.Represented.{limits_are, holds_are, names_are, tokens_are, last_token_is, objects_counted}
+use Rattle.drm_state.proofs.Represented.{bounds_are, holds_are, names_are, tokens_are, last_token_is, objects_counted}
 use Rattle.drm_state.proofs.Naming.{one_key}
 use Rattle.drm_state.proofs.Sweeps.{names_known}
 
@@ -51,7 +51,7 @@ one_passes {X} before p f apart (x ∷ xs) o y e =
     none_more is (z ∷ zs) k = rw (apart x z is k.0) (none_more is zs k.1)
 
 -- the number of the row that passes, among rows that are mapped and in another order
-number_by : {X Y : Type 0} (row : X → Y) (p : Y → Bool) (q : X → Bool) (f : Y → ℕ) (g : X → ℕ) (number : ℕ → ℕ) → ((x : X) → f (row x) ≡ number (g x)) → (rows : List Y) (xs : List X) → SameRows rows (map row xs) → AllByRecursion (λ x. p (row x) ≡ q x) xs →
+pub number_by : {X Y : Type 0} (row : X → Y) (p : Y → Bool) (q : X → Bool) (f : Y → ℕ) (g : X → ℕ) (number : ℕ → ℕ) → ((x : X) → f (row x) ≡ number (g x)) → (rows : List Y) (xs : List X) → SameRows rows (map row xs) → AllByRecursion (λ x. p (row x) ≡ q x) xs →
     ((y : X) → find q xs ≡ Some y → list_any (λ x. q x && not (number (g x) == number (g y))) xs ≡ false) → option_map f (find p rows) ≡ option_map (λ x. number (g x)) (find q xs)
 number_by {X} {Y} row p q f g number is rows xs h agree one =
     let there : is_some (find p rows) ≡ is_some (find q xs) = is_some-find p rows ∙ same-any p rows (map row xs) h ∙ list_any-map p row xs ∙ any_same xs agree ∙ sym (is_some-find q xs) in
@@ -93,7 +93,7 @@ same_number {X} q g number n (x ∷ xs) h =
     by_equal true e k more = rw (eq-eqb (number (g x)) (number n) (ap number (equal (g x) e))) (more k)
     by_equal false e k more = absurd (let j : true ≡ false = k in cc)
 
-abbrev itself : ℕ → ℕ
+abbrev pub itself : ℕ → ℕ
 itself n = n
 
 -- each number is among those of all
@@ -102,7 +102,7 @@ its_key f [] = tt
 its_key f (x ∷ xs) = (among-first (map f xs) (f x), all_weaker (λ y. is_among (map f xs) (f y) ≡ true) (λ y. is_among (map f (x ∷ xs)) (f y) ≡ true) (λ y e. among-more (map f xs) (f x) (f y) e) xs (its_key f xs))
 
 -- what is so of all is so of what was found
-of_found : {X : Type 0} (P : ℕ → Type 0) (p : X → Bool) (f : X → ℕ) → (xs : List X) → AllByRecursion (λ x. P (f x)) xs → (n : ℕ) → Some n ≡ option_map f (find p xs) → P n
+pub of_found : {X : Type 0} (P : ℕ → Type 0) (p : X → Bool) (f : X → ℕ) → (xs : List X) → AllByRecursion (λ x. P (f x)) xs → (n : ℕ) → Some n ≡ option_map f (find p xs) → P n
 of_found P p f [] h n e = absurd (let k : Some n ≡ None = e in cc)
 of_found P p f (x ∷ xs) h n e =
     elim (p x) as (λ b. Some n ≡ option_map f (cond b (Some x) (find p xs)) → P n) [
@@ -154,7 +154,7 @@ free_name_found s w h =
     let e : is_among (map name w.names) n ≡ is_among (map (λ (x : SharedName). x.name) s.names.names) n =
     same-any (λ k. k == n) (map name w.names) (map name (names_of s)) (same-map name w.names (names_of s) (names_are s w h)) ∙ ap (λ l. is_among l n) (map-map name row s.names.names) in e in
     least-same (λ n. not (is_among (map name w.names) n)) (λ n. not (is_among (map (λ (x : SharedName). x.name) s.names.names) n)) 1 w.limits.names (λ n _ _. ap not (agree n))
-    ∙ ap (least (λ n. not (is_among (map (λ (x : SharedName). x.name) s.names.names) n)) 1) (sym (limits_are s w h).3)
+    ∙ ap (least (λ n. not (is_among (map (λ (x : SharedName). x.name) s.names.names) n)) 1) (sym (bounds_are s w h).3)
 
 -- ---- tokens
 
@@ -182,7 +182,7 @@ next_token_found s w h =
     same-any (λ k. k == n) (map number w.tokens) (map number (tokens_of s)) (same-map number w.tokens (tokens_of s) (tokens_are s w h)) ∙ ap (λ l. is_among l n) (map-map number row s.tokens.tokens) in e in
     let from = λ (first : ℕ).
     let e : least (model.is_free_token w) first w.limits.tokens ≡ least (tokens.is_free s.tokens) first s.tokens.last =
-    least-same (model.is_free_token w) (tokens.is_free s.tokens) first w.limits.tokens (λ n _ _. ap not (agree n)) ∙ ap (least (tokens.is_free s.tokens) first) (sym (limits_are s w h).4) in e in
+    least-same (model.is_free_token w) (tokens.is_free s.tokens) first w.limits.tokens (λ n _ _. ap not (agree n)) ∙ ap (least (tokens.is_free s.tokens) first) (sym (bounds_are s w h).4) in e in
     let above : least (model.is_free_token w) (w.last_token + 1) w.limits.tokens ≡ least (tokens.is_free s.tokens) (unwrap_or s.tokens.last_given 0 + 1) s.tokens.last =
     ap (λ n. least (model.is_free_token w) (n + 1) w.limits.tokens) (last_token_is s w h) ∙ from (unwrap_or s.tokens.last_given 0 + 1) in
     ap (λ o. option_or o (least (model.is_free_token w) 1 w.limits.tokens)) above ∙ ap (option_or (least (tokens.is_free s.tokens) (unwrap_or s.tokens.last_given 0 + 1) s.tokens.last)) (from 1)
@@ -267,4 +267,5 @@ name_known s t n key e = of_found (λ k. is_among (keys_of s.files.holds ++ refe
 pub token_known : (s : State) (n key : ℕ) → Some key ≡ option_map (λ (x : SharedToken). x.object) (find (is_token n) s.tokens.tokens) → is_among (keys_of s.files.holds ++ referring_keys s) key ≡ true
 token_known s n key e =
     among-right (keys_of s.files.holds) (referring_keys s) key
-    (of_found (λ k. is_among (referring_keys s) k ≡ true) (is_token n) (λ (x : SharedToken). x.object) s.tokens.tokens (its_key (λ (x : SharedToken). x.object) s.tokens.tokens) key e)
+    (among-left (token_keys s.tokens.tokens) (framebuffer_keys s.modes.framebuffers) key
+    (of_found (λ k. is_among (token_keys s.tokens.tokens) k ≡ true) (is_token n) (λ (x : SharedToken). x.object) s.tokens.tokens (its_key (λ (x : SharedToken). x.object) s.tokens.tokens) key e))

@@ -4,7 +4,7 @@ use Rattle.std.specs.Prelude.{if◌then◌else◌, unwrap_or}
 use Rattle.std.specs.List.{list_any, filter_map, cons_option, AllByRecursion}
 use Rattle.std.specs.Option.{is_some, option_map, option_map_or}
 use Rattle.std.proofs.Math.Bool.{or_assoc}
-use Rattle.std.proofs.lemmas.Bool.{eqb-true, or_left, or_right}
+use Rattle.std.proofs.lemmas.Bool.{eqb-true}
 use Rattle.drm_lists.specs.Orders.{SameRows, InOrder}
 use Rattle.drm_lists.specs.Numbers.{is_among}
 use Rattle.drm_lists.proofs.Lists.{list_any-map, filter-map, filter_all, all_weaker, filter-same, filter_true, all_both, all_filter}
@@ -20,7 +20,10 @@ use Rattle.drm_share.specs.Names.{NameList}
 use Rattle.drm_share.specs.Tokens.{is_exported_by}
 use Rattle.drm_files.specs.Files as files
 use Rattle.drm_files.specs.Files.{without_hold, without_client}
-use Rattle.drm_model.specs.Rows.{Rows, ClientRow, MasterRow, MagicRow, HoldRow, ObjectRow, NameRow, TokenRow, FramebufferRow, is_hold, is_option, client_row, without}
+use Rattle.drm_modes.specs.declared.rows.Framebuffer.{Framebuffer}
+use Rattle.drm_modes.specs.Modes as modes
+use Rattle.drm_modes.specs.Modes.{ModeSet, AreModes, shown_rows}
+use Rattle.drm_model.specs.Rows.{Rows, ClientRow, MasterRow, MagicRow, HoldRow, ObjectRow, NameRow, TokenRow, FramebufferRow, ShownRow, is_hold, is_option, is_framebuffer, client_row, without}
 use Rattle.drm_model.specs.Masters.{is_under}
 use Rattle.drm_model.specs.Leases.{ended}
 use Rattle.drm_model.specs.Change.{is_referred, is_living, swept}
@@ -33,13 +36,14 @@ use Rattle.drm_masters.specs.declared.rows.Member.{Member}
 use Rattle.drm_masters.specs.Masters as masters
 use Rattle.drm_masters.specs.Masters.{MasterSet, AreMasters}
 use Rattle.drm_state.specs.declared.state.State.{State}
-use Rattle.drm_state.specs.Parts.{clients_of, masters_of, magics_of, names_of, objects_of, client_row_by, magic_row_of, hold_row_of, name_row_of, token_row_of, object_row_of, master_row_of, birth_at, keys_of, token_keys, referring_keys, without_tokens_of, device_without, without_its_master}
-use Rattle.drm_state.specs.Ties.{Tie, MembersOpen, ClientsHave, MastersAre, NoneKept, MagicsSuffice, HoldsRise, ObjectsCounted, NamesHeld, is_tied, IsTied, HasMaster, AreTied, AreNamed, AreThoseNamed, Leaves, names_among}
+use Rattle.drm_state.specs.Parts.{clients_of, masters_of, magics_of, names_of, objects_of, client_row_by, magic_row_of, hold_row_of, name_row_of, token_row_of, framebuffer_row_of, framebuffers_of, shown_row_of, object_row_of, master_row_of, birth_at, keys_of, token_keys, framebuffer_keys, referring, referring_keys, without_tokens_of, LosesFramebuffersOf, device_without, without_its_master}
+use Rattle.drm_state.specs.Ties.{Tie, MembersOpen, ClientsHave, MastersAre, NoneKept, MagicsSuffice, ModesAre, HoldsRise, ObjectsCounted, NamesHeld, is_tied, IsTied, HasMaster, AreTied, AreNamed, AreThoseNamed, Leaves, names_among}
 use Rattle.drm_model.specs.Parts.{Part, Bounds, Clients, Masters, Magics, Holds, Objects, Names, Tokens, Grants, Framebuffers, Shown, DeviceMaster, LastToken}
 use Rattle.drm_state.specs.Refinement.{stands_for, Represents}
-use Rattle.drm_state.proofs.Represented.{limits_are, clients_are, masters_are, magics_are, holds_are, objects_are, names_are, tokens_are, grants_none, framebuffers_none, shown_none, device_master_is, last_token_is, members_open, clients_have, masters_so, none_kept, magics_suffice, holds_rise, objects_counted, names_held}
+use Rattle.drm_state.proofs.Represented.{bounds_are, clients_are, masters_are, magics_are, holds_are, objects_are, names_are, tokens_are, grants_none, framebuffers_are, shown_are, device_master_is, last_token_is, members_open, clients_have, masters_so, none_kept, magics_suffice, modes_so, holds_rise, objects_counted, names_held}
 use Rattle.drm_state.proofs.Counting.{all_named}
-use Rattle.drm_state.proofs.Naming.{references, references_by, among_numbers, among_key, holds_naming, holds_as_before, tokens_as_before, names_as_before, rows_left}
+use Rattle.drm_state.proofs.Naming.{references, references_by, among_numbers, among_key, holds_naming, holds_as_before, tokens_as_before, framebuffers_as_before, names_as_before, rows_left}
+use Rattle.drm_state.proofs.Frames.{shown_left, shown_yet, some_framed, framed_left}
 use Rattle.drm_state.proofs.Members.{masters_named, members_open_left, rows_left as clients_left}
 use Rattle.drm_state.proofs.Living.{swept_masters}
 
@@ -113,18 +117,20 @@ swept_names v objects keys refs hs ns tied h m sub known =
     (λ x e. holds_naming v.holds objects hs (birth_at objects x.object) h ∙ among_key keys refs objects tied (keys_of hs) sub x.object e) ns known)) in
     subst (SameRows (filter stays v.names)) same (same-filter stays v.names (map (name_row_of objects) ns) m)
 
--- ---- what a sweep leaves of handles, tokens, names and objects
+-- ---- what a sweep leaves of handles, tokens, framebuffers, names and objects
 
--- rows before a sweep, told by the objects that were there: handles, tokens and names; of the names those are left whose objects
--- a handle names, and of the objects those that handles and tokens name
-pub record Moves (s : State) (v : Rows) (hs : List FileHold) (ts : List SharedToken) (ns left : List SharedName) (set : ObjectSet) : Type 0 where
+-- rows before a sweep, told by the objects that were there: handles, tokens, framebuffers and names; what shows a framebuffer that
+-- is there is left, of the names those are left whose objects a handle names, and of the objects those that are named
+pub record Moves (s : State) (v : Rows) (hs : List FileHold) (ts : List SharedToken) (ms : ModeSet) (ns left : List SharedName) (set : ObjectSet) : Type 0 where
   pub holds : SameRows v.holds (map (hold_row_of s.objects.objects) hs)
   pub tokens : SameRows v.tokens (map (token_row_of s.objects.objects) ts)
+  pub framebuffers : SameRows v.framebuffers (map (framebuffer_row_of s.objects.objects) ms.framebuffers)
+  pub shown : SameRows (filter (λ (row : ShownRow). is_framebuffer v row.framebuffer) v.shown) (map shown_row_of (shown_rows ms))
   pub names : SameRows v.names (map (name_row_of s.objects.objects) ns)
-  pub known : (n : ℕ) → is_among (keys_of hs ++ token_keys ts) n ≡ true → is_among (keys_of s.files.holds ++ referring_keys s) n ≡ true
+  pub known : (n : ℕ) → is_among (keys_of hs ++ referring ts ms.framebuffers) n ≡ true → is_among (keys_of s.files.holds ++ referring_keys s) n ≡ true
   pub known_names : AreNamed (keys_of s.files.holds ++ referring_keys s) ns
   pub left_names : left ≡ filter (λ (x : SharedName). is_among (keys_of hs) x.object) ns
-  pub those : AreThoseNamed s.objects.objects (keys_of hs ++ token_keys ts) set.objects
+  pub those : AreThoseNamed s.objects.objects (keys_of hs ++ referring ts ms.framebuffers) set.objects
 
 name_keys : (keys : List ℕ) → (ns : List SharedName) (n : ℕ) → is_among (map (λ (x : SharedName). x.object) (filter (λ (x : SharedName). is_among keys x.object) ns)) n ≡ true → is_among keys n ≡ true
 name_keys keys [] n h = absurd (let e : false ≡ true = h in cc)
@@ -136,67 +142,95 @@ name_keys keys (x ∷ xs) n h =
       | false ↦ λ is k. name_keys keys xs n k
     ] refl h
 
-module _ (s : State) (v : Rows) (hs : List FileHold) (ts : List SharedToken) (ns left : List SharedName) (set : ObjectSet) (t : IsTied s) (m : Moves s v hs ts ns left set) where
+module _ (s : State) (v : Rows) (hs : List FileHold) (ts : List SharedToken) (ms : ModeSet) (ns left : List SharedName) (set : ObjectSet) (t : IsTied s) (m : Moves s v hs ts ms ns left set) where
+  abbrev others : List ℕ
+  others = referring ts ms.framebuffers
+
   pub holds_moved : SameRows v.holds (map (hold_row_of set.objects) hs)
-  holds_moved = subst (SameRows v.holds) (sym (holds_as_before s.objects.objects set.objects _ hs m.those (λ n e. among-left (keys_of hs) (token_keys ts) n e))) m.holds
+  holds_moved = subst (SameRows v.holds) (sym (holds_as_before s.objects.objects set.objects _ hs m.those (λ n e. among-left (keys_of hs) others n e))) m.holds
 
   pub tokens_moved : SameRows v.tokens (map (token_row_of set.objects) ts)
-  tokens_moved = subst (SameRows v.tokens) (sym (tokens_as_before s.objects.objects set.objects _ ts m.those (λ n e. among-right (keys_of hs) (token_keys ts) n e))) m.tokens
+  tokens_moved = subst (SameRows v.tokens) (sym (tokens_as_before s.objects.objects set.objects _ ts m.those (λ n e. among-right (keys_of hs) others n (among-left (token_keys ts) (framebuffer_keys ms.framebuffers) n e)))) m.tokens
+
+  pub framebuffers_moved : SameRows v.framebuffers (map (framebuffer_row_of set.objects) ms.framebuffers)
+  framebuffers_moved =
+      subst (SameRows v.framebuffers) (sym (framebuffers_as_before s.objects.objects set.objects _ ms.framebuffers m.those (λ n e. among-right (keys_of hs) others n (among-right (token_keys ts) (framebuffer_keys ms.framebuffers) n e)))) m.framebuffers
 
   pub names_moved : SameRows (filter (λ (row : NameRow). list_any (λ (hold : HoldRow). hold.object == row.object) v.holds) v.names) (map (name_row_of set.objects) left)
   names_moved =
       let kept = filter (λ (x : SharedName). is_among (keys_of hs) x.object) ns in
       let swept_rows = filter (λ (row : NameRow). list_any (λ (hold : HoldRow). hold.object == row.object) v.holds) v.names in
       subst (λ l. SameRows swept_rows (map (name_row_of set.objects) l)) (sym m.left_names)
-      (subst (SameRows swept_rows) (sym (names_as_before s.objects.objects set.objects _ kept m.those (λ n e. among-left (keys_of hs) (token_keys ts) n (name_keys (keys_of hs) ns n e))))
-      (swept_names v s.objects.objects (keys_of s.files.holds) (referring_keys s) hs ns (objects_counted s t) m.holds m.names (λ n e. m.known n (among-left (keys_of hs) (token_keys ts) n e)) m.known_names))
+      (subst (SameRows swept_rows) (sym (names_as_before s.objects.objects set.objects _ kept m.those (λ n e. among-left (keys_of hs) others n (name_keys (keys_of hs) ns n e))))
+      (swept_names v s.objects.objects (keys_of s.files.holds) (referring_keys s) hs ns (objects_counted s t) m.holds m.names (λ n e. m.known n (among-left (keys_of hs) others n e)) m.known_names))
 
-  pub objects_moved : v.framebuffers ≡ [] → v.objects ≡ objects_of s → filter (λ (row : ObjectRow). is_referred v row.object) v.objects ≡ map object_row_of set.objects
-  objects_moved none o =
-      swept_objects v s.objects.objects set.objects (keys_of s.files.holds) (referring_keys s) hs (token_keys ts) (objects_counted s t) m.holds (references_by v s.objects.objects ts m.tokens none) m.known o m.those
+  pub objects_moved : v.objects ≡ objects_of s → filter (λ (row : ObjectRow). is_referred v row.object) v.objects ≡ map object_row_of set.objects
+  objects_moved o =
+      swept_objects v s.objects.objects set.objects (keys_of s.files.holds) (referring_keys s) hs others (objects_counted s t) m.holds (references_by v s.objects.objects ts ms.framebuffers m.tokens m.framebuffers) m.known o m.those
 
--- the state with other handles, tokens, names and objects
-abbrev pub moved_to : State → List FileHold → List SharedToken → Option ℕ → List SharedName → ObjectSet → State
-moved_to s hs ts given left set = record s {
+-- the state with other handles, tokens, framebuffers, names and objects
+abbrev pub all_moved_to : State → List FileHold → List SharedToken → Option ℕ → ModeSet → List SharedName → ObjectSet → State
+all_moved_to s hs ts given ms left set = record s {
   files = record s.files { holds = hs };
   tokens = record s.tokens { tokens = ts; last_given = given };
+  modes = ms;
   names = record s.names { names = left };
   objects = set;
 }
 
--- the rows with other handles, tokens and names
-abbrev pub shared_rows : Rows → List HoldRow → List TokenRow → ℕ → List NameRow → Rows
-shared_rows w holds tokens last names = record w { holds = holds; tokens = tokens; last_token = last; names = names }
+-- the rows with other handles, tokens, framebuffers and names
+abbrev pub all_shared_rows : Rows → List HoldRow → List TokenRow → ℕ → List FramebufferRow → List NameRow → Rows
+all_shared_rows w holds tokens last framebuffers names = record w { holds = holds; tokens = tokens; last_token = last; framebuffers = framebuffers; names = names }
 
 -- the state stands for them when they are swept
-pub moved : (s : State) (w : Rows) (holds : List HoldRow) (tokens : List TokenRow) (last : ℕ) (names : List NameRow) (hs : List FileHold) (ts : List SharedToken) (given : Option ℕ) (ns left : List SharedName) (set : ObjectSet) →
-    IsTied s → Represents s w → Moves s (shared_rows w holds tokens last names) hs ts ns left set → set.limit ≡ s.objects.limit → last ≡ unwrap_or given 0 → (part : Part) → stands_for part (moved_to s hs ts given left set) (swept (shared_rows w holds tokens last names))
+pub all_moved : (s : State) (w : Rows) (holds : List HoldRow) (tokens : List TokenRow) (last : ℕ) (framebuffers : List FramebufferRow) (names : List NameRow) (hs : List FileHold) (ts : List SharedToken) (given : Option ℕ) (ms : ModeSet) (ns left : List SharedName) (set : ObjectSet) →
+    IsTied s → Represents s w → Moves s (all_shared_rows w holds tokens last framebuffers names) hs ts ms ns left set → set.limit ≡ s.objects.limit → ms.topology ≡ s.modes.topology → ms.last ≡ s.modes.last → last ≡ unwrap_or given 0 →
+    (part : Part) → stands_for part (all_moved_to s hs ts given ms left set) (swept (all_shared_rows w holds tokens last framebuffers names))
 unfolding stands_for swept
-moved s w holds tokens last names hs ts given ns left set t h m l e Bounds = let k = limits_are s w h in (k.0, k.1, l ∙ k.2, k.3, k.4, k.5)
-moved s w holds tokens last names hs ts given ns left set t h m l e Masters = masters_left (shared_rows w holds tokens last names) s t (clients_are s w h) (masters_are s w h)
-moved s w holds tokens last names hs ts given ns left set t h m l e Holds = holds_moved s (shared_rows w holds tokens last names) hs ts ns left set t m
-moved s w holds tokens last names hs ts given ns left set t h m l e Objects = objects_moved s (shared_rows w holds tokens last names) hs ts ns left set t m (framebuffers_none s w h) (objects_are s w h)
-moved s w holds tokens last names hs ts given ns left set t h m l e Names = names_moved s (shared_rows w holds tokens last names) hs ts ns left set t m
-moved s w holds tokens last names hs ts given ns left set t h m l e Tokens = tokens_moved s (shared_rows w holds tokens last names) hs ts ns left set t m
-moved s w holds tokens last names hs ts given ns left set t h m l e Shown = ap (filter _) (shown_none s w h)
-moved s w holds tokens last names hs ts given ns left set t h m l e LastToken = e
-moved s w holds tokens last names hs ts given ns left set t h m l e part = h part
+all_moved s w holds tokens last framebuffers names hs ts given ms ns left set t h m l fixed most e Bounds = let k = bounds_are s w h in (k.0, k.1, l ∙ k.2, k.3, k.4, k.5, most ∙ k.6, fixed ∙ k.7)
+all_moved s w holds tokens last framebuffers names hs ts given ms ns left set t h m l fixed most e Masters = masters_left (all_shared_rows w holds tokens last framebuffers names) s t (clients_are s w h) (masters_are s w h)
+all_moved s w holds tokens last framebuffers names hs ts given ms ns left set t h m l fixed most e Holds = holds_moved s (all_shared_rows w holds tokens last framebuffers names) hs ts ms ns left set t m
+all_moved s w holds tokens last framebuffers names hs ts given ms ns left set t h m l fixed most e Objects = objects_moved s (all_shared_rows w holds tokens last framebuffers names) hs ts ms ns left set t m (objects_are s w h)
+all_moved s w holds tokens last framebuffers names hs ts given ms ns left set t h m l fixed most e Names = names_moved s (all_shared_rows w holds tokens last framebuffers names) hs ts ms ns left set t m
+all_moved s w holds tokens last framebuffers names hs ts given ms ns left set t h m l fixed most e Tokens = tokens_moved s (all_shared_rows w holds tokens last framebuffers names) hs ts ms ns left set t m
+all_moved s w holds tokens last framebuffers names hs ts given ms ns left set t h m l fixed most e Framebuffers = framebuffers_moved s (all_shared_rows w holds tokens last framebuffers names) hs ts ms ns left set t m
+all_moved s w holds tokens last framebuffers names hs ts given ms ns left set t h m l fixed most e Shown = m.shown
+all_moved s w holds tokens last framebuffers names hs ts given ms ns left set t h m l fixed most e LastToken = e
+all_moved s w holds tokens last framebuffers names hs ts given ms ns left set t h m l fixed most e part = h part
 
 -- and its parts are tied
-pub moved_tied : (s : State) (hs : List FileHold) (ts : List SharedToken) (given : Option ℕ) (left : List SharedName) (set : ObjectSet) → IsTied s → InOrder (λ (x y : FileHold). files.hold_before x y ≡ true) hs → AreTied (keys_of hs) (token_keys ts) set.objects → AreNamed (keys_of hs) left →
-    (tie : Tie) → is_tied tie (moved_to s hs ts given left set)
+pub all_moved_tied : (s : State) (hs : List FileHold) (ts : List SharedToken) (given : Option ℕ) (ms : ModeSet) (left : List SharedName) (set : ObjectSet) → IsTied s → InOrder (λ (x y : FileHold). files.hold_before x y ≡ true) hs → AreModes ms →
+    AreTied (keys_of hs) (referring ts ms.framebuffers) set.objects → AreNamed (keys_of hs) left → (tie : Tie) → is_tied tie (all_moved_to s hs ts given ms left set)
 unfolding is_tied
-moved_tied s hs ts given left set t o tied named HoldsRise = o
-moved_tied s hs ts given left set t o tied named ObjectsCounted = tied
-moved_tied s hs ts given left set t o tied named NamesHeld = named
-moved_tied s hs ts given left set t o tied named tie = t tie
+all_moved_tied s hs ts given ms left set t o are tied named ModesAre = are
+all_moved_tied s hs ts given ms left set t o are tied named HoldsRise = o
+all_moved_tied s hs ts given ms left set t o are tied named ObjectsCounted = tied
+all_moved_tied s hs ts given ms left set t o are tied named NamesHeld = named
+all_moved_tied s hs ts given ms left set t o are tied named tie = t tie
+
+-- the same where framebuffers are as they were
+abbrev pub moved_to : State → List FileHold → List SharedToken → Option ℕ → List SharedName → ObjectSet → State
+moved_to s hs ts given left set = all_moved_to s hs ts given s.modes left set
+
+abbrev pub shared_rows : Rows → List HoldRow → List TokenRow → ℕ → List NameRow → Rows
+shared_rows w holds tokens last names = all_shared_rows w holds tokens last w.framebuffers names
+
+pub moved : (s : State) (w : Rows) (holds : List HoldRow) (tokens : List TokenRow) (last : ℕ) (names : List NameRow) (hs : List FileHold) (ts : List SharedToken) (given : Option ℕ) (ns left : List SharedName) (set : ObjectSet) →
+    IsTied s → Represents s w → Moves s (shared_rows w holds tokens last names) hs ts s.modes ns left set → set.limit ≡ s.objects.limit → last ≡ unwrap_or given 0 → Represents (moved_to s hs ts given left set) (swept (shared_rows w holds tokens last names))
+moved s w holds tokens last names hs ts given ns left set t h m l e = all_moved s w holds tokens last w.framebuffers names hs ts given s.modes ns left set t h m l refl refl e
+
+pub moved_tied : (s : State) (hs : List FileHold) (ts : List SharedToken) (given : Option ℕ) (left : List SharedName) (set : ObjectSet) → IsTied s → InOrder (λ (x y : FileHold). files.hold_before x y ≡ true) hs →
+    AreTied (keys_of hs) (referring ts s.modes.framebuffers) set.objects → AreNamed (keys_of hs) left → IsTied (moved_to s hs ts given left set)
+moved_tied s hs ts given left set t o tied named = all_moved_tied s hs ts given s.modes left set t o (modes_so s t) tied named
 
 -- ---- nothing goes
 
-nothing_moves : (s : State) (v : Rows) → IsTied s → Represents s v → Moves s v s.files.holds s.tokens.tokens s.names.names s.names.names s.objects
+nothing_moves : (s : State) (v : Rows) → IsTied s → Represents s v → Moves s v s.files.holds s.tokens.tokens s.modes s.names.names s.names.names s.objects
 nothing_moves s v t h = record {
   holds = holds_are s v h;
   tokens = tokens_are s v h;
+  framebuffers = framebuffers_are s v h;
+  shown = shown_yet s v t h;
   names = names_are s v h;
   known = λ n e. e;
   known_names = names_known s t;
@@ -208,19 +242,22 @@ nothing_moves s v t h = record {
 pub unswept : (s : State) (v : Rows) → IsTied s → Represents s v → (part : Part) → stands_for part s (swept v)
 unfolding stands_for swept
 unswept s v t h Masters = masters_left v s t (clients_are s v h) (masters_are s v h)
-unswept s v t h Objects = objects_moved s v s.files.holds s.tokens.tokens s.names.names s.names.names s.objects t (nothing_moves s v t h) (framebuffers_none s v h) (objects_are s v h)
-unswept s v t h Names = names_moved s v s.files.holds s.tokens.tokens s.names.names s.names.names s.objects t (nothing_moves s v t h)
-unswept s v t h Shown = ap (filter _) (shown_none s v h)
+unswept s v t h Objects = objects_moved s v s.files.holds s.tokens.tokens s.modes s.names.names s.names.names s.objects t (nothing_moves s v t h) (objects_are s v h)
+unswept s v t h Names = names_moved s v s.files.holds s.tokens.tokens s.modes s.names.names s.names.names s.objects t (nothing_moves s v t h)
+unswept s v t h Shown = shown_yet s v t h
 unswept s v t h part = h part
 
 -- ---- fewer handles or tokens, and what they alone named
 
 -- what is left by fewer keys
 pub leaving : (s : State) (w v : Rows) (hs : List FileHold) (ts : List SharedToken) (names : NameList) (set : ObjectSet) → IsTied s → Represents s w → v.names ≡ w.names → SameRows v.holds (map (hold_row_of s.objects.objects) hs) → SameRows v.tokens (map (token_row_of s.objects.objects) ts) →
-    ((n : ℕ) → is_among (keys_of hs ++ token_keys ts) n ≡ true → is_among (keys_of s.files.holds ++ referring_keys s) n ≡ true) → Leaves s.names s.objects (keys_of hs) (token_keys ts) names set → Moves s v hs ts s.names.names names.names set
-leaving s w v hs ts names set t h e held opened known left = record {
+    SameRows v.framebuffers (framebuffers_of s) → SameRows (filter (λ (row : ShownRow). is_framebuffer v row.framebuffer) v.shown) (map shown_row_of (shown_rows s.modes)) →
+    ((n : ℕ) → is_among (keys_of hs ++ referring ts s.modes.framebuffers) n ≡ true → is_among (keys_of s.files.holds ++ referring_keys s) n ≡ true) → Leaves s.names s.objects (keys_of hs) (referring ts s.modes.framebuffers) names set → Moves s v hs ts s.modes s.names.names names.names set
+leaving s w v hs ts names set t h e held opened framed lit known left = record {
   holds = held;
   tokens = opened;
+  framebuffers = framed;
+  shown = lit;
   names = subst (λ l. SameRows l (names_of s)) (sym e) (names_are s w h);
   known = known;
   known_names = names_known s t;
@@ -241,7 +278,7 @@ handle_gone s w c n names set t left h =
     subst (λ ns. Represents (without_handle s c n ns set) (swept (record w { holds = without (is_hold c n) w.holds }))) (sym left.names)
     (moved s w (without (is_hold c n) w.holds) w.tokens w.last_token w.names (filter q s.files.holds) s.tokens.tokens s.tokens.last_given s.names.names kept.names set t h
     (leaving s w (record w { holds = without (is_hold c n) w.holds }) (filter q s.files.holds) s.tokens.tokens kept set t h refl
-    (held_left w.holds (λ row. not (is_hold c n row)) s.objects.objects s.files.holds (holds_are s w h)) (tokens_are s w h)
+    (held_left w.holds (λ row. not (is_hold c n row)) s.objects.objects s.files.holds (holds_are s w h)) (tokens_are s w h) (framebuffers_are s w h) (shown_yet s w t h)
     (λ m e. fewer_among (keys_of (filter q s.files.holds)) (keys_of s.files.holds) (referring_keys s) m (some_pass q s.files.holds m) e) leaves) left.limit (last_token_is s w h))
 
 -- ---- a client goes
@@ -281,21 +318,22 @@ ended_if_represents s w None h = h
 ended_if_represents s w (Some x) h = ended_by_own s w x.master x.is_master h
 
 -- the state without a client
-abbrev pub without_its : State → ℕ → NameList → ObjectSet → State
-without_its s c names set = record s {
+abbrev pub without_its : State → ℕ → ModeSet → NameList → ObjectSet → State
+without_its s c ms names set = record s {
   files = without_client s.files c;
   tokens = without_tokens_of c s.tokens;
+  modes = ms;
   names = names;
   masters = without_its_master c s.masters;
   objects = set;
 }
 
--- the handles and the objects of tokens without a client
+-- what the handles, and what the tokens and framebuffers name without a client
 abbrev pub keys_without : State → ℕ → List ℕ
 keys_without s c = keys_of (without_client s.files c).holds
 
-abbrev pub references_without : State → ℕ → List ℕ
-references_without s c = token_keys (without_tokens_of c s.tokens).tokens
+abbrev pub references_without : State → ℕ → ModeSet → List ℕ
+references_without s c ms = referring (without_tokens_of c s.tokens).tokens ms.framebuffers
 
 all_among : (keys : List ℕ) → (ns : List SharedName) → AreNamed keys (filter (λ (x : SharedName). is_among keys x.object) ns)
 all_among keys ns = filter_true (λ (x : SharedName). is_among keys x.object) ns
@@ -315,16 +353,18 @@ have_left v c (f ∷ fs) h =
     ]) refl
 
 -- the ties without a client
-pub client_gone_tied : (s : State) (c : ℕ) (names : NameList) (set : ObjectSet) → IsTied s → AreMasters (without_its_master c s.masters) → Leaves s.names s.objects (keys_without s c) (references_without s c) names set → (tie : Tie) → is_tied tie (without_its s c names set)
+pub client_gone_tied : (s : State) (c : ℕ) (ms : ModeSet) (names : NameList) (set : ObjectSet) → IsTied s → AreMasters (without_its_master c s.masters) → AreModes ms → Leaves s.names s.objects (keys_without s c) (references_without s c ms) names set →
+    (tie : Tie) → is_tied tie (without_its s c ms names set)
 unfolding is_tied
-client_gone_tied s c names set t are left MembersOpen = members_open_left c s.files.clients s.masters.members (members_open s t)
-client_gone_tied s c names set t are left ClientsHave = have_left s.masters c s.files.clients (clients_have s t)
-client_gone_tied s c names set t are left MastersAre = are
-client_gone_tied s c names set t are left NoneKept = all_filter (λ (x : Master). x.kept ≡ false) (λ (x : Master). masters.is_living (without_its_master c s.masters).members s.masters.masters x.birth) s.masters.masters (none_kept s t)
-client_gone_tied s c names set t are left MagicsSuffice = magics_suffice s t
-client_gone_tied s c names set t are left HoldsRise = in_order_filter (λ (x y : FileHold). files.hold_before x y ≡ true) _ s.files.holds (holds_rise s t)
-client_gone_tied s c names set t are left ObjectsCounted = left.tied
-client_gone_tied s c names set t are left NamesHeld = named_left s.names names s.objects set (keys_without s c) (references_without s c) left
+client_gone_tied s c ms names set t are modes_are left MembersOpen = members_open_left c s.files.clients s.masters.members (members_open s t)
+client_gone_tied s c ms names set t are modes_are left ClientsHave = have_left s.masters c s.files.clients (clients_have s t)
+client_gone_tied s c ms names set t are modes_are left MastersAre = are
+client_gone_tied s c ms names set t are modes_are left NoneKept = all_filter (λ (x : Master). x.kept ≡ false) (λ (x : Master). masters.is_living (without_its_master c s.masters).members s.masters.masters x.birth) s.masters.masters (none_kept s t)
+client_gone_tied s c ms names set t are modes_are left MagicsSuffice = magics_suffice s t
+client_gone_tied s c ms names set t are modes_are left ModesAre = modes_are
+client_gone_tied s c ms names set t are modes_are left HoldsRise = in_order_filter (λ (x y : FileHold). files.hold_before x y ≡ true) _ s.files.holds (holds_rise s t)
+client_gone_tied s c ms names set t are modes_are left ObjectsCounted = left.tied
+client_gone_tied s c ms names set t are modes_are left NamesHeld = named_left s.names names s.objects set (keys_without s c) (references_without s c ms) left
 
 pub some_opened : (p : SharedToken → Bool) → (ts : List SharedToken) (n : ℕ) → is_among (token_keys (filter p ts)) n ≡ true → is_among (token_keys ts) n ≡ true
 some_opened p [] n h = h
@@ -338,16 +378,27 @@ some_opened p (x ∷ xs) n h =
 pub opened_left : (rows : List TokenRow) (p : TokenRow → Bool) (objects : List Object) (ts : List SharedToken) → SameRows rows (map (token_row_of objects) ts) → SameRows (filter p rows) (map (token_row_of objects) (filter (λ x. p (token_row_of objects x)) ts))
 opened_left rows p objects ts h = subst (SameRows (filter p rows)) (filter-map p (token_row_of objects) ts) (same-filter p rows (map (token_row_of objects) ts) h)
 
--- fewer handles and tokens name fewer keys
-pub fewer_known : (s : State) (p : FileHold → Bool) (q : SharedToken → Bool) (n : ℕ) → is_among (keys_of (filter p s.files.holds) ++ token_keys (filter q s.tokens.tokens)) n ≡ true → is_among (keys_of s.files.holds ++ referring_keys s) n ≡ true
-fewer_known s p q n e =
-    let fewer = keys_of (filter p s.files.holds) in
-    let other = token_keys (filter q s.tokens.tokens) in
+-- fewer tokens and framebuffers name fewer keys
+pub fewer_referring : (p : SharedToken → Bool) (q : Framebuffer → Bool) (ts : List SharedToken) (fs : List Framebuffer) (n : ℕ) → is_among (referring (filter p ts) (filter q fs)) n ≡ true → is_among (referring ts fs) n ≡ true
+fewer_referring p q ts fs n e =
+    let fewer = token_keys (filter p ts) in
+    let other = framebuffer_keys (filter q fs) in
     let split : (is_among fewer n || is_among other n) ≡ true = sym (among-append fewer other n) ∙ e in
-    among-append (keys_of s.files.holds) (referring_keys s) n
-    ∙ elim (is_among fewer n) as (λ b. is_among fewer n ≡ b → (b || is_among other n) ≡ true → (is_among (keys_of s.files.holds) n || is_among (referring_keys s) n) ≡ true) [
-      | true ↦ λ is k. or_left (is_among (keys_of s.files.holds) n) _ (some_pass p s.files.holds n is)
-      | false ↦ λ is k. or_right (is_among (keys_of s.files.holds) n) _ (some_opened q s.tokens.tokens n k)
+    elim (is_among fewer n) as (λ b. is_among fewer n ≡ b → (b || is_among other n) ≡ true → is_among (referring ts fs) n ≡ true) [
+      | true ↦ λ is k. among-left (token_keys ts) (framebuffer_keys fs) n (some_opened p ts n is)
+      | false ↦ λ is k. among-right (token_keys ts) (framebuffer_keys fs) n (some_framed q fs n k)
+    ] refl split
+
+-- so do fewer handles, tokens and framebuffers
+pub fewer_known : (s : State) (p : FileHold → Bool) (q : SharedToken → Bool) (r : Framebuffer → Bool) (n : ℕ) → is_among (keys_of (filter p s.files.holds) ++ referring (filter q s.tokens.tokens) (filter r s.modes.framebuffers)) n ≡ true →
+    is_among (keys_of s.files.holds ++ referring_keys s) n ≡ true
+fewer_known s p q r n e =
+    let fewer = keys_of (filter p s.files.holds) in
+    let other = referring (filter q s.tokens.tokens) (filter r s.modes.framebuffers) in
+    let split : (is_among fewer n || is_among other n) ≡ true = sym (among-append fewer other n) ∙ e in
+    elim (is_among fewer n) as (λ b. is_among fewer n ≡ b → (b || is_among other n) ≡ true → is_among (keys_of s.files.holds ++ referring_keys s) n ≡ true) [
+      | true ↦ λ is k. among-left (keys_of s.files.holds) (referring_keys s) n (some_pass p s.files.holds n is)
+      | false ↦ λ is k. among-right (keys_of s.files.holds) (referring_keys s) n (fewer_referring q r s.tokens.tokens s.modes.framebuffers n k)
     ] refl split
 
 -- a magic is its client's
@@ -376,11 +427,11 @@ magics_left c (x ∷ xs) =
       | false ↦ ap (cons_option (magic_row_of x)) (magics_left c xs)
     ]
 
-module _ (s : State) (w : Rows) (c : ℕ) (flags : FileFlags) (names : NameList) (set : ObjectSet)
-    (t : IsTied s) (are : AreMasters (without_its_master c s.masters)) (of : client_row w c ≡ Some (client_row_by (record { client = c; flags = flags }) (masters.member_of s.masters.members c)))
-    (gone : Leaves s.names s.objects (keys_without s c) (references_without s c) names set) (h : Represents s w) where
-  now : IsTied (without_its s c names set)
-  now = client_gone_tied s c names set t are gone
+module _ (s : State) (w : Rows) (c : ℕ) (flags : FileFlags) (ms : ModeSet) (names : NameList) (set : ObjectSet)
+    (t : IsTied s) (are : AreMasters (without_its_master c s.masters)) (modes_are : AreModes ms) (loses : LosesFramebuffersOf c s.modes ms) (of : client_row w c ≡ Some (client_row_by (record { client = c; flags = flags }) (masters.member_of s.masters.members c)))
+    (gone : Leaves s.names s.objects (keys_without s c) (references_without s c ms) names set) (h : Represents s w) where
+  now : IsTied (without_its s c ms names set)
+  now = client_gone_tied s c ms names set t are modes_are gone
 
   -- when what its own master gave is gone
   ended_represents : Represents (with_device s (device_without s.masters c)) (ended_own w (client_row w c))
@@ -389,44 +440,50 @@ module _ (s : State) (w : Rows) (c : ℕ) (flags : FileFlags) (names : NameList)
       (ended_if_represents s w (masters.member_of s.masters.members c) h)
 
   -- its row goes
-  clients_now : without (λ (x : ClientRow). x.client == c) w.clients ≡ clients_of (without_its s c names set)
+  clients_now : without (λ (x : ClientRow). x.client == c) w.clients ≡ clients_of (without_its s c ms names set)
   clients_now = ap (without (λ (x : ClientRow). x.client == c)) (clients_are s w h) ∙ sym (clients_left c s.masters.members s.files.clients)
 
-  masters_now : (v : Rows) → v.clients ≡ clients_of (without_its s c names set) → v.masters ≡ masters_of s → filter (λ (x : MasterRow). is_living v x.master) v.masters ≡ masters_of (without_its s c names set)
-  masters_now v e f = swept_masters v s.masters.masters (without_its_master c s.masters).members f (none_kept s t) (named_by_clients v (without_its s c names set) now e)
+  masters_now : (v : Rows) → v.clients ≡ clients_of (without_its s c ms names set) → v.masters ≡ masters_of s → filter (λ (x : MasterRow). is_living v x.master) v.masters ≡ masters_of (without_its s c ms names set)
+  masters_now v e f = swept_masters v s.masters.masters (without_its_master c s.masters).members f (none_kept s t) (named_by_clients v (without_its s c ms names set) now e)
 
-  -- its handles and tokens go, and what they alone named
-  moves : Moves s (closed w c) (without_client s.files c).holds (without_tokens_of c s.tokens).tokens s.names.names names.names set
+  -- its framebuffers go
+  framed : SameRows (closed w c).framebuffers (map (framebuffer_row_of s.objects.objects) ms.framebuffers)
+  unfolding closed
+  framed =
+      subst (λ fs. SameRows (without (λ (x : FramebufferRow). x.client == c) w.framebuffers) (map (framebuffer_row_of s.objects.objects) fs)) (sym loses.framebuffers)
+      (framed_left w.framebuffers (λ x. not (x.client == c)) s.objects.objects s.modes.framebuffers (framebuffers_are s w h))
+
+  -- its handles and tokens go, and what they and its framebuffers alone named
+  moves : Moves s (closed w c) (without_client s.files c).holds (without_tokens_of c s.tokens).tokens ms s.names.names names.names set
   unfolding closed
   moves = record {
     holds = held_left w.holds (λ x. not (x.client == c)) s.objects.objects s.files.holds (holds_are s w h);
     tokens = opened_left w.tokens (λ x. not (x.client == c)) s.objects.objects s.tokens.tokens (tokens_are s w h);
+    framebuffers = framed;
+    shown = shown_left (closed w c) s.objects.objects s.modes ms framed (shown_are _ _ ended_represents) loses.shown;
     names = names_are _ _ ended_represents;
-    known = fewer_known s (λ x. not (files.of_client c x)) (λ x. not (is_exported_by c x));
+    known = λ n e. fewer_known s (λ x. not (files.of_client c x)) (λ x. not (is_exported_by c x)) (λ x. not (modes.is_made_by c x)) n
+        (subst (λ fs. is_among (keys_without s c ++ referring (without_tokens_of c s.tokens).tokens fs) n ≡ true) loses.framebuffers e);
     known_names = names_known s t;
     left_names = ap (λ (l : NameList). l.names) gone.names;
     those = gone.those;
   }
-
-  none_framed : (closed w c).framebuffers ≡ []
-  unfolding closed
-  none_framed = ap (without _) (framebuffers_none s w h)
 
   objects_yet : (closed w c).objects ≡ objects_of s
   unfolding closed
   objects_yet = objects_are _ _ ended_represents
 
   -- and the masters that no client names any more
-  pub client_gone : (part : Part) → stands_for part (without_its s c names set) (swept (closed w c))
+  pub client_gone : (part : Part) → stands_for part (without_its s c ms names set) (swept (closed w c))
   unfolding stands_for swept closed
-  client_gone Bounds = let k = limits_are _ _ ended_represents in (k.0, k.1, gone.limit ∙ k.2, ap (λ (l : NameList). l.last) gone.names ∙ k.3, k.4, k.5)
+  client_gone Bounds = let k = bounds_are _ _ ended_represents in (k.0, k.1, gone.limit ∙ k.2, ap (λ (l : NameList). l.last) gone.names ∙ k.3, k.4, k.5, loses.last ∙ k.6, loses.topology ∙ k.7)
   client_gone Clients = clients_now
   client_gone Masters = masters_now (closed w c) clients_now (masters_are _ _ ended_represents)
   client_gone Magics = subst (SameRows (without (λ (row : MagicRow). row.client == c) w.magics)) (magics_left c s.masters.members) (same-filter (λ (row : MagicRow). not (row.client == c)) w.magics (magics_of s) (magics_are s w h))
-  client_gone Holds = holds_moved s (closed w c) _ _ s.names.names names.names set t moves
-  client_gone Objects = objects_moved s (closed w c) _ _ s.names.names names.names set t moves none_framed objects_yet
-  client_gone Names = names_moved s (closed w c) _ _ s.names.names names.names set t moves
-  client_gone Tokens = tokens_moved s (closed w c) _ _ s.names.names names.names set t moves
-  client_gone Framebuffers = none_framed
-  client_gone Shown = ap (filter _) (shown_none _ _ ended_represents)
+  client_gone Holds = holds_moved s (closed w c) _ _ ms s.names.names names.names set t moves
+  client_gone Objects = objects_moved s (closed w c) _ _ ms s.names.names names.names set t moves objects_yet
+  client_gone Names = names_moved s (closed w c) _ _ ms s.names.names names.names set t moves
+  client_gone Tokens = tokens_moved s (closed w c) _ _ ms s.names.names names.names set t moves
+  client_gone Framebuffers = framebuffers_moved s (closed w c) _ _ ms s.names.names names.names set t moves
+  client_gone Shown = moves.shown
   client_gone part = ended_represents part

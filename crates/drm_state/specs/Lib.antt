@@ -1,3 +1,4 @@
 pub mod Parts
 pub mod Ties
 pub mod Refinement
+pub mod Seeing

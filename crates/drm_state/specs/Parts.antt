@@ -1,5 +1,5 @@
 -- The rows that the parts of the device stand for.
-use Rattle.std.specs.Prelude.{ℕ, Bool, false, not, ◌&&◌, List, Option, None, find, filter, map, unwrap_or, if◌then◌else◌}
+use Rattle.std.specs.Prelude.{◌≡◌, ℕ, Bool, false, not, ◌&&◌, List, ◌++◌, Option, None, find, filter, map, unwrap_or, if◌then◌else◌}
 use Rattle.std.specs.List.{filter_map}
 use Rattle.std.specs.Option.{option_map, option_map_or}
 use Rattle.drm_gem.specs.declared.object.Object.{Object}
@@ -10,7 +10,10 @@ use Rattle.drm_files.specs.Files.{is_client}
 use Rattle.drm_share.specs.declared.rows.SharedName.{SharedName}
 use Rattle.drm_share.specs.declared.rows.SharedToken.{SharedToken}
 use Rattle.drm_share.specs.Tokens.{TokenList, is_exported_by}
-use Rattle.drm_model.specs.Rows.{ClientRow, MasterRow, MagicRow, HoldRow, ObjectRow, NameRow, TokenRow}
+use Rattle.drm_model.specs.Rows.{ClientRow, MasterRow, MagicRow, HoldRow, ObjectRow, NameRow, TokenRow, FramebufferRow, ShownRow}
+use Rattle.drm_modes.specs.declared.rows.Framebuffer.{Framebuffer}
+use Rattle.drm_modes.specs.declared.rows.Shown.{Shown}
+use Rattle.drm_modes.specs.Modes.{ModeSet, shown_rows, is_made_by, has_framebuffer}
 use Rattle.drm_masters.specs.declared.rows.Magic.{Magic}
 use Rattle.drm_masters.specs.declared.rows.Master.{Master}
 use Rattle.drm_masters.specs.declared.rows.Member.{Member}
@@ -58,7 +61,7 @@ object_row_of x = record { object = x.birth; size = x.size; stamp = x.stamp }
 abbrev pub name_row_by : SharedName → ℕ → NameRow
 name_row_by x number = record { name = x.name; object = number }
 
--- so do a name and a token
+-- so do a name, a token and a framebuffer
 abbrev pub name_row_of : List Object → SharedName → NameRow
 name_row_of objects x = name_row_by x (birth_at objects x.object)
 
@@ -67,6 +70,23 @@ token_row_by x number = record { token = x.token; client = x.client; object = nu
 
 abbrev pub token_row_of : List Object → SharedToken → TokenRow
 token_row_of objects x = token_row_by x (birth_at objects x.object)
+
+abbrev pub framebuffer_row_by : Framebuffer → ℕ → FramebufferRow
+framebuffer_row_by x number = record {
+  framebuffer = x.framebuffer;
+  client = x.client;
+  object = number;
+  width = x.shape.width;
+  height = x.shape.height;
+  pitch = x.shape.pitch;
+  bpp = x.shape.bpp;
+}
+
+abbrev pub framebuffer_row_of : List Object → Framebuffer → FramebufferRow
+framebuffer_row_of objects x = framebuffer_row_by x (birth_at objects x.object)
+
+abbrev pub shown_row_of : Shown → ShownRow
+shown_row_of x = record { shower = x.shower; framebuffer = x.framebuffer }
 
 abbrev pub clients_of : State → List ClientRow
 clients_of s = map (client_row_of s.masters.members) s.files.clients
@@ -89,6 +109,12 @@ names_of s = map (name_row_of s.objects.objects) s.names.names
 abbrev pub tokens_of : State → List TokenRow
 tokens_of s = map (token_row_of s.objects.objects) s.tokens.tokens
 
+abbrev pub framebuffers_of : State → List FramebufferRow
+framebuffers_of s = map (framebuffer_row_of s.objects.objects) s.modes.framebuffers
+
+abbrev pub shown_of : State → List ShownRow
+shown_of s = map shown_row_of (shown_rows s.modes)
+
 -- the last token given; 0 before the first
 abbrev pub last_token_of : State → ℕ
 last_token_of s = unwrap_or s.tokens.last_given 0
@@ -101,9 +127,23 @@ token_keys tokens = map (λ (x : SharedToken). x.object) tokens
 abbrev pub without_tokens_of : ℕ → TokenList → TokenList
 without_tokens_of c list = record list { tokens = filter (λ (x : SharedToken). not (is_exported_by c x)) list.tokens }
 
--- the keys that tokens and framebuffers name; there are no framebuffers yet
+-- the keys that framebuffers name
+abbrev pub framebuffer_keys : List Framebuffer → List ℕ
+framebuffer_keys framebuffers = map (λ (x : Framebuffer). x.object) framebuffers
+
+-- the keys that tokens and framebuffers name
+abbrev pub referring : List SharedToken → List Framebuffer → List ℕ
+referring tokens framebuffers = token_keys tokens ++ framebuffer_keys framebuffers
+
 abbrev pub referring_keys : State → List ℕ
-referring_keys s = token_keys s.tokens.tokens
+referring_keys s = referring s.tokens.tokens s.modes.framebuffers
+
+-- now the framebuffers of a client are gone, and what showed one of them is dark
+pub record LosesFramebuffersOf (c : ℕ) (old now : ModeSet) : Type 0 where
+  pub topology : now.topology ≡ old.topology
+  pub last : now.last ≡ old.last
+  pub framebuffers : now.framebuffers ≡ filter (λ (x : Framebuffer). not (is_made_by c x)) old.framebuffers
+  pub shown : shown_rows now ≡ filter (λ (x : Shown). has_framebuffer now x.framebuffer) (shown_rows old)
 
 -- the keys that handles name
 abbrev pub keys_of : List FileHold → List ℕ

@@ -6,10 +6,10 @@ use Rattle.drm_table.specs.declared.answers.Answer.{Answer}
 use Rattle.drm_table.specs.declared.calls.Call.{Call}
 use Rattle.drm_table.specs.declared.events.Event.{Event}
 use Rattle.drm_table.specs.declared.events.Event.TheVariants.{Ask}
-use Rattle.drm_table.specs.declared.limits.Limits.{Limits}
 use Rattle.drm_table.specs.declared.rules.Rule.{Rule}
 use Rattle.drm_table.specs.Permit.{first_failing}
 use Rattle.std.specs.Option.{is_some}
+use Rattle.drm_modes.specs.Topology.{object_count}
 use Rattle.drm_model.specs.Rows.{Rows, free_handle, with_hold}
 use Rattle.drm_model.specs.Parts.{Part, Bounds, Clients, Masters, Magics, Holds, Objects, Names, Tokens, Grants, Framebuffers, Shown, DeviceMaster, LastToken, LastLeaseToken}
 use Rattle.drm_model.specs.Births.{BirthsRise}
@@ -19,17 +19,24 @@ use Rattle.drm_model.specs.Change.{after, swept}
 use Rattle.drm_model.specs.Reply.{reply}
 use Rattle.drm_model.specs.Run.{Growing}
 use Rattle.drm_state.specs.declared.state.State.{State}
-use Rattle.drm_state.specs.Parts.{birth_at, clients_of, masters_of, magics_of, holds_of, objects_of, names_of, tokens_of, last_token_of}
+use Rattle.drm_state.specs.Parts.{birth_at, clients_of, masters_of, magics_of, holds_of, objects_of, names_of, tokens_of, framebuffers_of, shown_of, last_token_of}
 
--- the limits that the parts keep
-abbrev pub HaveLimits : State → Limits → Type 0
-HaveLimits s limits =
-    (s.files.limit ≡ limits.clients) × (s.files.last_handle ≡ limits.handles) × (s.objects.limit ≡ limits.objects) × (s.names.last ≡ limits.names) × (s.tokens.last ≡ limits.tokens) × (s.masters.last_magic ≡ limits.clients)
+-- the parts keep the limits and the fixed mode objects
+abbrev pub HaveBounds : State → Rows → Type 0
+HaveBounds s w =
+    (s.files.limit ≡ w.limits.clients)
+    × (s.files.last_handle ≡ w.limits.handles)
+    × (s.objects.limit ≡ w.limits.objects)
+    × (s.names.last ≡ w.limits.names)
+    × (s.tokens.last ≡ w.limits.tokens)
+    × (s.masters.last_magic ≡ w.limits.clients)
+    × (s.modes.last ≡ object_count w.topology + w.limits.framebuffers)
+    × (s.modes.topology ≡ w.topology)
 
--- what the state stands for in a part of the rows. Magics, handles, names and tokens have their own order; no event makes the lists longer
--- yet that are empty here
+-- what the state stands for in a part of the rows. Magics, handles, names, tokens, framebuffers and what is shown have their own
+-- order; no event makes a grant yet
 unfoldable pub stands_for : Part → State → Rows → Type 0
-stands_for Bounds s w = HaveLimits s w.limits
+stands_for Bounds s w = HaveBounds s w
 stands_for Clients s w = w.clients ≡ clients_of s
 stands_for Masters s w = w.masters ≡ masters_of s
 stands_for Magics s w = SameRows w.magics (magics_of s)
@@ -38,8 +45,8 @@ stands_for Objects s w = w.objects ≡ objects_of s
 stands_for Names s w = SameRows w.names (names_of s)
 stands_for Tokens s w = SameRows w.tokens (tokens_of s)
 stands_for Grants s w = w.grants ≡ []
-stands_for Framebuffers s w = w.framebuffers ≡ []
-stands_for Shown s w = w.shown ≡ []
+stands_for Framebuffers s w = SameRows w.framebuffers (framebuffers_of s)
+stands_for Shown s w = SameRows w.shown (shown_of s)
 stands_for DeviceMaster s w = w.device_master ≡ s.masters.device_master
 stands_for LastToken s w = w.last_token ≡ last_token_of s
 stands_for LastLeaseToken s w = w.last_lease_token ≡ 0

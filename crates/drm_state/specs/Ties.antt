@@ -15,6 +15,7 @@ use Rattle.drm_masters.specs.declared.rows.Master.{Master}
 use Rattle.drm_masters.specs.declared.rows.Member.{Member}
 use Rattle.drm_masters.specs.Masters.{MasterSet, AreMasters, member_of}
 use Rattle.drm_masters.specs.Calls as masters
+use Rattle.drm_modes.specs.Modes.{AreModes}
 use Rattle.drm_state.specs.declared.state.State.{State}
 use Rattle.drm_state.specs.Parts.{keys_of, referring_keys}
 
@@ -60,14 +61,16 @@ abbrev pub HasMaster : MasterSet → FileClient → Type 0
 HasMaster v f = (f.flags.render || is_some (member_of v.members f.client)) ≡ true
 
 -- what ties the parts: who stands to masters is open, and of the clients all but those of render nodes do; what is so of masters
--- at all times, none of which is kept, and there are as many magics as clients may be; handles stand in the order of their clients
--- and numbers; objects are those that handles and tokens name, which they count; names are of objects that handles name
+-- at all times, none of which is kept, and there are as many magics as clients may be; what is so of mode objects at all times;
+-- handles stand in the order of their clients and numbers; objects are those that handles, tokens and framebuffers name, which they
+-- count; names are of objects that handles name
 pub data Tie : Type 0 where
   MembersOpen : Tie
   ClientsHave : Tie
   MastersAre : Tie
   NoneKept : Tie
   MagicsSuffice : Tie
+  ModesAre : Tie
   HoldsRise : Tie
   ObjectsCounted : Tie
   NamesHeld : Tie
@@ -78,6 +81,7 @@ is_tied ClientsHave s = AllByRecursion (HasMaster s.masters) s.files.clients
 is_tied MastersAre s = AreMasters s.masters
 is_tied NoneKept s = AllByRecursion (λ (x : Master). x.kept ≡ false) s.masters.masters
 is_tied MagicsSuffice s = s.masters.last_magic ≡ s.files.limit
+is_tied ModesAre s = AreModes s.modes
 is_tied HoldsRise s = InOrder (λ (x y : FileHold). hold_before x y ≡ true) s.files.holds
 is_tied ObjectsCounted s = AreTied (keys_of s.files.holds) (referring_keys s) s.objects.objects
 is_tied NamesHeld s = AreNamed (keys_of s.files.holds) s.names.names
@@ -85,17 +89,19 @@ is_tied NamesHeld s = AreNamed (keys_of s.files.holds) s.names.names
 abbrev pub IsTied : State → Type 0
 IsTied s = (tie : Tie) → is_tied tie s
 
--- the step of this number is later than those that made what is there, and a step makes one handle and one token at most
+-- the step of this number is later than those that made what is there, and a step makes one handle, one token and one framebuffer
+-- at most
 pub record IsLater (s : State) (birth : ℕ) : Type 0 where
   pub clients : AllByRecursion (λ (f : FileClient). f.client < birth) s.files.clients
   pub objects : IsNewBirth s.objects birth
   pub masters : masters.IsNewBirth s.masters birth
   pub holds : length s.files.holds < birth
   pub tokens : length s.tokens.tokens < birth
+  pub framebuffers : length s.modes.framebuffers < birth
 
--- the state is ready for the step of this number
+-- the state is ready for the step of this number; a journal has 100,000 places at most (own), and its steps are numbered from 1
 pub record IsReady (s : State) (birth : ℕ) : Type 0 where
   pub tied : IsTied s
   pub later : IsLater s birth
   pub first : 1 ≤ birth
-  pub fits : birth ≤ 4294967295
+  pub fits : birth ≤ 100001

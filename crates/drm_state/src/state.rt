@@ -3,6 +3,7 @@
 use drm_files::Files;
 use drm_gem::Objects;
 use drm_masters::Masters;
+use drm_modes::Modes;
 use drm_share::{Names, Tokens};
 
 /// The parts.
@@ -17,4 +18,6 @@ pub struct State {
     pub names: Names,
     /// The open tokens of exported objects.
     pub tokens: Tokens,
+    /// The fixed mode objects, framebuffers, and what CRTCs and planes show.
+    pub modes: Modes,
 }

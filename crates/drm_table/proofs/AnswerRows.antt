@@ -43,11 +43,14 @@ told-by kinds.Version (U32 major ∷ U32 minor ∷ U32 patch ∷ []) = refl
 told-by kinds.Number (U64 value ∷ []) = refl
 told-by kinds.Dumb (U32 handle ∷ U32 pitch ∷ U64 size ∷ []) = refl
 told-by kinds.Buffer (U32 handle ∷ U64 size ∷ []) = refl
+told-by kinds.Plane (U32 framebuffer ∷ U32 mask ∷ []) = refl
+told-by kinds.Framebuffer (U32 width ∷ U32 height ∷ U32 pitch ∷ U32 bpp ∷ U32 handle ∷ []) = refl
 told-by kinds.Closed [] = refl
 told-by _ _ = tt
 
 pub has-widths : (answer : Answer) → HasToldWidths (told answer)
 unfolding told answer_kind_row
+has-widths (answers.Resources crtcs connectors encoders framebuffers) = tt
 has-widths (answers.List ids) = tt
 has-widths (answers.Audit rows) = tt
 has-widths (answers.Denied rule) = tt

@@ -101,8 +101,19 @@ fields-of kinds.StampRead (U32 handle ∷ []) = refl
 fields-of kinds.TokenClose (U32 token ∷ []) = refl
 fields-of kinds.ListHandles (U32 from ∷ []) = refl
 fields-of kinds.Audit (U32 number ∷ U32 from ∷ []) = audit-by number from (audits.kind_of number) refl
+fields-of kinds.GetResources [] = refl
+fields-of kinds.GetCrtc (U32 crtc ∷ []) = refl
+fields-of kinds.SetCrtc (U32 crtc ∷ U32 framebuffer ∷ U32 connector ∷ []) = refl
+fields-of kinds.GetEncoder (U32 encoder ∷ []) = refl
+fields-of kinds.GetConnector (U32 connector ∷ []) = refl
+fields-of kinds.GetFb (U32 framebuffer ∷ []) = refl
+fields-of kinds.AddFb (U32 width ∷ U32 height ∷ U32 pitch ∷ U32 bpp ∷ U32 handle ∷ []) = refl
+fields-of kinds.RmFb (U32 framebuffer ∷ []) = refl
 fields-of kinds.CreateDumb (U32 width ∷ U32 height ∷ U32 bpp ∷ []) = refl
 fields-of kinds.DestroyDumb (U32 handle ∷ []) = refl
+fields-of kinds.GetPlaneResources [] = refl
+fields-of kinds.GetPlane (U32 plane ∷ []) = refl
+fields-of kinds.SetPlane (U32 plane ∷ U32 crtc ∷ U32 framebuffer ∷ []) = refl
 fields-of _ _ = tt
 
 pub has-widths : (call : Call) → HasWidths (call_row call)

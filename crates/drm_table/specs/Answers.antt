@@ -31,15 +31,18 @@ answer_kind_row kinds.Version = answer_row 0x1002 (codes "version") (U32 ∷ U32
 answer_kind_row kinds.Number = answer_row 0x1003 (codes "number") (U64 ∷ [])
 answer_kind_row kinds.Dumb = answer_row 0x1004 (codes "dumb") (U32 ∷ U32 ∷ U64 ∷ [])
 answer_kind_row kinds.Buffer = answer_row 0x1005 (codes "buffer") (U32 ∷ U64 ∷ [])
+answer_kind_row kinds.Plane = answer_row 0x1008 (codes "plane") (U32 ∷ U32 ∷ [])
+answer_kind_row kinds.Framebuffer = answer_row 0x1009 (codes "framebuffer") (U32 ∷ U32 ∷ U32 ∷ U32 ∷ U32 ∷ [])
 answer_kind_row kinds.Closed = answer_row 0x100C (codes "closed") []
 
 -- all kinds, rising by number
 abbrev pub all_kinds : List AnswerKind
-all_kinds = kinds.Done ∷ kinds.Opened ∷ kinds.Version ∷ kinds.Number ∷ kinds.Dumb ∷ kinds.Buffer ∷ kinds.Closed ∷ []
+all_kinds = kinds.Done ∷ kinds.Opened ∷ kinds.Version ∷ kinds.Number ∷ kinds.Dumb ∷ kinds.Buffer ∷ kinds.Plane ∷ kinds.Framebuffer ∷ kinds.Closed ∷ []
 
--- what an answer tells: fields of fixed number, a list of ids, rows of an audit, or a denial
+-- what an answer tells: fields of fixed number, the four lists of resources, a list of ids, rows of an audit, or a denial
 pub data Told : Type 0 where
   row : AnswerKind → List Field → Told
+  resources : (crtcs connectors encoders framebuffers : List ℕ) → Told
   list : List ℕ → Told
   page : List AuditRow → Told
   denial : Rule → Told
@@ -52,6 +55,9 @@ told (answers.Version major minor patch) = row kinds.Version (fields.U32 major �
 told (answers.Number value) = row kinds.Number (fields.U64 value ∷ [])
 told (answers.Dumb handle pitch size) = row kinds.Dumb (fields.U32 handle ∷ fields.U32 pitch ∷ fields.U64 size ∷ [])
 told (answers.Buffer handle size) = row kinds.Buffer (fields.U32 handle ∷ fields.U64 size ∷ [])
+told (answers.Resources crtcs connectors encoders framebuffers) = resources crtcs connectors encoders framebuffers
+told (answers.Plane framebuffer mask) = row kinds.Plane (fields.U32 framebuffer ∷ fields.U32 mask ∷ [])
+told (answers.Framebuffer width height pitch bpp handle) = row kinds.Framebuffer (fields.U32 width ∷ fields.U32 height ∷ fields.U32 pitch ∷ fields.U32 bpp ∷ fields.U32 handle ∷ [])
 told (answers.List ids) = list ids
 told (answers.Audit rows) = page rows
 told answers.Closed = row kinds.Closed []
@@ -65,6 +71,8 @@ answer_with kinds.Version (fields.U32 major ∷ fields.U32 minor ∷ fields.U32 
 answer_with kinds.Number (fields.U64 value ∷ []) = Some (answers.Number value)
 answer_with kinds.Dumb (fields.U32 handle ∷ fields.U32 pitch ∷ fields.U64 size ∷ []) = Some (answers.Dumb handle pitch size)
 answer_with kinds.Buffer (fields.U32 handle ∷ fields.U64 size ∷ []) = Some (answers.Buffer handle size)
+answer_with kinds.Plane (fields.U32 framebuffer ∷ fields.U32 mask ∷ []) = Some (answers.Plane framebuffer mask)
+answer_with kinds.Framebuffer (fields.U32 width ∷ fields.U32 height ∷ fields.U32 pitch ∷ fields.U32 bpp ∷ fields.U32 handle ∷ []) = Some (answers.Framebuffer width height pitch bpp handle)
 answer_with kinds.Closed [] = Some answers.Closed
 answer_with _ _ = None
 
@@ -86,6 +94,7 @@ answer_kind_of number = find (λ kind. answer_number kind == number) all_kinds
 -- what the parts of an answer tell
 abbrev pub told_of : ToldValue → Told
 told_of (values.Fields kind fs) = row kind fs
+told_of (values.Resources crtcs connectors encoders framebuffers) = resources crtcs.now connectors.now encoders.now framebuffers.now
 told_of (values.List ids) = list ids.now
 told_of (values.Page rows) = page rows.now
 told_of (values.Denial rule) = denial rule
@@ -95,6 +104,7 @@ told_of (values.Denial rule) = denial rule
 -- Of what an answer tells the answer is made.
 abbrev pub TellsBack : Answer → Told → Type 0
 TellsBack answer (row kind fs) = answer_with kind fs ≡ Some answer
+TellsBack answer (resources crtcs connectors encoders framebuffers) = answer ≡ answers.Resources crtcs connectors encoders framebuffers
 TellsBack answer (list ids) = answer ≡ answers.List ids
 TellsBack answer (page rows) = answer ≡ answers.Audit rows
 TellsBack answer (denial rule) = answer ≡ answers.Denied rule

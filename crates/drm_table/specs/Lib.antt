@@ -5,7 +5,9 @@ pub mod DeviceCalls
 pub mod Fields
 pub mod Limits
 pub mod MasterCalls
+pub mod ModeCalls
 pub mod Permit
+pub mod Results
 pub mod Rules
 pub mod ShareCalls
 pub mod Table

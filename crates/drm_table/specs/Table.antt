@@ -13,6 +13,7 @@ use Rattle.drm_table.specs.declared.calls.Call.TheVariants as calls
 use Rattle.drm_table.specs.BufferCalls.{buffer_row, buffer_call}
 use Rattle.drm_table.specs.DeviceCalls.{device_row, device_call}
 use Rattle.drm_table.specs.MasterCalls.{master_row, master_call}
+use Rattle.drm_table.specs.ModeCalls.{mode_row, mode_call}
 use Rattle.drm_table.specs.ShareCalls.{share_row, share_call}
 use Rattle.drm_table.specs.declared.rows.Row.{Row}
 use Rattle.drm_table.specs.Fields.{Layout, layout_of, width_of, widths_in}
@@ -72,8 +73,19 @@ kind_row kinds.StampRead = table_row 0x42 (codes "STAMP_READ") (codes "stamp_rea
 kind_row kinds.TokenClose = table_row 0x43 (codes "TOKEN_CLOSE") (codes "token_close") render_allow (numbers (U32 ∷ []))
 kind_row kinds.ListHandles = table_row 0x44 (codes "LIST_HANDLES") (codes "list_handles") render_allow (numbers (U32 ∷ []))
 kind_row kinds.Audit = table_row 0x45 (codes "AUDIT") (codes "audit") root_only (numbers (U32 ∷ U32 ∷ []))
+kind_row kinds.GetResources = table_row 0xA0 (codes "MODE_GETRESOURCES") (codes "getresources") no_flags (numbers [])
+kind_row kinds.GetCrtc = table_row 0xA1 (codes "MODE_GETCRTC") (codes "getcrtc") no_flags (numbers (U32 ∷ []))
+kind_row kinds.SetCrtc = table_row 0xA2 (codes "MODE_SETCRTC") (codes "setcrtc") master (numbers (U32 ∷ U32 ∷ U32 ∷ []))
+kind_row kinds.GetEncoder = table_row 0xA6 (codes "MODE_GETENCODER") (codes "getencoder") no_flags (numbers (U32 ∷ []))
+kind_row kinds.GetConnector = table_row 0xA7 (codes "MODE_GETCONNECTOR") (codes "getconnector") no_flags (numbers (U32 ∷ []))
+kind_row kinds.GetFb = table_row 0xAD (codes "MODE_GETFB") (codes "getfb") no_flags (numbers (U32 ∷ []))
+kind_row kinds.AddFb = table_row 0xAE (codes "MODE_ADDFB") (codes "addfb") no_flags (numbers (U32 ∷ U32 ∷ U32 ∷ U32 ∷ U32 ∷ []))
+kind_row kinds.RmFb = table_row 0xAF (codes "MODE_RMFB") (codes "rmfb") no_flags (numbers (U32 ∷ []))
 kind_row kinds.CreateDumb = table_row 0xB2 (codes "MODE_CREATE_DUMB") (codes "create_dumb") no_flags (numbers (U32 ∷ U32 ∷ U32 ∷ []))
 kind_row kinds.DestroyDumb = table_row 0xB4 (codes "MODE_DESTROY_DUMB") (codes "destroy_dumb") no_flags (numbers (U32 ∷ []))
+kind_row kinds.GetPlaneResources = table_row 0xB5 (codes "MODE_GETPLANERESOURCES") (codes "getplaneresources") no_flags (numbers [])
+kind_row kinds.GetPlane = table_row 0xB6 (codes "MODE_GETPLANE") (codes "getplane") no_flags (numbers (U32 ∷ []))
+kind_row kinds.SetPlane = table_row 0xB7 (codes "MODE_SETPLANE") (codes "setplane") master (numbers (U32 ∷ U32 ∷ U32 ∷ []))
 
 -- all kinds, rising by number
 abbrev pub all_kinds : List CallKind
@@ -96,17 +108,28 @@ all_kinds =
     ∷ kinds.TokenClose
     ∷ kinds.ListHandles
     ∷ kinds.Audit
+    ∷ kinds.GetResources
+    ∷ kinds.GetCrtc
+    ∷ kinds.SetCrtc
+    ∷ kinds.GetEncoder
+    ∷ kinds.GetConnector
+    ∷ kinds.GetFb
+    ∷ kinds.AddFb
+    ∷ kinds.RmFb
     ∷ kinds.CreateDumb
     ∷ kinds.DestroyDumb
+    ∷ kinds.GetPlaneResources
+    ∷ kinds.GetPlane
+    ∷ kinds.SetPlane
     ∷ []
 
 -- the row of each call and its fields in order, on the wire and in a script alike, told by family; none of a call without a row
 unfoldable pub call_row : Call → Option (CallKind × List Field)
-call_row call = option_or (option_or (option_or (buffer_row call) (share_row call)) (master_row call)) (device_row call)
+call_row call = option_or (option_or (option_or (option_or (buffer_row call) (share_row call)) (master_row call)) (mode_row call)) (device_row call)
 
 -- the call of a row and these fields, if they are a call's
 unfoldable pub call_with : CallKind → List Field → Option Call
-call_with kind fs = option_or (option_or (option_or (buffer_call kind fs) (share_call kind fs)) (master_call kind fs)) (device_call kind fs)
+call_with kind fs = option_or (option_or (option_or (option_or (buffer_call kind fs) (share_call kind fs)) (master_call kind fs)) (mode_call kind fs)) (device_call kind fs)
 
 -- ---- what follows from it
 

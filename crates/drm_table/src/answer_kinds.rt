@@ -20,6 +20,8 @@ pub enum AnswerKind {
     Number,
     Dumb,
     Buffer,
+    Plane,
+    Framebuffer,
     Closed,
 }
 
@@ -28,6 +30,13 @@ pub enum AnswerKind {
 pub enum Told<'a> {
     /// Fields of fixed number.
     Fields(AnswerKind, Fields),
+    /// The ids of CRTCs, connectors, encoders and framebuffers.
+    Resources {
+        crtcs: &'a ShownList,
+        connectors: &'a ShownList,
+        encoders: &'a ShownList,
+        framebuffers: &'a ShownList,
+    },
     /// Ids or handles.
     List(&'a ShownList),
     /// Rows of an audit.
@@ -58,13 +67,15 @@ fn row(number: u16, word: &'static str, widths: &'static [Width]) -> AnswerRow
 
 impl AnswerKind {
     /// All kinds, rising by number.
-    pub const ALL: [AnswerKind; 7] = [
+    pub const ALL: [AnswerKind; 9] = [
         AnswerKind::Done,
         AnswerKind::Opened,
         AnswerKind::Version,
         AnswerKind::Number,
         AnswerKind::Dumb,
         AnswerKind::Buffer,
+        AnswerKind::Plane,
+        AnswerKind::Framebuffer,
         AnswerKind::Closed,
     ];
 
@@ -84,6 +95,12 @@ impl AnswerKind {
             AnswerKind::Number => row(0x1003, "number", &[Width::U64]),
             AnswerKind::Dumb => row(0x1004, "dumb", &[Width::U32, Width::U32, Width::U64]),
             AnswerKind::Buffer => row(0x1005, "buffer", &[Width::U32, Width::U64]),
+            AnswerKind::Plane => row(0x1008, "plane", &[Width::U32, Width::U32]),
+            AnswerKind::Framebuffer => row(
+                0x1009,
+                "framebuffer",
+                &[Width::U32, Width::U32, Width::U32, Width::U32, Width::U32],
+            ),
             AnswerKind::Closed => row(0x100C, "closed", &[]),
         }
     }
@@ -142,6 +159,20 @@ impl AnswerKind {
                 size,
             },
             (AnswerKind::Buffer, &[U32(handle), U64(size)]) => Answer::Buffer { handle, size },
+            (AnswerKind::Plane, &[U32(framebuffer), U32(mask)]) => Answer::Plane {
+                framebuffer,
+                mask,
+            },
+            (
+                AnswerKind::Framebuffer,
+                &[U32(width), U32(height), U32(pitch), U32(bpp), U32(handle)],
+            ) => Answer::Framebuffer {
+                width,
+                height,
+                pitch,
+                bpp,
+                handle,
+            },
             (AnswerKind::Closed, []) => Answer::Closed,
             _ => return None,
         })
@@ -182,6 +213,37 @@ impl Answer {
             Answer::Buffer { handle, size } => row_told(
                 AnswerKind::Buffer,
                 &[U32(*handle), U64(*size)],
+            ),
+            Answer::Resources {
+                crtcs,
+                connectors,
+                encoders,
+                framebuffers,
+            } => Told::Resources {
+                crtcs,
+                connectors,
+                encoders,
+                framebuffers,
+            },
+            Answer::Plane { framebuffer, mask } => row_told(
+                AnswerKind::Plane,
+                &[U32(*framebuffer), U32(*mask)],
+            ),
+            Answer::Framebuffer {
+                width,
+                height,
+                pitch,
+                bpp,
+                handle,
+            } => row_told(
+                AnswerKind::Framebuffer,
+                &[
+                    U32(*width),
+                    U32(*height),
+                    U32(*pitch),
+                    U32(*bpp),
+                    U32(*handle),
+                ],
             ),
             Answer::List { list } => Told::List(list),
             Answer::Audit { page } => Told::Page(page),

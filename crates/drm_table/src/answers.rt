@@ -10,19 +10,60 @@ pub enum Answer {
     /// The call was carried out and has nothing to tell.
     Done,
     /// The client was opened, and this is its number: that of the step (own).
-    Opened { client: u32 },
+    Opened {
+        client: u32,
+    },
     /// The version of the interface (drm-uapi, `DRM_IOCTL_VERSION`).
-    Version { major: u32, minor: u32, patch: u32 },
+    Version {
+        major: u32,
+        minor: u32,
+        patch: u32,
+    },
     /// A number that was asked for or given.
-    Number { value: u64 },
+    Number {
+        value: u64,
+    },
     /// A dumb buffer: its handle, the bytes of a row and the bytes of the whole (drm-uapi, `DRM_IOCTL_MODE_CREATE_DUMB`).
-    Dumb { handle: u32, pitch: u32, size: u64 },
+    Dumb {
+        handle: u32,
+        pitch: u32,
+        size: u64,
+    },
     /// A handle of a buffer, and the buffer's bytes (drm-gem(7)).
-    Buffer { handle: u32, size: u64 },
+    Buffer {
+        handle: u32,
+        size: u64,
+    },
+    /// The CRTCs and connectors that the caller sees, the encoders, and the caller's framebuffers, each rising (drm-uapi,
+    /// `DRM_IOCTL_MODE_GETRESOURCES`).
+    Resources {
+        crtcs: ShownList,
+        connectors: ShownList,
+        encoders: ShownList,
+        framebuffers: ShownList,
+    },
+    /// The framebuffer that a plane shows, or 0, and the CRTCs that the plane can be on, as a mask (drm-uapi,
+    /// `DRM_IOCTL_MODE_GETPLANE`).
+    Plane {
+        framebuffer: u32,
+        mask: u32,
+    },
+    /// The shape of a framebuffer, and a handle of its object, or 0 (drm-uapi, `DRM_IOCTL_MODE_GETFB`).
+    Framebuffer {
+        width: u32,
+        height: u32,
+        pitch: u32,
+        bpp: u32,
+        handle: u32,
+    },
     /// Ids or handles, rising.
-    List { list: ShownList },
+    List {
+        list: ShownList,
+    },
     /// Rows of an audit, as they stood before the step (own).
-    Audit { page: AuditPage },
+    Audit {
+        page: AuditPage,
+    },
     /// The client was closed.
     Closed,
     /// The first rule that fails. No row was changed.

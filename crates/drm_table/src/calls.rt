@@ -22,41 +22,129 @@ pub enum Call {
     /// The caller's magic, a number by which a current client of its master can authenticate it (drm(7)).
     GetMagic,
     /// Give a handle back (drm-gem(7)).
-    GemClose { handle: u32 },
+    GemClose {
+        handle: u32,
+    },
     /// Give the object of a handle a global name, or tell the one that it has (drm-gem(7), flink).
-    GemFlink { handle: u32 },
+    GemFlink {
+        handle: u32,
+    },
     /// A fresh handle of the object that has a global name (drm-gem(7), flink).
-    GemOpen { name: u32 },
+    GemOpen {
+        name: u32,
+    },
     /// What a capability of the device is (drm-uapi, `DRM_IOCTL_GET_CAP`).
-    GetCap { cap: u64 },
+    GetCap {
+        cap: u64,
+    },
     /// Set a capability of the caller (drm-uapi, `DRM_IOCTL_SET_CLIENT_CAP`).
-    SetClientCap { cap: u64, value: u64 },
+    SetClientCap {
+        cap: u64,
+        value: u64,
+    },
     /// Authenticate the client that has this magic of the caller's master (drm(7)).
-    AuthMagic { magic: u32 },
+    AuthMagic {
+        magic: u32,
+    },
     /// Become the device's master (drm(7)).
     SetMaster,
     /// Leave the device without a master (drm(7)).
     DropMaster,
     /// Export the object of a handle: a new token for it (drm-mm, PRIME; tokens for file descriptors are own).
-    PrimeHandleToFd { handle: u32 },
+    PrimeHandleToFd {
+        handle: u32,
+    },
     /// Import the object of a token: a handle of it, the same each time (drm-mm, PRIME).
-    PrimeFdToHandle { token: u32 },
+    PrimeFdToHandle {
+        token: u32,
+    },
     /// A buffer of so many bytes (own; a driver has such a call of its own, drm-mm).
-    BufCreate { size: u64 },
+    BufCreate {
+        size: u64,
+    },
     /// Set the stamp of an object, which stands for its contents (own).
-    StampWrite { handle: u32, stamp: u64 },
+    StampWrite {
+        handle: u32,
+        stamp: u64,
+    },
     /// What the stamp of an object is (own).
-    StampRead { handle: u32 },
+    StampRead {
+        handle: u32,
+    },
     /// Close a token that the caller exported (own; a file descriptor is closed).
-    TokenClose { token: u32 },
+    TokenClose {
+        token: u32,
+    },
     /// The caller's handles from a number on, 64 at most (own).
-    ListHandles { from: u32 },
+    ListHandles {
+        from: u32,
+    },
     /// Up to 16 rows of a kind, after the first `from` (own).
-    Audit { kind: AuditKind, from: u32 },
+    Audit {
+        kind: AuditKind,
+        from: u32,
+    },
+    /// The CRTCs, connectors and encoders, and the caller's framebuffers (drm-uapi, `DRM_IOCTL_MODE_GETRESOURCES`).
+    GetResources,
+    /// The framebuffer that a CRTC shows, or 0 (drm-uapi, `DRM_IOCTL_MODE_GETCRTC`).
+    GetCrtc {
+        crtc: u32,
+    },
+    /// Show a framebuffer on a CRTC through a connector; with 0 for both the CRTC goes dark (drm-uapi,
+    /// `DRM_IOCTL_MODE_SETCRTC`).
+    SetCrtc {
+        crtc: u32,
+        framebuffer: u32,
+        connector: u32,
+    },
+    /// The CRTCs that an encoder can take its pixels from, as a mask (drm-uapi, `DRM_IOCTL_MODE_GETENCODER`).
+    GetEncoder {
+        encoder: u32,
+    },
+    /// The encoder of a connector (drm-uapi, `DRM_IOCTL_MODE_GETCONNECTOR`).
+    GetConnector {
+        connector: u32,
+    },
+    /// The shape of a framebuffer and a handle of its object (drm-uapi, `DRM_IOCTL_MODE_GETFB`).
+    GetFb {
+        framebuffer: u32,
+    },
+    /// A framebuffer over the object of a handle: its width and height in pixels, the bytes of a row and the bits of a pixel
+    /// (drm-uapi, `DRM_IOCTL_MODE_ADDFB`).
+    AddFb {
+        width: u32,
+        height: u32,
+        pitch: u32,
+        bpp: u32,
+        handle: u32,
+    },
+    /// Remove a framebuffer of the caller; what shows it goes dark (drm-uapi, `DRM_IOCTL_MODE_RMFB`).
+    RmFb {
+        framebuffer: u32,
+    },
     /// A buffer for scan-out, of a width and height in pixels and of bits a pixel (drm-uapi, dumb buffers).
-    CreateDumb { width: u32, height: u32, bpp: u32 },
+    CreateDumb {
+        width: u32,
+        height: u32,
+        bpp: u32,
+    },
     /// Give the handle of a dumb buffer back, which any handle is (drm-uapi, dumb buffers).
-    DestroyDumb { handle: u32 },
+    DestroyDumb {
+        handle: u32,
+    },
+    /// The planes (drm-uapi, `DRM_IOCTL_MODE_GETPLANERESOURCES`).
+    GetPlaneResources,
+    /// The framebuffer that a plane shows, or 0, and the CRTCs that it can be on (drm-uapi, `DRM_IOCTL_MODE_GETPLANE`).
+    GetPlane {
+        plane: u32,
+    },
+    /// Show a framebuffer on a plane of a CRTC; with 0 for the framebuffer the plane goes dark (drm-uapi,
+    /// `DRM_IOCTL_MODE_SETPLANE`).
+    SetPlane {
+        plane: u32,
+        crtc: u32,
+        framebuffer: u32,
+    },
 }
 
 /// The same call. It takes no memory and never fails.
@@ -88,6 +176,7 @@ impl Call {
         self.buffer_row()
             .or_else(|| self.share_row())
             .or_else(|| self.master_row())
+            .or_else(|| self.mode_row())
             .or_else(|| self.device_row())
     }
 

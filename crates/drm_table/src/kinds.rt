@@ -32,8 +32,19 @@ pub enum CallKind {
     TokenClose,
     ListHandles,
     Audit,
+    GetResources,
+    GetCrtc,
+    SetCrtc,
+    GetEncoder,
+    GetConnector,
+    GetFb,
+    AddFb,
+    RmFb,
     CreateDumb,
     DestroyDumb,
+    GetPlaneResources,
+    GetPlane,
+    SetPlane,
 }
 
 // A line of the table: number, name, word, flags, and what the fields are.
@@ -60,7 +71,7 @@ const RENDER: RowFlags = RowFlags::RENDER_ALLOW;
 const ROOT: RowFlags = RowFlags::ROOT_ONLY;
 
 /// The table: a line for each call, in the order of the kinds (drm-uapi; 0x40 to 0x45 are own, as are the words).
-static ROWS: [Row; 20] = [
+static ROWS: [Row; 31] = [
     row!(0x00 => "VERSION", b"version", RENDER, Numbers(&[])),
     row!(0x02 => "GET_MAGIC", b"get_magic", NONE, Numbers(&[])),
     row!(0x09 => "GEM_CLOSE", b"gem_close", RENDER, Numbers(&[U32])),
@@ -79,8 +90,19 @@ static ROWS: [Row; 20] = [
     row!(0x43 => "TOKEN_CLOSE", b"token_close", RENDER, Numbers(&[U32])),
     row!(0x44 => "LIST_HANDLES", b"list_handles", RENDER, Numbers(&[U32])),
     row!(0x45 => "AUDIT", b"audit", ROOT, Numbers(&[U32, U32])),
+    row!(0xA0 => "MODE_GETRESOURCES", b"getresources", NONE, Numbers(&[])),
+    row!(0xA1 => "MODE_GETCRTC", b"getcrtc", NONE, Numbers(&[U32])),
+    row!(0xA2 => "MODE_SETCRTC", b"setcrtc", MASTER, Numbers(&[U32, U32, U32])),
+    row!(0xA6 => "MODE_GETENCODER", b"getencoder", NONE, Numbers(&[U32])),
+    row!(0xA7 => "MODE_GETCONNECTOR", b"getconnector", NONE, Numbers(&[U32])),
+    row!(0xAD => "MODE_GETFB", b"getfb", NONE, Numbers(&[U32])),
+    row!(0xAE => "MODE_ADDFB", b"addfb", NONE, Numbers(&[U32, U32, U32, U32, U32])),
+    row!(0xAF => "MODE_RMFB", b"rmfb", NONE, Numbers(&[U32])),
     row!(0xB2 => "MODE_CREATE_DUMB", b"create_dumb", NONE, Numbers(&[U32, U32, U32])),
     row!(0xB4 => "MODE_DESTROY_DUMB", b"destroy_dumb", NONE, Numbers(&[U32])),
+    row!(0xB5 => "MODE_GETPLANERESOURCES", b"getplaneresources", NONE, Numbers(&[])),
+    row!(0xB6 => "MODE_GETPLANE", b"getplane", NONE, Numbers(&[U32])),
+    row!(0xB7 => "MODE_SETPLANE", b"setplane", MASTER, Numbers(&[U32, U32, U32])),
 ];
 
 /// The rows in the order of the kinds.
@@ -94,7 +116,7 @@ fn rows() -> &'static [Row]
 
 impl CallKind {
     /// All rows, rising by number.
-    pub const ALL: [CallKind; 20] = [
+    pub const ALL: [CallKind; 31] = [
         CallKind::Version,
         CallKind::GetMagic,
         CallKind::GemClose,
@@ -113,8 +135,19 @@ impl CallKind {
         CallKind::TokenClose,
         CallKind::ListHandles,
         CallKind::Audit,
+        CallKind::GetResources,
+        CallKind::GetCrtc,
+        CallKind::SetCrtc,
+        CallKind::GetEncoder,
+        CallKind::GetConnector,
+        CallKind::GetFb,
+        CallKind::AddFb,
+        CallKind::RmFb,
         CallKind::CreateDumb,
         CallKind::DestroyDumb,
+        CallKind::GetPlaneResources,
+        CallKind::GetPlane,
+        CallKind::SetPlane,
     ];
 
     /// The row.
@@ -181,6 +214,7 @@ impl CallKind {
         self.buffer_call(fields)
             .or_else(|| self.share_call(fields))
             .or_else(|| self.master_call(fields))
+            .or_else(|| self.mode_call(fields))
             .or_else(|| self.device_call(fields))
     }
 }

@@ -18,6 +18,7 @@ mod limits;
 mod lists;
 mod lookup;
 mod master_calls;
+mod mode_calls;
 mod permits;
 mod refusal_rows;
 mod rows;

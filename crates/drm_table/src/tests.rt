@@ -137,8 +137,19 @@ fn rows_of_the_table(rt: HostRuntime) -> Result<(), Fail> {
         (0x43, "TOKEN_CLOSE", RowFlags::RENDER_ALLOW),
         (0x44, "LIST_HANDLES", RowFlags::RENDER_ALLOW),
         (0x45, "AUDIT", RowFlags::ROOT_ONLY),
+        (0xA0, "MODE_GETRESOURCES", RowFlags::empty()),
+        (0xA1, "MODE_GETCRTC", RowFlags::empty()),
+        (0xA2, "MODE_SETCRTC", RowFlags::MASTER),
+        (0xA6, "MODE_GETENCODER", RowFlags::empty()),
+        (0xA7, "MODE_GETCONNECTOR", RowFlags::empty()),
+        (0xAD, "MODE_GETFB", RowFlags::empty()),
+        (0xAE, "MODE_ADDFB", RowFlags::empty()),
+        (0xAF, "MODE_RMFB", RowFlags::empty()),
         (0xB2, "MODE_CREATE_DUMB", RowFlags::empty()),
         (0xB4, "MODE_DESTROY_DUMB", RowFlags::empty()),
+        (0xB5, "MODE_GETPLANERESOURCES", RowFlags::empty()),
+        (0xB6, "MODE_GETPLANE", RowFlags::empty()),
+        (0xB7, "MODE_SETPLANE", RowFlags::MASTER),
     ];
     for (number, name, flags) in rows {
         let row = row(number).ok_or("a number has no row")?;
@@ -177,6 +188,40 @@ fn numbers_and_flags_of_calls(rt: HostRuntime) {
         (Call::StampRead { handle: 1 }, 0x42),
         (Call::ListHandles { from: 0 }, 0x44),
         (Call::DestroyDumb { handle: 1 }, 0xB4),
+        (Call::GetResources, 0xA0),
+        (Call::GetCrtc { crtc: 1 }, 0xA1),
+        (
+            Call::SetCrtc {
+                crtc: 1,
+                framebuffer: 1,
+                connector: 1,
+            },
+            0xA2,
+        ),
+        (Call::GetEncoder { encoder: 1 }, 0xA6),
+        (Call::GetConnector { connector: 1 }, 0xA7),
+        (Call::GetFb { framebuffer: 1 }, 0xAD),
+        (
+            Call::AddFb {
+                width: 1,
+                height: 1,
+                pitch: 1,
+                bpp: 1,
+                handle: 1,
+            },
+            0xAE,
+        ),
+        (Call::RmFb { framebuffer: 1 }, 0xAF),
+        (Call::GetPlaneResources, 0xB5),
+        (Call::GetPlane { plane: 1 }, 0xB6),
+        (
+            Call::SetPlane {
+                plane: 1,
+                crtc: 1,
+                framebuffer: 1,
+            },
+            0xB7,
+        ),
         (Call::Unknown(7), 7),
         (Call::BadLayout(9), 9),
     ];

@@ -4,6 +4,7 @@ ghost use Rattle.std.specs.Prelude.{◌≡◌, ◌≢◌, ◌+◌, true, Err, Is
 ghost use Rattle.drm_table.specs.declared.apart.Apart.TheVariants.{Worn};
 ghost use Rattle.std.specs.Sync.Mutex.{mutex_guard_value};
 ghost use Rattle.drm_table.specs.Limits.{are_in_range};
+ghost use Rattle.drm_table.specs.Results.{IsFew};
 ghost use Rattle.drm_model.specs.Run.{FoundRoom, start_of};
 ghost use Rattle.drm_turns.specs.Seats.{capped, fresh};
 ghost use Rattle.drm_turns.specs.Turns.{Steps, Turn};
@@ -41,6 +42,7 @@ fn step_locked(device: &mut MutexGuard<'_, Device>, event: Event) -> Result<Answ
     ensures steps { Steps (mutex_guard_value device.old) event result (mutex_guard_value device.new) }
     ensures in_range { are_in_range (mutex_guard_value device.new).limits ≡ true }
     ensures found_room { FoundRoom (start_of (mutex_guard_value device.new)) (mutex_guard_value device.new).journal }
+    ensures few { IsFew result }
 {
     device.step(event)
 }
@@ -74,10 +76,11 @@ impl SharedDevice {
     /// Answers one event, once no other call has the device. It may wait.
     ///
     /// The device that is locked answers from its rows, those of its journal, and notes what it answers; its limits are
-    /// in their ranges, and each event of its journal found room. What stands apart, a full journal (own) and want of
+    /// in their ranges, and each event of its journal found room. What is answered fits one frame. What stands apart, a full journal (own) and want of
     /// memory, leaves the device as it was. A worn turn is no answer today.
     pub fn call<R: Wait>(&self, rt: &R, seat: &mut Seat, event: Event) -> Result<Answer, Apart>
         ensures turn { Turn event result }
+        ensures few { IsFew result }
         ensures not_worn { result ≢ Err Worn }
         ensures seat { seat.new ≡ seat.old }
     {

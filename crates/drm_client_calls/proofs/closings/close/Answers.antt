@@ -1,8 +1,10 @@
-use Rattle.std.proofs.Common.{sym, ◌≡◌, true, not, refl, ap, ◌∙◌, subst}
+use Rattle.std.proofs.Common.{sym, ◌≡◌, ℕ, Bool, true, false, not, ◌||◌, List, ◌++◌, filter, refl, ap, ◌∙◌, subst}
 use Rattle.std.specs.Option.{is_some}
 use Rattle.drm_table.specs.declared.answers.Answer.TheVariants.{Closed}
 use Rattle.drm_table.specs.declared.events.Event.TheVariants.{Close}
 use Rattle.drm_table.specs.declared.rules.Rule.TheVariants.{NoClient}
+use Rattle.drm_lists.specs.Numbers.{is_among}
+use Rattle.drm_lists.proofs.Numbers.{among-append, among-left, among-right}
 use Rattle.drm_files.specs.Files.{FileLists, of_client, without_client}
 use Rattle.drm_share.specs.Tokens.{TokenList}
 use Rattle.drm_model.specs.Rows.{is_open}
@@ -12,9 +14,13 @@ use Rattle.drm_model.specs.Reply.{answer_of}
 use Rattle.drm_model.proofs.Closings.{closing_verdict}
 use Rattle.drm_state.specs.declared.state.State.{State}
 use Rattle.drm_masters.specs.Masters.{MasterSet, AreMasters}
-use Rattle.drm_state.specs.Parts.{keys_of, token_keys, without_tokens_of, without_its_master}
+use Rattle.drm_modes.specs.declared.rows.Framebuffer.{Framebuffer}
+use Rattle.drm_modes.specs.Modes.{is_made_by}
+use Rattle.drm_state.specs.Parts.{keys_of, token_keys, framebuffer_keys, referring, without_tokens_of, without_its_master}
 use Rattle.drm_state.specs.Ties.{IsTied, Leaves}
 use Rattle.drm_state.specs.Refinement.{OwesAnswer, Represents}
+use Rattle.drm_state.proofs.Counting.{named_trans}
+use Rattle.drm_state.proofs.Frames.{some_framed}
 use Rattle.drm_state.proofs.Leaving.{names_stay, leaves_trans}
 use Rattle.drm_state.proofs.Represented.{objects_counted, names_held, masters_so, none_kept}
 use Rattle.drm_state.proofs.Lookups.{client_row_is, no_client}
@@ -29,35 +35,64 @@ returns-in_default-clause-owes c = λ w h.
     denied c.args.state.now w (Close c.args.client) NoClient (closing_verdict w c.args.client ∙ rw absent refl) h
 
 pub close_tokens-requires : goal.close_tokens-requires
-close_tokens-requires c = (keys_of c.args.state.now.files.holds, objects_counted c.args.state.now c.requires)
+close_tokens-requires c = (keys_of c.args.state.now.files.holds, framebuffer_keys c.args.state.now.modes.framebuffers, objects_counted c.args.state.now c.requires)
+
+pub close_framebuffers-requires : goal.close_framebuffers-requires
+close_framebuffers-requires c =
+    let s = c.args.state.now in
+    (keys_of s.files.holds, token_keys c.close_tokens.new.tokens.tokens, c.close_tokens.ensures.tied (keys_of s.files.holds) (framebuffer_keys s.modes.framebuffers) (objects_counted s c.requires))
 
 pub release_all-requires-clause-tied : goal.release_all-requires-clause-tied
-release_all-requires-clause-tied c = (token_keys c.close_tokens.new.tokens.tokens, c.close_tokens.ensures.tied (keys_of c.args.state.now.files.holds) (objects_counted c.args.state.now c.requires))
+release_all-requires-clause-tied c =
+    let s = c.args.state.now in
+    let keys = keys_of s.files.holds in
+    let tokens = c.close_tokens.new.tokens.tokens in
+    (referring tokens c.close_framebuffers.new.modes.framebuffers, c.close_framebuffers.ensures.tied keys (token_keys tokens) (c.close_tokens.ensures.tied keys (framebuffer_keys s.modes.framebuffers) (objects_counted s c.requires)))
 
 pub release_all-requires-clause-named : goal.release_all-requires-clause-named
 release_all-requires-clause-named c = names_held c.args.state.now c.requires
 
--- what is left by the tokens and the handles that go
-leaves : (c : goal.After-release_all) → Leaves c.args.state.now.names c.args.state.now.objects (keys_without c.args.state.now c.args.client) (references_without c.args.state.now c.args.client) c.release_all.new.names c.release_all.new.objects
+more_among : (keys fewer numbers : List ℕ) (n : ℕ) → (is_among fewer n ≡ true → is_among numbers n ≡ true) → is_among (keys ++ fewer) n ≡ true → is_among (keys ++ numbers) n ≡ true
+more_among keys fewer numbers n f h =
+    elim (is_among keys n) as (λ b. is_among keys n ≡ b → (b || is_among fewer n) ≡ true → is_among (keys ++ numbers) n ≡ true)
+    [ true ↦ λ is e. among-left keys numbers n is | false ↦ λ is e. among-right keys numbers n (f e) ] refl (sym (among-append keys fewer n) ∙ h)
+
+-- fewer framebuffers name fewer keys
+fewer_framed : (keys tokens : List ℕ) (p : Framebuffer → Bool) (fs now : List Framebuffer) → now ≡ filter p fs → (n : ℕ) → is_among (keys ++ (tokens ++ framebuffer_keys now)) n ≡ true → is_among (keys ++ (tokens ++ framebuffer_keys fs)) n ≡ true
+fewer_framed keys tokens p fs now is n e =
+    let fewer = framebuffer_keys (filter p fs) in
+    let all = framebuffer_keys fs in
+    let told : is_among (keys ++ (tokens ++ fewer)) n ≡ true = subst (λ l. is_among (keys ++ (tokens ++ framebuffer_keys l)) n ≡ true) is e in
+    more_among keys (tokens ++ fewer) (tokens ++ all) n (λ j. more_among tokens fewer all n (λ k. some_framed p fs n k) j) told
+
+-- what is left by the tokens, the framebuffers and the handles that go
+leaves : (c : goal.After-release_all) → Leaves c.args.state.now.names c.args.state.now.objects (keys_without c.args.state.now c.args.client) (references_without c.args.state.now c.args.client c.close_framebuffers.new.modes) c.release_all.new.names c.release_all.new.objects
 leaves c =
     let s = c.args.state.now in
     let client = c.args.client in
     let keys = keys_of s.files.holds in
-    let refs = token_keys c.close_tokens.new.tokens.tokens in
-    let middle = c.close_tokens.new.objects in
-    let tied = c.close_tokens.ensures.tied keys (objects_counted s c.requires) in
-    let closed : Leaves s.names s.objects keys refs s.names middle = record { tied = tied; those = c.close_tokens.ensures.those keys (objects_counted s c.requires); limit = c.close_tokens.ensures.limit; names = names_stay s.names keys (names_held s c.requires) } in
+    let tokens = c.close_tokens.new.tokens.tokens in
+    let frames = framebuffer_keys s.modes.framebuffers in
+    let now_frames = c.close_framebuffers.new.modes.framebuffers in
+    let refs = referring tokens now_frames in
+    let middle = c.close_framebuffers.new.objects in
+    let without_tokens = c.close_tokens.ensures.tied keys frames (objects_counted s c.requires) in
+    let tied = c.close_framebuffers.ensures.tied keys (token_keys tokens) without_tokens in
+    let those = named_trans s.objects.objects c.close_tokens.new.objects.objects middle.objects (keys ++ (token_keys tokens ++ frames)) (keys ++ refs)
+    (λ n e. fewer_framed keys (token_keys tokens) (λ (x : Framebuffer). not (is_made_by client x)) s.modes.framebuffers now_frames c.close_framebuffers.ensures.loses.framebuffers n e)
+    (c.close_tokens.ensures.those keys frames (objects_counted s c.requires)) (c.close_framebuffers.ensures.those keys (token_keys tokens) without_tokens) in
+    let closed : Leaves s.names s.objects keys refs s.names middle = record { tied = tied; those = those; limit = c.close_framebuffers.ensures.limit ∙ c.close_tokens.ensures.limit; names = names_stay s.names keys (names_held s c.requires) } in
     let released : Leaves s.names middle (keys_without s client) refs c.release_all.new.names c.release_all.new.objects =
     subst (λ (fs : FileLists). Leaves s.names middle (keys_of fs.holds) refs c.release_all.new.names c.release_all.new.objects) c.release_all.ensures.files (c.release_all.ensures.leaves refs tied) in
-    subst (λ (ts : TokenList). Leaves s.names s.objects (keys_without s client) (token_keys ts.tokens) c.release_all.new.names c.release_all.new.objects) c.close_tokens.ensures.tokens
+    subst (λ (ts : TokenList). Leaves s.names s.objects (keys_without s client) (referring ts.tokens now_frames) c.release_all.new.names c.release_all.new.objects) c.close_tokens.ensures.tokens
     (leaves_trans s.names s.names c.release_all.new.names s.objects middle c.release_all.new.objects keys (keys_without s client) refs (λ n e. some_pass (λ x. not (of_client client x)) s.files.holds n e) closed released)
 
 -- the state without the client
 abbrev now : goal.After-release_all → FileLists → TokenList → MasterSet → State
-now c files tokens set = record c.args.state.now { files = files; tokens = tokens; names = c.release_all.new.names; masters = set; objects = c.release_all.new.objects }
+now c files tokens set = record c.args.state.now { files = files; tokens = tokens; modes = c.close_framebuffers.new.modes; names = c.release_all.new.names; masters = set; objects = c.release_all.new.objects }
 
 -- the state, told by what its client had
-told : (P : State → Type 0) (c : goal.After-release_all) → P (without_its c.args.state.now c.args.client c.release_all.new.names c.release_all.new.objects) → P (now c c.release_all.new.files c.close_tokens.new.tokens c.close_master.new.masters)
+told : (P : State → Type 0) (c : goal.After-release_all) → P (without_its c.args.state.now c.args.client c.close_framebuffers.new.modes c.release_all.new.names c.release_all.new.objects) → P (now c c.release_all.new.files c.close_tokens.new.tokens c.close_master.new.masters)
 told P c h =
     subst (λ fs. P (now c fs c.close_tokens.new.tokens c.close_master.new.masters)) (sym c.release_all.ensures.files)
     (subst (λ ts. P (now c (without_client c.args.state.now.files c.args.client) ts c.close_master.new.masters)) (sym c.close_tokens.ensures.tokens)
@@ -66,8 +101,8 @@ told P c h =
 are : (c : goal.After-release_all) → AreMasters (without_its_master c.args.client c.args.state.now.masters)
 are c = subst AreMasters c.close_master.ensures c.laws.ensures
 
-gone_tied : (c : goal.After-release_all) → IsTied (without_its c.args.state.now c.args.client c.release_all.new.names c.release_all.new.objects)
-gone_tied c = client_gone_tied c.args.state.now c.args.client c.release_all.new.names c.release_all.new.objects c.requires (are c) (leaves c)
+gone_tied : (c : goal.After-release_all) → IsTied (without_its c.args.state.now c.args.client c.close_framebuffers.new.modes c.release_all.new.names c.release_all.new.objects)
+gone_tied c = client_gone_tied c.args.state.now c.args.client c.close_framebuffers.new.modes c.release_all.new.names c.release_all.new.objects c.requires (are c) c.laws-2.ensures (leaves c)
 
 pub close_master-requires-clause-are : goal.close_master-requires-clause-are
 close_master-requires-clause-are c = masters_so c.args.state.now c.requires
@@ -86,4 +121,4 @@ returns-clause-owes c = λ w h.
     let present : is_open w c.args.client ≡ true = ap is_some is in
     carried (now c c.release_all.new.files c.close_tokens.new.tokens c.close_master.new.masters) w (Close c.args.client) Closed (closing_verdict w c.args.client ∙ rw present refl) refl
     (told (λ t. Represents t (swept (closed w c.args.client))) c
-    (client_gone s w c.args.client c.in-Some._flags c.release_all.new.names c.release_all.new.objects c.requires (are c) is (leaves c) h))
+    (client_gone s w c.args.client c.in-Some._flags c.close_framebuffers.new.modes c.release_all.new.names c.release_all.new.objects c.requires (are c) c.laws-2.ensures c.close_framebuffers.ensures.loses is (leaves c) h))

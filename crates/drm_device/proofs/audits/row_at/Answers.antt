@@ -1,4 +1,4 @@
-use Rattle.std.proofs.Common.{◌≡◌, ℕ, [], ◌∷◌, None, Some, Option, List, refl, sym, ◌∙◌, ap, ◌⊎◌, inl, inr}
+use Rattle.std.proofs.Common.{◌≡◌, ℕ, [], ◌∷◌, None, Some, Option, List, refl, sym, ◌∙◌, ap}
 use Rattle.std.specs.Prelude.{slice_get}
 use Rattle.drm_lists.specs.Orders.{sorted_by}
 use Rattle.drm_table.specs.declared.audits.AuditKind.{AuditKind}
@@ -12,8 +12,8 @@ use Rattle.std.specs.Option.{option_and_then}
 use Rattle.drm_state.proofs.Magics.{magic_is}
 use Rattle.drm_state.specs.Refinement.{Represents}
 use Rattle.drm_device.specs.Audits.{IsRowAt}
-use Rattle.drm_state.proofs.Represented.{grants_none, framebuffers_none, shown_none}
-use Rattle.drm_device.proofs.AuditRows.{object_row_at, client_rows, master_rows, hold_rows, name_rows, token_rows, device_rows, row_of_item}
+use Rattle.drm_state.proofs.Represented.{grants_none}
+use Rattle.drm_device.proofs.AuditRows.{object_row_at, client_rows, master_rows, hold_rows, name_rows, token_rows, framebuffer_rows, shown_audits, device_rows, row_of_item}
 use Rattle.drm_device.proofs.audits.row_at.Goals as goal
 
 -- what the look-up found, of the list itself
@@ -65,13 +65,19 @@ unfolding IsRowAt
 returns-in-Device c = rw c.in-Device.is (λ w h. c.item_at.ensures ∙ ap (λ row. slice_get (row ∷ []) c.args.place) (c.device_row.ensures ∙ (λ i. audit_row (or_zero (c.device_master.ensures i)) (or_zero (c.last_given-last_token.ensures.last_given i)) 0 c.args.steps))
     ∙ sym (ap (λ rows. slice_get rows c.args.place) (device_rows c.args.state.now c.args.steps w h)))
 
--- the kinds whose rows no call makes yet
-without_rows : (s : State) (w : Rows) → Represents s w → (kind : AuditKind) → (kind ≡ kinds.Grant) ⊎ (kind ≡ kinds.Framebuffer) ⊎ (kind ≡ kinds.Shown) → rising_rows (audit_rows w kind) ≡ []
+pub returns-in-Framebuffer : goal.returns-in-Framebuffer
+unfolding IsRowAt
+returns-in-Framebuffer c = rw c.in-Framebuffer.is (λ w h. c.framebuffer_at.ensures ∙ ap (λ rows. slice_get rows c.args.place) (sym (framebuffer_rows c.args.state.now c.args.steps w c.requires h)))
+
+pub returns-in-Shown : goal.returns-in-Shown
+unfolding IsRowAt
+returns-in-Shown c = rw c.in-Shown.is (λ w h. c.shown_at.ensures ∙ ap (λ rows. slice_get rows c.args.place) (sym (shown_audits c.args.state.now c.args.steps w h)))
+
+-- no call makes grants yet
+without_grants : (s : State) (w : Rows) → Represents s w → rising_rows (audit_rows w kinds.Grant) ≡ []
 unfolding audit_rows sorted_by
-without_rows s w h kind (inl e) = rw (e, grants_none s w h) refl
-without_rows s w h kind (inr (inl e)) = rw (e, framebuffers_none s w h) refl
-without_rows s w h kind (inr (inr e)) = rw (e, shown_none s w h) refl
+without_grants s w h = rw (grants_none s w h) refl
 
 pub returns-in-Grant : goal.returns-in-Grant
 unfolding IsRowAt
-returns-in-Grant c = λ w h. sym (ap (λ rows. slice_get rows c.args.place) (without_rows c.args.state.now w h.rows c.args.kind c.in-Grant.is))
+returns-in-Grant c = rw c.in-Grant.is (λ w h. sym (ap (λ rows. slice_get rows c.args.place) (without_grants c.args.state.now w h.rows)))

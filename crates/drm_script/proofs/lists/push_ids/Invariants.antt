@@ -6,5 +6,5 @@ use Rattle.drm_script.proofs.lists.push_ids.Given as goal
 abbrev pub invariant-loop-id : goal.invariant-loop-id
 invariant-loop-id l = record {
   bytes : l.text.bytes ++ flat_map id_behind (drop l.id-index l.ids) ≡ l.fn.text.bytes ++ flat_map id_behind l.ids;
-  len : length l.text.bytes ≤ length l.fn.text.bytes + 21 * l.id-index;
+  len : length l.text.bytes ≤ length l.fn.text.bytes + 11 * l.id-index;
 }

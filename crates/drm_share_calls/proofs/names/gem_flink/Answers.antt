@@ -20,7 +20,7 @@ use Rattle.drm_state.specs.Refinement.{OwesCall, Represents}
 use Rattle.drm_state.proofs.Outcomes.{denied, carried, carried_on, refused, call_verdict}
 use Rattle.drm_state.proofs.Contents.{holds_it}
 use Rattle.drm_state.proofs.SharedLookups.{free_name_found}
-use Rattle.drm_share_calls.proofs.Held.{among, has_it, object_is, name_is, some_free}
+use Rattle.drm_state.proofs.Held.{among, has_it, object_is, name_is, some_free}
 use Rattle.drm_state.proofs.SharedChanges.{flinked, flinked_tied}
 use Rattle.drm_share_calls.proofs.names.gem_flink.Goals as goal
 

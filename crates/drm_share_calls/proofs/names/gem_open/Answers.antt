@@ -12,7 +12,7 @@ use Rattle.drm_state.proofs.Represented.{objects_counted}
 use Rattle.drm_state.proofs.Outcomes.{denied, carried, refused, call_verdict}
 use Rattle.drm_state.proofs.Contents.{size_found}
 use Rattle.drm_state.proofs.SharedLookups.{name_there, no_name, name_known}
-use Rattle.drm_share_calls.proofs.Added.{added_none, added_some, longer}
+use Rattle.drm_state.proofs.Added.{added_none, added_some, longer}
 use Rattle.drm_share_calls.proofs.names.gem_open.Goals as goal
 
 pub returns-in_default-clause-owes : goal.returns-in_default-clause-owes

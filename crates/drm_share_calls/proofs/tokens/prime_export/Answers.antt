@@ -22,7 +22,7 @@ use Rattle.drm_state.proofs.Outcomes.{denied, carried, refused, call_verdict}
 use Rattle.drm_state.proofs.Contents.{holds_it}
 use Rattle.drm_state.proofs.SharedLookups.{next_token_found}
 use Rattle.drm_state.proofs.SharedChanges.{exported, exported_tied, can_refer}
-use Rattle.drm_share_calls.proofs.Held.{among, has_it, object_is, some_free}
+use Rattle.drm_state.proofs.Held.{among, has_it, object_is, some_free}
 use Rattle.drm_share_calls.proofs.tokens.prime_export.Goals as goal
 
 -- a new token makes the list of tokens longer
@@ -61,7 +61,7 @@ pub refer-requires : goal.refer-requires
 refer-requires c =
     let s = c.args.state.now in
     let found = sym c.in-Some.is ∙ c.object_of.ensures.object in
-    can_refer s c.in-Some.object c.args.birth c.requires.ready.tied (among-left (keys_of s.files.holds) (referring_keys s) c.in-Some.object (among s c.args.client c.args.handle c.in-Some.object c.requires.ready.tied found)) c.requires.ready.later.tokens c.requires.ready.fits
+    can_refer s c.in-Some.object c.args.birth c.requires.ready.tied (among-left (keys_of s.files.holds) (referring_keys s) c.in-Some.object (among s c.args.client c.args.handle c.in-Some.object c.requires.ready.tied found)) c.requires.ready.later.tokens c.requires.ready.later.framebuffers c.requires.ready.fits
 
 pub returns-clause-tied : goal.returns-clause-tied
 returns-clause-tied c =

@@ -13,7 +13,7 @@ use Rattle.drm_state.proofs.Represented.{objects_counted}
 use Rattle.drm_state.proofs.Outcomes.{denied, carried, carried_on, refused, call_verdict}
 use Rattle.drm_state.proofs.Contents.{size_found}
 use Rattle.drm_state.proofs.SharedLookups.{token_there, no_token, token_known, prime_found}
-use Rattle.drm_share_calls.proofs.Added.{added_none, added_some, longer}
+use Rattle.drm_state.proofs.Added.{added_none, added_some, longer}
 use Rattle.drm_share_calls.proofs.tokens.prime_import.Goals as goal
 
 pub returns-in_default-clause-owes : goal.returns-in_default-clause-owes

@@ -14,7 +14,7 @@ use Rattle.drm_model.specs.Calls.{meaning}
 use Rattle.drm_model.specs.Change.{changed, swept}
 use Rattle.drm_model.specs.Reply.{answer_of}
 use Rattle.drm_state.specs.declared.state.State.{State}
-use Rattle.drm_state.specs.Parts.{keys_of, token_keys}
+use Rattle.drm_state.specs.Parts.{keys_of, referring}
 use Rattle.drm_state.specs.Ties.{IsTied}
 use Rattle.drm_state.specs.Refinement.{OwesReply, Represents}
 use Rattle.drm_state.proofs.Counting.{IsStep}
@@ -39,13 +39,13 @@ returns-in_default-clause-owes c = λ w h a.
 pub unrefer-dead-requires : goal.unrefer-dead-requires
 unrefer-dead-requires c =
     let s = c.args.state.now in
-    has_reference s.objects c.in-Some.object (keys_of s.files.holds) (token_keys (without_token s.tokens c.args.token).tokens)
+    has_reference s.objects c.in-Some.object (keys_of s.files.holds) (referring (without_token s.tokens c.args.token).tokens s.modes.framebuffers)
     (token_tied s c.args.client c.args.token c.in-Some.object c.requires.tied c.close.ensures.tokens (sym c.in-Some.is ∙ c.close.ensures.object))
 
-step : (c : goal.After-unrefer-dead) → IsStep c.args.state.now.objects.objects (keys_of c.args.state.now.files.holds) (token_keys (without_token c.args.state.now.tokens c.args.token).tokens) c.unrefer-dead.new.self
+step : (c : goal.After-unrefer-dead) → IsStep c.args.state.now.objects.objects (keys_of c.args.state.now.files.holds) (referring (without_token c.args.state.now.tokens c.args.token).tokens c.args.state.now.modes.framebuffers) c.unrefer-dead.new.self
 step c =
     let s = c.args.state.now in
-    unreferred_step s.objects c.unrefer-dead.new.self c.in-Some.object (keys_of s.files.holds) (token_keys (without_token s.tokens c.args.token).tokens) c.unrefer-dead.result
+    unreferred_step s.objects c.unrefer-dead.new.self c.in-Some.object (keys_of s.files.holds) (referring (without_token s.tokens c.args.token).tokens s.modes.framebuffers) c.unrefer-dead.result
     (token_tied s c.args.client c.args.token c.in-Some.object c.requires.tied c.close.ensures.tokens (sym c.in-Some.is ∙ c.close.ensures.object)) c.unrefer-dead.ensures.dead c.unrefer-dead.ensures.gone c.unrefer-dead.ensures.stays
 
 pub returns-clause-tied : goal.returns-clause-tied

@@ -1,9 +1,11 @@
-use Rattle.std.proofs.Common.{refl, sym, ap, ◌∙◌}
+use Rattle.std.proofs.Common.{refl, sym, ap, ◌∙◌, subst, Ok}
 use Rattle.std.proofs.lemmas.Bool.{not-false, not-true}
-use Rattle.drm_model.specs.Run.{Step, rows_of}
+use Rattle.drm_table.specs.declared.answers.Answer.{Answer}
+use Rattle.drm_table.specs.Results.{IsFew}
+use Rattle.drm_model.specs.Run.{Step, rows_of, noted_in}
 use Rattle.drm_device.specs.Device.{history_of}
 use Rattle.drm_state.specs.Refinement.{Owes}
-use Rattle.drm_device.proofs.Devices.{stands, ready, has_place, next_rows, next_device, same_device, within_after}
+use Rattle.drm_device.proofs.Devices.{stands, ready, has_place, next_history, next_rows, same_history, topology_same, topology_after, few_answer, next_device, same_device, within_after}
 use Rattle.drm_device.proofs.device.Device.step.Goals as goal
 
 pub returns-then-not-has_room-clause-step : goal.returns-then-not-has_room-clause-step
@@ -37,14 +39,36 @@ unfolding Step Owes
 returns-in-Ok-clause-step c =
     let room = not-true _ (sym c.has_room.ensures ∙ c.if-not-has_room.false) in
     let out = c.in-Ok.ensures.owes (rows_of (history_of c.self.inside)) (stands c.self.inside c.len.result c.self.invariant c.len.ensures) in
-    (room, rw (← ap rows_of c.self.view_is) out.0, rw (← ap rows_of c.self.view_is) (next_rows c.self.inside c.args.event c.push_reserved.new.self c.advance.new.state c.push_reserved.ensures.items))
+    (room, rw (← ap rows_of c.self.view_is) out.0, rw (← ap rows_of c.self.view_is) (next_rows c.self.inside c.args.event c.push_reserved.new.self c.advance.new.state c.push_reserved.ensures.items (topology_after c.self.inside c.args.event c.advance.new.state out.1)))
 
 pub returns-in-Err-clause-step : goal.returns-in-Err-clause-step
 unfolding Step Owes
 returns-in-Err-clause-step c =
     let room = not-true _ (sym c.has_room.ensures ∙ c.if-not-has_room.false) in
     let out = c.in-Err.ensures.owes (rows_of (history_of c.self.inside)) (stands c.self.inside c.len.result c.self.invariant c.len.ensures) in
-    (room, rw (← ap rows_of c.self.view_is) out.0, ap rows_of c.self.view_is)
+    let fixed = topology_same c.self.inside c.advance.new.state (rows_of (history_of c.self.inside)) out.1 refl in
+    (room, rw (← ap rows_of c.self.view_is) out.0, ap rows_of (same_history c.self.inside c.advance.new.state fixed ∙ c.self.view_is))
+
+pub returns-in-Ok-clause-few : goal.returns-in-Ok-clause-few
+unfolding Owes
+returns-in-Ok-clause-few c =
+    let out = c.in-Ok.ensures.owes (rows_of (history_of c.self.inside)) (stands c.self.inside c.len.result c.self.invariant c.len.ensures) in
+    subst (λ (a : Answer). IsFew (Ok a)) (sym out.0) (few_answer c.self.inside c.args.event c.self.invariant)
+
+pub returns-in-Ok-clause-ok : goal.returns-in-Ok-clause-ok
+unfolding Owes
+returns-in-Ok-clause-ok c =
+    let out = c.in-Ok.ensures.owes (rows_of (history_of c.self.inside)) (stands c.self.inside c.len.result c.self.invariant c.len.ensures) in
+    next_history c.self.inside c.args.event c.push_reserved.new.self c.advance.new.state c.push_reserved.ensures.items (topology_after c.self.inside c.args.event c.advance.new.state out.1) ∙ ap (λ h. noted_in h c.args.event) c.self.view_is
+
+pub returns-in-Err-clause-err : goal.returns-in-Err-clause-err
+unfolding Owes
+returns-in-Err-clause-err c =
+    let out = c.in-Err.ensures.owes (rows_of (history_of c.self.inside)) (stands c.self.inside c.len.result c.self.invariant c.len.ensures) in
+    same_history c.self.inside c.advance.new.state (topology_same c.self.inside c.advance.new.state (rows_of (history_of c.self.inside)) out.1 refl) ∙ c.self.view_is
+
+pub returns-in-Err-clause-found_room : goal.returns-in-Err-clause-found_room
+returns-in-Err-clause-found_room c = (invariant_of-self-in-Err c).found_room
 
 pub returns-in-Ok-clause-within : goal.returns-in-Ok-clause-within
 returns-in-Ok-clause-within c =

@@ -9,8 +9,8 @@ use Rattle.drm_state.specs.Ties.{IsTied}
 use Rattle.drm_state.specs.Refinement.{AddsHandle, Represents}
 use Rattle.drm_state.proofs.Made.{free_handle_is}
 use Rattle.drm_state.proofs.SharedChanges.{added, added_tied, can_hold}
-use Rattle.drm_share_calls.proofs.Held.{some_free}
-use Rattle.drm_share_calls.proofs.handles.new_handle.Goals as goal
+use Rattle.drm_state.proofs.Held.{some_free}
+use Rattle.drm_state.proofs.handles.new_handle.Goals as goal
 
 pub returns-in-Err-Full-clause-adds : goal.returns-in-Err-Full-clause-adds
 unfolding AddsHandle

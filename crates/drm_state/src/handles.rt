@@ -7,14 +7,14 @@ ghost use Rattle.drm_state.specs.Parts.{keys_of, referring_keys};
 ghost use Rattle.drm_state.specs.Ties.{IsTied, IsReady};
 ghost use Rattle.drm_state.specs.Refinement.{AddsHandle};
 
+use crate::state::State;
 use drm_files::FileFault;
 use drm_gem::ObjectKey;
-use drm_state::State;
 use std::alloc::AllocError;
 
 /// Gives a client a fresh handle of an object, and answers it; none where the client has every handle. Where memory is
 /// refused nothing changes.
-pub(crate) fn new_handle(
+pub fn new_handle(
     state: &mut State,
     birth: u32,
     client: u32,

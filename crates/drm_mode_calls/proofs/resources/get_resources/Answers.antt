@@ -1,0 +1,24 @@
+use Rattle.std.proofs.Common.{sym, ◌∙◌}
+use Rattle.drm_table.specs.declared.answers.Answer.TheVariants.{Resources}
+use Rattle.drm_table.specs.declared.calls.Call.TheVariants.{GetResources}
+use Rattle.drm_table.specs.declared.events.Event.TheVariants.{Ask}
+use Rattle.drm_model.specs.Calls.{meaning}
+use Rattle.drm_model.specs.Change.{changed}
+use Rattle.drm_model.specs.Reply.{answer_of}
+use Rattle.drm_state.specs.Refinement.{OwesReply}
+use Rattle.drm_state.proofs.Outcomes.{carried_on, call_verdict}
+use Rattle.drm_state.proofs.Seeing.{crtcs_visible, connectors_visible, encoders_listed, framebuffers_listed}
+use Rattle.drm_mode_calls.proofs.resources.get_resources.Goals as goal
+
+pub returns : goal.returns
+unfolding OwesReply meaning changed answer_of
+returns c = λ w h a.
+    let s = c.args.state.now in
+    let client = c.args.client in
+    let present = c.requires.present in
+    let crtcs = c.visible.ensures ∙ sym (crtcs_visible s w client present h) in
+    let connectors = c.visible-2.ensures ∙ sym (connectors_visible s w client present h) in
+    let encoders = c.ids.ensures ∙ sym (encoders_listed s w h) in
+    let framebuffers = c.framebuffers_of.ensures ∙ sym (framebuffers_listed s w c.requires.tied h client) in
+    carried_on s w (Ask client GetResources) (Resources c.visible.result c.visible-2.result c.ids.result c.framebuffers_of.result) c.requires.tied (call_verdict w client GetResources a)
+    (λ i. Resources (crtcs i) (connectors i) (encoders i) (framebuffers i)) h

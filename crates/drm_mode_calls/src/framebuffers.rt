@@ -1,0 +1,131 @@
+//! Framebuffers: what they are, and how they come and go.
+
+ghost use Rattle.std.specs.Prelude.{◌≡◌, ◌≤◌, ◌&&◌, true};
+ghost use Rattle.drm_files.specs.Files.{is_present};
+ghost use Rattle.drm_table.specs.declared.answers.Answer.TheVariants.{Framebuffer as FramebufferIs};
+ghost use Rattle.drm_table.specs.declared.calls.Call.TheVariants.{AddFb, GetFb, RmFb};
+ghost use Rattle.drm_model.specs.Buffers as buffers;
+ghost use Rattle.drm_model.specs.Modes as model;
+ghost use Rattle.drm_model.specs.Rows.{Rows};
+ghost use Rattle.drm_state.specs.Ties.{IsTied, IsReady};
+ghost use Rattle.drm_state.specs.Refinement.{OwesCall, OwesReply, Represents};
+
+use drm_modes::{AddFbFault, Shape};
+use drm_state::{State, bytes_per_pixel, is_dumb_shape, new_handle};
+use drm_table::{Answer, Rule};
+use std::alloc::AllocError;
+
+/// MODE_GETFB: the shape of any client's framebuffer (drm-uapi, mode setting). A caller that is current or root gets a fresh
+/// handle of its object, any other 0. Where there is no such framebuffer, the caller has every handle or memory is refused,
+/// nothing changes.
+pub fn get_fb(
+    state: &mut State,
+    birth: u32,
+    client: u32,
+    framebuffer: u32,
+) -> Result<Answer, AllocError>
+    requires ready { IsReady state.old birth }
+    requires present { is_present state.old.files client ≡ true }
+    ensures owes { OwesCall state.old birth client (GetFb framebuffer) result state.new }
+    ensures tied { IsTied state.new }
+{
+    let Some(row) = state.modes.fb(framebuffer) else {
+        return Ok(Answer::Denied(Rule::NoFb));
+    };
+    if !gives_handle(state, client) {
+        return Ok(framebuffer_answer(row.shape, 0));
+    }
+    let Some(handle) = new_handle(state, birth, client, row.object, None)? else {
+        return Ok(Answer::Denied(Rule::Full));
+    };
+    Ok(framebuffer_answer(row.shape, handle))
+}
+
+/// MODE_ADDFB: makes a framebuffer of the caller over the object of its handle, and answers its id, the lowest that is free
+/// (drm-uapi, mode setting; the kernel's IDR gives the lowest). Where the caller has no such handle, the shape does not fit
+/// the object, no id is free or memory is refused, nothing changes.
+pub fn add_fb(
+    state: &mut State,
+    birth: u32,
+    client: u32,
+    shape: Shape,
+    handle: u32,
+) -> Result<Answer, AllocError>
+    requires ready { IsReady state.old birth }
+    requires present { is_present state.old.files client ≡ true }
+    ensures owes { OwesCall state.old birth client (AddFb shape.width shape.height shape.pitch shape.bpp handle) result state.new }
+    ensures tied { IsTied state.new }
+{
+    let Some(object) = state.files.object_of(client, handle) else {
+        return Ok(Answer::Denied(Rule::NoHandle));
+    };
+    if !is_shape_over(shape, state.objects.size(object)) {
+        return Ok(Answer::Denied(Rule::BadSize));
+    }
+    let framebuffer = match state.modes.addfb(client, shape, object) {
+        Ok(framebuffer) => framebuffer,
+        Err(AddFbFault::Full) => return Ok(Answer::Denied(Rule::Full)),
+        Err(AddFbFault::NoMemory) => return Err(AllocError),
+    };
+    state.modes.laws();
+    state.objects.refer(object);
+    Ok(Answer::Number {
+        value: framebuffer as u64,
+    })
+}
+
+/// MODE_RMFB: the caller's framebuffer goes, what shows it goes dark, and its object goes with the last that refers to it
+/// (drm-uapi, mode setting). Where the caller made no such framebuffer, nothing changes. It takes no memory.
+pub fn rm_fb(state: &mut State, client: u32, framebuffer: u32) -> Answer
+    requires tied { IsTied state.old }
+    requires present { is_present state.old.files client ≡ true }
+    ensures owes { OwesReply state.old client (RmFb framebuffer) result state.new }
+    ensures tied { IsTied state.new }
+{
+    let Some(object) = state.modes.rmfb(client, framebuffer) else {
+        return Answer::Denied(Rule::NoFb);
+    };
+    state.modes.laws();
+    let _dead = state.objects.unrefer(object);
+    Answer::Done
+}
+
+/// Whether the client is told of a framebuffer with a handle, as a current one and a root one are (drm-uapi, mode setting).
+fn gives_handle(state: &State, client: u32) -> bool
+    ensures { (w : Rows) → Represents state.now w → result ≡ model.gives_handle w client }
+{
+    match state.files.flags_of(client) {
+        Some(flags) => state.masters.is_current(client) || flags.root,
+        None => false,
+    }
+}
+
+/// What is told of a framebuffer of this shape, with a handle of its object, or 0 for none.
+fn framebuffer_answer(shape: Shape, handle: u32) -> Answer
+    ensures { result ≡ FramebufferIs shape.width shape.height shape.pitch shape.bpp handle }
+{
+    Answer::Framebuffer {
+        width: shape.width,
+        height: shape.height,
+        pitch: shape.pitch,
+        bpp: shape.bpp,
+        handle,
+    }
+}
+
+/// Whether a framebuffer may have this shape over an object of so many bytes.
+fn is_shape_over(shape: Shape, size: u64) -> bool
+    ensures { result ≡ (buffers.is_dumb_shape shape.width shape.height shape.bpp && model.fits_object shape.width shape.height shape.pitch shape.bpp size) }
+{
+    is_dumb_shape(shape.width, shape.height, shape.bpp) && fits_object(shape, size)
+}
+
+/// Whether a line has room for its pixels, and the object for the lines.
+fn fits_object(shape: Shape, size: u64) -> bool
+    requires narrow { shape.width ≤ 65535 }
+    requires shallow { shape.bpp ≤ 64 }
+    ensures { result ≡ model.fits_object shape.width shape.height shape.pitch shape.bpp size }
+{
+    shape.width * bytes_per_pixel(shape.bpp) <= shape.pitch
+        && shape.pitch as u64 * shape.height as u64 <= size
+}

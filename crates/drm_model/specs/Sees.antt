@@ -1,0 +1,49 @@
+-- What a client sees of the fixed mode objects (drm-uapi, leases), and the lists and masks that show it.
+use Rattle.std.specs.Prelude.{ℕ, ◌==◌, Bool, false, not, ◌&&◌, ◌||◌, List, Option, None, Some, map, filter}
+use Rattle.std.specs.List.{list_any}
+use Rattle.std.specs.Option.{is_some}
+use Rattle.drm_modes.specs.Topology.{crtc_ids, plane_ids, connector_ids, is_crtc, is_plane, is_encoder, is_connector, mask_over}
+use Rattle.drm_model.specs.Numbers.{rising}
+use Rattle.drm_model.specs.Rows.{Rows, GrantRow, FramebufferRow}
+use Rattle.drm_model.specs.Masters.{master_of, lessor_of}
+
+-- whether the lease of a master has the mode object
+abbrev pub is_granted : Rows → ℕ → ℕ → Bool
+is_granted w m x = list_any (λ (row : GrantRow). (row.master == m) && (row.mode_object == x)) w.grants
+
+-- a master without a lessor controls all, a lessee what its lease has, and who has no master nothing
+abbrev pub controls : Rows → Option ℕ → ℕ → Bool
+controls w None x = false
+controls w (Some m) x = not (is_some (lessor_of w.masters m)) || is_granted w m x
+
+-- whether the client sees a fixed mode object: all see an encoder, and of the rest each client what its master controls
+unfoldable pub sees : Rows → ℕ → ℕ → Bool
+sees w c x = is_encoder w.topology x || controls w (master_of w c) x
+
+abbrev pub sees_crtc : Rows → ℕ → ℕ → Bool
+sees_crtc w c x = is_crtc w.topology x && sees w c x
+
+abbrev pub sees_plane : Rows → ℕ → ℕ → Bool
+sees_plane w c x = is_plane w.topology x && sees w c x
+
+abbrev pub sees_connector : Rows → ℕ → ℕ → Bool
+sees_connector w c x = is_connector w.topology x && sees w c x
+
+-- lists of what is seen, rising by id (own)
+
+abbrev pub visible_crtcs : Rows → ℕ → List ℕ
+visible_crtcs w c = filter (sees w c) (crtc_ids w.topology)
+
+abbrev pub visible_planes : Rows → ℕ → List ℕ
+visible_planes w c = filter (sees w c) (plane_ids w.topology)
+
+abbrev pub visible_connectors : Rows → ℕ → List ℕ
+visible_connectors w c = filter (sees w c) (connector_ids w.topology)
+
+-- framebuffers need no lease, and only the client's own are listed (rising: own)
+abbrev pub own_framebuffers : Rows → ℕ → List ℕ
+own_framebuffers w c = rising (map (λ (row : FramebufferRow). row.framebuffer) (filter (λ (row : FramebufferRow). row.client == c) w.framebuffers))
+
+-- the possible CRTCs of a plane or an encoder, as a mask over those that the client sees (for planes own)
+abbrev pub visible_mask : Rows → ℕ → ℕ → ℕ
+visible_mask w c x = mask_over w.topology x (visible_crtcs w c)

@@ -1,0 +1,117 @@
+-- What a client sees of the mode objects, by rows and by what the device keeps.
+use Rattle.std.proofs.Common.{◌≡◌, ℕ, ◌==◌, nat_lt, Bool, true, false, not, ◌&&◌, ◌||◌, List, [], ◌∷◌, map, filter, find, length, Option, None, Some, refl, sym, ap, ◌∙◌, arith}
+use Rattle.std.specs.Prelude.{nat_le}
+use Rattle.std.specs.List.{list_any}
+use Rattle.std.specs.Option.{is_some, option_map, option_map_or, option_and_then}
+use Rattle.std.proofs.Math.Bool.{or-false}
+use Rattle.std.proofs.lemmas.Bool.{eqb-true}
+use Rattle.std.proofs.lemmas.Bool.Decides.{nat_tests}
+use Rattle.drm_index_array.specs.Rows as arrays
+use Rattle.drm_lists.specs.Orders.{InOrder}
+use Rattle.drm_lists.proofs.Lists.{all_each, all_weaker, filter-map, map-map}
+use Rattle.drm_lists.proofs.Orders.{RisesTo, in_order_filter, in_order_map, same-filter, same-map, sorted-same, order_of_numbers}
+use Rattle.drm_lists.proofs.Rising.{found}
+use Rattle.drm_files.specs.declared.rows.FileClient.{FileClient}
+use Rattle.drm_files.specs.Files as files
+use Rattle.drm_masters.specs.declared.rows.Member.{Member}
+use Rattle.drm_masters.specs.Masters.{member_of, is_lessee}
+use Rattle.drm_modes.specs.declared.rows.Framebuffer.{Framebuffer}
+use Rattle.drm_modes.specs.declared.kinds.Kind.TheVariants.{Crtc, Plane, Connector}
+use Rattle.drm_modes.specs.Topology.{is_crtc, is_plane, is_connector, is_encoder, crtc_ids, plane_ids, connector_ids, encoder_ids, mask_over}
+use Rattle.drm_modes.specs.Modes as modes
+use Rattle.drm_modes.specs.Modes.{framebuffer_before, is_made_by}
+use Rattle.drm_model.specs.Rows.{Rows, ClientRow, GrantRow, FramebufferRow}
+use Rattle.drm_model.specs.Masters.{master_of, lessor_of}
+use Rattle.drm_model.specs.Sees as model
+use Rattle.drm_state.specs.declared.state.State.{State}
+use Rattle.drm_state.specs.Parts.{client_row_of, framebuffer_row_of, framebuffers_of}
+use Rattle.drm_state.specs.Ties.{IsTied}
+use Rattle.drm_state.specs.Refinement.{Represents}
+use Rattle.drm_state.specs.Seeing.{controls_all, sees, sees_object, visible}
+use Rattle.drm_state.proofs.Represented.{bounds_are, masters_are, grants_none, framebuffers_are, modes_so}
+use Rattle.drm_state.proofs.Lookups.{client_found}
+use Rattle.drm_state.proofs.Living.{lessors_are}
+
+pub topology_is : (s : State) (w : Rows) → Represents s w → w.topology ≡ s.modes.topology
+topology_is s w h = sym (bounds_are s w h).7
+
+-- ---- what a client sees
+
+module _ (s : State) (w : Rows) (c : ℕ) (present : files.is_present s.files c ≡ true) (h : Represents s w) where
+  master_is : master_of w c ≡ option_map (λ (y : Member). y.master) (member_of s.masters.members c)
+  master_is = ap (option_and_then (λ (row : ClientRow). row.master)) (client_found s w h c) ∙ by_file (find (files.is_client c) s.files.clients) refl present
+    where
+      by_file : (o : Option FileClient) → find (files.is_client c) s.files.clients ≡ o → is_some o ≡ true → option_and_then (λ (row : ClientRow). row.master) (option_map (client_row_of s.masters.members) o) ≡ option_map (λ (y : Member). y.master) (member_of s.masters.members c)
+      by_file None e k = absurd (let n : false ≡ true = k in cc)
+      by_file (Some f) e k =
+          let is : f.client ≡ c = eqb-true f.client c (found (files.is_client c) (λ _. Unit {0}) f s.files.clients (all_each (λ _. Unit {0}) (λ _. tt) s.files.clients) e).0 in
+          ap (λ n. option_map (λ (y : Member). y.master) (member_of s.masters.members n)) is
+
+  controls_is : (x : ℕ) → model.controls w (master_of w c) x ≡ controls_all s c
+  controls_is x = ap (λ m. model.controls w m x) master_is ∙ by_member (member_of s.masters.members c)
+    where
+      by_member : (o : Option Member) → model.controls w (option_map (λ (y : Member). y.master) o) x ≡ option_map_or (λ (y : Member). not (is_lessee s.masters.masters y.master)) o false
+      by_member None = refl
+      by_member (Some y) =
+          ap (λ grants. not (is_some (lessor_of w.masters y.master)) || list_any (λ (row : GrantRow). (row.master == y.master) && (row.mode_object == x)) grants) (grants_none s w h)
+          ∙ or-false (not (is_some (lessor_of w.masters y.master)))
+          ∙ ap (λ rows. not (is_some (lessor_of rows y.master))) (masters_are s w h)
+          ∙ ap (λ o. not (is_some o)) (lessors_are s.masters.masters y.master)
+
+  pub seen_is : (x : ℕ) → model.sees w c x ≡ sees s c x
+  unfolding model.sees
+  seen_is x = λ i. is_encoder (topology_is s w h i) x || controls_is x i
+
+  pub crtc_seen : (x : ℕ) → model.sees_crtc w c x ≡ sees_object s c Crtc x
+  crtc_seen x = λ i. is_crtc (topology_is s w h i) x && seen_is x i
+
+  pub plane_seen : (x : ℕ) → model.sees_plane w c x ≡ sees_object s c Plane x
+  plane_seen x = λ i. is_plane (topology_is s w h i) x && seen_is x i
+
+  pub connector_seen : (x : ℕ) → model.sees_connector w c x ≡ sees_object s c Connector x
+  connector_seen x = λ i. is_connector (topology_is s w h i) x && seen_is x i
+
+  pub crtcs_visible : model.visible_crtcs w c ≡ visible s c Crtc
+  crtcs_visible = λ i. filter (λ x. seen_is x i) (crtc_ids (topology_is s w h i))
+
+  pub planes_visible : model.visible_planes w c ≡ visible s c Plane
+  planes_visible = λ i. filter (λ x. seen_is x i) (plane_ids (topology_is s w h i))
+
+  pub connectors_visible : model.visible_connectors w c ≡ visible s c Connector
+  connectors_visible = λ i. filter (λ x. seen_is x i) (connector_ids (topology_is s w h i))
+
+  pub mask_visible : (x : ℕ) → model.visible_mask w c x ≡ mask_over s.modes.topology x (visible s c Crtc)
+  mask_visible x = λ i. mask_over (topology_is s w h i) x (crtcs_visible i)
+
+-- an encoder is seen by all
+pub encoder_seen : (s : State) (w : Rows) (c : ℕ) → Represents s w → (x : ℕ) → is_encoder w.topology x ≡ (is_encoder s.modes.topology x && sees s c x)
+encoder_seen s w c h x = ap (λ t. is_encoder t x) (topology_is s w h) ∙ itself (is_encoder s.modes.topology x)
+  where
+    itself : (b : Bool) → b ≡ (b && (b || controls_all s c))
+    itself true = refl
+    itself false = refl
+
+pub encoders_listed : (s : State) (w : Rows) → Represents s w → encoder_ids w.topology ≡ encoder_ids s.modes.topology
+encoders_listed s w h = ap encoder_ids (topology_is s w h)
+
+-- ---- a client's framebuffers
+
+rises : (a b : ℕ) → nat_lt a b ≡ true → RisesTo nat_le a b
+rises a b lt = (grind (arith, nat_tests), grind (arith, nat_tests))
+
+in_order : (fs : List Framebuffer) → arrays.InOrder framebuffer_before fs → InOrder (λ (x y : Framebuffer). RisesTo nat_le x.framebuffer y.framebuffer) fs
+in_order [] h = tt
+in_order (x ∷ xs) h = (all_weaker (λ (y : Framebuffer). framebuffer_before x y ≡ true) (λ (y : Framebuffer). RisesTo nat_le x.framebuffer y.framebuffer) (λ y lt. rises x.framebuffer y.framebuffer lt) xs h.0, in_order xs h.1)
+
+pub framebuffers_listed : (s : State) (w : Rows) → IsTied s → Represents s w → (c : ℕ) → model.own_framebuffers w c ≡ modes.framebuffers_of s.modes c
+framebuffers_listed s w t h c =
+    let mine = λ (row : FramebufferRow). row.client == c in
+    let id = λ (row : FramebufferRow). row.framebuffer in
+    let own = filter (is_made_by c) s.modes.framebuffers in
+    let theirs : map id (filter mine (framebuffers_of s)) ≡ modes.framebuffers_of s.modes c =
+    ap (map id) (filter-map mine (framebuffer_row_of s.objects.objects) s.modes.framebuffers) ∙ map-map id (framebuffer_row_of s.objects.objects) own in
+    let rise : InOrder (RisesTo nat_le) (modes.framebuffers_of s.modes c) =
+    in_order_map (RisesTo nat_le) (λ (x : Framebuffer). x.framebuffer) own
+    (in_order_filter (λ (x y : Framebuffer). RisesTo nat_le x.framebuffer y.framebuffer) (is_made_by c) s.modes.framebuffers (in_order s.modes.framebuffers (modes_so s t).framebuffers_rise)) in
+    sorted-same nat_le (λ x y. x == y) order_of_numbers (map id (filter mine w.framebuffers)) (modes.framebuffers_of s.modes c) rise
+    (λ test. same-map id (filter mine w.framebuffers) (filter mine (framebuffers_of s)) (same-filter mine w.framebuffers (framebuffers_of s) (framebuffers_are s w h)) test ∙ ap (λ l. length (filter test l)) theirs)
