@@ -18,8 +18,9 @@ use drm_state::{State, release};
 use drm_table::{Answer, Rule};
 
 /// Closes a client: its framebuffers go, and the CRTCs and planes that show them go dark; its tokens, its magic and its handles
-/// go, the names of objects that no handle names any more, and the objects that nothing else refers to; its master goes where nobody else names it, and the device's master where that was the
-/// client's own. It takes no memory and asks for no limit.
+/// go, the names of objects that no handle names any more, and the objects that nothing else refers to; its master goes where
+/// nobody else names it, and the device's master where that was the client's own. A client that isn't open is denied, and
+/// nothing changes. It takes no memory and asks for no limit.
 pub fn close(state: &mut State, client: u32) -> Answer
     requires { IsTied state.old }
     ensures tied { IsTied state.new }

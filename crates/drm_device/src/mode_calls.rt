@@ -15,7 +15,7 @@ use drm_state::State;
 use drm_table::{Answer, Call};
 use std::alloc::AllocError;
 
-/// Answers a call of mode setting that is admitted.
+/// Answers a call of mode setting that is admitted. Where memory is refused nothing changes.
 #[tactic(auto, using(drm_state::proofs::Outcomes::is_answered))]
 pub fn mode_call(
     state: &mut State,
