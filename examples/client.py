@@ -14,6 +14,9 @@ import sys
 
 HELLO = 0x0100
 
+# the fields of a call that has a list of u32, any number of them
+IDS = "ids"
+
 # a call's word: its number and the format of its fields (I is a u32, Q a u64)
 CALLS = {
     "version": (0x00, ""),
@@ -47,6 +50,10 @@ CALLS = {
     "getplaneresources": (0xB5, ""),
     "getplane": (0xB6, "I"),
     "setplane": (0xB7, "III"),
+    "create_lease": (0xC6, IDS),
+    "list_lessees": (0xC7, ""),
+    "get_lease": (0xC8, ""),
+    "revoke_lease": (0xC9, "I"),
 }
 
 # the answers with fields of a fixed number
@@ -59,6 +66,7 @@ ANSWERS = {
     0x1005: ("buffer", "IQ"),
     0x1008: ("plane", "II"),
     0x1009: ("framebuffer", "IIIII"),
+    0x100A: ("lease", "II"),
     0x100C: ("closed", ""),
 }
 RESOURCES = 0x1006
@@ -90,6 +98,7 @@ def frame(number, fields=b""):
 
 
 def hello(lease=None):
+    """The first frame: of an opening of the node, or of one by this lease token."""
     return frame(HELLO, struct.pack("<III", 1, 0 if lease is None else 1, lease or 0))
 
 
@@ -101,6 +110,9 @@ def request(line):
         if word == "raw" and numbers:
             return frame(numbers[0], struct.pack(f"<{len(numbers) - 1}I", *numbers[1:]))
         number, layout = CALLS[word]
+        if layout == IDS:
+            numbers = [len(numbers), *numbers]
+            layout = len(numbers) * "I"
         return frame(number, struct.pack("<" + layout, *numbers))
     except (KeyError, ValueError, struct.error) as error:
         raise Mistake(f"not a call: {line.strip()} ({error})") from error
@@ -170,7 +182,7 @@ def main():
     parser.add_argument("path", help="the socket to open: the server's card, render or root")
     parser.add_argument("calls", nargs="*", metavar="CALL", help='a call in a script\'s words, as "create_dumb 64 64 32"')
     parser.add_argument("--lease", type=int, metavar="TOKEN", help="redeem the lease of this token")
-    arguments = parser.parse_args()
+    arguments = parser.parse_intermixed_args()
     client = Client(arguments.path, arguments.lease)
     print(client.opened)
     if client.opened.startswith("client "):

@@ -24,6 +24,7 @@ ANSWERS = {
     "buffer": "Buffer",
     "plane": "Plane",
     "framebuffer": "Framebuffer",
+    "lease": "LeaseIs",
 }
 # the kinds of an audit, by number from 1
 KINDS = "Client Master Object Name Token Hold Grant Framebuffer Shown Device".split()
@@ -106,6 +107,8 @@ def event(line, labels, rows):
     name = rows[word][0] if word in rows else ("BadLayout" if int(fields[0]) in numbers else "UnknownCall")
     if name == "Audit":
         fields = ["Of" + KINDS[int(fields[0]) - 1], fields[1]]
+    if name == "CreateLease":
+        fields = [listed_ids(",".join(fields) or "-")]
     return term("Ask", labels.get(first, "0"), term(name, *fields))
 
 
@@ -142,7 +145,7 @@ def lemma(name, lines):
     uses = [
         "use Rattle.std.proofs.Common.{◌≡◌, true, false, List, [], ◌∷◌, Result, Ok, Err, refl}",
         "use Rattle.drm_table.specs.declared.answers.Answer.{Answer}",
-        "use Rattle.drm_table.specs.declared.answers.Answer.TheVariants.{Done, Opened, Version as VersionIs, Number, Dumb, Buffer, Resources, Plane, Framebuffer, List as ListIs, Audit as AuditIs, Closed, Denied}",
+        "use Rattle.drm_table.specs.declared.answers.Answer.TheVariants.{Done, Opened, Version as VersionIs, Number, Dumb, Buffer, Resources, Plane, Framebuffer, Lease as LeaseIs, List as ListIs, Audit as AuditIs, Closed, Denied}",
         "use Rattle.drm_table.specs.declared.apart.Apart.{Apart}",
         "use Rattle.drm_table.specs.declared.apart.Apart.TheVariants.{JournalFull}",
         f"use Rattle.drm_table.specs.declared.rules.Rule.TheVariants.{{{denials}}}",

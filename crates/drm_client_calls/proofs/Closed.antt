@@ -1,8 +1,8 @@
--- What is left of masters without a client.
-use Rattle.std.proofs.Common.{◌≡◌, ℕ, ◌==◌, Bool, true, false, not, ◌&&◌, List, [], ◌∷◌, map, filter, find, Option, None, Some, refl, sym, ap, subst, ◌∙◌}
+-- What is left of masters and leases without a client.
+use Rattle.std.proofs.Common.{◌≡◌, ℕ, ◌==◌, Bool, true, false, cond, not, ◌&&◌, List, [], ◌∷◌, map, filter, find, Option, None, Some, refl, sym, ap, subst, ◌∙◌}
 use Rattle.std.specs.Prelude.{if◌then◌else◌}
 use Rattle.std.specs.List.{AllByRecursion}
-use Rattle.std.specs.Option.{is_some, option_map, option_map_or}
+use Rattle.std.specs.Option.{option_map_or, option_and_then}
 use Rattle.std.proofs.lemmas.Bool.{eqb-true}
 use Rattle.drm_lists.proofs.Lists.{all_each, all_weaker, filter_all}
 use Rattle.drm_lists.proofs.Found.{none_found}
@@ -10,9 +10,24 @@ use Rattle.drm_lists.proofs.Rising.{found}
 use Rattle.drm_masters.specs.declared.rows.Member.{Member}
 use Rattle.drm_masters.specs.declared.rows.Master.{Master}
 use Rattle.drm_masters.specs.Masters as masters
-use Rattle.drm_masters.specs.Masters.{MasterSet, AreMasters, swept, IsKeyOf, birth_at, is_birth}
-use Rattle.drm_masters.specs.Calls.{ClosedBy, ClosedOf, closed_own, without_member, with_kept, with_device, kept_as}
-use Rattle.drm_state.specs.Parts.{device_without, without_its_master}
+use Rattle.drm_masters.specs.Masters.{MasterSet, AreMasters, swept, is_birth}
+use Rattle.drm_masters.specs.Calls.{ClosedBy, ClosedOf, closed_own, without_member, released_under, kept_as}
+use Rattle.drm_leases.specs.Leases.{LeaseSet}
+use Rattle.drm_leases.specs.Calls as leases
+use Rattle.drm_lists.specs.Chains.{is_under}
+use Rattle.drm_lists.proofs.Chains.{itself}
+use Rattle.drm_state.specs.Parts.{device_without, own_master, is_below, released, ended, ends_with, without_its_master, without_its_leases}
+use Rattle.drm_state.proofs.Ended.{none_released, none_ended}
+
+-- no master ends with it
+none_ends : (v : MasterSet) (c : ℕ) → own_master (masters.member_of v.members c) ≡ None → ends_with v c ≡ (λ _. false)
+none_ends v c e = λ i m. is_below (e i) v.masters m
+
+pub leases_stay : (v : MasterSet) (c : ℕ) (l : LeaseSet) → own_master (masters.member_of v.members c) ≡ None → l ≡ without_its_leases c v l
+leases_stay v c l e = sym ((λ i. ended (none_ends v c e i) l) ∙ none_ended l)
+
+unreleased : (v : MasterSet) (c : ℕ) → own_master (masters.member_of v.members c) ≡ None → v.masters ≡ released (ends_with v c) v.masters
+unreleased v c e = sym ((λ i. released (none_ends v c e i) v.masters) ∙ none_released v.masters)
 
 -- a client that stands to no master
 pub nobody_gone : (v : MasterSet) (c : ℕ) → AreMasters v → masters.member_of v.members c ≡ None → v ≡ without_its_master c v
@@ -20,7 +35,7 @@ nobody_gone v c are none =
     let stay : filter (λ (x : Member). not (masters.is_client c x)) v.members ≡ v.members = filter_all (λ (x : Member). not (masters.is_client c x)) v.members (all_weaker (λ (x : Member). masters.is_client c x ≡ false) (λ (x : Member). not (masters.is_client c x) ≡ true) (λ x e. ap not e) v.members (none_found (masters.is_client c) v.members none)) in
     let device : device_without v c ≡ v.device_master = ap (λ o. option_map_or (λ (x : Member). if x.is_master && masters.is_option x.master v.device_master then None else v.device_master) o v.device_master) none in
     let all = filter_all (λ (x : Master). masters.is_living v.members v.masters x.birth) v.masters are.used in
-    (λ i. record v { masters = sym all i }) ∙ (λ i. swept (with_device (sym device i) (record v { members = sym stay i })))
+    (λ i. record v { masters = sym all i }) ∙ (λ i. swept (record v { members = sym stay i; masters = unreleased v c (ap own_master none) i; device_master = sym device i }))
 
 -- the device's master without a client whose row is this
 device_is : (v : MasterSet) (c : ℕ) (x : Member) → masters.member_of v.members c ≡ Some x → (if x.is_master && masters.is_option x.master v.device_master then None else v.device_master) ≡ device_without v c
@@ -29,70 +44,76 @@ device_is v c x here = ap (λ o. option_map_or (λ (y : Member). if y.is_master 
 number_is : (v : MasterSet) (c : ℕ) (x : Member) → masters.member_of v.members c ≡ Some x → x.client ≡ c
 number_is v c x here = eqb-true x.client c (found (masters.is_client c) (λ _. Unit {0}) x v.members (all_each (λ _. Unit {0}) (λ _. tt) v.members) here).0
 
--- one of another's master
-pub guest_gone : (v new : MasterSet) (c : ℕ) (x : Member) → masters.member_of v.members c ≡ Some x → x.is_master ≡ false → new ≡ swept (without_member x.client v) → new ≡ without_its_master c v
-guest_gone v new c x here not_own e =
-    let device : v.device_master ≡ device_without v c = ap (λ b. if b && masters.is_option x.master v.device_master then None else v.device_master) (sym not_own) ∙ device_is v c x here in
-    e ∙ (λ i. swept (with_device (device i) (without_member (number_is v c x here i) v)))
+own_is : (v : MasterSet) (c : ℕ) (x : Member) (b : Bool) → masters.member_of v.members c ≡ Some x → x.is_master ≡ b → own_master (masters.member_of v.members c) ≡ (if b then Some x.master else None)
+own_is v c x b here is = ap own_master here ∙ ap (λ d. if d then Some x.master else None) is
 
-unkept : (m : ℕ) → (ms : List Master) → AllByRecursion (λ (x : Master). x.kept ≡ false) ms → map (λ (x : Master). if is_birth m x then kept_as false x else x) (map (λ (x : Master). if is_birth m x then kept_as true x else x) ms) ≡ ms
-unkept m [] h = refl
-unkept m (x ∷ xs) h = (λ i. one i ∷ unkept m xs h.1 i)
+-- one of another's master
+guest_gone : (v new : MasterSet) (c : ℕ) (x : Member) → masters.member_of v.members c ≡ Some x → x.is_master ≡ false → new ≡ swept (without_member x.client v) → new ≡ without_its_master c v
+guest_gone v new c x here guest e =
+    let device : v.device_master ≡ device_without v c = ap (λ b. if b && masters.is_option x.master v.device_master then None else v.device_master) (sym guest) ∙ device_is v c x here in
+    e ∙ (λ i. swept (record (without_member (number_is v c x here i) v) { masters = unreleased v c (own_is v c x false here guest) i; device_master = device i }))
+
+-- that its own master was kept is nothing once it is released
+kept_lessors : (m n : ℕ) (ms : List Master) → masters.lessor_of (map (λ (x : Master). if is_birth m x then kept_as true x else x) ms) n ≡ masters.lessor_of ms n
+kept_lessors m n [] = refl
+kept_lessors m n (x ∷ xs) =
+    elim (x.birth == m) as (λ b. option_and_then (λ (y : Master). y.lessor) (cond ((if b then kept_as true x else x).birth == n) (Some (if b then kept_as true x else x)) (find (is_birth n) (map (λ (y : Master). if is_birth m y then kept_as true y else y) xs))) ≡ option_and_then (λ (y : Master). y.lessor) (cond (x.birth == n) (Some x) (find (is_birth n) xs)))
+    [ true ↦ here (kept_as true x) refl refl (kept_lessors m n xs) | false ↦ here x refl refl (kept_lessors m n xs) ]
   where
-    one : (if is_birth m (if is_birth m x then kept_as true x else x) then kept_as false (if is_birth m x then kept_as true x else x) else (if is_birth m x then kept_as true x else x)) ≡ x
+    here : (y : Master) → y.birth ≡ x.birth → y.lessor ≡ x.lessor → masters.lessor_of (map (λ (z : Master). if is_birth m z then kept_as true z else z) xs) n ≡ masters.lessor_of xs n → option_and_then (λ (z : Master). z.lessor) (cond (y.birth == n) (Some y) (find (is_birth n) (map (λ (z : Master). if is_birth m z then kept_as true z else z) xs))) ≡ option_and_then (λ (z : Master). z.lessor) (cond (x.birth == n) (Some x) (find (is_birth n) xs))
+    here y e f rest =
+        ap (λ k. option_and_then (λ (z : Master). z.lessor) (cond (k == n) (Some y) (find (is_birth n) (map (λ (z : Master). if is_birth m z then kept_as true z else z) xs)))) e
+        ∙ elim (x.birth == n) as (λ b. option_and_then (λ (z : Master). z.lessor) (cond b (Some y) (find (is_birth n) (map (λ (z : Master). if is_birth m z then kept_as true z else z) xs))) ≡ option_and_then (λ (z : Master). z.lessor) (cond b (Some x) (find (is_birth n) xs))) [ true ↦ f | false ↦ rest ]
+
+kept_above : (m : ℕ) (ms : List Master) → masters.lessor_of (map (λ (x : Master). if is_birth m x then kept_as true x else x) ms) ≡ masters.lessor_of ms
+kept_above m ms = λ i n. kept_lessors m n ms i
+
+released_again : (below : ℕ → Bool) (m : ℕ) → below m ≡ true → (ms : List Master) → released below (map (λ (x : Master). if is_birth m x then kept_as true x else x) ms) ≡ released below ms
+released_again below m is [] = refl
+released_again below m is (x ∷ xs) = λ i. one i ∷ released_again below m is xs i
+  where
+    change : Master → Master
+    change y = if below y.birth then kept_as false y else y
+
+    one : change (if is_birth m x then kept_as true x else x) ≡ change x
     one =
-        (elim (x.birth == m) as (λ b. (x.birth == m) ≡ b → (if is_birth m (if b then kept_as true x else x) then kept_as false (if b then kept_as true x else x) else (if b then kept_as true x else x)) ≡ x) [
-          | true ↦ λ e. ap (λ b. if b then kept_as false x else kept_as true x) e ∙ (λ i. record x { kept = sym h.0 i })
-          | false ↦ λ e. ap (λ b. if b then kept_as false x else x) e
+        (elim (x.birth == m) as (λ b. (x.birth == m) ≡ b → change (if b then kept_as true x else x) ≡ change x) [
+          | true ↦ λ e.
+              let here : below x.birth ≡ true = ap below (eqb-true x.birth m e) ∙ is in
+              ap (λ b. if b then kept_as false x else kept_as true x) here ∙ sym (ap (λ b. if b then kept_as false x else x) here)
+          | false ↦ λ e. refl
         ]) refl
 
--- one of a master of its own, which is released
-pub owner_gone : (v middle new : MasterSet) (c key : ℕ) (x : Member) → AllByRecursion (λ (y : Master). y.kept ≡ false) v.masters → masters.member_of v.members c ≡ Some x → x.is_master ≡ true → IsKeyOf middle.masters x.master key → middle ≡ closed_own x.client x.master v →
-    new ≡ swept (with_kept (birth_at middle.masters key) false middle) → new ≡ without_its_master c v
-owner_gone v middle new c key x kept here own is e f =
-    let birth : birth_at middle.masters key ≡ x.master = at_key (find (masters.is_key key) middle.masters) is in
-    let device : (if masters.is_option x.master v.device_master then None else v.device_master) ≡ device_without v c = ap (λ b. if b && masters.is_option x.master v.device_master then None else v.device_master) (sym own) ∙ device_is v c x here in
-    f ∙ (λ i. swept (with_kept (birth i) false (e i))) ∙ (λ i. swept (with_device (device i) (record (without_member (number_is v c x here i) v) { masters = unkept x.master v.masters kept i })))
+-- one of a master of its own, whose leases end with all below it
+module _ (v middle : MasterSet) (c : ℕ) (x : Member) (here : masters.member_of v.members c ≡ Some x) (own : x.is_master ≡ true) (is : middle ≡ closed_own x.client x.master v) where
+  below_is : is_below (Some x.master) middle.masters ≡ ends_with v c
+  below_is =
+      (λ i. is_below (Some x.master) (is i).masters)
+      ∙ (λ i n. is_under (kept_above x.master v.masters i) x.master n)
+      ∙ (λ i. is_below (sym (own_is v c x true here own) i) v.masters)
+
+  pub owner_gone : (new : MasterSet) → new ≡ swept (released_under x.master middle) → new ≡ without_its_master c v
+  owner_gone new f =
+      let device : (if masters.is_option x.master v.device_master then None else v.device_master) ≡ device_without v c = ap (λ b. if b && masters.is_option x.master v.device_master then None else v.device_master) (sym own) ∙ device_is v c x here in
+      let top : ends_with v c x.master ≡ true = ap (λ (p : ℕ → Bool). p x.master) (sym below_is) ∙ itself (masters.lessor_of middle.masters) x.master x.master in
+      f ∙ (λ i. swept (record middle { masters = released (below_is i) middle.masters })) ∙ (λ i. swept (record (is i) { masters = released (ends_with v c) (is i).masters }))
+      ∙ (λ i. swept (record (without_member (number_is v c x here i) v) { masters = released_again (ends_with v c) x.master top v.masters i; device_master = device i }))
+
+  pub owner_leases : (l new : LeaseSet) → new ≡ leases.ended middle.masters x.master l → new ≡ without_its_leases c v l
+  owner_leases l new f = f ∙ (λ i. ended (below_is i) l)
+
+-- ---- by what the closing gave back
+
+pub closed_without : (v new : MasterSet) (c : ℕ) (x : Member) → masters.member_of v.members c ≡ Some x → ClosedBy v (masters.member_of v.members c) None new → (own_master (masters.member_of v.members c) ≡ None) × (new ≡ without_its_master c v)
+closed_without v new c x here h = by_own x.is_master refl (subst (λ o. ClosedBy v o None new) here h)
   where
-    at_key : (o : Option Master) → option_map (λ (y : Master). y.birth) o ≡ Some x.master → option_map_or (λ (y : Master). y.birth) o 0 ≡ x.master
-    at_key None h = absurd (let n : None ≡ Some x.master = h in cc)
-    at_key (Some y) h = let s : Some y.birth ≡ Some x.master = h in cc
+    by_own : (b : Bool) → x.is_master ≡ b → ClosedOf v x b None new → (own_master (masters.member_of v.members c) ≡ None) × (new ≡ without_its_master c v)
+    by_own true own k = absurd (let n : None ≡ Some k.0.0 = k.0.1 in cc)
+    by_own false own k = (own_is v c x false here own, guest_gone v new c x here own k.1)
 
--- by what the closing gave back
-pub closed_without : (v new : MasterSet) (c : ℕ) → AreMasters v → ClosedBy v (masters.member_of v.members c) None new → new ≡ without_its_master c v
-closed_without v new c are h = by_row (masters.member_of v.members c) refl h
+pub closed_with : (v middle : MasterSet) (c key : ℕ) (x : Member) → masters.member_of v.members c ≡ Some x → ClosedBy v (masters.member_of v.members c) (Some key) middle → (x.is_master ≡ true) × (middle ≡ closed_own x.client x.master v)
+closed_with v middle c key x here h = by_own x.is_master refl (subst (λ o. ClosedBy v o (Some key) middle) here h)
   where
-    by_own : (x : Member) → masters.member_of v.members c ≡ Some x → (b : Bool) → x.is_master ≡ b → ClosedOf v x b None new → new ≡ without_its_master c v
-    by_own x e true own k = absurd (let n : None ≡ Some k.0.0 = k.0.1 in cc)
-    by_own x e false own k = guest_gone v new c x e own k.1
-
-    by_row : (o : Option Member) → masters.member_of v.members c ≡ o → ClosedBy v o None new → new ≡ without_its_master c v
-    by_row None e k = k.1 ∙ nobody_gone v c are e
-    by_row (Some x) e k = by_own x e x.is_master refl k
-
-pub closed_with : (v middle new : MasterSet) (c key : ℕ) → AllByRecursion (λ (y : Master). y.kept ≡ false) v.masters → ClosedBy v (masters.member_of v.members c) (Some key) middle → new ≡ swept (with_kept (birth_at middle.masters key) false middle) → new ≡ without_its_master c v
-closed_with v middle new c key kept h f = by_row (masters.member_of v.members c) refl h
-  where
-    by_own : (x : Member) → masters.member_of v.members c ≡ Some x → (b : Bool) → x.is_master ≡ b → ClosedOf v x b (Some key) middle → new ≡ without_its_master c v
-    by_own x e true own k = owner_gone v middle new c key x kept e own (subst (IsKeyOf middle.masters x.master) (let s : Some k.0.0 ≡ Some key = sym k.0.1 in let t : k.0.0 ≡ key = cc in t) k.0.2) k.1 f
-    by_own x e false own k = absurd (let n : Some key ≡ None = k.0 in cc)
-
-    by_row : (o : Option Member) → masters.member_of v.members c ≡ o → ClosedBy v o (Some key) middle → new ≡ without_its_master c v
-    by_row None e k = absurd (let n : Some key ≡ None = k.0 in cc)
-    by_row (Some x) e k = by_own x e x.is_master refl k
-
--- the key that was given back is that of a master
-pub closed_there : (v middle : MasterSet) (c key : ℕ) → ClosedBy v (masters.member_of v.members c) (Some key) middle → masters.is_there middle.masters key ≡ true
-closed_there v middle c key h = by_row (masters.member_of v.members c) h
-  where
-    there : (n : ℕ) (o : Option Master) → option_map (λ (y : Master). y.birth) o ≡ Some n → is_some o ≡ true
-    there n None k = absurd (let e : None ≡ Some n = k in cc)
-    there n (Some y) k = refl
-
-    by_own : (x : Member) (b : Bool) → ClosedOf v x b (Some key) middle → masters.is_there middle.masters key ≡ true
-    by_own x true k = ap (masters.is_there middle.masters) (let s : Some key ≡ Some k.0.0 = k.0.1 in let t : key ≡ k.0.0 = cc in t) ∙ there x.master (find (masters.is_key k.0.0) middle.masters) k.0.2
-    by_own x false k = absurd (let n : Some key ≡ None = k.0 in cc)
-
-    by_row : (o : Option Member) → ClosedBy v o (Some key) middle → masters.is_there middle.masters key ≡ true
-    by_row None k = absurd (let n : Some key ≡ None = k.0 in cc)
-    by_row (Some x) k = by_own x x.is_master k
+    by_own : (b : Bool) → x.is_master ≡ b → ClosedOf v x b (Some key) middle → (x.is_master ≡ true) × (middle ≡ closed_own x.client x.master v)
+    by_own true own k = (own, k.1)
+    by_own false own k = absurd (let n : Some key ≡ None = k.0 in cc)

@@ -2,3 +2,4 @@ pub mod Fewer
 pub mod Files
 pub mod Opened
 pub mod Closed
+pub mod Redeemed

@@ -1,8 +1,10 @@
 -- What an opening leaves of the parts.
 use Rattle.std.proofs.Common.{◌≡◌, ℕ, ◌<◌, ◌≤◌, ◌==◌, Bool, true, false, not, ◌||◌, cond, List, [], ◌∷◌, ◌++◌, filter, find, Option, None, Some, refl, sym, ap, ◌∙◌, subst, append-nil, eq-eqb, length, arith}
+use Rattle.std.specs.Prelude.{nat_le}
 use Rattle.std.specs.List.{filter_map, cons_option, AllByRecursion}
 use Rattle.std.specs.Option.{is_some, option_map}
 use Rattle.std.proofs.lemmas.Bool.{eqb-true, or_left, or_right}
+use Rattle.std.proofs.lemmas.Bool.Decides.{nat_tests}
 use Rattle.std.proofs.lemmas.List.{map-append}
 use Rattle.std.proofs.lemmas.List.Elements.{filter-append}
 use Rattle.drm_lists.specs.Orders.{SameRows, InOrder}
@@ -19,18 +21,32 @@ use Rattle.drm_masters.specs.declared.rows.Member.{Member}
 use Rattle.drm_masters.specs.declared.rows.Master.{Master}
 use Rattle.drm_masters.specs.Masters as masters
 use Rattle.drm_masters.specs.Masters.{MasterSet, AreMasters}
-use Rattle.drm_masters.specs.Calls.{with_member, with_master, with_device}
+use Rattle.drm_masters.specs.Calls.{IsNewClient, with_member, with_master, with_device}
+use Rattle.drm_leases.specs.Leases.{LeaseSet, AreLeases}
 use Rattle.drm_model.specs.Rows.{Rows, ClientRow, MasterRow}
 use Rattle.drm_state.specs.declared.state.State.{State}
 use Rattle.drm_state.specs.Parts.{client_row_by, master_row_of, magic_row_of, clients_of, masters_of}
-use Rattle.drm_state.specs.Ties.{Tie, MembersOpen, ClientsHave, MastersAre, NoneKept, MagicsSuffice, is_tied, IsTied, IsLater, HasMaster}
+use Rattle.drm_state.specs.Ties.{Tie, MembersOpen, ClientsHave, MastersAre, MagicsSuffice, LesseesFew, LeasesAre, TokensOfLessees, KeptHaveTokens, is_tied, IsTied, IsLater, HasMaster, AreOfLessees, AreKeptBy}
 use Rattle.drm_model.specs.Parts.{Part, Clients, Masters, Magics, DeviceMaster}
 use Rattle.drm_state.specs.Refinement.{stands_for, Represents}
-use Rattle.drm_state.proofs.Represented.{clients_are, masters_are, magics_are, members_open, clients_have, magics_suffice}
-use Rattle.drm_state.proofs.Members.{client_pushed, render_pushed, members_open_yet, found_last}
+use Rattle.drm_state.proofs.Represented.{clients_are, masters_are, magics_are, members_open, masters_so, clients_have, magics_suffice, lessees_few}
+use Rattle.drm_state.proofs.Members.{older, client_pushed, render_pushed, members_open_yet, found_last}
 use Rattle.drm_client_calls.proofs.Files.{not_there}
 
+-- ---- that there is room
+
+pub not_full : (a b : ℕ) → nat_le a b ≡ false → b < a
+not_full a b h = grind (arith, nat_tests)
+
+-- who stands to masters is older than a client that is made now
+pub newer : (s : State) (b : ℕ) → IsTied s → IsLater s b → IsNewClient s.masters b
+newer s b t later = all_weaker (λ (x : Member). is_present s.files x.client ≡ true) (λ (x : Member). x.client < b) (λ x e. older x.client b s.files.clients later.clients e) s.masters.members (members_open s t)
+
 -- ---- a file that was opened is closed again
+
+-- all is as it was
+pub back : (P : State → Type 0) (s : State) (fs : FileLists) (set : MasterSet) → fs ≡ s.files → set ≡ s.masters → P s → P (record s { files = fs; masters = set })
+back P s fs set e f h = subst (λ l. P (record s { files = l; masters = set })) (sym e) (subst (λ l. P (record s { masters = l })) (sym f) h)
 
 abbrev pub with_file : FileLists → ℕ → FileFlags → FileLists
 with_file fs c flags = record fs { clients = fs.clients ++ record { client = c; flags = flags } ∷ [] }
@@ -55,9 +71,9 @@ closed_again fs c flags are newest = λ i. record fs { clients = clients i; hold
 
 -- ---- one more client
 
--- the state with a client that stands to masters so
-abbrev pub joined : State → ℕ → FileFlags → MasterSet → State
-joined s c flags set = record s { files = with_file s.files c flags; masters = set }
+-- the state with a client that stands to masters so, with these leases
+abbrev pub joined : State → ℕ → FileFlags → MasterSet → LeaseSet → State
+joined s c flags set l = record s { files = with_file s.files c flags; masters = set; leases = l }
 
 have_more : (v : MasterSet) (set : MasterSet) (m : Member) → set.members ≡ v.members ++ m ∷ [] → (f : FileClient) → HasMaster v f → HasMaster set f
 have_more v set m e f h = ap (λ l. f.flags.render || is_some (masters.member_of l f.client)) e ∙ by_render f.flags.render h
@@ -66,26 +82,30 @@ have_more v set m e f h = ap (λ l. f.flags.render || is_some (masters.member_of
     by_render true k = refl
     by_render false k = is_some-find (masters.is_client f.client) (v.members ++ m ∷ []) ∙ list_any_left (masters.is_client f.client) v.members (m ∷ []) (sym (is_some-find (masters.is_client f.client) v.members) ∙ k)
 
-pub joined_tied : (s : State) (flags : FileFlags) (m : Member) (set : MasterSet) → IsTied s → set.members ≡ s.masters.members ++ m ∷ [] → AreMasters set → AllByRecursion (λ (x : Master). x.kept ≡ false) set.masters → set.last_magic ≡ s.masters.last_magic → (tie : Tie) → is_tied tie (joined s m.client flags set)
+pub joined_tied : (s : State) (flags : FileFlags) (m : Member) (set : MasterSet) (l : LeaseSet) → IsTied s → set.members ≡ s.masters.members ++ m ∷ [] → AreMasters set → AreLeases l → AreOfLessees l.tokens set.masters → AreKeptBy l.tokens set.masters →
+    set.last_magic ≡ s.masters.last_magic → set.last_lessee ≡ s.masters.last_lessee → (tie : Tie) → is_tied tie (joined s m.client flags set l)
 unfolding is_tied
-joined_tied s flags m set t e are kept last MembersOpen =
+joined_tied s flags m set l t e are leases lessees kept last ids MembersOpen =
     let f : FileClient = record { client = m.client; flags = flags } in
     subst (AllByRecursion (λ (x : Member). is_present (with_file s.files m.client flags) x.client ≡ true)) (sym e) (all_append _ s.masters.members (m ∷ []) (members_open_yet f s.files.clients s.masters.members (members_open s t)) (found_last f s.files.clients, tt))
-joined_tied s flags m set t e are kept last ClientsHave =
+joined_tied s flags m set l t e are leases lessees kept last ids ClientsHave =
     all_append (HasMaster set) s.files.clients (record { client = m.client; flags = flags } ∷ []) (all_weaker (HasMaster s.masters) (HasMaster set) (λ f h. have_more s.masters set m e f h) s.files.clients (clients_have s t))
     (ap (λ l. flags.render || is_some (masters.member_of l m.client)) e ∙ or_right flags.render _ (is_some-find (masters.is_client m.client) (s.masters.members ++ m ∷ []) ∙ list_any_right (masters.is_client m.client) s.masters.members (m ∷ []) (or_left (m.client == m.client) false (eq-eqb m.client m.client refl))), tt)
-joined_tied s flags m set t e are kept last MastersAre = are
-joined_tied s flags m set t e are kept last NoneKept = kept
-joined_tied s flags m set t e are kept last MagicsSuffice = last ∙ magics_suffice s t
-joined_tied s flags m set t e are kept last tie = t tie
+joined_tied s flags m set l t e are leases lessees kept last ids MastersAre = are
+joined_tied s flags m set l t e are leases lessees kept last ids MagicsSuffice = last ∙ magics_suffice s t
+joined_tied s flags m set l t e are leases lessees kept last ids LesseesFew = subst (λ n. n ≤ 64) (sym ids) (lessees_few s t)
+joined_tied s flags m set l t e are leases lessees kept last ids LeasesAre = leases
+joined_tied s flags m set l t e are leases lessees kept last ids TokensOfLessees = lessees
+joined_tied s flags m set l t e are leases lessees kept last ids KeptHaveTokens = kept
+joined_tied s flags m set l t e are leases lessees kept last ids tie = t tie
 
-no_magic_more : (m : Member) → m.magic ≡ None → (xs : List Member) → filter_map magic_row_of (xs ++ m ∷ []) ≡ filter_map magic_row_of xs
+pub no_magic_more : (m : Member) → m.magic ≡ None → (xs : List Member) → filter_map magic_row_of (xs ++ m ∷ []) ≡ filter_map magic_row_of xs
 no_magic_more m e [] = ap (λ (g : Option Magic). cons_option (option_map (λ (d : Magic). record { master = m.master; number = d.number; client = m.client; spent = d.spent }) g) []) e
 no_magic_more m e (x ∷ xs) = ap (cons_option (magic_row_of x)) (no_magic_more m e xs)
 
 -- a guest
 pub guest_represents : (s : State) (w : Rows) (flags : FileFlags) (m : Member) (row : ClientRow) → IsTied s → IsLater s m.client → m.magic ≡ None → client_row_by (record { client = m.client; flags = flags }) (Some m) ≡ row → Represents s w →
-    (part : Part) → stands_for part (joined s m.client flags (with_member m s.masters)) (record w { clients = w.clients ++ row ∷ [] })
+    (part : Part) → stands_for part (joined s m.client flags (with_member m s.masters) s.leases) (record w { clients = w.clients ++ row ∷ [] })
 unfolding stands_for
 guest_represents s w flags m row t later none r h Clients =
     ap (λ l. l ++ row ∷ []) (clients_are s w h) ∙ ap (λ x. clients_of s ++ x ∷ []) (sym r) ∙ sym (client_pushed flags m s.files.clients s.masters.members later.clients (members_open s t))
@@ -93,12 +113,12 @@ guest_represents s w flags m row t later none r h Magics = subst (SameRows w.mag
 guest_represents s w flags m row t later none r h part = h part
 
 -- a founder
-pub founder_represents : (s : State) (w : Rows) (flags : FileFlags) (m : Member) (z : Master) (row : ClientRow) (master : MasterRow) → IsTied s → IsLater s m.client → m.magic ≡ None → client_row_by (record { client = m.client; flags = flags }) (Some m) ≡ row → master_row_of z ≡ master → Represents s w →
-    (part : Part) → stands_for part (joined s m.client flags (with_device (Some z.birth) (with_member m (with_master z s.masters)))) (record w { masters = w.masters ++ master ∷ []; device_master = Some master.master; clients = w.clients ++ row ∷ [] })
+pub founder_represents : (s : State) (w : Rows) (flags : FileFlags) (m : Member) (z : Master) (row : ClientRow) (master : MasterRow) → IsTied s → IsLater s m.client → m.magic ≡ None → client_row_by (record { client = m.client; flags = flags }) (Some m) ≡ row → master_row_of s.leases.tokens z ≡ master → Represents s w →
+    (part : Part) → stands_for part (joined s m.client flags (with_device (Some z.birth) (with_member m (with_master z s.masters))) s.leases) (record w { masters = w.masters ++ master ∷ []; device_master = Some master.master; clients = w.clients ++ row ∷ [] })
 unfolding stands_for
 founder_represents s w flags m z row master t later none r k h Clients =
     ap (λ l. l ++ row ∷ []) (clients_are s w h) ∙ ap (λ x. clients_of s ++ x ∷ []) (sym r) ∙ sym (client_pushed flags m s.files.clients s.masters.members later.clients (members_open s t))
-founder_represents s w flags m z row master t later none r k h Masters = ap (λ l. l ++ master ∷ []) (masters_are s w h) ∙ ap (λ x. masters_of s ++ x ∷ []) (sym k) ∙ sym (map-append master_row_of s.masters.masters (z ∷ []))
+founder_represents s w flags m z row master t later none r k h Masters = ap (λ l. l ++ master ∷ []) (masters_are s w h) ∙ ap (λ x. masters_of s ++ x ∷ []) (sym k) ∙ sym (map-append (master_row_of s.leases.tokens) s.masters.masters (z ∷ []))
 founder_represents s w flags m z row master t later none r k h Magics = subst (SameRows w.magics) (sym (no_magic_more m none s.masters.members)) (magics_are s w h)
 founder_represents s w flags m z row master t later none r k h DeviceMaster = ap (λ (x : MasterRow). Some x.master) (sym k)
 founder_represents s w flags m z row master t later none r k h part = h part
@@ -125,8 +145,6 @@ ties_rendered s c flags render t tie = t tie
 pub rendered_tied : (s : State) (fs : FileLists) (c : ℕ) (flags : FileFlags) → flags.render ≡ true → IsTied s → fs ≡ with_file s.files c flags → IsTied (record s { files = fs })
 rendered_tied s fs c flags render t e = subst (λ l. IsTied (record s { files = l })) (sym e) (ties_rendered s c flags render t)
 
--- ---- that there is room
-
 -- no more clients stand to masters than are open
 pub fewer_members : (ms : List Member) (fs : List FileClient) → InOrder (λ (x y : Member). x.client < y.client) ms → AllByRecursion (λ (x : Member). is_some (find (files.is_client x.client) fs) ≡ true) ms → length ms ≤ length fs
 fewer_members [] fs h there = omega arith
@@ -136,3 +154,9 @@ fewer_members (m ∷ ms) fs h there =
     (λ x lt e. ap is_some (find_others (λ (f : FileClient). f.client) x.client m.client (flipped m.client x.client (less-differ m.client x.client lt)) fs) ∙ e) ms h.0 there.1) in
     let lt = filter-fewer (files.is_client m.client) fs (sym (is_some-find (files.is_client m.client) fs) ∙ there.0) in
     omega (arith, rest, lt)
+
+pub room_for : (s : State) → IsTied s → length s.files.clients < s.files.limit → length s.masters.members < s.masters.last_magic
+room_for s t lt =
+    let few = fewer_members s.masters.members s.files.clients (masters_so s t).members_rise (members_open s t) in
+    let last = magics_suffice s t in
+    omega (arith, few, lt, last)

@@ -1,16 +1,16 @@
 //! How a client goes.
 
 ghost use Rattle.std.specs.Prelude.{◌≡◌, ℕ, List, true, false, ◌++◌};
-ghost use Rattle.std.specs.List.{AllByRecursion};
 ghost use Rattle.drm_masters.specs.Masters.{AreMasters};
 ghost use Rattle.drm_table.specs.declared.events.Event.TheVariants.{Close};
 ghost use Rattle.drm_files.specs.Files.{is_present, without_client};
-ghost use Rattle.drm_state.specs.Parts.{keys_of, token_keys, framebuffer_keys, without_tokens_of, LosesFramebuffersOf, without_its_master};
+ghost use Rattle.drm_state.specs.Parts.{keys_of, token_keys, framebuffer_keys, without_tokens_of, LosesFramebuffersOf, without_its_master, without_its_leases};
 ghost use Rattle.drm_state.specs.Ties.{IsTied, AreTied, AreNamed, AreThoseNamed, Leaves};
 ghost use Rattle.drm_state.specs.Refinement.{OwesAnswer};
 
 use drm_files::Files;
 use drm_gem::Objects;
+use drm_leases::Leases;
 use drm_masters::Masters;
 use drm_modes::Modes;
 use drm_share::{Names, Tokens};
@@ -19,7 +19,8 @@ use drm_table::{Answer, Rule};
 
 /// Closes a client: its framebuffers go, and the CRTCs and planes that show them go dark; its tokens, its magic and its handles
 /// go, the names of objects that no handle names any more, and the objects that nothing else refers to; its master goes where
-/// nobody else names it, and the device's master where that was the client's own. A client that isn't open is denied, and
+/// nobody else names it, and the device's master where that was the client's own; the leases of a master of its own end, with those
+/// of all below it and their open tokens. A client that isn't open is denied, and
 /// nothing changes. It takes no memory and asks for no limit.
 pub fn close(state: &mut State, client: u32) -> Answer
     requires { IsTied state.old }
@@ -29,8 +30,9 @@ pub fn close(state: &mut State, client: u32) -> Answer
     let Some(_flags) = state.files.flags_of(client) else {
         return Answer::Denied(Rule::NoClient);
     };
-    close_master(&mut state.masters, client);
+    close_master(&mut state.masters, &mut state.leases, client);
     state.masters.laws();
+    state.leases.laws();
     close_tokens(&mut state.tokens, &mut state.objects, client);
     close_framebuffers(&mut state.modes, &mut state.objects, client);
     state.modes.laws();
@@ -43,16 +45,19 @@ pub fn close(state: &mut State, client: u32) -> Answer
     Answer::Closed
 }
 
-/// A client no more stands to masters. A master of its own is released at once: it gave no lease.
-fn close_master(masters: &mut Masters, client: u32)
-    requires are { AreMasters masters.old }
-    requires kept { AllByRecursion (λ x. x.kept ≡ false) masters.old.masters }
-    ensures { masters.new ≡ without_its_master client masters.old }
+/// A client no more stands to masters. The leases of a master of its own end, and of all below it.
+fn close_master(masters: &mut Masters, leases: &mut Leases, client: u32)
+    requires { AreMasters masters.old }
+    ensures masters { masters.new ≡ without_its_master client masters.old }
+    ensures leases { leases.new ≡ without_its_leases client masters.old leases.old }
 {
-    let Some(own) = masters.on_close(client) else {
+    let Some(member) = masters.member(client) else {
         return;
     };
-    masters.release(own);
+    let Some(_own) = masters.on_close(client) else {
+        return;
+    };
+    leases.revoke(masters, member.master);
 }
 
 /// A client's tokens go, and the objects that they alone referred to, whatever handles name.

@@ -4,7 +4,7 @@ ghost use Rattle.std.specs.Prelude.{◌≡◌, ◌<◌, ◌∷◌, ◌++◌, [],
 ghost use Rattle.std.specs.List.{AllByRecursion};
 ghost use Rattle.drm_files.specs.Files.{client};
 ghost use Rattle.drm_table.specs.declared.events.Event.TheVariants.{Open};
-ghost use Rattle.drm_table.specs.declared.events.Opening.TheVariants.{Primary, Render};
+ghost use Rattle.drm_table.specs.declared.events.Opening.TheVariants.{Primary, Render, Lease};
 ghost use Rattle.drm_state.specs.Ties.{IsTied, IsReady};
 ghost use Rattle.drm_state.specs.Refinement.{Owes};
 
@@ -23,8 +23,7 @@ pub fn open(state: &mut State, birth: u32, opening: Opening) -> Result<Answer, A
     match opening {
         Opening::Primary { root } => open_primary(state, birth, root),
         Opening::Render => open_render(state, birth),
-        // no lease token is open
-        Opening::Lease { .. } => Ok(Answer::Denied(Rule::NoLeaseToken)),
+        Opening::Lease { token, root } => open_lease(state, birth, token, root),
     }
 }
 
@@ -57,6 +56,32 @@ fn open_render(state: &mut State, birth: u32) -> Result<Answer, AllocError>
         return Ok(Answer::Denied(Rule::Full));
     }
     open_file(&mut state.files, birth, true, false, false)?;
+    Ok(Answer::Opened { client: birth })
+}
+
+/// The client of a lessee that nobody redeemed, by the lessee's open token, which is spent (drm-uapi, leases; the token is own).
+fn open_lease(state: &mut State, birth: u32, token: u32, root: bool) -> Result<Answer, AllocError>
+    requires { IsReady state.old birth }
+    ensures owes { Owes state.old birth (Open (Lease token root)) result state.new }
+    ensures tied { IsTied state.new }
+{
+    let Some(number) = state.leases.token_master(token) else {
+        return Ok(Answer::Denied(Rule::NoLeaseToken));
+    };
+    if state.files.is_full() {
+        return Ok(Answer::Denied(Rule::Full));
+    }
+    let Some(lessee) = state.masters.master(number) else {
+        unreachable!()
+    };
+    open_file(&mut state.files, birth, false, root, true)?;
+    if let Err(NoMemory) = state.masters.on_redeem(birth, lessee.key) {
+        let _rest = state.files.close(birth);
+        return Err(AllocError);
+    }
+    let _spent = state.leases.redeem(token);
+    state.masters.laws();
+    state.leases.laws();
     Ok(Answer::Opened { client: birth })
 }
 

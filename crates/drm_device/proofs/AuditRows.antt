@@ -1,5 +1,5 @@
 -- The rows of an audit, by the parts that stand for them.
-use Rattle.std.proofs.Common.{◌≡◌, ℕ, zero, suc, ◌+◌, ◌==◌, ◌<◌, ◌≤◌, Bool, true, false, cond, not, List, ◌++◌, filter, length, [], ◌∷◌, map, find, Option, Some, None, refl, sym, ◌∙◌, ap, subst, arith, eq-eqb}
+use Rattle.std.proofs.Common.{◌≡◌, ℕ, zero, suc, ◌+◌, ◌==◌, ◌<◌, ◌≤◌, Bool, true, false, cond, not, List, ◌++◌, filter, length, [], ◌∷◌, map, find, Option, Some, None, refl, sym, ◌∙◌, ap, subst, arith, eq-eqb, inl, inr}
 use Rattle.std.specs.Prelude.{slice_get}
 use Rattle.std.specs.List.{AllByRecursion}
 use Rattle.std.specs.Option.{option_map, option_map_or}
@@ -28,14 +28,16 @@ use Rattle.drm_files.specs.declared.rows.FileHold.{FileHold}
 use Rattle.drm_files.specs.Files.{hold_before}
 use Rattle.drm_model.specs.Rows.{Rows, TokenRow, FramebufferRow}
 use Rattle.drm_model.specs.Births.{MadeInTurn}
-use Rattle.drm_model.specs.Audit.{audit_row, or_zero, is_before, client_audit, master_audit, object_audit, hold_audit, name_audit, token_audit, framebuffer_audit, shown_audit, hold_count, reference_count, audit_rows, rising_rows}
+use Rattle.drm_model.specs.Audit.{audit_row, or_zero, is_before, client_audit, master_audit, object_audit, hold_audit, name_audit, token_audit, framebuffer_audit, grant_audit, shown_audit, hold_count, reference_count, audit_rows, rising_rows}
 use Rattle.drm_model.proofs.Orders.{is_row, order_of_rows}
 use Rattle.drm_masters.specs.declared.rows.Master.{Master}
+use Rattle.drm_leases.specs.declared.rows.Grant.{Grant}
+use Rattle.drm_leases.specs.Leases.{grant_before}
 use Rattle.drm_state.specs.declared.state.State.{State}
-use Rattle.drm_state.specs.Parts.{client_row_of, master_row_of, object_row_of, hold_row_of, holds_of, name_row_of, names_of, token_row_of, tokens_of, framebuffer_row_of, framebuffers_of, shown_row_of, shown_of, birth_at, keys_of, referring_keys}
+use Rattle.drm_state.specs.Parts.{client_row_of, master_row_of, object_row_of, hold_row_of, holds_of, name_row_of, names_of, token_row_of, tokens_of, grant_row_of, grants_of, framebuffer_row_of, framebuffers_of, shown_row_of, shown_of, birth_at, keys_of, referring_keys}
 use Rattle.drm_state.specs.Ties.{IsTied, Counts}
 use Rattle.drm_device.specs.Audits.{StandsAfter}
-use Rattle.drm_state.proofs.Represented.{clients_are, masters_are, holds_are, objects_are, names_are, tokens_are, framebuffers_are, shown_are, modes_so, device_master_is, last_token_is, last_lease_token_none, holds_rise, objects_counted}
+use Rattle.drm_state.proofs.Represented.{clients_are, masters_are, holds_are, objects_are, names_are, tokens_are, grants_are, framebuffers_are, shown_are, modes_so, leases_so, device_master_is, last_token_is, last_lease_token_is, holds_rise, objects_counted}
 use Rattle.drm_state.proofs.Naming.{references, references_by, holds_counted, count_numbers}
 
 before-less : (x y : AuditRow) → x.a < y.a → is_before x y ≡ true
@@ -49,9 +51,9 @@ pub client_rows : (s : State) (steps : ℕ) (w : Rows) → StandsAfter s steps w
 unfolding audit_rows
 client_rows s steps w h = by_number (client_audit w) w.clients w.steps h.births.0 ∙ ap (map (client_audit w)) (clients_are s w h.rows) ∙ map-map (client_audit w) (client_row_of s.masters.members) s.files.clients
 
-pub master_rows : (s : State) (steps : ℕ) (w : Rows) → StandsAfter s steps w → rising_rows (audit_rows w kinds.Master) ≡ map (λ (x : Master). master_audit (master_row_of x)) s.masters.masters
+pub master_rows : (s : State) (steps : ℕ) (w : Rows) → StandsAfter s steps w → rising_rows (audit_rows w kinds.Master) ≡ map (λ (x : Master). master_audit (master_row_of s.leases.tokens x)) s.masters.masters
 unfolding audit_rows
-master_rows s steps w h = by_number master_audit w.masters w.steps h.births.1 ∙ ap (map master_audit) (masters_are s w h.rows) ∙ map-map master_audit master_row_of s.masters.masters
+master_rows s steps w h = by_number master_audit w.masters w.steps h.births.1 ∙ ap (map master_audit) (masters_are s w h.rows) ∙ map-map master_audit (master_row_of s.leases.tokens) s.masters.masters
 
 object_rows : (s : State) (steps : ℕ) (w : Rows) → StandsAfter s steps w → rising_rows (audit_rows w kinds.Object) ≡ map (λ (x : Object). object_audit w (object_row_of x)) s.objects.objects
 unfolding audit_rows
@@ -154,9 +156,17 @@ pub shown_audits : (s : State) (steps : ℕ) (w : Rows) → StandsAfter s steps 
 unfolding audit_rows
 shown_audits s steps w h = rising_by shown_audit shown_row_of (λ x y. x.shower < y.shower) shown-rises w.shown (shown_rows s.modes) (lit_rise 1 s.modes.screens) (shown_are s w h.rows)
 
-pub device_rows : (s : State) (steps : ℕ) (w : Rows) → StandsAfter s steps w → rising_rows (audit_rows w kinds.Device) ≡ audit_row (or_zero s.masters.device_master) (or_zero s.tokens.last_given) 0 steps ∷ []
+grant-rises : (g h : Grant) → grant_before g h → RisesTo is_before (grant_audit (grant_row_of g)) (grant_audit (grant_row_of h))
+grant-rises g h (inl lt) = (grind (arith, nat_tests), grind (arith, nat_tests))
+grant-rises g h (inr k) = let same = k.0 in let lt = k.1 in (grind (arith, nat_tests), grind (arith, nat_tests))
+
+pub grant_rows : (s : State) (steps : ℕ) (w : Rows) → IsTied s → StandsAfter s steps w → rising_rows (audit_rows w kinds.Grant) ≡ map grant_audit (grants_of s)
+unfolding audit_rows
+grant_rows s steps w t h = rising_by grant_audit grant_row_of grant_before grant-rises w.grants s.leases.grants (leases_so s t).grants_rise (grants_are s w h.rows)
+
+pub device_rows : (s : State) (steps : ℕ) (w : Rows) → StandsAfter s steps w → rising_rows (audit_rows w kinds.Device) ≡ audit_row (or_zero s.masters.device_master) (or_zero s.tokens.last_given) (or_zero s.leases.last_given) steps ∷ []
 unfolding audit_rows sorted_by
-device_rows s steps w h = rw (device_master_is s w h.rows, last_token_is s w h.rows, last_lease_token_none s w h.rows, h.steps_are) refl
+device_rows s steps w h = rw (device_master_is s w h.rows, last_token_is s w h.rows, last_lease_token_is s w h.rows, h.steps_are) refl
 
 -- ---- of a handle at a place
 
@@ -197,3 +207,6 @@ framebuffer_there objects fs i x n e k =
 
 pub shown_there : (xs : List Shown) (i : ℕ) (x : Shown) → slice_get xs i ≡ Some x → Some (audit_row x.shower x.framebuffer 0 0) ≡ slice_get (map shown_audit (map shown_row_of xs)) i
 shown_there xs i x e = sym (slice_get-map shown_audit (map shown_row_of xs) i ∙ ap (option_map shown_audit) (slice_get-map shown_row_of xs i ∙ ap (option_map shown_row_of) e))
+
+pub grant_there : (xs : List Grant) (i : ℕ) (x : Grant) → slice_get xs i ≡ Some x → Some (audit_row x.master x.mode_object 0 0) ≡ slice_get (map grant_audit (map grant_row_of xs)) i
+grant_there xs i x e = sym (slice_get-map grant_audit (map grant_row_of xs) i ∙ ap (option_map grant_audit) (slice_get-map grant_row_of xs i ∙ ap (option_map grant_row_of) e))

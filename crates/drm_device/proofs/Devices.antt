@@ -1,14 +1,16 @@
 -- What is true of a device's fields, and of the fields after a step.
-use Rattle.std.proofs.Common.{◌≡◌, ℕ, zero, suc, replicate, Ok, ◌+◌, ◌-◌, ◌<◌, ◌≤◌, ◌&&◌, true, false, not, refl, sym, ap, ◌∙◌, arith, subst, length, map, [], ◌∷◌, ◌++◌, nat_le, nat_lt, None, Some, filter}
-use Rattle.std.specs.List.{filter_map, AllByRecursion}
+use Rattle.std.proofs.Common.{◌≡◌, ℕ, zero, suc, replicate, Ok, ◌+◌, ◌-◌, ◌<◌, ◌≤◌, ◌&&◌, ◌||◌, Bool, true, false, not, List, Option, find, refl, sym, ap, ◌∙◌, arith, subst, length, map, [], ◌∷◌, ◌++◌, nat_le, nat_lt, None, Some, filter}
+use Rattle.std.specs.List.{filter_map, list_any, AllByRecursion}
+use Rattle.std.specs.Option.{is_some, option_and_then}
 use Rattle.std.specs.Vec.{vec_len, vec_capacity}
 use Rattle.std.specs.Global.{Vec}
-use Rattle.std.proofs.lemmas.Bool.{leb-true, and_parts}
+use Rattle.std.proofs.lemmas.Bool.{leb-true, eqb-true, and_parts}
 use Rattle.std.proofs.lemmas.Bool.Decides.{nat_tests}
 use Rattle.drm_lists.specs.Orders.{InOrder}
 use Rattle.std.specs.Prelude.{unwrap_or}
 use Rattle.std.proofs.lemmas.List.{length-map}
-use Rattle.drm_lists.proofs.Orders.{same-length}
+use Rattle.drm_lists.proofs.Orders.{same-any, same-length}
+use Rattle.drm_lists.proofs.Rising.{found}
 use Rattle.drm_lists.proofs.Lists.{all_weaker, all_of_map}
 use Rattle.drm_gem.specs.declared.object.Object.{Object}
 use Rattle.drm_gem.specs.Objects.{ObjectSet}
@@ -23,7 +25,7 @@ use Rattle.drm_table.specs.declared.limits.Limits.{Limits}
 use Rattle.drm_table.specs.Limits.{are_in_range, is_between}
 use Rattle.drm_share.specs.Names.{NameList, empty_names}
 use Rattle.drm_share.specs.Tokens.{TokenList, empty_tokens}
-use Rattle.drm_model.specs.Rows.{Rows, ClientRow, MasterRow, ObjectRow, empty_rows}
+use Rattle.drm_model.specs.Rows.{Rows, ClientRow, MasterRow, ObjectRow, GrantRow, empty_rows}
 use Rattle.drm_modes.specs.Topology.{Topology, IsTopology}
 use Rattle.drm_table.specs.Results.{IsFew}
 use Rattle.drm_model.specs.Reply.{reply}
@@ -32,19 +34,24 @@ use Rattle.drm_modes.specs.Modes.{ModeSet, AreModes, empty_modes, screen_count, 
 use Rattle.drm_model.specs.Change.{after}
 use Rattle.drm_model.specs.Run.{FoundRoom, places_left, run, rows_of, noted_in, no_room, start_of}
 use Rattle.drm_model.proofs.Births.{births_rise}
+use Rattle.drm_model.specs.Births.{GrantsMade}
 use Rattle.drm_model.proofs.Counts.{few_rows}
+use Rattle.drm_model.proofs.Grants.{grants_made}
 use Rattle.drm_model.proofs.Journals.{found_room_push, rows_noted, after-topology, after-steps, rows_of-topology, rows_of-limits, rows_of-steps, room_after}
 use Rattle.drm_device.specs.declared.device.Device.TheInside.{Inside}
 use Rattle.drm_masters.specs.declared.rows.Master.{Master}
 use Rattle.drm_masters.specs.declared.rows.Member.{Member}
-use Rattle.drm_masters.specs.Masters.{MasterSet, AreMasters}
+use Rattle.drm_masters.specs.Masters.{MasterSet, AreMasters, is_birth, is_lessee}
+use Rattle.drm_leases.specs.declared.rows.LeaseToken.{LeaseToken}
+use Rattle.drm_leases.specs.Leases.{LeaseSet, AreLeases, no_leases}
+use Rattle.drm_leases.specs.Calls.{IsNewLessee}
 use Rattle.drm_state.specs.declared.state.State.{State}
 use Rattle.drm_device.specs.Device.{history_of, IsDevice}
-use Rattle.drm_state.specs.Parts.{client_row_of, master_row_of, magic_row_of, object_row_of, hold_row_of, holds_of, name_row_of, token_row_of, tokens_of, framebuffer_row_of, framebuffers_of, shown_row_of, keys_of, token_keys, framebuffer_keys, referring, referring_keys}
-use Rattle.drm_state.specs.Ties.{Tie, MembersOpen, ClientsHave, MastersAre, NoneKept, MagicsSuffice, ModesAre, HasMaster, HoldsRise, ObjectsCounted, NamesHeld, is_tied, IsTied, IsLater, IsReady, AreTied, AreNamed}
-use Rattle.drm_model.specs.Parts.{Part, Bounds, Masters, Magics, Holds, Clients, Objects, Names, Tokens, Framebuffers, Shown, DeviceMaster, LastToken, count_in}
+use Rattle.drm_state.specs.Parts.{client_row_of, master_row_of, magic_row_of, object_row_of, hold_row_of, holds_of, name_row_of, token_row_of, tokens_of, grant_row_of, grants_of, framebuffer_row_of, framebuffers_of, shown_row_of, keys_of, token_keys, framebuffer_keys, referring, referring_keys}
+use Rattle.drm_state.specs.Ties.{Tie, MembersOpen, ClientsHave, MastersAre, MagicsSuffice, LesseesFew, LeasesAre, TokensOfLessees, KeptHaveTokens, ModesAre, HasMaster, HoldsRise, ObjectsCounted, NamesHeld, is_tied, IsTied, IsLater, IsReady, AreTied, AreNamed, AreOfLessees, AreKeptBy}
+use Rattle.drm_model.specs.Parts.{Part, Bounds, Masters, Magics, Holds, Clients, Objects, Names, Tokens, Grants, Framebuffers, Shown, DeviceMaster, LastToken, LastLeaseToken, count_in}
 use Rattle.drm_state.specs.Refinement.{stands_for, Represents, Stands}
-use Rattle.drm_state.proofs.Represented.{bounds_are, clients_are, masters_are, holds_are, objects_are, tokens_are, framebuffers_are, modes_so}
+use Rattle.drm_state.proofs.Represented.{bounds_are, clients_are, masters_are, holds_are, objects_are, tokens_are, grants_are, framebuffers_are, modes_so, tokens_of_lessees}
 use Rattle.drm_state.proofs.Outcomes.{represented_count}
 use Rattle.drm_state.proofs.Lookups.{is_open_is}
 
@@ -160,6 +167,10 @@ framebuffers_between limits h =
     let before_lessees = (and_parts _ _ before_journal).0 in
     (and_parts _ (is_between 1 64 limits.framebuffers) before_lessees).1
 
+pub few_lessees_allowed : (limits : Limits) → are_in_range limits ≡ true → limits.lessees ≤ 64
+unfolding are_in_range
+few_lessees_allowed limits h = at_most 1 64 limits.lessees (and_parts _ (is_between 1 64 limits.lessees) (and_parts _ _ h).0).1
+
 pub some_framebuffers : (limits : Limits) → are_in_range limits ≡ true → 1 ≤ limits.framebuffers
 some_framebuffers limits h = at_least 1 64 limits.framebuffers (framebuffers_between limits h)
 
@@ -184,11 +195,14 @@ no_masters clients lessees = record { members = []; masters = []; device_master 
 pub record IsStart (s : State) (t : Topology) (limits : Limits) : Type 0 where
   pub files : s.files ≡ empty_files limits.clients limits.handles
   pub masters : s.masters ≡ no_masters limits.clients limits.lessees
+  pub leases : s.leases ≡ no_leases limits.tokens
   pub objects : s.objects ≡ record { limit = limits.objects; objects = [] }
   pub names : s.names ≡ empty_names limits.names
   pub tokens : s.tokens ≡ empty_tokens limits.tokens
   pub modes : s.modes ≡ empty_modes t limits.framebuffers
   pub modes_are : AreModes s.modes
+  pub leases_are : AreLeases s.leases
+  pub lessees_few : limits.lessees ≤ 64
 
 -- all is dark
 all_dark : (x n : ℕ) → lit_rows x (replicate n 0) ≡ []
@@ -197,9 +211,9 @@ all_dark x (suc n) = all_dark (x + 1) n
 
 start_represents : (t : Topology) (limits : Limits) (s : State) → IsStart s t limits → (part : Part) → stands_for part s (empty_rows t limits)
 unfolding stands_for
-start_represents t limits s is Bounds = (ap (λ (f : FileLists). f.limit) is.files, ap (λ (f : FileLists). f.last_handle) is.files, ap (λ (o : ObjectSet). o.limit) is.objects, ap (λ (l : NameList). l.last) is.names, ap (λ (l : TokenList). l.last) is.tokens, ap (λ (v : MasterSet). v.last_magic) is.masters, ap (λ (set : ModeSet). set.last) is.modes, ap (λ (set : ModeSet). set.topology) is.modes)
+start_represents t limits s is Bounds = (ap (λ (f : FileLists). f.limit) is.files, ap (λ (f : FileLists). f.last_handle) is.files, ap (λ (o : ObjectSet). o.limit) is.objects, ap (λ (l : NameList). l.last) is.names, ap (λ (l : TokenList). l.last) is.tokens, ap (λ (v : MasterSet). v.last_magic) is.masters, ap (λ (set : ModeSet). set.last) is.modes, ap (λ (set : ModeSet). set.topology) is.modes, ap (λ (v : MasterSet). v.last_lessee) is.masters, ap (λ (l : LeaseSet). l.last) is.leases)
 start_represents t limits s is Clients = sym (ap (λ (f : FileLists). map (client_row_of s.masters.members) f.clients) is.files)
-start_represents t limits s is Masters = sym (ap (λ (v : MasterSet). map master_row_of v.masters) is.masters)
+start_represents t limits s is Masters = sym (ap (λ (v : MasterSet). map (master_row_of s.leases.tokens) v.masters) is.masters)
 start_represents t limits s is Magics = λ test. sym (ap (λ (v : MasterSet). length (filter test (filter_map magic_row_of v.members))) is.masters)
 start_represents t limits s is Holds = λ test. sym (ap (λ (f : FileLists). length (filter test (map (hold_row_of s.objects.objects) f.holds))) is.files)
 start_represents t limits s is Objects = sym (ap (λ (o : ObjectSet). map object_row_of o.objects) is.objects)
@@ -207,9 +221,10 @@ start_represents t limits s is Names = λ test. sym (ap (λ (l : NameList). leng
 start_represents t limits s is Tokens = λ test. sym (ap (λ (l : TokenList). length (filter test (map (token_row_of s.objects.objects) l.tokens))) is.tokens)
 start_represents t limits s is Framebuffers = λ test. sym (ap (λ (set : ModeSet). length (filter test (map (framebuffer_row_of s.objects.objects) set.framebuffers))) is.modes)
 start_represents t limits s is Shown = λ test. sym (ap (λ (set : ModeSet). length (filter test (map shown_row_of (shown_rows set)))) is.modes ∙ ap (λ l. length (filter test (map shown_row_of l))) (all_dark 1 (screen_count t)))
+start_represents t limits s is Grants = λ test. sym (ap (λ (l : LeaseSet). length (filter test (map grant_row_of l.grants))) is.leases)
+start_represents t limits s is LastLeaseToken = sym (ap (λ (l : LeaseSet). unwrap_or l.last_given 0) is.leases)
 start_represents t limits s is LastToken = sym (ap (λ (l : TokenList). unwrap_or l.last_given 0) is.tokens)
 start_represents t limits s is DeviceMaster = sym (ap (λ (v : MasterSet). v.device_master) is.masters)
-start_represents t limits s is part = refl
 
 nobody : (clients lessees : ℕ) → AreMasters (no_masters clients lessees)
 nobody clients lessees = record { members_rise = tt; masters_rise = tt; lessors_older = tt; masters_there = tt; device_own = λ m e. absurd (let n : None ≡ Some m = e in cc); used = tt; magics_differ = tt; few = omega arith }
@@ -219,7 +234,10 @@ unfolding is_tied
 start_tied t limits s is MembersOpen = subst (λ (v : MasterSet). AllByRecursion (λ (x : Member). is_present s.files x.client ≡ true) v.members) (sym is.masters) tt
 start_tied t limits s is ClientsHave = subst (λ (f : FileLists). AllByRecursion (HasMaster s.masters) f.clients) (sym is.files) tt
 start_tied t limits s is MastersAre = subst AreMasters (sym is.masters) (nobody limits.clients limits.lessees)
-start_tied t limits s is NoneKept = subst (λ (v : MasterSet). AllByRecursion (λ (x : Master). x.kept ≡ false) v.masters) (sym is.masters) tt
+start_tied t limits s is LesseesFew = subst (λ (v : MasterSet). v.last_lessee ≤ 64) (sym is.masters) is.lessees_few
+start_tied t limits s is LeasesAre = is.leases_are
+start_tied t limits s is TokensOfLessees = subst (λ (l : LeaseSet). AreOfLessees l.tokens s.masters.masters) (sym is.leases) tt
+start_tied t limits s is KeptHaveTokens = subst (λ (v : MasterSet). AreKeptBy s.leases.tokens v.masters) (sym is.masters) tt
 start_tied t limits s is MagicsSuffice = ap (λ (v : MasterSet). v.last_magic) is.masters ∙ sym (ap (λ (f : FileLists). f.limit) is.files)
 start_tied t limits s is ModesAre = is.modes_are
 start_tied t limits s is HoldsRise = subst (λ (f : FileLists). InOrder (λ (x y : FileHold). hold_before x y ≡ true) f.holds) (sym is.files) tt
@@ -252,18 +270,22 @@ new_device d t good e room is =
 not_later : (n last : ℕ) → n ≤ last → n < last + 1
 not_later n last h = omega (arith, h)
 
+-- what is so of the fixed mode objects
+pub fixed_topology : (d : Inside) → IsDevice d → IsTopology (history_of d).topology
+fixed_topology d h = (modes_so d.state h.tied).topology
+
 -- a step makes one handle, one token and one framebuffer at most
-few_holds : (d : Inside) → length (rows_of (history_of d)).holds ≤ (rows_of (history_of d)).steps
+few_holds : (d : Inside) → IsDevice d → length (rows_of (history_of d)).holds ≤ (rows_of (history_of d)).steps
 unfolding count_in
-few_holds d = few_rows (history_of d) Holds
+few_holds d h = few_rows (history_of d) (fixed_topology d h) Holds
 
-few_tokens : (d : Inside) → length (rows_of (history_of d)).tokens ≤ (rows_of (history_of d)).steps
+few_tokens : (d : Inside) → IsDevice d → length (rows_of (history_of d)).tokens ≤ (rows_of (history_of d)).steps
 unfolding count_in
-few_tokens d = few_rows (history_of d) Tokens
+few_tokens d h = few_rows (history_of d) (fixed_topology d h) Tokens
 
-few_framebuffers : (d : Inside) → length (rows_of (history_of d)).framebuffers ≤ (rows_of (history_of d)).steps
+few_framebuffers : (d : Inside) → IsDevice d → length (rows_of (history_of d)).framebuffers ≤ (rows_of (history_of d)).steps
 unfolding count_in
-few_framebuffers d = few_rows (history_of d) Framebuffers
+few_framebuffers d h = few_rows (history_of d) (fixed_topology d h) Framebuffers
 
 framebuffers_many : (s : State) (w : Rows) → Represents s w → length w.framebuffers ≡ length s.modes.framebuffers
 framebuffers_many s w h = same-length w.framebuffers (framebuffers_of s) (framebuffers_are s w h) ∙ length-map s.modes.framebuffers (framebuffer_row_of s.objects.objects)
@@ -274,19 +296,50 @@ holds_many s w h = same-length w.holds (holds_of s) (holds_are s w h) ∙ length
 tokens_many : (s : State) (w : Rows) → Represents s w → length w.tokens ≡ length s.tokens.tokens
 tokens_many s w h = same-length w.tokens (tokens_of s) (tokens_are s w h) ∙ length-map s.tokens.tokens (token_row_of s.objects.objects)
 
+-- grants of masters up to a number, in any order
+none_over : (last : ℕ) (rows : List GrantRow) → AllByRecursion (λ (row : GrantRow). row.master ≤ last) rows → list_any (λ (row : GrantRow). nat_lt last row.master) rows ≡ false
+none_over last [] h = refl
+none_over last (row ∷ rows) h = let first = h.0 in let under : nat_lt last row.master ≡ false = grind (arith, nat_tests) in ap (λ b. b || list_any (λ (r : GrantRow). nat_lt last r.master) rows) under ∙ none_over last rows h.1
+
+all_under : (last : ℕ) (rows : List GrantRow) → list_any (λ (row : GrantRow). nat_lt last row.master) rows ≡ false → AllByRecursion (λ (row : GrantRow). row.master < last + 1) rows
+all_under last [] h = tt
+all_under last (row ∷ rows) h = let k = neither (nat_lt last row.master) (list_any (λ (r : GrantRow). nat_lt last r.master) rows) h in let first = k.0 in (grind (arith, nat_tests), all_under last rows k.1)
+  where
+    neither : (a b : Bool) → (a || b) ≡ false → (a ≡ false) × (b ≡ false)
+    neither true b e = absurd (let n : true ≡ false = e in cc)
+    neither false b e = (refl, e)
+
+-- a lessee is a master that is there
+lessee_made : (last m : ℕ) (ms : List Master) → AllByRecursion (λ (x : Master). x.birth < last + 1) ms → is_lessee ms m ≡ true → m < last + 1
+lessee_made last m ms h e = by_row (find (is_birth m) ms) refl e
+  where
+    by_row : (o : Option Master) → find (is_birth m) ms ≡ o → is_some (option_and_then (λ (x : Master). x.lessor) o) ≡ true → m < last + 1
+    by_row None k j = absurd (let n : false ≡ true = j in cc)
+    by_row (Some x) k j = let it = found (is_birth m) (λ (x : Master). x.birth < last + 1) x ms h k in subst (λ n. n < last + 1) (eqb-true x.birth m it.0) it.1
+
+-- the lessees of tokens and grants were made
+leases_later : (s : State) (w : Rows) → IsTied s → Represents s w → GrantsMade w.steps w → AllByRecursion (λ (x : Master). x.birth < w.steps + 1) s.masters.masters → IsNewLessee s.leases (w.steps + 1)
+leases_later s w t h made older = record {
+  tokens = all_weaker (λ (row : LeaseToken). is_lessee s.masters.masters row.master ≡ true) (λ (row : LeaseToken). row.master < w.steps + 1) (λ row e. lessee_made w.steps row.master s.masters.masters older e) s.leases.tokens (tokens_of_lessees s t);
+  grants = all_of_map (λ (row : GrantRow). row.master < w.steps + 1) grant_row_of s.leases.grants
+      (all_under w.steps (grants_of s) (sym (same-any (λ (row : GrantRow). nat_lt w.steps row.master) w.grants (grants_of s) (grants_are s w h)) ∙ none_over w.steps w.grants made));
+}
+
 -- it is later than all that is there
 pub ready : (d : Inside) (n : ℕ) → IsDevice d → n ≡ vec_len d.journal → IsReady d.state (n + 1)
 ready d n h e =
     let w = rows_of (history_of d) in
     let steps : w.steps ≡ n = rows_of-steps (history_of d) ∙ sym d.journal.ok.0 ∙ sym e in
     let births = births_rise (history_of d) in
+    let masters = all_weaker (λ (x : Master). x.birth ≤ w.steps) (λ (x : Master). x.birth < w.steps + 1) (λ x k. not_later x.birth w.steps k) d.state.masters.masters (all_of_map (λ (row : MasterRow). row.master ≤ w.steps) (master_row_of d.state.leases.tokens) d.state.masters.masters (subst (AllByRecursion (λ (row : MasterRow). row.master ≤ w.steps)) (masters_are d.state w h.rows) births.1.1)) in
     let later : IsLater d.state (w.steps + 1) = record {
       clients = all_weaker (λ (f : FileClient). f.client ≤ w.steps) (λ (f : FileClient). f.client < w.steps + 1) (λ f k. not_later f.client w.steps k) d.state.files.clients (all_of_map (λ (row : ClientRow). row.client ≤ w.steps) (client_row_of d.state.masters.members) d.state.files.clients (subst (AllByRecursion (λ (row : ClientRow). row.client ≤ w.steps)) (clients_are d.state w h.rows) births.0.1));
       objects = all_weaker (λ (x : Object). x.birth ≤ w.steps) (λ (x : Object). x.birth < w.steps + 1) (λ x k. not_later x.birth w.steps k) d.state.objects.objects (all_of_map (λ (row : ObjectRow). row.object ≤ w.steps) object_row_of d.state.objects.objects (subst (AllByRecursion (λ (row : ObjectRow). row.object ≤ w.steps)) (objects_are d.state w h.rows) births.2.1));
-      masters = all_weaker (λ (x : Master). x.birth ≤ w.steps) (λ (x : Master). x.birth < w.steps + 1) (λ x k. not_later x.birth w.steps k) d.state.masters.masters (all_of_map (λ (row : MasterRow). row.master ≤ w.steps) master_row_of d.state.masters.masters (subst (AllByRecursion (λ (row : MasterRow). row.master ≤ w.steps)) (masters_are d.state w h.rows) births.1.1));
-      holds = not_later (length d.state.files.holds) w.steps (subst (λ n. n ≤ w.steps) (holds_many d.state w h.rows) (few_holds d));
-      tokens = not_later (length d.state.tokens.tokens) w.steps (subst (λ n. n ≤ w.steps) (tokens_many d.state w h.rows) (few_tokens d));
-      framebuffers = not_later (length d.state.modes.framebuffers) w.steps (subst (λ n. n ≤ w.steps) (framebuffers_many d.state w h.rows) (few_framebuffers d));
+      masters = masters;
+      leases = leases_later d.state w h.tied h.rows (grants_made (history_of d)) masters;
+      holds = not_later (length d.state.files.holds) w.steps (subst (λ n. n ≤ w.steps) (holds_many d.state w h.rows) (few_holds d h));
+      tokens = not_later (length d.state.tokens.tokens) w.steps (subst (λ n. n ≤ w.steps) (tokens_many d.state w h.rows) (few_tokens d h));
+      framebuffers = not_later (length d.state.modes.framebuffers) w.steps (subst (λ n. n ≤ w.steps) (framebuffers_many d.state w h.rows) (few_framebuffers d h));
     } in
     record { tied = h.tied; later = subst (λ last. IsLater d.state (last + 1)) steps later; first = omega arith; fits = let places = h.places in let journal = h.journal_fits in omega (arith, e, places, journal) }
 

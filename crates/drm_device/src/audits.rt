@@ -1,22 +1,25 @@
 //! AUDIT: the rows of a kind, in pages.
 
-ghost use Rattle.std.specs.Prelude.{◌≡◌, ◌≤◌, ℕ, false, Ok, [], map, slice_get, if◌then◌else◌};
+ghost use Rattle.std.specs.Prelude.{◌≡◌, ◌≤◌, ℕ, List, false, Ok, [], map, slice_get, if◌then◌else◌};
 ghost use Rattle.drm_table.specs.declared.calls.Call.TheVariants.{Audit};
 ghost use Rattle.drm_model.specs.Rows.{Rows};
 ghost use Rattle.drm_model.specs.Audit as model;
 ghost use Rattle.std.specs.Option.{option_map, option_map_or, option_and_then};
 ghost use Rattle.drm_model.specs.Rows.{magic_row};
-ghost use Rattle.drm_model.specs.Audit.{audit_row, client_audit, framebuffer_audit, hold_audit, master_audit, name_audit, shown_audit, token_audit};
+ghost use Rattle.drm_model.specs.Audit.{audit_row, client_audit, framebuffer_audit, grant_audit, hold_audit, master_audit, name_audit, shown_audit, token_audit};
 ghost use Rattle.drm_share.specs.Names.{AreNames};
 ghost use Rattle.drm_share.specs.Tokens.{AreTokens};
 ghost use Rattle.drm_modes.specs.Modes.{shown_rows};
-ghost use Rattle.drm_state.specs.Parts.{client_row_by, magic_row_of, master_row_of, framebuffers_of, holds_of, names_of, shown_row_of, tokens_of};
+ghost use Rattle.drm_leases.specs.declared.rows.LeaseToken.{LeaseToken};
+ghost use Rattle.drm_leases.specs.Leases.{token_of};
+ghost use Rattle.drm_state.specs.Parts.{client_row_by, grant_row_of, magic_row_of, master_row_of, framebuffers_of, holds_of, names_of, shown_row_of, tokens_of};
 ghost use Rattle.drm_state.specs.Ties.{IsTied};
 ghost use Rattle.drm_state.specs.Refinement.{OwesCall};
 ghost use Rattle.drm_device.specs.Audits.{IsPage, IsRowAt};
 
 use drm_files::FileClient;
 use drm_gem::Object;
+use drm_leases::Leases;
 use drm_masters::{Magic, Master, Member};
 use drm_modes::Modes;
 use drm_state::State;
@@ -61,7 +64,10 @@ fn row_at(state: &State, steps: u32, kind: AuditKind, place: usize) -> Option<Au
             let file = state.files.nth_client(place)?;
             Some(client_row(file, state.masters.member(file.client)))
         }
-        AuditKind::Master => Some(master_row(state.masters.nth_master(place)?)),
+        AuditKind::Master => {
+            let master = state.masters.nth_master(place)?;
+            Some(master_row(master, state.leases.token_of(master.birth)))
+        }
         AuditKind::Object => Some(object_row(state.objects.nth(place)?)),
         AuditKind::Name => name_at(state, place),
         AuditKind::Token => token_at(state, place),
@@ -69,14 +75,16 @@ fn row_at(state: &State, steps: u32, kind: AuditKind, place: usize) -> Option<Au
         AuditKind::Framebuffer => framebuffer_at(state, place),
         AuditKind::Shown => shown_at(&state.modes, place),
         AuditKind::Device => {
-            let last_token = state.tokens.last_given();
+            let tokens = LastTokens {
+                token: state.tokens.last_given(),
+                lease_token: state.leases.last_given(),
+            };
             item_at(
-                &[device_row(state.masters.device_master(), last_token, steps)],
+                &[device_row(state.masters.device_master(), tokens, steps)],
                 place,
             )
         }
-        // no call makes these yet
-        AuditKind::Grant => None,
+        AuditKind::Grant => grant_at(&state.leases, place),
     }
 }
 
@@ -159,14 +167,15 @@ fn number_of(magic: Option<Magic>) -> u64
     }
 }
 
-fn master_row(master: Master) -> AuditRow
-    ensures { result ≡ master_audit (master_row_of master) }
+/// What is told of a master, and of the lease token that opens a client of it.
+fn master_row(master: Master, token: Option<u32>) -> AuditRow
+    ensures { (tokens : List LeaseToken) → token ≡ token_of tokens master.birth → result ≡ master_audit (master_row_of tokens master) }
 {
     AuditRow {
         a: master.birth as u64,
         b: or_zero(master.lessor),
         c: master.lessee_id as u64,
-        d: 0,
+        d: or_zero(token),
     }
 }
 
@@ -253,14 +262,34 @@ fn shown_at(modes: &Modes, place: usize) -> Option<AuditRow>
     })
 }
 
+/// What is told of the grant at a place, from 0, in the order of masters and mode objects; none past the last.
+fn grant_at(leases: &Leases, place: usize) -> Option<AuditRow>
+    ensures { result ≡ slice_get (map grant_audit (map grant_row_of leases.now.grants)) place }
+{
+    let grant = leases.nth_grant(place)?;
+    Some(AuditRow {
+        a: grant.master as u64,
+        b: grant.mode_object as u64,
+        c: 0,
+        d: 0,
+    })
+}
+
+/// The last PRIME token and the last lease token given, if any was.
+#[derive(Clone, Copy)]
+struct LastTokens {
+    token: Option<u32>,
+    lease_token: Option<u32>,
+}
+
 /// What is told of the device.
-fn device_row(device_master: Option<u32>, last_token: Option<u32>, steps: u32) -> AuditRow
-    ensures { result ≡ audit_row (model.or_zero device_master) (model.or_zero last_token) 0 steps }
+fn device_row(device_master: Option<u32>, last: LastTokens, steps: u32) -> AuditRow
+    ensures { result ≡ audit_row (model.or_zero device_master) (model.or_zero last.token) (model.or_zero last.lease_token) steps }
 {
     AuditRow {
         a: or_zero(device_master),
-        b: or_zero(last_token),
-        c: 0,
+        b: or_zero(last.token),
+        c: or_zero(last.lease_token),
         d: steps as u64,
     }
 }

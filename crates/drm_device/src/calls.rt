@@ -13,6 +13,7 @@ use crate::mode_calls::mode_call;
 use drm_buffer_calls::{
     Pixels, buf_create, create_dumb, gem_close, list_handles, stamp_read, stamp_write,
 };
+use drm_lease_calls::{create_lease, get_lease, list_lessees, revoke_lease};
 use drm_master_calls::{auth_magic, drop_master, get_magic, set_master};
 use drm_share_calls::{gem_flink, gem_open, prime_export, prime_import, token_close};
 use drm_state::State;
@@ -109,6 +110,10 @@ fn carry_out(state: &mut State, birth: u32, client: u32, call: &Call) -> Result<
             create_dumb(state, birth, client, pixels)
         }
         Call::DestroyDumb { handle } => Ok(gem_close(state, client, *handle)),
+        Call::CreateLease { ids } => create_lease(state, birth, client, ids),
+        Call::ListLessees => Ok(list_lessees(state, client)),
+        Call::GetLease => Ok(get_lease(state, client)),
+        Call::RevokeLease { lessee } => Ok(revoke_lease(state, client, *lessee)),
         Call::GetResources
         | Call::GetPlaneResources
         | Call::GetCrtc { .. }

@@ -10,6 +10,7 @@ use crate::audits::page_of;
 use crate::events::advance;
 use drm_files::Files;
 use drm_gem::Objects;
+use drm_leases::Leases;
 use drm_masters::Masters;
 use drm_modes::{Modes, Topology};
 use drm_share::{Names, Tokens};
@@ -63,12 +64,15 @@ impl Device {
         };
         let modes = Modes::new(alloc, topology, limits.framebuffers);
         modes.laws();
+        let leases = Leases::new(alloc, limits.tokens);
+        leases.laws();
         Ok(Device {
             limits,
             journal,
             state: State {
                 files: Files::new(alloc, limits.clients, limits.handles),
                 masters: Masters::new(alloc, limits.clients, limits.lessees),
+                leases,
                 objects: Objects::new(alloc, limits.objects),
                 names: Names::new(alloc, limits.names),
                 tokens: Tokens::new(alloc, limits.tokens),

@@ -17,6 +17,8 @@ pub use replays::{ReplayFault, replay};
 #[cfg(test)]
 mod buffer_tests;
 #[cfg(test)]
+mod lease_tests;
+#[cfg(test)]
 mod master_tests;
 #[cfg(test)]
 mod mode_tests;

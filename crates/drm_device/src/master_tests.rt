@@ -17,7 +17,7 @@ pub(crate) const fn auth_magic(client: u32, magic: u32) -> Event {
     Event::Ask(client, Call::AuthMagic { magic })
 }
 
-const fn set_master(client: u32) -> Event {
+pub(crate) const fn set_master(client: u32) -> Event {
     Event::Ask(client, Call::SetMaster)
 }
 

@@ -11,15 +11,15 @@ use drm_table::{Answer, Apart, AuditKind, Call, Event, Limits, Rule, ShownList};
 use std::process::Abort;
 use std::test::Fail;
 
-const fn get_resources(client: u32) -> Event {
+pub(crate) const fn get_resources(client: u32) -> Event {
     Event::Ask(client, Call::GetResources)
 }
 
-const fn get_plane_resources(client: u32) -> Event {
+pub(crate) const fn get_plane_resources(client: u32) -> Event {
     Event::Ask(client, Call::GetPlaneResources)
 }
 
-const fn get_crtc(client: u32, crtc: u32) -> Event {
+pub(crate) const fn get_crtc(client: u32, crtc: u32) -> Event {
     Event::Ask(client, Call::GetCrtc { crtc })
 }
 
@@ -34,7 +34,7 @@ pub(crate) const fn set_crtc(client: u32, crtc: u32, framebuffer: u32, connector
     )
 }
 
-const fn get_encoder(client: u32, encoder: u32) -> Event {
+pub(crate) const fn get_encoder(client: u32, encoder: u32) -> Event {
     Event::Ask(client, Call::GetEncoder { encoder })
 }
 
@@ -75,7 +75,7 @@ const fn add_fb(client: u32, width: u32, height: u32, pitch: u32, bpp: u32, hand
 }
 
 /// A framebuffer of one pixel.
-const fn add_pixel(client: u32, handle: u32) -> Event {
+pub(crate) const fn add_pixel(client: u32, handle: u32) -> Event {
     add_fb(client, 1, 1, 4, 32, handle)
 }
 
@@ -109,7 +109,7 @@ const fn pixel_is(handle: u32) -> Result<Answer, Apart> {
 }
 
 /// The first 64 of these ids.
-fn shown(ids: &[u32]) -> ShownList {
+pub(crate) fn shown(ids: &[u32]) -> ShownList {
     let mut list = ShownList::new();
     for id in ids {
         if list.ids().len() < 64 {
@@ -119,7 +119,7 @@ fn shown(ids: &[u32]) -> ShownList {
     list
 }
 
-fn list_of(ids: &[u32]) -> Result<Answer, Apart> {
+pub(crate) fn list_of(ids: &[u32]) -> Result<Answer, Apart> {
     Ok(Answer::List { list: shown(ids) })
 }
 

@@ -53,7 +53,7 @@ pub(crate) const fn denied(rule: Rule) -> Result<Answer, Apart> {
 }
 
 /// Two CRTCs, a plane and a connector for each, and two encoders, of which the first may drive both.
-fn test_topology() -> Option<Topology> {
+pub(crate) fn test_topology() -> Option<Topology> {
     Topology::new(2, &[1, 2], &[3, 2], &[5, 6])
 }
 

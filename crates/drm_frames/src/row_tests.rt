@@ -5,7 +5,7 @@ ghost use Rattle.drm_frames.specs.Requests.{IsOfRow};
 
 use crate::frame_tests::{answer_in, call_in, check_answer, frame_in};
 use crate::{Frame, answer_of, call_of, encode_call};
-use drm_table::{Answer, Apart, Call, ShownList};
+use drm_table::{Answer, Apart, Call, IdList, ShownList};
 use std::process::Abort;
 
 fn check_call(rt: &impl Abort, bytes: &[u8], call: Call)
@@ -183,9 +183,81 @@ fn calls_that_set_modes_have_their_bytes(rt: HostRuntime) {
     );
 }
 
+/// The first 32 of these ids.
+fn named(ids: &[u32]) -> IdList {
+    let mut list = IdList::new();
+    for id in ids {
+        if list.ids().len() < 32 {
+            list.push(*id);
+        }
+    }
+    list
+}
+
+#[test]
+fn calls_of_leases_have_their_bytes(rt: HostRuntime) {
+    check_call(
+        &rt,
+        &[
+            18, 0, 0, 0, 0xC6, 0, 3, 0, 0, 0, 2, 0, 0, 0, 4, 0, 0, 0, 8, 0, 0, 0,
+        ],
+        Call::CreateLease {
+            ids: named(&[2, 4, 8]),
+        },
+    );
+    check_call(
+        &rt,
+        &[6, 0, 0, 0, 0xC6, 0, 0, 0, 0, 0],
+        Call::CreateLease { ids: named(&[]) },
+    );
+    check_call(&rt, &[2, 0, 0, 0, 0xC7, 0], Call::ListLessees);
+    check_call(&rt, &[2, 0, 0, 0, 0xC8, 0], Call::GetLease);
+    check_call(
+        &rt,
+        &[6, 0, 0, 0, 0xC9, 0, 2, 1, 0, 4],
+        Call::RevokeLease { lessee: 67_109_122 },
+    );
+}
+
+#[test]
+fn lease_of_32_ids_has_its_bytes(rt: HostRuntime) {
+    let mut ids = [0; 32];
+    let mut bytes = [0; 138];
+    bytes[0] = 134;
+    bytes[4] = 0xC6;
+    bytes[6] = 32;
+    for number in 0..32u8 {
+        let place = usize::from(number);
+        ids[place] = u32::from(number) + 1;
+        bytes[10 + 4 * place] = number + 1;
+    }
+    check_call(&rt, &bytes, Call::CreateLease { ids: named(&ids) });
+}
+
+#[test]
+fn other_lists_of_ids_have_another_layout(rt: HostRuntime) {
+    let mut many = [0; 142];
+    many[0] = 138;
+    many[4] = 0xC6;
+    many[6] = 33;
+    let frames: [&[u8]; 8] = [
+        &many,
+        &[2, 0, 0, 0, 0xC6, 0],
+        &[5, 0, 0, 0, 0xC6, 0, 0, 0, 0],
+        &[7, 0, 0, 0, 0xC6, 0, 0, 0, 0, 0, 0],
+        &[6, 0, 0, 0, 0xC6, 0, 1, 0, 0, 0],
+        &[9, 0, 0, 0, 0xC6, 0, 1, 0, 0, 0, 2, 0, 0],
+        &[11, 0, 0, 0, 0xC6, 0, 1, 0, 0, 0, 2, 0, 0, 0, 0],
+        &[6, 0, 0, 0, 0xC6, 0, 255, 255, 255, 255],
+    ];
+    for bytes in frames {
+        assert_eq!(&rt; call_in(bytes), Some(Call::BadLayout(0xC6)));
+    }
+}
+
 #[test]
 fn calls_without_fields_have_another_layout_with_some(rt: HostRuntime) {
-    for number in [0x00, 0x02, 0x1E, 0x1F, 0xA0, 0xB5] {
+    for number in [0x00, 0x02, 0x1E, 0x1F, 0xA0, 0xB5, 0xC7, 0xC8] {
         for size in 1..8usize {
             let frame = Frame::new(number, &[0; 8][..size]);
             assert_eq!(&rt; call_of(&frame), Call::BadLayout(number));
@@ -218,6 +290,7 @@ fn other_sizes_have_another_layout(rt: HostRuntime) {
         (0xB4, [3, 5]),
         (0xB6, [3, 5]),
         (0xB7, [11, 13]),
+        (0xC9, [3, 5]),
     ];
     let zeros = [0; 21];
     for (number, sizes) in rows {
@@ -314,6 +387,15 @@ fn planes_and_framebuffers_have_their_bytes(rt: HostRuntime) {
             bpp: 24,
             handle: 4_294_967_295,
         }),
+    );
+}
+
+#[test]
+fn leases_have_their_bytes(rt: HostRuntime) {
+    check_answer(
+        &rt,
+        &[10, 0, 0, 0, 10, 16, 1, 0, 0, 0, 2, 1, 0, 0],
+        Ok(Answer::Lease { id: 1, token: 258 }),
     );
 }
 
@@ -443,6 +525,7 @@ fn other_sizes_are_no_answer(rt: HostRuntime) {
         (0x1005, [11, 13]),
         (0x1008, [7, 9]),
         (0x1009, [19, 21]),
+        (0x100A, [7, 9]),
     ];
     let zeros = [0; 21];
     for (number, sizes) in rows {

@@ -1,6 +1,6 @@
 -- What is found in a list.
 use Rattle.std.proofs.Common.{◌≡◌, ℕ, zero, suc, ◌==◌, Bool, true, false, not, cond, ◌&&◌, ◌||◌, List, [], ◌∷◌, ◌++◌, map, filter, find, Option, None, Some, refl, sym, ◌∙◌, ap, subst}
-use Rattle.std.specs.Prelude.{slice_get}
+use Rattle.std.specs.Prelude.{slice_get, IfSome}
 use Rattle.std.specs.List.{list_any, AllByRecursion}
 use Rattle.std.specs.Option.{option_map, is_some, OnSome}
 use Rattle.std.proofs.lemmas.Bool.{eqb-true}
@@ -34,6 +34,16 @@ is_some-find p [] = refl
 is_some-find p (x ∷ xs) =
     elim (p x) as (λ b. is_some (cond b (Some x) (find p xs)) ≡ (b || list_any p xs))
     [ true ↦ refl | false ↦ is_some-find p xs ]
+
+-- what is true of all is true of it
+pub all_found : {X : Type 0} (P : X → Type 0) (p : X → Bool) → (xs : List X) → AllByRecursion P xs → IfSome (find p xs) P
+all_found P p [] h = tt
+all_found P p (x ∷ xs) h = elim (p x) as (λ b. IfSome (cond b (Some x) (find p xs)) P) [ true ↦ h.0 | false ↦ all_found P p xs h.1 ]
+
+-- it passes
+pub found_passes : {X : Type 0} (p : X → Bool) → (xs : List X) → IfSome (find p xs) (λ x. p x ≡ true)
+found_passes p [] = tt
+found_passes p (x ∷ xs) = elim (p x) as (λ b. p x ≡ b → IfSome (cond b (Some x) (find p xs)) (λ x. p x ≡ true)) [ true ↦ λ e. e | false ↦ λ e. found_passes p xs ] refl
 
 -- where none passes
 pub find_none : {X : Type 0} (p : X → Bool) → (xs : List X) → AllByRecursion (λ x. p x ≡ false) xs → find p xs ≡ None

@@ -1,7 +1,7 @@
 -- What a map, a filter and a test give of a list, and what is true of all of its elements.
-use Rattle.std.proofs.Common.{◌≡◌, suc, ◌+◌, ◌≤◌, ◌<◌, Bool, true, false, not, cond, ◌&&◌, ◌||◌, List, [], ◌∷◌, ◌++◌, map, filter, length, refl, ◌∙◌, ap, arith, length-append}
+use Rattle.std.proofs.Common.{◌≡◌, suc, ◌+◌, ◌≤◌, ◌<◌, Bool, true, false, not, cond, ◌&&◌, ◌||◌, List, [], ◌∷◌, ◌++◌, map, filter, length, refl, sym, ◌∙◌, ap, arith, length-append}
 use Rattle.std.specs.List.{list_any, AllByRecursion}
-use Rattle.std.proofs.lemmas.Bool.{or_left, or_right}
+use Rattle.std.proofs.lemmas.Bool.{or_left, or_right, or_parts}
 use Rattle.std.proofs.lemmas.List.Elements.{filter-append}
 use Rattle.std.proofs.lemmas.List.Folds.{list_any-append}
 
@@ -79,6 +79,40 @@ pub some_passing : {X : Type 0} (p : X → Bool) (P : X → Type 0) → (xs : Li
 some_passing p P [] h e = absurd (let k : false ≡ true = e in cc)
 some_passing {X = X} p P (x ∷ xs) h e =
     elim (p x) as (λ t. p x ≡ t → (t || list_any p xs) ≡ true → (y : X) × (p y ≡ true) × P y) [ true ↦ λ is k. (x, is, h.0) | false ↦ λ is k. some_passing p P xs h.1 k ] refl e
+
+pub none_each : {X : Type 0} (p : X → Bool) → ((x : X) → p x ≡ false) → (xs : List X) → list_any p xs ≡ false
+none_each p h [] = refl
+none_each p h (x ∷ xs) = ap (λ b. b || list_any p xs) (h x) ∙ none_each p h xs
+
+pub none_added : {X : Type 0} (p : X → Bool) (xs ys : List X) → list_any p xs ≡ false → list_any p ys ≡ false → list_any p (xs ++ ys) ≡ false
+none_added p xs ys h k = list_any-append p xs ys ∙ ap (λ b. b || list_any p ys) h ∙ k
+
+-- where each stays one that doesn't pass
+pub none_changed : {X : Type 0} (p : X → Bool) (f : X → X) → ((x : X) → p x ≡ false → p (f x) ≡ false) → (xs : List X) → list_any p xs ≡ false → list_any p (map f xs) ≡ false
+none_changed p f stays [] h = refl
+none_changed p f stays (x ∷ xs) h =
+    let none = or_parts (p x) (list_any p xs) h in
+    ap (λ b. b || list_any p (map f xs)) (stays x none.0) ∙ none_changed p f stays xs none.1
+
+-- where those that pass another test are left out, none passes that passed only with them
+pub none_left : {X : Type 0} (p q : X → Bool) → ((x : X) → p x ≡ true → q x ≡ true) → (xs : List X) → list_any p (filter (λ x. not (q x)) xs) ≡ false
+none_left p q f [] = refl
+none_left {X = X} p q f (x ∷ xs) =
+    let rest = filter (λ x. not (q x)) xs in
+    let later = none_left p q f xs in
+    elim (q x) as (λ b. q x ≡ b → list_any p (cond (not b) (x ∷ rest) rest) ≡ false)
+    [ true ↦ λ e. later | false ↦ λ e. ap (λ b. b || list_any p rest) (fails x e) ∙ later ] refl
+  where
+    fails : (x : X) → q x ≡ false → p x ≡ false
+    fails x e = elim (p x) as (λ b. p x ≡ b → b ≡ false) [ true ↦ λ is. sym (f x is) ∙ e | false ↦ λ is. refl ] refl
+
+-- a filter leaves none that passes where none was
+pub none_filtered : {X : Type 0} (p q : X → Bool) → (xs : List X) → list_any p xs ≡ false → list_any p (filter q xs) ≡ false
+none_filtered p q [] h = refl
+none_filtered p q (x ∷ xs) h =
+    let none = or_parts (p x) (list_any p xs) h in
+    let rest = none_filtered p q xs none.1 in
+    elim (q x) as (λ b. list_any p (cond b (x ∷ filter q xs) (filter q xs)) ≡ false) [ true ↦ ap (λ b. b || list_any p (filter q xs)) none.0 ∙ rest | false ↦ rest ]
 
 -- ---- what is true of all
 

@@ -1,10 +1,13 @@
 -- Numbers in lists, and how often.
-use Rattle.std.proofs.Common.{◌≡◌, ℕ, suc, ◌+◌, ◌<◌, ◌==◌, true, false, cond, not, ◌||◌, List, [], ◌∷◌, ◌++◌, map, filter, length, refl, sym, ap, ◌∙◌, arith, eq-eqb}
-use Rattle.std.proofs.lemmas.Bool.{eqb-true, or_left, or_right}
+use Rattle.std.proofs.Common.{◌≡◌, ℕ, suc, ◌+◌, ◌<◌, ◌≤◌, ◌==◌, Bool, true, false, cond, not, ◌||◌, List, [], ◌∷◌, ◌++◌, map, filter, length, refl, sym, ap, ◌∙◌, arith, eq-eqb}
+use Rattle.std.specs.List.{list_any, list_all, AllByRecursion, IsDistinct}
+use Rattle.std.proofs.lemmas.Bool.{eqb-true, and_parts, or_left, or_right}
 use Rattle.std.proofs.lemmas.Bool.Decides.{nat_tests}
 use Rattle.std.proofs.lemmas.List.Folds.{list_any-append}
+use Rattle.std.proofs.lemmas.Map.Keys.{IsDistinct-cons}
+use Rattle.std.proofs.lemmas.Map.Steps.{length-le_from_distinct_below}
 use Rattle.drm_lists.specs.Numbers.{is_among, count}
-use Rattle.drm_lists.proofs.Lists.{length-filter_append}
+use Rattle.drm_lists.proofs.Lists.{length-filter_append, list_any_agree}
 
 -- ---- two numbers
 
@@ -16,6 +19,9 @@ less-differ a b h = grind (arith, nat_tests)
 
 pub other_number : (m n k : ℕ) → (m == k) ≡ true → (n == k) ≡ false → (m == n) ≡ false
 other_number m n k h e = grind (arith, nat_tests)
+
+same_either : (m n : ℕ) → (m == n) ≡ (n == m)
+same_either m n = grind (arith, nat_tests)
 
 -- ---- a number among others
 
@@ -75,3 +81,68 @@ count_of f n [] = refl
 count_of f n (x ∷ xs) =
     elim (f x == n) as (λ b. length (cond b (x ∷ filter (λ x. f x == n) xs) (filter (λ x. f x == n) xs)) ≡ length (cond b (f x ∷ filter (λ x. x == n) (map f xs)) (filter (λ x. x == n) (map f xs))))
     [ true ↦ ap (λ m. suc m) (count_of f n xs) | false ↦ count_of f n xs ]
+
+-- ---- numbers that stand once each
+
+-- a number that isn't there differs from each
+absent-differs : (k : ℕ) → (numbers : List ℕ) → is_among numbers k ≡ false → AllByRecursion (λ x. (k == x) ≡ false) numbers
+absent-differs k [] h = tt
+absent-differs k (x ∷ xs) h =
+    elim (x == k) as (λ b. (x == k) ≡ b → (b || is_among xs k) ≡ false → AllByRecursion (λ y. (k == y) ≡ false) (x ∷ xs))
+    [ true ↦ λ e j. absurd (let no : true ≡ false = j in cc) | false ↦ λ e j. (flipped x k e, absent-differs k xs j) ] refl h
+
+-- what passes in all is so of each
+pub all_among : (p : ℕ → Bool) (k : ℕ) → (numbers : List ℕ) → list_all p numbers ≡ true → is_among numbers k ≡ true → p k ≡ true
+all_among p k [] h e = absurd (let no : false ≡ true = e in cc)
+all_among p k (x ∷ xs) h e =
+    elim (x == k) as (λ b. (x == k) ≡ b → (b || is_among xs k) ≡ true → p k ≡ true) [
+      | true ↦ λ is j. ap p (sym (eqb-true x k is)) ∙ (and_parts (p x) (list_all p xs) h).0
+      | false ↦ λ is j. all_among p k xs (and_parts (p x) (list_all p xs) h).1 j
+    ] refl e
+
+count-more : (numbers : List ℕ) (x k : ℕ) → count numbers k ≤ count (x ∷ numbers) k
+count-more numbers x k =
+    let all = count numbers k in
+    elim (x == k) as (λ b. all ≤ length (cond b (x ∷ filter (λ y. y == k) numbers) (filter (λ y. y == k) numbers)))
+    [ true ↦ omega arith | false ↦ omega arith ]
+
+none-absent : (numbers : List ℕ) (k : ℕ) → count numbers k ≡ 0 → is_among numbers k ≡ false
+none-absent numbers k h = not-true (is_among numbers k) (sym (count-none numbers k) ∙ eq-eqb (count numbers k) 0 h)
+  where
+    not-true : (b : Bool) → not b ≡ true → b ≡ false
+    not-true true e = absurd (let no : false ≡ true = e in cc)
+    not-true false e = refl
+
+once-distinct : (numbers : List ℕ) → ((k : ℕ) → count numbers k ≤ 1) → IsDistinct ◌==◌ numbers
+unfolding IsDistinct
+once-distinct [] h = tt
+once-distinct (x ∷ xs) h =
+    let one = h x in
+    let it = count-it xs x x (eq-eqb x x refl) in
+    (absent-differs x xs (none-absent xs x (omega (arith, one, it))), once-distinct xs (λ k. let more = count-more xs x k in let few = h k in omega (arith, more, few)))
+
+at_most_once : (numbers : List ℕ) → list_all (λ x. count numbers x == 1) numbers ≡ true → (k : ℕ) → count numbers k ≤ 1
+at_most_once numbers h k =
+    elim (is_among numbers k) as (λ b. is_among numbers k ≡ b → count numbers k ≤ 1) [
+      | true ↦ λ e. let one = eqb-true (count numbers k) 1 (all_among (λ x. count numbers x == 1) k numbers h e) in omega (arith, one)
+      | false ↦ λ e. let none = count-absent numbers k e in omega (arith, none)
+    ] refl
+
+-- numbers from 1 to n that stand once each are n at most
+pub few_once : (n : ℕ) (numbers : List ℕ) → list_all (λ x. count numbers x == 1) numbers ≡ true → ((k : ℕ) → is_among numbers k ≡ true → (1 ≤ k) × (k ≤ n)) → length numbers ≤ n
+few_once n numbers h each =
+    let few = length-le_from_distinct_below (0 ∷ numbers) (n + 1) (IsDistinct-cons ◌==◌ 0 numbers (absent-differs 0 numbers no_zero) (once-distinct numbers (at_most_once numbers h))) below in
+    omega (arith, few)
+  where
+    no_zero : is_among numbers 0 ≡ false
+    no_zero = elim (is_among numbers 0) as (λ b. is_among numbers 0 ≡ b → b ≡ false) [ true ↦ λ e. let low = (each 0 e).0 in absurd (omega (arith, low)) | false ↦ λ e. refl ] refl
+
+    of_rest : (q : ℕ) → is_among numbers q ≡ true → q < n + 1
+    of_rest q e = let high = (each q e).1 in omega (arith, high)
+
+    below : (q : ℕ) → list_any (λ x. q == x) (0 ∷ numbers) ≡ true → q < n + 1
+    below q e =
+        elim (q == 0) as (λ b. (q == 0) ≡ b → (b || list_any (λ x. q == x) numbers) ≡ true → q < n + 1) [
+          | true ↦ λ is j. let zero = eqb-true q 0 is in omega (arith, zero)
+          | false ↦ λ is j. of_rest q (list_any_agree (λ x. x == q) (λ x. q == x) (λ x. same_either x q) numbers ∙ j)
+        ] refl e

@@ -75,6 +75,14 @@ module _ {X : Type 0} (f : X → ℕ) where
   abbrev pub Rising : List X → Type 0
   Rising xs = InOrder (λ x y. f x < f y) xs
 
+  -- each is found by its number, where the numbers differ
+  pub all_found_apart : (xs : List X) → InOrder (λ x y. (f x == f y) ≡ false) xs → AllByRecursion (λ x. find (is_at (f x)) xs ≡ Some x) xs
+  all_found_apart [] h = tt
+  all_found_apart (x ∷ xs) h = (
+    ap (λ b. cond b (Some x) (find (is_at (f x)) xs)) (eq-eqb (f x) (f x) refl),
+    all_both (λ y. find (is_at (f y)) xs ≡ Some y) (λ y. (f x == f y) ≡ false) (λ y. find (is_at (f y)) (x ∷ xs) ≡ Some y) (λ y e apart. ap (λ b. cond b (Some x) (find (is_at (f y)) xs)) apart ∙ e) xs (all_found_apart xs h.1) h.0,
+  )
+
   -- each is found by its number
   pub all_found : (xs : List X) → Rising xs → AllByRecursion (λ x. find (is_at (f x)) xs ≡ Some x) xs
   all_found [] h = tt

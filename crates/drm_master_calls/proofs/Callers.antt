@@ -45,62 +45,12 @@ use Rattle.drm_state.specs.Ties.{IsTied, HasMaster}
 use Rattle.drm_state.specs.Refinement.{Represents}
 use Rattle.drm_state.proofs.Represented.{clients_have, masters_are, device_master_is}
 use Rattle.drm_state.proofs.Living.{lessors_are}
-use Rattle.drm_state.proofs.Lookups.{client_row_is, standing_is}
-
--- each check of those of which none fails holds
-each_holds : (cs : List Check) → first_failing cs ≡ None → AllByRecursion (λ (c : Check). c.holds ≡ true) cs
-each_holds [] h = tt
-each_holds (c ∷ cs) h =
-    (elim c.holds as (λ b. c.holds ≡ b → (if b then first_failing cs else Some c.rule) ≡ None → AllByRecursion (λ (c : Check). c.holds ≡ true) (c ∷ cs)) [
-      | true ↦ λ e k. (e, each_holds cs k)
-      | false ↦ λ e k. absurd (let n : Some c.rule ≡ None = k in cc)
-    ]) refl h
-
--- the file of a client that is open
-pub file_of : (s : State) (c : ℕ) → files.is_present s.files c ≡ true → (flags : FileFlags) × (find (files.is_client c) s.files.clients ≡ Some (record { client = c; flags = flags }))
-file_of s c h = by_file (find (files.is_client c) s.files.clients) refl h
-  where
-    by_file : (o : Option FileClient) → find (files.is_client c) s.files.clients ≡ o → is_some o ≡ true → (flags : FileFlags) × (find (files.is_client c) s.files.clients ≡ Some (record { client = c; flags = flags }))
-    by_file None e k = absurd (let n : false ≡ true = k in cc)
-    by_file (Some f) e k =
-        let num : f.client ≡ c = eqb-true f.client c (found (files.is_client c) (λ _. Unit {0}) f s.files.clients (all_each (λ _. Unit {0}) (λ _. tt) s.files.clients) e).0 in
-        (f.flags, e ∙ (λ i. Some (record { client = num i; flags = f.flags })))
-
--- its row
-pub row_is : (s : State) (w : Rows) (c : ℕ) (flags : FileFlags) → Represents s w → find (files.is_client c) s.files.clients ≡ Some (record { client = c; flags = flags }) → client_row w c ≡ Some (client_row_by (record { client = c; flags = flags }) (member_of s.masters.members c))
-row_is s w c flags h e = client_row_is s w h c flags (sym (ap (option_map (λ (f : FileClient). f.flags)) e))
-
--- a call that isn't for render clients is not admitted where the caller stands to no master
-pub never_admitted : (s : State) (w : Rows) (c : ℕ) (call : Call) → IsTied s → files.is_present s.files c ≡ true → Represents s w → has_flag (flags_of call) 8 ≡ false → member_of s.masters.members c ≡ None → first_failing (admission_checks w c call) ≡ None → ⊥
-unfolding admission_checks
-never_admitted s w c call t there h flag none admitted =
-    let f = file_of s c there in
-    let has : (f.0.render || is_some (member_of s.masters.members c)) ≡ true = (found (files.is_client c) (HasMaster s.masters) (record { client = c; flags = f.0 }) s.files.clients (clients_have s t) f.1).1 in
-    let render : f.0.render ≡ true = no_member f.0.render (ap (λ o. f.0.render || is_some o) (sym none) ∙ has) in
-    let row = row_is s w c f.0 h f.1 in
-    let last = (each_holds (admission_checks w c call) admitted).1.1.1.1.1.1.0 in
-    let fails : (has_flag (flags_of call) 8 || not (standing_of w c).render) ≡ false = ap (λ o. has_flag (flags_of call) 8 || not (standing_in w o).render) row ∙ ap (λ b. has_flag (flags_of call) 8 || not b) render ∙ ap (λ b. b || false) flag in
-    clash _ fails last
-  where
-    no_member : (b : Bool) → (b || false) ≡ true → b ≡ true
-    no_member true k = refl
-    no_member false k = absurd (let n : false ≡ true = k in cc)
-
-    clash : (b : Bool) → b ≡ false → b ≡ true → ⊥
-    clash b e k = cc
-
--- who is found by a number has it
-pub same_client : (xs : List Member) (c : ℕ) (x : Member) → member_of xs c ≡ Some x → (x.client ≡ c) × (member_of xs x.client ≡ Some x)
-same_client xs c x e =
-    let num : x.client ≡ c = eqb-true x.client c (found (masters.is_client c) (λ _. Unit {0}) x xs (all_each (λ _. Unit {0}) (λ _. tt) xs) e).0 in
-    (num, ap (member_of xs) num ∙ e)
+use Rattle.drm_state.proofs.Lookups.{standing_is}
+use Rattle.drm_state.proofs.Callers.{row_is, caller_row, lessee_is}
 
 -- ---- what is asked of a caller that stands to a master
 
 module _ (s : State) (w : Rows) (c : ℕ) (flags : FileFlags) (x : Member) (h : Represents s w) (file : find (files.is_client c) s.files.clients ≡ Some (record { client = c; flags = flags })) (look : member_of s.masters.members c ≡ Some x) where
-  caller_row : client_row w c ≡ Some (client_row_by (record { client = c; flags = flags }) (Some x))
-  caller_row = row_is s w c flags h file ∙ ap (λ o. Some (client_row_by (record { client = c; flags = flags }) o)) look
-
   stands : standing_of w c ≡ record { root = flags.root; render = flags.render; authenticated = flags.authenticated; current = is_current s.masters c }
   stands = ap (standing_in w) (row_is s w c flags h file) ∙ standing_is s w h c flags
 
@@ -111,20 +61,14 @@ module _ (s : State) (w : Rows) (c : ℕ) (flags : FileFlags) (x : Member) (h : 
   root_is = ap (λ (t : Standing). t.root) stands ∙ sym (ap (λ o. option_map_or (λ (f : FileClient). f.flags.root) o false) file)
 
   pub may_be : may_be_master w c ≡ (x.once_master || root_of s c)
-  may_be = λ i. option_map_or (λ (row : ClientRow). row.once_master) (caller_row i) false || root_is i
+  may_be = λ i. option_map_or (λ (row : ClientRow). row.once_master) (caller_row s w c flags x h file look i) false || root_is i
 
   pub master_is : is_master w c ≡ x.is_master
-  master_is = ap (λ o. option_map_or (λ (row : ClientRow). row.is_master) o false) caller_row
-
-  pub its_master : master_of w c ≡ Some x.master
-  its_master = ap (option_and_then (λ (row : ClientRow). row.master)) caller_row
-
-  pub lessee_is : is_lessee w c ≡ masters.is_lessee s.masters.masters x.master
-  lessee_is = ap (λ o. is_some (option_and_then (lessor_of w.masters) o)) its_master ∙ ap (λ rows. is_some (lessor_of rows x.master)) (masters_are s w h) ∙ ap is_some (lessors_are s.masters.masters x.master)
+  master_is = ap (λ o. option_map_or (λ (row : ClientRow). row.is_master) o false) (caller_row s w c flags x h file look)
 
   drop_checks_are : (drop_master w c).checks ≡ calls.drop_checks s.masters x (root_of s c)
   unfolding drop_checks
-  drop_checks_are = λ i. check MasterPerm (may_be i) ∷ check NotCurrent (current_is i) ∷ check IsLessee (not (lessee_is i)) ∷ []
+  drop_checks_are = λ i. check MasterPerm (may_be i) ∷ check NotCurrent (current_is i) ∷ check IsLessee (not (lessee_is s w c flags x h file look i)) ∷ []
 
   -- what DROP_MASTER comes to
   pub drop_verdict : (root : Bool) → root ≡ root_of s c → first_failing (admission_checks w c DropMaster) ≡ None → verdict w (Ask c DropMaster) ≡ first_failing (calls.drop_checks s.masters x root)
@@ -140,7 +84,7 @@ module _ (s : State) (w : Rows) (c : ℕ) (flags : FileFlags) (x : Member) (h : 
   set_checks_are = λ i.
       check MasterPerm (may_be i)
       ∷ check MasterBusy (current_is i || (ap is_none (device_master_is s w h) ∙ none_is s.masters.device_master) i)
-      ∷ check IsLessee (current_is i || not (master_is i && lessee_is i))
+      ∷ check IsLessee (current_is i || not (master_is i && lessee_is s w c flags x h file look i))
       ∷ []
 
   -- and SET_MASTER

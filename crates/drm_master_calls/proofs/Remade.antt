@@ -1,15 +1,15 @@
 -- A new master of a client, which authenticates it.
-use Rattle.std.proofs.Common.{◌≡◌, ℕ, ◌==◌, true, false, not, cond, List, [], ◌∷◌, ◌++◌, map, filter, None, Some, refl, sym, ap, subst, ◌∙◌}
+use Rattle.std.proofs.Common.{◌≡◌, ℕ, ◌<◌, ◌==◌, true, false, not, cond, List, [], ◌∷◌, ◌++◌, map, filter, None, Some, refl, sym, ap, subst, ◌∙◌}
 use Rattle.std.specs.Prelude.{if◌then◌else◌}
 use Rattle.std.specs.List.{filter_map, cons_option, AllByRecursion}
 use Rattle.std.proofs.lemmas.List.{map-append}
 use Rattle.drm_lists.specs.Orders.{SameRows}
-use Rattle.drm_lists.proofs.Lists.{all_append, all_filter}
 use Rattle.drm_lists.proofs.Orders.{same-filter}
 use Rattle.drm_files.specs.Files.{with_authenticated}
 use Rattle.drm_masters.specs.declared.rows.Master.{Master}
 use Rattle.drm_masters.specs.declared.rows.Member.{Member}
-use Rattle.drm_masters.specs.Masters.{AreMasters, is_client, is_living, member_of}
+use Rattle.drm_leases.specs.declared.rows.LeaseToken.{LeaseToken}
+use Rattle.drm_masters.specs.Masters.{AreMasters, is_client, member_of}
 use Rattle.drm_masters.specs.Calls.{owner, own_master, with_master, remade}
 use Rattle.drm_model.specs.Rows.{Rows, ClientRow, MasterRow, MagicRow, without}
 use Rattle.drm_model.specs.Masters.{new_master}
@@ -19,10 +19,11 @@ use Rattle.drm_model.specs.Change.{swept}
 use Rattle.drm_model.specs.Parts.{Part, Clients, Masters, Magics, Objects, Names, Shown, DeviceMaster}
 use Rattle.drm_state.specs.declared.state.State.{State}
 use Rattle.drm_state.specs.Parts.{clients_of, masters_of, magics_of, magic_row_of, master_row_of}
-use Rattle.drm_state.specs.Ties.{IsTied}
+use Rattle.drm_state.specs.Ties.{IsTied, AreKeptBy}
 use Rattle.drm_state.specs.Refinement.{stands_for, Represents}
 use Rattle.drm_state.proofs.Living.{swept_masters}
-use Rattle.drm_state.proofs.Represented.{clients_are, masters_are, magics_are, none_kept}
+use Rattle.drm_state.proofs.Represented.{clients_are, masters_are, magics_are, tokens_of_lessees, kept_have_tokens}
+use Rattle.drm_state.proofs.Ended.{fresh_token, kept_more, kept_swept, of_lessees_more, of_lessees_swept}
 use Rattle.drm_state.proofs.Sweeps.{named_by_clients, magics_left, unswept}
 use Rattle.drm_master_calls.proofs.Authenticated.{put, changed_clients, changed_tied, authenticated_tied}
 
@@ -46,20 +47,24 @@ own_rows w c b = record w {
 }
 
 -- the state where it has it, and what it stands for
-module _ (s : State) (x : Member) (key b : ℕ) (t : IsTied s) (are : AreMasters (remade x.client key b s.masters)) where
+module _ (s : State) (x : Member) (key b : ℕ) (t : IsTied s) (new : AllByRecursion (λ (row : LeaseToken). row.master < b) s.leases.tokens) (are : AreMasters (remade x.client key b s.masters)) where
   abbrev remade_state : State
   remade_state = record s { files = with_authenticated s.files x.client; masters = remade x.client key b s.masters }
 
   abbrev all_masters : List Master
   all_masters = (with_master (own_master key b) s.masters).masters
 
-  unkept : AllByRecursion (λ (m : Master). m.kept ≡ false) all_masters
-  unkept = all_append (λ (m : Master). m.kept ≡ false) s.masters.masters (own_master key b ∷ []) (none_kept s t) (refl, tt)
+  abbrev all_members : List Member
+  all_members = map (put (owner x.client b)) s.masters.members
+
+  kept : AreKeptBy s.leases.tokens all_masters
+  kept = kept_more s.leases.tokens s.masters.masters (own_master key b) (kept_have_tokens s t) refl new
 
   pub remade_tied : IsTied remade_state
   remade_tied =
       authenticated_tied (record s { masters = remade x.client key b s.masters }) x.client
-      (changed_tied s (owner x.client b) (remade x.client key b s.masters) t refl are (all_filter (λ (m : Master). m.kept ≡ false) (λ (m : Master). is_living (map (put (owner x.client b)) s.masters.members) all_masters m.birth) all_masters unkept) refl)
+      (changed_tied s (owner x.client b) (remade x.client key b s.masters) t refl are
+      (of_lessees_swept all_members s.leases.tokens all_masters kept (of_lessees_more s.leases.tokens s.masters.masters (own_master key b) (tokens_of_lessees s t))) (kept_swept all_members s.leases.tokens all_masters kept) refl refl)
 
   module _ (w : Rows) (look : member_of s.masters.members x.client ≡ Some x) (h : Represents s w) where
     abbrev remade_rows : Rows
@@ -73,8 +78,9 @@ module _ (s : State) (x : Member) (key b : ℕ) (t : IsTied s) (are : AreMasters
 
     masters_now : filter (λ (row : MasterRow). change.is_living remade_rows row.master) remade_rows.masters ≡ masters_of remade_state
     masters_now =
-        swept_masters remade_rows all_masters (map (put (owner x.client b)) s.masters.members)
-        (ap (λ l. l ++ new_master b ∷ []) (masters_are s w h) ∙ sym (map-append master_row_of s.masters.masters (own_master key b ∷ []))) unkept
+        swept_masters remade_rows s.leases.tokens all_masters all_members
+        (ap (λ l. l ++ new_master b ∷ []) (masters_are s w h) ∙ ap (λ o. masters_of s ++ record { master = b; lessor = None; lessee_id = 0; lease_token = o } ∷ []) (sym (fresh_token b s.leases.tokens new))
+        ∙ sym (map-append (master_row_of s.leases.tokens) s.masters.masters (own_master key b ∷ []))) kept
         (named_by_clients remade_rows remade_state remade_tied clients_now)
 
     magics_now : SameRows remade_rows.magics (magics_of remade_state)

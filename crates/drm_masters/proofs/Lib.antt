@@ -2,6 +2,7 @@ mod Living
 mod Rewritten
 mod Settled
 mod Pushed
+mod Released
 mod Swept
 mod Numbered
 mod Sound

@@ -6,7 +6,7 @@ use Rattle.std.specs.Option.{is_some, option_map, option_and_then}
 use Rattle.std.proofs.lemmas.Bool.{eqb-true, or_left}
 use Rattle.drm_lists.specs.Chains.{is_under}
 use Rattle.drm_lists.proofs.Lists.{all_weaker, all_each, all_append, all_mapped, list_any-map, list_any_left, list_any_right}
-use Rattle.drm_lists.proofs.Found.{is_some-find, find-map, find-same}
+use Rattle.drm_lists.proofs.Found.{is_some-find, is_some-map, find-map, find-same}
 use Rattle.drm_lists.proofs.Numbers.{less-differ, flipped}
 use Rattle.drm_lists.proofs.Chains.{itself, same_chain}
 use Rattle.drm_lists.proofs.Rising.{found, any_more, find_more, in_order_kept}
@@ -30,26 +30,46 @@ lessor_stays m kept x = elim (x.birth == m) as (λ b. (if b then kept_as kept x 
 pub key_stays : (m : ℕ) (kept : Bool) (x : Master) → (kept_at m kept x).key ≡ x.key
 key_stays m kept x = elim (x.birth == m) as (λ b. (if b then kept_as kept x else x).key ≡ x.key) [ true ↦ refl | false ↦ refl ]
 
+-- masters that are written over, of the same births and lessors
+module _ (g : Master → Master) (births : (x : Master) → (g x).birth ≡ x.birth) (lessors : (x : Master) → (g x).lessor ≡ x.lessor) (ms : List Master) where
+  abbrev over : List Master
+  over = map g ms
+
+  over_at : (n : ℕ) → master_at over n ≡ option_map g (master_at ms n)
+  over_at n = find-map (is_birth n) g ms ∙ ap (option_map g) (find-same (λ x. is_birth n (g x)) (is_birth n) ms (all_each (λ x. is_birth n (g x) ≡ is_birth n x) (λ x. ap (λ b. b == n) (births x)) ms))
+
+  pub over_there : (n : ℕ) → is_some (master_at over n) ≡ is_some (master_at ms n)
+  over_there n = ap is_some (over_at n) ∙ is_some-map g (master_at ms n)
+
+  pub over_lessors : (n : ℕ) → lessor_of over n ≡ lessor_of ms n
+  over_lessors n = ap (option_and_then (λ (x : Master). x.lessor)) (over_at n) ∙ same (master_at ms n)
+    where
+      same : (o : Option Master) → option_and_then (λ (x : Master). x.lessor) (option_map g o) ≡ option_and_then (λ (x : Master). x.lessor) o
+      same None = refl
+      same (Some x) = lessors x
+
+  pub over_rise : Rise ms → Rise over
+  over_rise rise = in_order_kept (λ (x y : Master). x.birth < y.birth) g (λ x y lt. omega (arith, lt, births x, births y)) ms rise
+
+  pub over_older : Older ms → Older over
+  over_older older =
+      all_mapped (HasOlderLessor over) g ms
+      (all_weaker (HasOlderLessor ms) (λ x. HasOlderLessor over (g x)) (λ x h l e.
+      let k = h l (sym (lessors x) ∙ e) in
+      (over_there l ∙ k.0, subst (λ b. l < b) (sym (births x)) k.1)) ms older)
+
+  pub over_keyed : ((x : Master) → (g x).key ≡ x.key) → AllByRecursion (λ (x : Master). x.key ≡ x.birth) ms → AllByRecursion (λ (x : Master). x.key ≡ x.birth) over
+  over_keyed keys h = all_mapped (λ (x : Master). x.key ≡ x.birth) g ms (all_weaker (λ (x : Master). x.key ≡ x.birth) (λ x. (g x).key ≡ (g x).birth) (λ x e. keys x ∙ e ∙ sym (births x)) ms h)
+
 module _ (m : ℕ) (kept : Bool) (ms : List Master) where
   abbrev now : List Master
   now = map (kept_at m kept) ms
 
-  at_is : (n : ℕ) → master_at now n ≡ option_map (kept_at m kept) (master_at ms n)
-  at_is n = find-map (is_birth n) (kept_at m kept) ms ∙ ap (option_map (kept_at m kept)) (find-same (λ x. is_birth n (kept_at m kept x)) (is_birth n) ms (all_each (λ x. is_birth n (kept_at m kept x) ≡ is_birth n x) (λ x. ap (λ b. b == n) (birth_stays m kept x)) ms))
-
   pub kept_there : (n : ℕ) → is_some (master_at now n) ≡ is_some (master_at ms n)
-  kept_there n = ap is_some (at_is n) ∙ there (master_at ms n)
-    where
-      there : (o : Option Master) → is_some (option_map (kept_at m kept) o) ≡ is_some o
-      there None = refl
-      there (Some x) = refl
+  kept_there n = over_there (kept_at m kept) (birth_stays m kept) (lessor_stays m kept) ms n
 
   pub kept_lessors : (n : ℕ) → lessor_of now n ≡ lessor_of ms n
-  kept_lessors n = ap (option_and_then (λ (x : Master). x.lessor)) (at_is n) ∙ same (master_at ms n)
-    where
-      same : (o : Option Master) → option_and_then (λ (x : Master). x.lessor) (option_map (kept_at m kept) o) ≡ option_and_then (λ (x : Master). x.lessor) o
-      same None = refl
-      same (Some x) = lessor_stays m kept x
+  kept_lessors n = over_lessors (kept_at m kept) (birth_stays m kept) (lessor_stays m kept) ms n
 
   -- it has its key yet
   pub kept_key : AllByRecursion (λ (x : Master). x.key ≡ x.birth) ms → (x : Master) → master_at ms x.birth ≡ Some x → IsKeyOf now x.birth x.key
@@ -61,17 +81,13 @@ module _ (m : ℕ) (kept : Bool) (ms : List Master) where
       ) ∙ ap Some (birth_stays m kept x)
 
   pub kept_rise : Rise ms → Rise now
-  kept_rise rise = in_order_kept (λ (x y : Master). x.birth < y.birth) (kept_at m kept) (λ x y lt. omega (arith, lt, birth_stays m kept x, birth_stays m kept y)) ms rise
+  kept_rise rise = over_rise (kept_at m kept) (birth_stays m kept) (lessor_stays m kept) ms rise
 
   pub kept_older : Older ms → Older now
-  kept_older older =
-      all_mapped (HasOlderLessor now) (kept_at m kept) ms
-      (all_weaker (HasOlderLessor ms) (λ x. HasOlderLessor now (kept_at m kept x)) (λ x h l e.
-      let k = h l (sym (lessor_stays m kept x) ∙ e) in
-      (kept_there l ∙ k.0, subst (λ b. l < b) (sym (birth_stays m kept x)) k.1)) ms older)
+  kept_older older = over_older (kept_at m kept) (birth_stays m kept) (lessor_stays m kept) ms older
 
   pub kept_keyed : AllByRecursion (λ (x : Master). x.key ≡ x.birth) ms → AllByRecursion (λ (x : Master). x.key ≡ x.birth) now
-  kept_keyed h = all_mapped (λ (x : Master). x.key ≡ x.birth) (kept_at m kept) ms (all_weaker (λ (x : Master). x.key ≡ x.birth) (λ x. (kept_at m kept x).key ≡ (kept_at m kept x).birth) (λ x e. key_stays m kept x ∙ e ∙ sym (birth_stays m kept x)) ms h)
+  kept_keyed h = over_keyed (kept_at m kept) (birth_stays m kept) (lessor_stays m kept) ms (key_stays m kept) h
 
   -- who stays, where all that were held are
   pub kept_living : (members others : List Member) → ((x : Master) → is_held members x ≡ true → is_held others (kept_at m kept x) ≡ true) → (b : ℕ) → is_living members ms b ≡ true → is_living others now b ≡ true

@@ -1,26 +1,27 @@
 -- What is so of the masters at all times is so after each change.
-use Rattle.std.proofs.Common.{◌≡◌, ℕ, ◌+◌, ◌<◌, ◌≤◌, ◌==◌, Bool, true, false, not, ◌&&◌, ◌||◌, List, [], ◌∷◌, ◌++◌, map, filter, find, length, Option, None, Some, refl, sym, ap, subst, ◌∙◌, eq-eqb, arith, length-append}
-use Rattle.std.specs.Prelude.{if◌then◌else◌}
+use Rattle.std.proofs.Common.{◌≡◌, ℕ, ◌<◌, ◌≤◌, ◌==◌, Bool, true, false, not, ◌&&◌, ◌||◌, List, [], ◌∷◌, ◌++◌, map, filter, find, length, Option, None, Some, refl, sym, ap, subst, ◌∙◌, eq-eqb, arith, length-append}
+use Rattle.std.specs.Prelude.{if◌then◌else◌, IfSome}
 use Rattle.std.specs.List.{list_any, AllByRecursion}
-use Rattle.std.specs.Option.{is_some, option_map_or}
+use Rattle.std.specs.Option.{is_some, option_map, option_map_or}
 use Rattle.std.proofs.Math.Bool.{and-false}
 use Rattle.std.proofs.lemmas.List.{length-map}
 use Rattle.std.proofs.lemmas.Bool.{eqb-true, or_left, or_right}
 use Rattle.drm_lists.specs.Orders.{InOrder}
 use Rattle.drm_lists.proofs.Lists.{all_weaker, all_both, all_each, all_append, all_filter, all_mapped, filter-shorter, list_any-map, list_any_left, list_any_right, some_passing}
-use Rattle.drm_lists.proofs.Found.{is_some-find, find_none}
+use Rattle.drm_lists.proofs.Found.{is_some-find, find_none, find-same}
 use Rattle.drm_lists.proofs.Numbers.{less-differ}
 use Rattle.drm_lists.proofs.Orders.{in_order_append, in_order_filter}
 use Rattle.drm_lists.proofs.Rising.{found, any_found, any_more, any_left, all_found, in_order_kept, in_order_mapped, in_order_both, each_is_there}
 use Rattle.drm_masters.specs.declared.rows.Magic.{Magic}
 use Rattle.drm_masters.specs.declared.rows.Member.{Member}
 use Rattle.drm_masters.specs.declared.rows.Master.{Master}
-use Rattle.drm_masters.specs.Masters.{MasterSet, AreMasters, HaveOtherMagics, HasOlderLessor, is_client, is_birth, is_key, is_option, birth_at, member_of, master_at, is_held, is_living, has_magic, has_open_magic, swept}
+use Rattle.drm_masters.specs.Masters.{MasterSet, AreMasters, HaveOtherMagics, HasOlderLessor, is_client, is_birth, is_key, is_option, IsKeyOf, birth_at, member_of, master_at, is_held, is_living, has_magic, has_open_magic, swept}
 use Rattle.drm_masters.specs.declared.masters.Masters.TheInside.{Inside}
 use Rattle.drm_masters.specs.Fields.{set_of, IsSound}
-use Rattle.drm_masters.specs.Calls.{with_member, with_master, with_device, without_member, changed_member, with_kept, with_magic, closed_own}
+use Rattle.drm_masters.specs.Calls.{with_member, with_master, with_device, without_member, changed_member, with_kept, with_magic, closed_own, released_under}
 use Rattle.drm_masters.proofs.Living.{both_true, and_true}
-use Rattle.drm_masters.proofs.Pushed.{kept_at, kept_there, kept_rise, kept_older, kept_used, same_used, there_too, new_there, pushed_older, pushed_used}
+use Rattle.drm_masters.proofs.Pushed.{kept_at, kept_there, kept_rise, kept_older, kept_used, same_used, there_too, new_there, pushed_older, pushed_used, over_there, over_rise, over_older}
+use Rattle.drm_masters.proofs.Released.{released, released_birth, released_lessor}
 use Rattle.drm_masters.proofs.Swept.{swept_older, swept_used, named_there}
 use Rattle.drm_masters.proofs.Numbered.{no_magic, other_none, given_before, given_behind, spent_same}
 
@@ -165,6 +166,22 @@ module _ (v : MasterSet) (a : AreMasters v) where
     magics_differ = a.magics_differ;
     few = a.few;
   }
+
+  -- a master and all below it are kept no more
+  pub released_ties : (top : ℕ) → AreTied (released_under top v)
+  released_ties top =
+      let g = released v.masters top in
+      let births = released_birth v.masters top in
+      let lessors = released_lessor v.masters top in
+      record {
+        members_rise = a.members_rise;
+        masters_rise = over_rise g births lessors v.masters a.masters_rise;
+        lessors_older = over_older g births lessors v.masters a.lessors_older;
+        masters_there = all_weaker (λ (x : Member). is_some (master_at v.masters x.master) ≡ true) (λ (x : Member). is_some (master_at (map g v.masters) x.master) ≡ true) (λ x e. over_there g births lessors v.masters x.master ∙ e) v.members a.masters_there;
+        device_own = a.device_own;
+        magics_differ = a.magics_differ;
+        few = a.few;
+      }
 
   -- each client is found by its number
   clients_found : AllByRecursion (λ (x : Member). member_of v.members x.client ≡ Some x) v.members
@@ -365,6 +382,21 @@ module _ (v : MasterSet) (a : AreMasters v) where
 -- the fields stand for a set of which all of it is so
 pub sound : (a : Inside) (v : MasterSet) → set_of a ≡ v → AreMasters v → Keyed v.masters → IsSound a
 sound a v e are keyed = record { are = subst AreMasters (sym e) are; keyed = subst (λ (w : MasterSet). Keyed w.masters) (sym e) keyed }
+
+-- a master is found by its key
+pub keyed_found : (ms : List Master) (n : ℕ) (x : Master) → Keyed ms → master_at ms n ≡ Some x → IsKeyOf ms n x.key
+keyed_found ms n x keyed e =
+    let is = found (is_birth n) (λ (y : Master). y.key ≡ y.birth) x ms keyed e in
+    let num : x.birth ≡ n = eqb-true x.birth n is.0 in
+    ap (option_map (λ (y : Master). y.birth)) (ap (λ k. find (is_key k) ms) (is.1 ∙ num) ∙ find-same (is_key n) (is_birth n) ms (all_weaker (λ (y : Master). y.key ≡ y.birth) (λ y. is_key n y ≡ is_birth n y) (λ y k. ap (λ j. j == n) k) ms keyed) ∙ e) ∙ ap Some num
+
+pub keyed_at : (ms : List Master) (n : ℕ) → Keyed ms → (o : Option Master) → o ≡ master_at ms n → IfSome o (λ x. IsKeyOf ms n x.key)
+keyed_at ms n keyed None e = tt
+keyed_at ms n keyed (Some x) e = keyed_found ms n x keyed (sym e)
+
+pub keyed_each : (ms : List Master) → Keyed ms → InOrder (λ (x y : Master). x.birth < y.birth) ms → (p : Master → Bool) (o : Option Master) → o ≡ find p ms → IfSome o (λ x. IsKeyOf ms x.birth x.key)
+keyed_each ms keyed rise p None e = tt
+keyed_each ms keyed rise p (Some x) e = keyed_found ms x.birth x keyed (found p (λ (y : Master). master_at ms y.birth ≡ Some y) x ms (all_found (λ (y : Master). y.birth) ms rise) (sym e)).1
 
 -- what is found has the number, and is found by it
 pub client_found : (xs : List Member) (c : ℕ) (x : Member) → member_of xs c ≡ Some x → (x.client ≡ c) × (member_of xs x.client ≡ Some x)

@@ -2,16 +2,17 @@
 
 ghost use Rattle.std.specs.Prelude.{◌≡◌, ◌<◌, ◌&&◌, ◌||◌, true, false, None, Some, [], find, length, slice_get, OnOk, OnErr, IfOk, IfSome, IsOk, not};
 ghost use Rattle.std.specs.Option.{is_some, option_map, option_map_or, option_and_then};
+ghost use Rattle.drm_lists.specs.Chains as chains;
 ghost use Rattle.drm_masters.specs.Masters as sets;
 ghost use Rattle.drm_masters.specs.Calls as calls;
 
 use crate::faults::{LesseeFault, NoMemory, SetDone, SetFault};
 use crate::rows::{Master, MasterKey, Member};
 use crate::searches::{
-    find_lessee, find_open_magic, free_lessee, free_magic, is_option, lessor_of, master_at,
-    master_of_key, member_of, owner_of,
+    find_lessee, find_open_magic, free_lessee, free_magic, is_option, is_under, lessor_of,
+    master_at, master_of_key, member_of, owner_of,
 };
-use crate::sweeps::sweep;
+use crate::sweeps::{release_all_under, sweep};
 use crate::writes::{
     device_without, guest, lessee, own_master, owner, redeemer, remove_member, set_kept,
     set_member, with_magic,
@@ -80,6 +81,22 @@ impl Masters {
         let member = member_of(&self.members, client)?;
         let master = master_at(&self.masters, member.master)?;
         Some(master.key)
+    }
+
+    /// The master of a birth, if it is there. It takes no memory.
+    pub fn master(&self, birth: u32) -> Option<Master>
+        ensures master { result ≡ sets.master_at self.now.masters birth }
+        ensures keyed { IfSome result (λ x. sets.IsKeyOf self.now.masters birth x.key) }
+    {
+        master_at(&self.masters, birth)
+    }
+
+    /// Whether a master is the one named top, or below it. Masters are named by the numbers of the steps that made them. It
+    /// takes no memory.
+    pub fn is_under(&self, top: u32, master: u32) -> bool
+        ensures { result ≡ chains.is_under (sets.lessor_of self.now.masters) top master }
+    {
+        is_under(&self.masters, top, master)
     }
 
     /// The key of a master's lessor, if it is a lessee.
@@ -315,14 +332,29 @@ impl Masters {
         Ok((MasterKey::from_number(birth), id))
     }
 
-    /// The lessee of this id among all of the master's owner.
-    pub fn lessee(&self, master: MasterKey, id: u32) -> Option<MasterKey>
+    /// The lessee of this id among all of the master's owner. It takes no memory.
+    pub fn lessee(&self, master: MasterKey, id: u32) -> Option<Master>
         requires { sets.is_there self.now.masters master ≡ true }
-        ensures { result ≡ option_map (λ x. x.key) (find (sets.is_lessee_of self.now.masters (sets.owner_of self.now.masters (sets.birth_at self.now.masters master)) id) self.now.masters) }
+        ensures lessee { result ≡ find (sets.is_lessee_of self.now.masters (sets.owner_of self.now.masters (sets.birth_at self.now.masters master)) id) self.now.masters }
+        ensures keyed { IfSome result (λ x. sets.IsKeyOf self.now.masters x.birth x.key) }
     {
         let birth = master_of_key(&self.masters, master)?.birth;
         let owner = owner_of(&self.masters, birth);
-        Some(find_lessee(&self.masters, owner, id)?.key)
+        find_lessee(&self.masters, owner, id)
+    }
+
+    /// The last id that a lessee may have.
+    pub fn last_lessee(&self) -> u32
+        ensures { result ≡ self.now.last_lessee }
+    {
+        self.last_lessee
+    }
+
+    /// The least id that no lessee of the owner has; none where each is taken. It takes no memory.
+    pub fn free_lessee(&self, owner: u32) -> Option<u32>
+        ensures { result ≡ sets.free_lessee self.now owner }
+    {
+        free_lessee(&self.masters, owner, self.last_lessee)
     }
 
     /// Ends the stay of a kept master. It goes, and those above it, as far as nothing else holds them. It takes no memory.
@@ -334,6 +366,15 @@ impl Masters {
             unreachable!()
         };
         set_kept(&mut self.masters, released.birth, false);
+        sweep(&self.members, &mut self.masters);
+    }
+
+    /// Ends the stay of a master and of all below it, where they are kept. Each goes, and those above it, as far as nothing
+    /// else holds them. It takes no memory.
+    pub fn release_under(&mut self, top: u32)
+        ensures { self.new ≡ sets.swept (calls.released_under top self.old) }
+    {
+        release_all_under(&mut self.masters, top);
         sweep(&self.members, &mut self.masters);
     }
 

@@ -3,6 +3,7 @@
 ghost use Rattle.std.specs.Prelude.{◌≡◌, ◌==◌, find, not};
 ghost use Rattle.std.specs.List.{list_any, AllByRecursion};
 ghost use Rattle.drm_index_array.specs.Least.{least};
+ghost use Rattle.drm_lists.specs.Chains as chains;
 ghost use Rattle.drm_masters.specs.Masters as sets;
 
 use crate::rows::{Master, MasterKey, Member};
@@ -61,6 +62,20 @@ pub fn owner_of(masters: &[Master], birth: u32) -> u32
     match lessor_of(masters, birth) {
         Some(lessor) => owner_of(masters, lessor),
         None => birth,
+    }
+}
+
+/// Whether a master is the one named top, or below it.
+pub fn is_under(masters: &[Master], top: u32, birth: u32) -> bool
+    requires older { AllByRecursion (sets.HasOlderLessor masters.now) masters.now }
+    ensures { result ≡ chains.is_under (sets.lessor_of masters.now) top birth }
+{
+    if birth == top {
+        return true;
+    }
+    match lessor_of(masters, birth) {
+        Some(lessor) => is_under(masters, top, lessor),
+        None => false,
     }
 }
 

@@ -139,7 +139,10 @@ fn a_lessee_is_found_below_its_owner(rt: HostRuntime) -> Result<(), Fail> {
     let owner = masters.master_of(1).ok_or("no master")?;
     let (lessee, id) = masters.make_lessee(owner, 7).map_err(|_| "no lessee")?;
     assert_eq!(rt; id, 1);
-    assert_eq!(rt; masters.lessee(owner, 1), Some(lessee));
+    let found = masters.lessee(owner, 1).ok_or("not found")?;
+    assert_eq!(rt; found.key, lessee);
+    assert_eq!(rt; found.birth, 7);
+    assert_eq!(rt; masters.free_lessee(1), Some(2));
     Ok(())
 }
 
@@ -161,7 +164,8 @@ fn an_owner_is_found_above_its_lessee(rt: HostRuntime) -> Result<(), Fail> {
     let owner = masters.master_of(1).ok_or("no master")?;
     let (lessee, _id) = masters.make_lessee(owner, 2).map_err(|_| "no lessee")?;
     assert_eq!(rt; masters.lessor_of(lessee), Some(owner));
-    assert_eq!(rt; masters.lessee(lessee, 1), Some(lessee));
+    let found = masters.lessee(lessee, 1).ok_or("not found")?;
+    assert_eq!(rt; found.key, lessee);
     Ok(())
 }
 
@@ -221,6 +225,21 @@ fn a_released_owner_goes(rt: HostRuntime) -> Result<(), Fail> {
 }
 
 #[test]
+fn a_release_reaches_all_below(rt: HostRuntime) -> Result<(), Fail> {
+    let mut masters = Masters::new(rt.alloc(), 4, 4);
+    assert_eq!(rt; masters.last_lessee(), 4);
+    assert_eq!(rt; masters.on_open(1, 1), Ok(true));
+    let owner = masters.master_of(1).ok_or("no master")?;
+    let (_lessee, _id) = masters.make_lessee(owner, 2).map_err(|_| "no lessee")?;
+    assert!(rt; masters.is_under(1, 2));
+    assert!(rt; !masters.is_under(2, 1));
+    assert_eq!(rt; masters.on_close(1), Some(owner));
+    masters.release_under(1);
+    assert_eq!(rt; masters.nth_master(0), None);
+    Ok(())
+}
+
+#[test]
 fn rows_in_the_order_of_births(rt: HostRuntime) -> Result<(), Fail> {
     let mut masters = Masters::new(rt.alloc(), 4, 4);
     assert_eq!(rt; masters.on_open(1, 1), Ok(true));
@@ -268,6 +287,9 @@ fn rows_in_the_order_of_births(rt: HostRuntime) -> Result<(), Fail> {
     assert_eq!(rt; masters.nth_master(0), Some(own));
     assert_eq!(rt; masters.nth_master(1), Some(leased));
     assert_eq!(rt; masters.nth_master(2), None);
+    let found = masters.master(5).ok_or("no lessee")?;
+    assert_eq!(rt; found.key, lessee);
+    assert_eq!(rt; masters.master(2), None);
     Ok(())
 }
 

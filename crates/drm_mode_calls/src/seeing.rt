@@ -10,15 +10,17 @@ use drm_state::State;
 use drm_table::ShownList;
 
 /// Whether a client sees a fixed mode object (drm-uapi, leases): all see an encoder, and of the rest a client sees what its
-/// master controls. A master without a lessor controls all; no lease is made yet, so one with a lessor controls nothing. It
-/// takes no memory.
+/// master controls: without a lessor all, else what its lease has. It takes no memory.
 pub(crate) fn sees(state: &State, client: u32, id: u32) -> bool
     ensures { result ≡ views.sees state.now client id }
 {
     if state.modes.is_of_kind(Kind::Encoder, id) {
         return true;
     }
-    state.masters.member(client).is_some() && !state.masters.is_lessee(client)
+    match state.masters.member(client) {
+        Some(member) => !state.masters.is_lessee(client) || state.leases.holds(member.master, id),
+        None => false,
+    }
 }
 
 /// Whether an id is that of an object of a kind that the client sees. It takes no memory.

@@ -6,7 +6,7 @@ use Rattle.drm_lists.specs.Orders.{InOrder}
 use Rattle.drm_lists.proofs.Lists.{all_weaker, all_append, all_filter}
 use Rattle.drm_lists.proofs.Orders.{in_order_filter, in_order_append}
 use Rattle.drm_table.specs.declared.calls.Call.{Call}
-use Rattle.drm_table.specs.declared.calls.Call.TheVariants.{AuthMagic, SetMaster, BufCreate, StampWrite, CreateDumb}
+use Rattle.drm_table.specs.declared.calls.Call.TheVariants.{AuthMagic, SetMaster, BufCreate, StampWrite, CreateDumb, CreateLease, RevokeLease}
 use Rattle.drm_table.specs.declared.events.Event.{Event}
 use Rattle.drm_table.specs.declared.events.Event.TheVariants.{Open, Ask, Close}
 use Rattle.drm_table.specs.declared.events.Opening.TheVariants.{Primary, Render, Lease}
@@ -15,7 +15,7 @@ use Rattle.drm_model.specs.Births.{MadeInTurn, BirthsRise}
 use Rattle.drm_model.specs.Rows.{Rows, ClientRow, MasterRow, ObjectRow, birth, empty_rows, is_option, is_client, client_row, object_of}
 use Rattle.drm_model.specs.Masters.{is_under}
 use Rattle.drm_model.specs.Magics.{own_master, magic_client, is_current, is_master, mastered, with_authenticated, with_master}
-use Rattle.drm_model.specs.Leases.{ended}
+use Rattle.drm_model.specs.Leases.{ended, lessee_master}
 use Rattle.drm_model.specs.Buffers.{with_object, with_stamp}
 use Rattle.drm_model.specs.Clients.{opened, opened_primary, closed, ended_own, ended_if}
 use Rattle.drm_model.specs.Calls.{meaning}
@@ -116,12 +116,18 @@ mastered-births w c false false h = (
 
 -- a call that is not told here makes and takes no client, master or object
 asked-births : (w : Rows) (c : ℕ) (call : Call) → BirthsRise w.steps w → BirthsRise (birth w) (meaning w c call).rows
-unfolding meaning with_object with_stamp with_authenticated
+unfolding meaning with_object with_stamp with_authenticated ended
 asked-births w c (BufCreate size) h = ((later w h).0, (later w h).1, turn-push object_birth w.steps w.objects _ refl h.2)
 asked-births w c (CreateDumb width height bpp) h = ((later w h).0, (later w h).1, turn-push object_birth w.steps w.objects _ refl h.2)
 asked-births w c (StampWrite handle stamp) h = ((later w h).0, (later w h).1, turn-map object_birth _ (λ row. stamped (row.object == object_of w c handle) row stamp) (birth w) w.objects (later w h).2)
 asked-births w c (AuthMagic magic) h = (turn-map client_birth _ (λ row. authenticated (is_option row.client (magic_client w (own_master w c) magic)) row) (birth w) w.clients (later w h).0, (later w h).1, (later w h).2)
 asked-births w c SetMaster h = mastered-births w c (is_current w c) (is_master w c) h
+asked-births w c (CreateLease ids) h = ((later w h).0, turn-push master_birth w.steps w.masters _ refl h.1, (later w h).2)
+asked-births w c (RevokeLease lessee) h = (
+  (later w h).0,
+  turn-map master_birth _ (λ row. untoken row (is_under w.masters (lessee_master w (own_master w c) lessee) row.master)) (birth w) w.masters (later w h).1,
+  (later w h).2,
+)
 asked-births w c call h = later w h
 
 changed-births : (w : Rows) (event : Event) → BirthsRise w.steps w → BirthsRise (birth w) (changed w event)

@@ -57,7 +57,7 @@ pub closing_verdict : (w : Rows) (c : ℕ) → verdict w (Close c) ≡ cond (is_
 unfolding verdict checks
 closing_verdict w c = refl
 
-closing_accepted : (w : Rows) (c : ℕ) → is_open w c ≡ true → verdict w (Close c) ≡ None
+pub closing_accepted : (w : Rows) (c : ℕ) → is_open w c ≡ true → verdict w (Close c) ≡ None
 closing_accepted w c open_client = closing_verdict w c ∙ ap (λ b. cond b None (Some NoClient)) open_client
 
 pub closing_is_carried_out : (w : Rows) (c : ℕ) (result : Result Answer Apart) (v : Rows) → is_open w c ≡ true → Step w (Close c) result v → result ≡ Ok Closed

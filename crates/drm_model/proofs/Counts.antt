@@ -1,21 +1,22 @@
--- A step adds one row at most to each list.
-use Rattle.std.proofs.Common.{ℕ, ◌+◌, ◌≤◌, Bool, true, false, List, [], ◌∷◌, ◌++◌, map, filter, length, length-append, Option, None, Some, sym, subst, arith}
+-- A step adds few rows to each list.
+use Rattle.std.proofs.Common.{ℕ, ◌≡◌, ◌+◌, ◌*◌, ◌≤◌, Bool, true, false, List, [], ◌∷◌, ◌++◌, map, filter, length, length-append, Option, None, Some, refl, sym, subst, arith}
 use Rattle.std.specs.Prelude.{◌==◌, unwrap_or, if◌then◌else◌}
 use Rattle.std.proofs.lemmas.List.{length-map}
 use Rattle.drm_lists.proofs.Lists.{filter-shorter}
 use Rattle.drm_table.specs.declared.audits.AuditKind.{AuditKind}
 use Rattle.drm_table.specs.declared.audits.AuditKind.TheVariants as kinds
 use Rattle.drm_table.specs.declared.calls.Call.{Call}
-use Rattle.drm_table.specs.declared.calls.Call.TheVariants.{GetMagic, GemClose, GemFlink, GemOpen, AuthMagic, SetMaster, DropMaster, PrimeHandleToFd, PrimeFdToHandle, BufCreate, StampWrite, TokenClose, SetCrtc, GetFb, AddFb, RmFb, CreateDumb, DestroyDumb, SetPlane}
+use Rattle.drm_table.specs.declared.calls.Call.TheVariants.{GetMagic, GemClose, GemFlink, GemOpen, AuthMagic, SetMaster, DropMaster, PrimeHandleToFd, PrimeFdToHandle, BufCreate, StampWrite, TokenClose, SetCrtc, GetFb, AddFb, RmFb, CreateDumb, DestroyDumb, SetPlane, CreateLease, RevokeLease}
 use Rattle.drm_table.specs.declared.events.Event.{Event}
 use Rattle.drm_table.specs.declared.events.Event.TheVariants.{Open, Ask, Close}
 use Rattle.drm_table.specs.declared.events.Opening.TheVariants.{Primary, Render, Lease}
 use Rattle.drm_table.specs.declared.rules.Rule.{Rule}
+use Rattle.drm_modes.specs.Topology.{IsTopology}
 use Rattle.drm_model.specs.Parts.{Part, Clients, Masters, Magics, Holds, Objects, Names, Tokens, Grants, Framebuffers, Shown, count_in}
-use Rattle.drm_model.specs.Births.{FewRows}
+use Rattle.drm_model.specs.Births.{FewRows, most_in}
 use Rattle.drm_model.specs.Audit.{audit_rows}
 use Rattle.drm_model.specs.Rows.{Rows, ClientRow, birth, empty_rows, client_row, object_of, with_hold}
-use Rattle.drm_model.specs.Leases.{ended}
+use Rattle.drm_model.specs.Leases.{ended, grant, lessee_master}
 use Rattle.drm_model.specs.Buffers.{with_object, with_stamp}
 use Rattle.drm_model.specs.Sharing.{name_of, named, exported_object, prime_handle, imported, with_place}
 use Rattle.drm_model.specs.Magics.{own_master, magic_of, with_magic, is_current, is_master, mastered, with_authenticated, with_spent, with_master}
@@ -25,7 +26,8 @@ use Rattle.drm_model.specs.Calls.{meaning}
 use Rattle.drm_model.specs.Verdict.{verdict}
 use Rattle.drm_model.specs.Change.{after, after_verdict, changed, swept, noted}
 use Rattle.drm_model.specs.Run.{run, rows_of, History}
-use Rattle.drm_model.proofs.Journals.{after-steps}
+use Rattle.drm_model.proofs.Journals.{after-topology, after-steps}
+use Rattle.drm_model.proofs.Leased.{few_leased}
 
 few-filter : {X : Type 0} (p : X → Bool) (xs : List X) (most : ℕ) → length xs ≤ most → length (filter p xs) ≤ most
 few-filter p xs most h = let f = filter-shorter p xs in omega (arith, f, h)
@@ -44,13 +46,17 @@ few-map f xs most h = let l = length-map xs f in omega (arith, l, h)
 more : (n most : ℕ) → n ≤ most → n ≤ most + 1
 more n most h = omega (arith, h)
 
-later : (w : Rows) (most : ℕ) → FewRows most w → FewRows (most + 1) w
-later w most h = λ part. more (count_in part w) most (h part)
+more_in : (part : Part) (n most : ℕ) → n ≤ most_in part most → n ≤ most_in part (most + 1)
+more_in Grants n most h = omega (arith, h)
+more_in part n most h = more n most h
 
-ended_if-few : (w : Rows) (most : ℕ) (b : Bool) (m : Option ℕ) → FewRows most w → (part : Part) → count_in part (ended_if w b m) ≤ most
+later : (w : Rows) (most : ℕ) → FewRows most w → FewRows (most + 1) w
+later w most h = λ part. more_in part (count_in part w) most (h part)
+
+ended_if-few : (w : Rows) (most : ℕ) (b : Bool) (m : Option ℕ) → FewRows most w → (part : Part) → count_in part (ended_if w b m) ≤ most_in part most
 unfolding ended count_in
 ended_if-few w most true (Some m) h Masters = few-map _ w.masters most (h Masters)
-ended_if-few w most true (Some m) h Grants = few-filter _ w.grants most (h Grants)
+ended_if-few w most true (Some m) h Grants = few-filter _ w.grants (64 * most) (h Grants)
 ended_if-few w most true (Some m) h part = h part
 ended_if-few w most true None h part = h part
 ended_if-few w most false m h part = h part
@@ -59,7 +65,7 @@ ended_own-few : (w : Rows) (most : ℕ) (row : Option ClientRow) → FewRows mos
 ended_own-few w most None h = h
 ended_own-few w most (Some row) h = ended_if-few w most row.is_master row.master h
 
-closed-few : (w : Rows) (most : ℕ) (c : ℕ) → FewRows most w → (part : Part) → count_in part (closed w c) ≤ most
+closed-few : (w : Rows) (most : ℕ) (c : ℕ) → FewRows most w → (part : Part) → count_in part (closed w c) ≤ most_in part most
 unfolding closed count_in
 closed-few w most c h Clients = few-filter _ w.clients most (h Clients)
 closed-few w most c h Magics = few-filter _ w.magics most (h Magics)
@@ -69,12 +75,12 @@ closed-few w most c h Framebuffers = few-filter _ w.framebuffers most (h Framebu
 closed-few w most c h part = ended_own-few w most (client_row w c) h part
 
 -- one more client
-with_client-few : (w : Rows) (most : ℕ) (row : ClientRow) → FewRows most w → (part : Part) → count_in part (record w { clients = w.clients ++ row ∷ [] }) ≤ most + 1
+with_client-few : (w : Rows) (most : ℕ) (row : ClientRow) → FewRows most w → (part : Part) → count_in part (record w { clients = w.clients ++ row ∷ [] }) ≤ most_in part (most + 1)
 unfolding count_in
 with_client-few w most row h Clients = few-push w.clients row most (h Clients)
 with_client-few w most row h part = later w most h part
 
-opened_primary-few : (w : Rows) (root : Bool) (m : Option ℕ) → FewRows w.steps w → (part : Part) → count_in part (opened_primary w root m) ≤ birth w
+opened_primary-few : (w : Rows) (root : Bool) (m : Option ℕ) → FewRows w.steps w → (part : Part) → count_in part (opened_primary w root m) ≤ most_in part (birth w)
 unfolding count_in
 opened_primary-few w root None h Clients = few-push w.clients _ w.steps (h Clients)
 opened_primary-few w root None h Masters = few-push w.masters _ w.steps (h Masters)
@@ -93,7 +99,7 @@ with_magic-few : (w : Rows) (c m : ℕ) (number : Option ℕ) → length w.magic
 with_magic-few w c m (Some number) h = more _ w.steps h
 with_magic-few w c m None h = few-push w.magics _ w.steps h
 
-mastered-few : (w : Rows) (c : ℕ) (current master : Bool) → FewRows w.steps w → (part : Part) → count_in part (mastered w c current master) ≤ birth w
+mastered-few : (w : Rows) (c : ℕ) (current master : Bool) → FewRows w.steps w → (part : Part) → count_in part (mastered w c current master) ≤ most_in part (birth w)
 unfolding with_master count_in
 mastered-few w c false false h Clients = more _ w.steps (few-map _ w.clients w.steps (h Clients))
 mastered-few w c false false h Masters = few-push w.masters _ w.steps (h Masters)
@@ -107,49 +113,64 @@ given-few : (w : Rows) (c o : ℕ) (gives : Bool) → length w.holds ≤ w.steps
 given-few w c o true h = few-push w.holds _ w.steps h
 given-few w c o false h = more _ w.steps h
 
--- a call that is not told here makes no list longer or shorter
-asked-few : (w : Rows) (c : ℕ) (call : Call) → FewRows w.steps w → (part : Part) → count_in part (meaning w c call).rows ≤ birth w
-unfolding meaning with_object with_stamp with_place with_authenticated with_spent count_in
-asked-few w c GetMagic h Magics = with_magic-few w c (own_master w c) (magic_of w c) (h Magics)
-asked-few w c (AuthMagic magic) h Clients = more _ w.steps (few-map _ w.clients w.steps (h Clients))
-asked-few w c (AuthMagic magic) h Magics = more _ w.steps (few-map _ w.magics w.steps (h Magics))
-asked-few w c SetMaster h part = mastered-few w c (is_current w c) (is_master w c) h part
-asked-few w c DropMaster h Clients = later w w.steps h Clients
-asked-few w c (GemClose handle) h Holds = more _ w.steps (few-filter _ w.holds w.steps (h Holds))
-asked-few w c (DestroyDumb handle) h Holds = more _ w.steps (few-filter _ w.holds w.steps (h Holds))
-asked-few w c (GemFlink handle) h Names = named-few w (object_of w c handle) (name_of w (object_of w c handle)) (h Names)
-asked-few w c (GemOpen name) h Holds = few-push w.holds _ w.steps (h Holds)
-asked-few w c (PrimeHandleToFd handle) h Tokens = few-push w.tokens _ w.steps (h Tokens)
-asked-few w c (PrimeHandleToFd handle) h Holds = more _ w.steps (few-map _ w.holds w.steps (h Holds))
-asked-few w c (PrimeFdToHandle token) h Holds = let o = unwrap_or (exported_object w token) 0 in imported-few w c o (prime_handle w c o) (h Holds)
-asked-few w c (TokenClose token) h Tokens = more _ w.steps (few-filter _ w.tokens w.steps (h Tokens))
-asked-few w c (BufCreate size) h Holds = few-push w.holds _ w.steps (h Holds)
-asked-few w c (BufCreate size) h Objects = few-push w.objects _ w.steps (h Objects)
-asked-few w c (CreateDumb width height bpp) h Holds = few-push w.holds _ w.steps (h Holds)
-asked-few w c (CreateDumb width height bpp) h Objects = few-push w.objects _ w.steps (h Objects)
-asked-few w c (StampWrite handle stamp) h Objects = more _ w.steps (few-map _ w.objects w.steps (h Objects))
-asked-few w c (SetCrtc crtc f connector) h Shown = few-may_push _ _ (f == 0) w.steps (few-filter _ w.shown w.steps (h Shown))
-asked-few w c (SetPlane plane crtc f) h Shown = few-may_push _ _ (f == 0) w.steps (few-filter _ w.shown w.steps (h Shown))
-asked-few w c (GetFb f) h Holds = given-few w c (framebuffer_object w f) (gives_handle w c) (h Holds)
-asked-few w c (AddFb width height pitch bpp handle) h Framebuffers = few-push w.framebuffers _ w.steps (h Framebuffers)
-asked-few w c (RmFb f) h Framebuffers = more _ w.steps (few-filter _ w.framebuffers w.steps (h Framebuffers))
-asked-few w c call h part = later w w.steps h part
+granted-few : (w : Rows) (ids : List ℕ) → length w.grants ≤ 64 * w.steps → length ids ≤ 64 → length (w.grants ++ map (grant (birth w)) ids) ≤ 64 * birth w
+granted-few w ids h few =
+    let all = length-append w.grants (map (grant (birth w)) ids) in
+    let new = length-map ids (grant (birth w)) in
+    omega (arith, all, new, h, few)
 
-leased-few : (w : Rows) (token : ℕ) (root : Bool) → FewRows w.steps w → (part : Part) → count_in part (opened_lease w token root) ≤ birth w
+ended-few : (w : Rows) (most m : ℕ) → FewRows most w → (part : Part) → count_in part (ended w m) ≤ most_in part most
+unfolding ended count_in
+ended-few w most m h Masters = few-map _ w.masters most (h Masters)
+ended-few w most m h Grants = few-filter _ w.grants (64 * most) (h Grants)
+ended-few w most m h part = h part
+
+-- a call that is not told here makes no list longer or shorter
+asked-few : (w : Rows) (c : ℕ) (call : Call) → IsTopology w.topology → verdict w (Ask c call) ≡ None → FewRows w.steps w → (part : Part) → count_in part (meaning w c call).rows ≤ most_in part (birth w)
+unfolding meaning with_object with_stamp with_place with_authenticated with_spent count_in
+asked-few w c GetMagic topology accepted h Magics = with_magic-few w c (own_master w c) (magic_of w c) (h Magics)
+asked-few w c (AuthMagic magic) topology accepted h Clients = more _ w.steps (few-map _ w.clients w.steps (h Clients))
+asked-few w c (AuthMagic magic) topology accepted h Magics = more _ w.steps (few-map _ w.magics w.steps (h Magics))
+asked-few w c SetMaster topology accepted h part = mastered-few w c (is_current w c) (is_master w c) h part
+asked-few w c DropMaster topology accepted h Clients = later w w.steps h Clients
+asked-few w c (GemClose handle) topology accepted h Holds = more _ w.steps (few-filter _ w.holds w.steps (h Holds))
+asked-few w c (DestroyDumb handle) topology accepted h Holds = more _ w.steps (few-filter _ w.holds w.steps (h Holds))
+asked-few w c (GemFlink handle) topology accepted h Names = named-few w (object_of w c handle) (name_of w (object_of w c handle)) (h Names)
+asked-few w c (GemOpen name) topology accepted h Holds = few-push w.holds _ w.steps (h Holds)
+asked-few w c (PrimeHandleToFd handle) topology accepted h Tokens = few-push w.tokens _ w.steps (h Tokens)
+asked-few w c (PrimeHandleToFd handle) topology accepted h Holds = more _ w.steps (few-map _ w.holds w.steps (h Holds))
+asked-few w c (PrimeFdToHandle token) topology accepted h Holds = let o = unwrap_or (exported_object w token) 0 in imported-few w c o (prime_handle w c o) (h Holds)
+asked-few w c (TokenClose token) topology accepted h Tokens = more _ w.steps (few-filter _ w.tokens w.steps (h Tokens))
+asked-few w c (BufCreate size) topology accepted h Holds = few-push w.holds _ w.steps (h Holds)
+asked-few w c (BufCreate size) topology accepted h Objects = few-push w.objects _ w.steps (h Objects)
+asked-few w c (CreateDumb width height bpp) topology accepted h Holds = few-push w.holds _ w.steps (h Holds)
+asked-few w c (CreateDumb width height bpp) topology accepted h Objects = few-push w.objects _ w.steps (h Objects)
+asked-few w c (StampWrite handle stamp) topology accepted h Objects = more _ w.steps (few-map _ w.objects w.steps (h Objects))
+asked-few w c (SetCrtc crtc f connector) topology accepted h Shown = few-may_push _ _ (f == 0) w.steps (few-filter _ w.shown w.steps (h Shown))
+asked-few w c (SetPlane plane crtc f) topology accepted h Shown = few-may_push _ _ (f == 0) w.steps (few-filter _ w.shown w.steps (h Shown))
+asked-few w c (GetFb f) topology accepted h Holds = given-few w c (framebuffer_object w f) (gives_handle w c) (h Holds)
+asked-few w c (AddFb width height pitch bpp handle) topology accepted h Framebuffers = few-push w.framebuffers _ w.steps (h Framebuffers)
+asked-few w c (RmFb f) topology accepted h Framebuffers = more _ w.steps (few-filter _ w.framebuffers w.steps (h Framebuffers))
+asked-few w c (CreateLease ids) topology accepted h Masters = few-push w.masters _ w.steps (h Masters)
+asked-few w c (CreateLease ids) topology accepted h Grants = granted-few w ids (h Grants) (few_leased w c ids topology accepted)
+asked-few w c (RevokeLease lessee) topology accepted h part = more_in part _ w.steps (ended-few w w.steps (lessee_master w (own_master w c) lessee) h part)
+asked-few w c call topology accepted h part = later w w.steps h part
+
+leased-few : (w : Rows) (token : ℕ) (root : Bool) → FewRows w.steps w → (part : Part) → count_in part (opened_lease w token root) ≤ most_in part (birth w)
 unfolding count_in
 leased-few w token root h Clients = few-push w.clients _ w.steps (h Clients)
 leased-few w token root h Masters = more _ w.steps (few-map _ w.masters w.steps (h Masters))
 leased-few w token root h part = later w w.steps h part
 
-changed-few : (w : Rows) (event : Event) → FewRows w.steps w → FewRows (birth w) (changed w event)
+changed-few : (w : Rows) (event : Event) → IsTopology w.topology → verdict w event ≡ None → FewRows w.steps w → FewRows (birth w) (changed w event)
 unfolding changed opened
-changed-few w (Open (Primary root)) h = opened_primary-few w root w.device_master h
-changed-few w (Open Render) h = with_client-few w w.steps _ h
-changed-few w (Open (Lease token root)) h = leased-few w token root h
-changed-few w (Ask c call) h = asked-few w c call h
-changed-few w (Close c) h = closed-few w (birth w) c (later w w.steps h)
+changed-few w (Open (Primary root)) topology accepted h = opened_primary-few w root w.device_master h
+changed-few w (Open Render) topology accepted h = with_client-few w w.steps _ h
+changed-few w (Open (Lease token root)) topology accepted h = leased-few w token root h
+changed-few w (Ask c call) topology accepted h = asked-few w c call topology accepted h
+changed-few w (Close c) topology accepted h = closed-few w (birth w) c (later w w.steps h)
 
-swept-few : (w : Rows) (most : ℕ) → FewRows most w → (part : Part) → count_in part (swept w) ≤ most
+swept-few : (w : Rows) (most : ℕ) → FewRows most w → (part : Part) → count_in part (swept w) ≤ most_in part most
 unfolding swept count_in
 swept-few w most h Masters = few-filter _ w.masters most (h Masters)
 swept-few w most h Objects = few-filter _ w.objects most (h Objects)
@@ -157,47 +178,47 @@ swept-few w most h Names = few-filter _ w.names most (h Names)
 swept-few w most h Shown = few-filter _ w.shown most (h Shown)
 swept-few w most h part = h part
 
-noted-few : (w : Rows) (most : ℕ) → FewRows most w → (part : Part) → count_in part (noted w) ≤ most
+noted-few : (w : Rows) (most : ℕ) → FewRows most w → (part : Part) → count_in part (noted w) ≤ most_in part most
 unfolding count_in
 noted-few w most h Clients = h Clients
 noted-few w most h part = h part
 
-verdict-few : (w : Rows) (event : Event) (v : Option Rule) → FewRows w.steps w → FewRows (birth w) (after_verdict v w event)
-verdict-few w event (Some rule) h = noted-few w (birth w) (later w w.steps h)
-verdict-few w event None h = noted-few (swept (changed w event)) (birth w) (swept-few (changed w event) (birth w) (changed-few w event h))
+verdict-few : (w : Rows) (event : Event) (v : Option Rule) → IsTopology w.topology → verdict w event ≡ v → FewRows w.steps w → FewRows (birth w) (after_verdict v w event)
+verdict-few w event (Some rule) topology e h = noted-few w (birth w) (later w w.steps h)
+verdict-few w event None topology e h = noted-few (swept (changed w event)) (birth w) (swept-few (changed w event) (birth w) (changed-few w event topology e h))
 
-in_after : (w : Rows) (event : Event) → FewRows w.steps w → FewRows (birth w) (after w event)
+in_after : (w : Rows) (event : Event) → IsTopology w.topology → FewRows w.steps w → FewRows (birth w) (after w event)
 unfolding after
-in_after w event h = verdict-few w event (verdict w event) h
+in_after w event topology h = verdict-few w event (verdict w event) topology refl h
 
-run-few : (w : Rows) (events : List Event) → FewRows w.steps w → FewRows (run w events).steps (run w events)
+run-few : (w : Rows) (events : List Event) → IsTopology w.topology → FewRows w.steps w → FewRows (run w events).steps (run w events)
 unfolding run
-run-few w [] h = h
-run-few w (e ∷ es) h = run-few (after w e) es (subst (λ n. FewRows n (after w e)) (sym (after-steps w e)) (in_after w e h))
+run-few w [] topology h = h
+run-few w (e ∷ es) topology h = run-few (after w e) es (subst IsTopology (sym (after-topology w e)) topology) (subst (λ n. FewRows n (after w e)) (sym (after-steps w e)) (in_after w e topology h))
 
-none_yet : (h : History) → (part : Part) → count_in part (empty_rows h.topology h.limits) ≤ 0
+none_yet : (h : History) → (part : Part) → count_in part (empty_rows h.topology h.limits) ≤ most_in part 0
 unfolding count_in
 none_yet h Clients = omega arith
 none_yet h part = omega arith
 
--- the rows of a history: at most one of each list for each of its steps
-pub few_rows : (h : History) → FewRows (rows_of h).steps (rows_of h)
+-- the rows of a history: no more than its steps can add
+pub few_rows : (h : History) → IsTopology h.topology → FewRows (rows_of h).steps (rows_of h)
 unfolding rows_of
-few_rows h = run-few (empty_rows h.topology h.limits) h.journal (none_yet h)
+few_rows h topology = run-few (empty_rows h.topology h.limits) h.journal topology (none_yet h)
 
-mapped : {X Y : Type 0} (f : X → Y) (xs : List X) (most : ℕ) → length xs ≤ most → length (map f xs) ≤ most + 1
+mapped : {X Y : Type 0} (f : X → Y) (xs : List X) (most : ℕ) → length xs ≤ 64 * most → length (map f xs) ≤ 64 * most + 1
 mapped f xs most h = let l = length-map xs f in omega (arith, l, h)
 
 -- so few rows does an audit show
-pub few_audit_rows : (w : Rows) (most : ℕ) → FewRows most w → (kind : AuditKind) → length (audit_rows w kind) ≤ most + 1
+pub few_audit_rows : (w : Rows) (most : ℕ) → FewRows most w → (kind : AuditKind) → length (audit_rows w kind) ≤ 64 * most + 1
 unfolding audit_rows count_in
-few_audit_rows w most h kinds.Client = mapped _ w.clients most (h Clients)
-few_audit_rows w most h kinds.Master = mapped _ w.masters most (h Masters)
-few_audit_rows w most h kinds.Object = mapped _ w.objects most (h Objects)
-few_audit_rows w most h kinds.Name = mapped _ w.names most (h Names)
-few_audit_rows w most h kinds.Token = mapped _ w.tokens most (h Tokens)
-few_audit_rows w most h kinds.Hold = mapped _ w.holds most (h Holds)
+few_audit_rows w most h kinds.Client = mapped _ w.clients most (let few = h Clients in omega (arith, few))
+few_audit_rows w most h kinds.Master = mapped _ w.masters most (let few = h Masters in omega (arith, few))
+few_audit_rows w most h kinds.Object = mapped _ w.objects most (let few = h Objects in omega (arith, few))
+few_audit_rows w most h kinds.Name = mapped _ w.names most (let few = h Names in omega (arith, few))
+few_audit_rows w most h kinds.Token = mapped _ w.tokens most (let few = h Tokens in omega (arith, few))
+few_audit_rows w most h kinds.Hold = mapped _ w.holds most (let few = h Holds in omega (arith, few))
 few_audit_rows w most h kinds.Grant = mapped _ w.grants most (h Grants)
-few_audit_rows w most h kinds.Framebuffer = mapped _ w.framebuffers most (h Framebuffers)
-few_audit_rows w most h kinds.Shown = mapped _ w.shown most (h Shown)
+few_audit_rows w most h kinds.Framebuffer = mapped _ w.framebuffers most (let few = h Framebuffers in omega (arith, few))
+few_audit_rows w most h kinds.Shown = mapped _ w.shown most (let few = h Shown in omega (arith, few))
 few_audit_rows w most h kinds.Device = omega arith

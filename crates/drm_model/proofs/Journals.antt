@@ -64,7 +64,7 @@ mastered-kept w c false true = record { topology = refl; limits = refl; steps = 
 mastered-kept w c false false = record { topology = refl; limits = refl; steps = refl }
 
 asked-kept : (w : Rows) (c : ℕ) (call : Call) → IsKept w (meaning w c call).rows
-unfolding meaning with_object
+unfolding meaning with_object ended
 asked-kept w c Version = record { topology = refl; limits = refl; steps = refl }
 asked-kept w c SetMaster = mastered-kept w c (is_current w c) (is_master w c)
 asked-kept w c _ = record { topology = refl; limits = refl; steps = refl }
@@ -152,7 +152,7 @@ mastered-count w c false true = refl
 mastered-count w c false false = map-count _ w.clients
 
 asked-count : (w : Rows) (c : ℕ) (call : Call) → length (meaning w c call).rows.clients ≡ length w.clients
-unfolding meaning with_object with_authenticated
+unfolding meaning with_object with_authenticated ended
 asked-count w c Version = refl
 asked-count w c (AuthMagic magic) = map-count _ w.clients
 asked-count w c SetMaster = mastered-count w c (is_current w c) (is_master w c)

@@ -1,7 +1,12 @@
 pub mod Closings
+pub mod Endings
 pub mod Journals
 pub mod Orders
 pub mod Births
+pub mod Leased
+pub mod Lessors
+pub mod Grants
+pub mod Lasting
 pub mod Counts
 pub mod Runs
 pub mod FewIds
@@ -48,3 +53,9 @@ pub mod WorkedFramebuffersKeepObjects
 pub mod WorkedFramebuffersAreLimited
 pub mod WorkedFramebuffersGiveHandlesToCurrentAndRootClients
 pub mod WorkedAuditsOfFramebuffersAndWhatIsShown
+pub mod WorkedLesseesBehindTheirOwner
+pub mod WorkedLeasesAreRefusedInOrder
+pub mod WorkedLeaseTokensAndRevocations
+pub mod WorkedLeasesAreTestedRuleByRule
+pub mod WorkedLeasesAreLimited
+pub mod WorkedAuditsOfLeases

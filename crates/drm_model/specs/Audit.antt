@@ -55,6 +55,9 @@ framebuffer_audit row = audit_row row.framebuffer row.client row.object 0
 abbrev pub shown_audit : ShownRow → AuditRow
 shown_audit row = audit_row row.shower row.framebuffer 0 0
 
+abbrev pub grant_audit : GrantRow → AuditRow
+grant_audit row = audit_row row.master row.mode_object 0 0
+
 -- the rows of a kind
 unfoldable pub audit_rows : Rows → AuditKind → List AuditRow
 audit_rows w Client = map (client_audit w) w.clients
@@ -63,7 +66,7 @@ audit_rows w Object = map (object_audit w) w.objects
 audit_rows w Name = map name_audit w.names
 audit_rows w Token = map token_audit w.tokens
 audit_rows w Hold = map hold_audit w.holds
-audit_rows w Grant = map (λ (row : GrantRow). audit_row row.master row.mode_object 0 0) w.grants
+audit_rows w Grant = map grant_audit w.grants
 audit_rows w Framebuffer = map framebuffer_audit w.framebuffers
 audit_rows w Shown = map shown_audit w.shown
 audit_rows w Device = audit_row (or_zero w.device_master) w.last_token w.last_lease_token w.steps ∷ []

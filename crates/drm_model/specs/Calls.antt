@@ -1,7 +1,7 @@
 -- What each call means. Its meaning stands with its family.
 use Rattle.std.specs.Prelude.{ℕ}
 use Rattle.drm_table.specs.declared.calls.Call.{Call}
-use Rattle.drm_table.specs.declared.calls.Call.TheVariants.{Unknown, BadLayout, Version, GetMagic, GemClose, GemFlink, GemOpen, GetCap, SetClientCap, AuthMagic, SetMaster, DropMaster, PrimeHandleToFd, PrimeFdToHandle, BufCreate, StampWrite, StampRead, TokenClose, ListHandles, Audit, GetResources, GetCrtc, SetCrtc, GetEncoder, GetConnector, GetFb, AddFb, RmFb, CreateDumb, DestroyDumb, GetPlaneResources, GetPlane, SetPlane}
+use Rattle.drm_table.specs.declared.calls.Call.TheVariants.{Unknown, BadLayout, Version, GetMagic, GemClose, GemFlink, GemOpen, GetCap, SetClientCap, AuthMagic, SetMaster, DropMaster, PrimeHandleToFd, PrimeFdToHandle, BufCreate, StampWrite, StampRead, TokenClose, ListHandles, Audit, GetResources, GetCrtc, SetCrtc, GetEncoder, GetConnector, GetFb, AddFb, RmFb, CreateDumb, DestroyDumb, GetPlaneResources, GetPlane, SetPlane, CreateLease, ListLessees, GetLease, RevokeLease}
 use Rattle.drm_model.specs.Rows.{Rows}
 use Rattle.drm_model.specs.Meaning.{Meaning, nothing}
 use Rattle.drm_model.specs.Capabilities.{version, get_cap, set_client_cap}
@@ -10,6 +10,7 @@ use Rattle.drm_model.specs.Buffers.{gem_close, buf_create, create_dumb, stamp_wr
 use Rattle.drm_model.specs.Magics.{get_magic, auth_magic, set_master, drop_master}
 use Rattle.drm_model.specs.Sharing.{gem_flink, gem_open, prime_export, prime_import, token_close}
 use Rattle.drm_model.specs.Modes.{get_resources, get_crtc, set_crtc, get_encoder, get_connector, get_fb, add_fb, rm_fb, get_plane_resources, get_plane, set_plane}
+use Rattle.drm_model.specs.Leases.{create_lease, list_lessees, get_lease, revoke_lease}
 
 -- the first two are never admitted
 unfoldable pub meaning : Rows → ℕ → Call → Meaning
@@ -46,3 +47,7 @@ meaning w c (DestroyDumb handle) = gem_close w c handle
 meaning w c GetPlaneResources = get_plane_resources w c
 meaning w c (GetPlane plane) = get_plane w c plane
 meaning w c (SetPlane plane crtc framebuffer) = set_plane w c plane crtc framebuffer
+meaning w c (CreateLease ids) = create_lease w c ids
+meaning w c ListLessees = list_lessees w c
+meaning w c GetLease = get_lease w c
+meaning w c (RevokeLease lessee) = revoke_lease w c lessee

@@ -4,7 +4,6 @@ pub mod Parts
 pub mod Births
 pub mod Masters
 pub mod Sees
-pub mod Leases
 pub mod Meaning
 pub mod Capabilities
 pub mod Audit
@@ -12,10 +11,12 @@ pub mod Buffers
 pub mod Sharing
 pub mod Modes
 pub mod Magics
+pub mod Leases
 pub mod Calls
 pub mod Clients
 pub mod Verdict
 pub mod Change
+pub mod Endings
 pub mod Reply
 pub mod Run
 pub mod Results

@@ -1,6 +1,6 @@
 -- GEM_FLINK and GEM_OPEN (drm-gem(7), drm-mm), PRIME_HANDLE_TO_FD and PRIME_FD_TO_HANDLE (drm-mm, PRIME), and TOKEN_CLOSE. Tokens,
 -- which stand for file descriptors, their order, and PRIME places are this project's own.
-use Rattle.std.specs.Prelude.{ℕ, ◌+◌, ◌==◌, Bool, not, ◌&&◌, List, [], ◌∷◌, ◌++◌, Option, None, Some, unwrap_or, find, map, filter, if◌then◌else◌}
+use Rattle.std.specs.Prelude.{ℕ, ◌==◌, Bool, not, ◌&&◌, List, [], ◌∷◌, ◌++◌, Option, None, Some, unwrap_or, find, map, filter, if◌then◌else◌}
 use Rattle.std.specs.List.{filter_map}
 use Rattle.std.specs.Option.{is_some, option_map, option_and_then, option_or}
 use Rattle.drm_lists.specs.Numbers.{is_among}
@@ -8,6 +8,7 @@ use Rattle.drm_table.specs.declared.answers.Answer.TheVariants.{Number, Buffer}
 use Rattle.drm_table.specs.declared.rules.Rule.TheVariants.{NoHandle, NoName, NoToken, Full}
 use Rattle.drm_table.specs.Permit.{check}
 use Rattle.drm_index_array.specs.Least.{least, least_of}
+use Rattle.drm_model.specs.Numbers.{next_in_turn}
 use Rattle.drm_model.specs.Rows.{Rows, HoldRow, ObjectRow, NameRow, TokenRow, birth, without, is_option, is_hold, has_handle, object_of, object_row, free_handle, with_hold}
 use Rattle.drm_model.specs.Meaning.{Meaning, nothing}
 use Rattle.drm_model.specs.Buffers.{new_handle}
@@ -69,10 +70,9 @@ gem_open w c name = open_of w c (named_object w name) (unwrap_or (named_object w
 abbrev pub is_free_token : Rows → ℕ → Bool
 is_free_token w token = not (is_among (map (λ row. row.token) w.tokens) token)
 
--- the next token in turn: the lowest free one above the last that was given or, where there is none, the lowest free one
--- (the kernel's cyclic IDR)
+-- the next token in turn
 abbrev pub next_token : Rows → Option ℕ
-next_token w = option_or (least (is_free_token w) (w.last_token + 1) w.limits.tokens) (least (is_free_token w) 1 w.limits.tokens)
+next_token w = next_in_turn (is_free_token w) w.last_token w.limits.tokens
 
 -- the token of an export; 0 where none is free
 abbrev pub new_token : Rows → ℕ

@@ -1,16 +1,21 @@
 //! Laws of the definitions, each on a function that does nothing.
 
-ghost use Rattle.std.specs.Prelude.{◌≡◌, true, ◌++◌, ◌∷◌, [], List, ℕ, Option, Some, Ok, Result};
+ghost use Rattle.std.specs.Prelude.{◌≡◌, ◌<◌, ◌≤◌, true, ◌++◌, ◌∷◌, [], List, ℕ, Option, None, Some, Ok, Result};
 ghost use Rattle.drm_table.specs.declared.answers.Answer.{Answer};
 ghost use Rattle.drm_table.specs.declared.answers.Answer.TheVariants.{Closed};
 ghost use Rattle.drm_table.specs.declared.apart.Apart.{Apart};
 ghost use Rattle.drm_table.specs.declared.events.Event.{Event};
-ghost use Rattle.drm_table.specs.declared.events.Event.TheVariants.{Close};
+ghost use Rattle.drm_table.specs.declared.events.Event.TheVariants.{Ask, Close};
+ghost use Rattle.drm_table.specs.declared.calls.Call.TheVariants.{RevokeLease};
 ghost use Rattle.drm_table.specs.declared.rules.Rule.{Rule};
 ghost use Rattle.drm_model.specs.Rows.{Rows, is_open};
 ghost use Rattle.drm_model.specs.Verdict.{verdict};
 ghost use Rattle.drm_model.specs.Change.{after, noted};
-ghost use Rattle.drm_model.specs.Births.{BirthsRise};
+ghost use Rattle.drm_model.specs.Births.{BirthsRise, WereMade};
+ghost use Rattle.drm_model.specs.Masters.{lessor_of, master_of, is_under};
+ghost use Rattle.drm_model.specs.Magics.{own_master, is_master};
+ghost use Rattle.drm_model.specs.Leases.{lessee_master};
+ghost use Rattle.drm_model.specs.Endings.{IsForgotten, HasEnded};
 ghost use Rattle.drm_model.specs.Run.{Step, Answers, History, run, noted_events, noted_in, rows_of};
 
 /// A denial changes no row: it is noted, and that is all.
@@ -45,4 +50,25 @@ pub fn births_rise()
 /// The rows of a longer journal are those after one more step.
 pub fn rows_follow_the_journal()
     ensures { (h : History) (event : Event) → rows_of (noted_in h event) ≡ after (rows_of h) event }
+{}
+
+/// Lessors are older: after any events clients, masters and objects are those of steps that were made, and what is above a
+/// master was made before it, so that its chain of lessors ends.
+pub fn lessors_are_older()
+    ensures made { (h : History) → WereMade (rows_of h).steps (rows_of h) }
+    ensures older { (h : History) (n m : ℕ) → lessor_of (rows_of h).masters n ≡ Some m → m < n }
+{}
+
+/// A closing leaves no right: no row names its client, and where the client was a master, neither its own master nor any below
+/// has a grant or an open lease token.
+pub fn closings_leave_no_right()
+    ensures forgotten { (w : Rows) (c : ℕ) → is_open w c ≡ true → IsForgotten (after w (Close c)) c }
+    ensures ended { (w : Rows) (c own m : ℕ) → is_open w c ≡ true → is_master w c ≡ true → master_of w c ≡ Some own → is_under w.masters own m ≡ true → HasEnded (after w (Close c)) m }
+{}
+
+/// A lease ends for good: after its revocation neither the lessee nor any below has a grant or an open lease token, and none of
+/// them gets one by any later event; nor does a master whose client's closing ended what it lent.
+pub fn leases_end_for_good()
+    ensures revoked { (w : Rows) (c lessee m : ℕ) → verdict w (Ask c (RevokeLease lessee)) ≡ None → is_under w.masters (lessee_master w (own_master w c) lessee) m ≡ true → HasEnded (after w (Ask c (RevokeLease lessee))) m }
+    ensures stays { (w : Rows) (events : List Event) (m : ℕ) → m ≤ w.steps → HasEnded w m → HasEnded (run w events) m }
 {}

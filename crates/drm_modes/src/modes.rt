@@ -3,7 +3,7 @@
 ghost use Rattle.std.specs.Prelude.{◌≡◌, ℕ, ◌==◌, false, ◌≤◌, ◌+◌, ◌↔◌, Some, None, find, slice_get, is_some, true, IsTrue, OnSome, OnErr, IfOk, IfErr, IfSome, IfNone, option_map};
 ghost use Rattle.std.specs.Int.{bit_at};
 ghost use Rattle.std.specs.Option.{option_map_or};
-ghost use Rattle.drm_modes.specs.Topology.{kind_of, ids_of_kind, is_of_kind, encoder_of, reaches, drives, possible_crtcs, mask_over, is_crtc, is_plane, is_encoder, AreCrtcs};
+ghost use Rattle.drm_modes.specs.Topology.{kind_of, ids_of_kind, is_of_kind, encoder_of, reaches, drives, possible_crtcs, mask_over, is_crtc, is_plane, is_encoder, object_count, AreCrtcs};
 ghost use Rattle.drm_modes.specs.Modes.{AreModes, empty_modes, has_framebuffer, is_framebuffer, is_framebuffer_of, is_made_by, framebuffers_of, framebuffer, free_framebuffer, with_framebuffer, without_framebuffer, can_show, shown_by, with_shown, shown_rows, screen_count, first_framebuffer};
 ghost use Rattle.drm_modes.specs.AddFbFault.{IsFull};
 ghost use Rattle.drm_modes.specs.Tables.{framebuffer_row, framebuffers_in};
@@ -80,6 +80,15 @@ impl Modes {
         ensures is { IfSome result (λ kind. is_of_kind self.now.topology kind id ≡ true) }
     {
         self.topology.kind(id)
+    }
+
+    /// How many fixed mode objects there are: their ids run from 1 to that (drm-uapi, mode setting; the ids are own). It takes
+    /// no memory.
+    pub fn object_count(&self) -> u32
+        ensures count { result ≡ object_count self.now.topology }
+        ensures few { result ≤ 64 }
+    {
+        self.topology.object_count()
     }
 
     /// Whether an id is that of a fixed mode object of a kind (drm-uapi, mode setting). It takes no memory.

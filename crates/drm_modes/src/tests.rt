@@ -82,6 +82,7 @@ fn topologies(rt: HostRuntime) -> Result<(), Fail> {
 fn fixed_objects(rt: HostRuntime) -> Result<(), Fail> {
     let modes = test_modes(&rt, 4)?;
     modes.laws();
+    assert_eq!(rt; modes.object_count(), 8);
     assert_eq!(rt; modes.kind(0), None);
     assert_eq!(rt; modes.kind(2), Some(Kind::Crtc));
     assert_eq!(rt; modes.kind(3), Some(Kind::Plane));

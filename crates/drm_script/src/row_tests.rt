@@ -2,7 +2,7 @@
 
 use crate::tests::asks;
 use crate::{Label, Reading, line_of, read_line};
-use drm_table::{Answer, Apart, Call, ShownList};
+use drm_table::{Answer, Apart, Call, IdList, ShownList};
 use std::process::Abort;
 use std::test::Fail;
 
@@ -252,6 +252,97 @@ fn modes_with_other_fields_are_malformed(rt: HostRuntime) {
     }
 }
 
+/// The first 32 of these ids.
+fn named(ids: &[u32]) -> IdList {
+    let mut list = IdList::new();
+    for id in ids {
+        if list.ids().len() < 32 {
+            list.push(*id);
+        }
+    }
+    list
+}
+
+#[test]
+fn calls_of_leases_are_read(rt: HostRuntime) -> Result<(), Fail> {
+    let a = Label::from_letter(b'a').ok_or("a letter")?;
+    asks(
+        &rt,
+        b"a create_lease 2 4  008 ",
+        a,
+        Call::CreateLease {
+            ids: named(&[2, 4, 8]),
+        },
+    );
+    asks(
+        &rt,
+        b"a create_lease 4294967295",
+        a,
+        Call::CreateLease {
+            ids: named(&[u32::MAX]),
+        },
+    );
+    asks(
+        &rt,
+        b"a create_lease",
+        a,
+        Call::CreateLease { ids: named(&[]) },
+    );
+    asks(&rt, b"a list_lessees", a, Call::ListLessees);
+    asks(&rt, b" a  get_lease ", a, Call::GetLease);
+    asks(&rt, b"a revoke_lease 1", a, Call::RevokeLease { lessee: 1 });
+    Ok(())
+}
+
+#[test]
+fn leases_of_32_ids_are_read(rt: HostRuntime) -> Result<(), Fail> {
+    let a = Label::from_letter(b'a').ok_or("a letter")?;
+    let many =
+        b"a create_lease 1 2 3 4 5 6 7 8 9 10 11 12 13 14 15 16 17 18 19 20 21 22 23 24 25 26 27 28 29 30 31 32 33";
+    let mut ids = [0; 32];
+    for place in 0..32u32 {
+        ids[place as usize] = place + 1;
+    }
+    asks(
+        &rt,
+        many.split_at(101).0,
+        a,
+        Call::CreateLease { ids: named(&ids) },
+    );
+    assert_eq!(&rt; read_line(many), Reading::Malformed);
+    Ok(())
+}
+
+#[test]
+fn bare_numbers_of_leases_are_read(rt: HostRuntime) -> Result<(), Fail> {
+    let a = Label::from_letter(b'a').ok_or("a letter")?;
+    asks(&rt, b"a raw 198", a, Call::BadLayout(198));
+    asks(&rt, b"a raw 199", a, Call::BadLayout(199));
+    asks(&rt, b"a raw 200", a, Call::BadLayout(200));
+    asks(&rt, b"a raw 201", a, Call::BadLayout(201));
+    asks(&rt, b"a raw 197", a, Call::Unknown(197));
+    asks(&rt, b"a raw 202", a, Call::Unknown(202));
+    Ok(())
+}
+
+#[test]
+fn leases_with_other_fields_are_malformed(rt: HostRuntime) {
+    let lines: [&[u8]; 9] = [
+        b"a create_lease 1 x",
+        b"a create_lease 4294967296",
+        b"a create_lease 1,2",
+        b"a list_lessees 1",
+        b"a get_lease 1",
+        b"a revoke_lease",
+        b"a revoke_lease 1 1",
+        b"a revoke_lease 4294967296",
+        b"a mode_revoke_lease 1",
+    ];
+    for line in lines {
+        assert_eq!(rt; read_line(line), Reading::Malformed);
+    }
+}
+
 #[test]
 fn names_and_tokens_with_other_fields_are_malformed(rt: HostRuntime) {
     let lines: [&[u8]; 18] = [
@@ -372,6 +463,19 @@ fn planes_and_framebuffers_have_their_lines(rt: HostRuntime) {
             handle: 1,
         }),
         b"framebuffer 64 32 256 24 1\n",
+    );
+}
+
+#[test]
+fn leases_have_their_lines(rt: HostRuntime) {
+    writes(&rt, Ok(Answer::Lease { id: 1, token: 1 }), b"lease 1 1\n");
+    writes(
+        &rt,
+        Ok(Answer::Lease {
+            id: 3,
+            token: u32::MAX,
+        }),
+        b"lease 3 4294967295\n",
     );
 }
 

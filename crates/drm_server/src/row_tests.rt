@@ -1,5 +1,5 @@
-//! Scripts of buffers, stamps, handles, capabilities, names, tokens, masters, magics, mode objects and framebuffers, with
-//! their published answers.
+//! Scripts of buffers, stamps, handles, capabilities, names, tokens, masters, magics, mode objects, framebuffers and leases,
+//! with their published answers.
 
 use crate::run::ScriptEnd;
 use crate::tests::check_script;
@@ -201,6 +201,73 @@ fn what_is_shown(rt: HostRuntime) {
         (
             b"open q root\nopen b card\nb create_dumb 1 1 32\nq create_dumb 1 1 32\nb addfb 1 1 4 32 1\nq addfb 1 1 4 32 1\nq prime_export 1\nq setplane 4 2 9\nq setcrtc 2 10 8\nq setcrtc 1 9 7\nq audit 8 0\nq audit 9 0\nq audit 9 1\nq audit 3 0\nclose b\nq audit 8 0\nq audit 9 0\nq audit 3 0\n",
             b"client 1\nclient 2\ndumb 1 64 4096\ndumb 1 64 4096\nnumber 9\nnumber 10\nnumber 1\ndone\ndone\ndone\nrows 2 | 9 2 3 0 | 10 1 4 0\nrows 3 | 1 9 0 0 | 2 10 0 0 | 4 9 0 0\nrows 2 | 2 10 0 0 | 4 9 0 0\nrows 2 | 3 4096 1 1 | 4 4096 1 2\nclosed\nrows 1 | 10 1 4 0\nrows 1 | 2 10 0 0\nrows 1 | 4 4096 1 2\n",
+        ),
+    ];
+    for (script, answers) in rows {
+        check_script(&rt, rt.alloc(), script, ScriptEnd::Done, answers);
+    }
+}
+
+#[test]
+fn leases(rt: HostRuntime) {
+    let rows: [(&[u8], &[u8]); 4] = [
+        (
+            b"open a card\na create_lease 2 4 8\nopen l lease 1\nl getresources\nl getplaneresources\nl getencoder 5\nl set_master\na get_lease\nclose a\nopen n card\nl setcrtc 2 0 0\nl getcrtc 2\nn getencoder 5\n",
+            b"client 1\nlease 1 1\nclient 3\ncrtcs 2 connectors 8 encoders 5,6 framebuffers -\nlist 4\nnumber 1\ndenied 26 MasterPerm 13\nlist 1,2,3,4,7,8\nclosed\nclient 10\ndenied 13 Master 13\ndenied 30 NoModeObject 2\nnumber 3\n",
+        ),
+        (
+            b"open a card\na create_lease\na create_lease 2 2 4 8\na create_lease 2 8\na create_lease 5\na create_lease 99\na create_lease 2 4 8\na create_lease 2 4 8\na create_lease 1 3 8\nopen l lease 1\nl create_lease 2 4 8\nl revoke_lease 1\nl revoke_lease 7\nl get_lease\na list_lessees\na revoke_lease 1\na list_lessees\nl getcrtc 2\na create_lease 2 4 8\n",
+            b"client 1\ndenied 33 LeaseShape 22\ndenied 32 Repeated 22\ndenied 33 LeaseShape 22\ndenied 31 NotLeasable 22\ndenied 30 NoModeObject 2\nlease 1 1\ndenied 34 LeasedOut 16\ndenied 34 LeasedOut 16\nclient 10\ndenied 35 SubLease 22\ndenied 37 NotYourLessee 13\ndenied 36 NoLessee 2\nlist 2,4,8\nlist 1\ndone\nlist -\ndenied 30 NoModeObject 2\nlease 2 2\n",
+        ),
+        (
+            b"open a card\na create_lease 5 99\na create_lease 5 5\na create_lease 8 8\nopen b card\nb create_dumb 64 64 32\nb addfb 64 64 256 32 1\na create_lease 2 4 8 9\na create_lease 2 4 8 10\na revoke_lease 0\na create_lease 2 4 8\nopen l lease 1\nl create_lease 99\nb create_lease 99\nb list_lessees\nb get_lease\nb revoke_lease 9\nopen r render\nr create_lease\nr list_lessees\nr get_lease\nr revoke_lease 1\n",
+            b"client 1\ndenied 30 NoModeObject 2\ndenied 31 NotLeasable 22\ndenied 32 Repeated 22\nclient 5\ndumb 1 256 16384\nnumber 9\ndenied 31 NotLeasable 22\ndenied 30 NoModeObject 2\ndenied 36 NoLessee 2\nlease 1 1\nclient 12\ndenied 35 SubLease 22\ndenied 13 Master 13\ndenied 13 Master 13\ndenied 13 Master 13\ndenied 13 Master 13\nclient 18\ndenied 13 Master 13\ndenied 13 Master 13\ndenied 13 Master 13\ndenied 13 Master 13\n",
+        ),
+        (
+            b"open a card\na create_lease 2 4 8\nopen l lease 1\nl create_dumb 64 64 32\nl addfb 64 64 256 32 1\nl setcrtc 2 9 8\nl setplane 4 2 9\nl setcrtc 1 9 7\nl setcrtc 2 9 7\nl setplane 3 1 0\nl setplane 4 1 9\nl getplane 4\na getplane 4\nl getencoder 6\nl getconnector 8\nl getconnector 7\nl getfb 9\na setcrtc 2 9 8\na revoke_lease 1\nl setcrtc 2 0 0\nl getfb 9\na getcrtc 2\nclose l\na getcrtc 2\na getplane 4\n",
+            b"client 1\nlease 1 1\nclient 3\ndumb 1 256 16384\nnumber 9\ndone\ndone\ndenied 30 NoModeObject 2\ndenied 30 NoModeObject 2\ndenied 30 NoModeObject 2\ndenied 30 NoModeObject 2\nplane 9 1\nplane 9 2\nnumber 1\nnumber 6\ndenied 30 NoModeObject 2\nframebuffer 64 64 256 32 2\ndone\ndone\ndenied 30 NoModeObject 2\nframebuffer 64 64 256 32 3\nnumber 9\nclosed\nnumber 0\nplane 0 2\n",
+        ),
+    ];
+    for (script, answers) in rows {
+        check_script(&rt, rt.alloc(), script, ScriptEnd::Done, answers);
+    }
+}
+
+#[test]
+fn lease_tokens(rt: HostRuntime) {
+    let rows: [(&[u8], &[u8]); 4] = [
+        (
+            b"open a card\na create_lease 1 3 7\na revoke_lease 1\nopen l lease 1\na list_lessees\na create_lease 1 3 7\nopen l lease 2\nopen k lease 2\na drop_master\nl getcrtc 1\n",
+            b"client 1\nlease 1 1\ndone\ndenied 42 NoLeaseToken 2\nlist -\nlease 1 2\nclient 7\ndenied 42 NoLeaseToken 2\ndone\nnumber 0\n",
+        ),
+        (
+            b"open a card\na create_lease 2 4 8\nopen l rootlease 1\nl set_master\nl drop_master\nl setcrtc 2 0 0\na drop_master\nl getcrtc 2\nl setcrtc 2 0 0\nl get_lease\nl set_master\nl drop_master\nopen n card\nl set_master\nl getcrtc 2\nclose n\na set_master\nl setcrtc 2 0 0\nl get_lease\na list_lessees\n",
+            b"client 1\nlease 1 1\nclient 3\ndone\ndenied 29 IsLessee 22\ndone\ndone\nnumber 0\ndenied 13 Master 13\ndenied 13 Master 13\ndenied 29 IsLessee 22\ndenied 28 NotCurrent 22\nclient 13\ndenied 27 MasterBusy 16\nnumber 0\nclosed\ndone\ndone\nlist 2,4,8\nlist 1\n",
+        ),
+        (
+            b"limits 4 8 8 2 8 4 2 50\nopen a card\na create_lease 2 4 8\na create_lease 1 3 7\na create_lease 2 4 8\na revoke_lease 1\na create_lease 2 4 8\nopen l lease 1\na revoke_lease 1\na create_lease 2 4 8\na list_lessees\nclose l\na create_lease 2 4 8\n",
+            b"client 1\nlease 1 1\nlease 2 2\ndenied 34 LeasedOut 16\ndone\nlease 1 1\nclient 7\ndone\ndenied 43 Full 28\nlist 2\nclosed\nlease 1 1\n",
+        ),
+        (
+            b"limits 3 8 8 1 8 4 4 50\nopen a card\na create_lease 2 4 8\na create_lease 1 3 7\nopen r render\nopen s render\nopen l lease 1\nopen l lease 2\nclose s\nopen l lease 1\na create_lease 1 3 7\na list_lessees\n",
+            b"client 1\nlease 1 1\ndenied 43 Full 28\nclient 4\nclient 5\ndenied 43 Full 28\ndenied 42 NoLeaseToken 2\nclosed\nclient 9\nlease 2 1\nlist 1,2\n",
+        ),
+    ];
+    for (script, answers) in rows {
+        check_script(&rt, rt.alloc(), script, ScriptEnd::Done, answers);
+    }
+}
+
+#[test]
+fn ends_of_leases(rt: HostRuntime) {
+    let rows: [(&[u8], &[u8]); 2] = [
+        (
+            b"open a card\nopen g card\na create_lease 2 4 8\na create_lease 1 3 7\nopen l lease 2\ng create_lease 2 4 8\nclose g\na list_lessees\nl getcrtc 1\nclose a\nopen k lease 1\nl getresources\nl getplaneresources\nl getencoder 5\nl get_lease\nopen b card\nb list_lessees\nb revoke_lease 2\nb create_lease 1 3 7\nclose l\n",
+            b"client 1\nclient 2\nlease 1 1\nlease 2 2\nclient 5\ndenied 13 Master 13\nclosed\nlist 1,2\nnumber 0\nclosed\ndenied 42 NoLeaseToken 2\ncrtcs - connectors - encoders 5,6 framebuffers -\nlist -\nnumber 0\ndenied 13 Master 13\nclient 16\nlist -\ndenied 36 NoLessee 2\nlease 1 3\nclosed\n",
+        ),
+        (
+            b"open q root\nq create_lease 8 4 2\nq audit 2 0\nq audit 7 0\nq audit 10 0\nopen l lease 1\nq audit 1 0\nq audit 2 0\nl audit 2 0\nopen k rootlease 1\nq revoke_lease 1\nq revoke_lease 1\nq audit 7 0\nq audit 2 1\nq create_lease 2 4 8\nopen k rootlease 2\nk audit 1 0\nk audit 7 0\nclose l\nk audit 2 0\n",
+            b"client 1\nlease 1 1\nrows 2 | 1 0 0 0 | 2 1 1 1\nrows 3 | 2 2 0 0 | 2 4 0 0 | 2 8 0 0\nrows 1 | 1 0 1 4\nclient 6\nrows 2 | 1 30 1 0 | 6 20 2 0\nrows 2 | 1 0 0 0 | 2 1 1 0\ndenied 11 RootOnly 13\ndenied 42 NoLeaseToken 2\ndone\ndone\nrows 0\nrows 1 | 2 1 1 0\nlease 2 2\nclient 16\nrows 3 | 1 30 1 0 | 6 20 2 0 | 16 22 15 0\nrows 3 | 15 2 0 0 | 15 4 0 0 | 15 8 0 0\nclosed\nrows 2 | 1 0 0 0 | 15 1 2 0\n",
         ),
     ];
     for (script, answers) in rows {

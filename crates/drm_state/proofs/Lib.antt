@@ -5,9 +5,11 @@ pub mod Naming
 pub mod Frames
 pub mod Holding
 pub mod Living
+pub mod Ended
 pub mod Sweeps
 pub mod Outcomes
 pub mod Lookups
+pub mod Callers
 pub mod Contents
 pub mod Made
 pub mod LastHandles

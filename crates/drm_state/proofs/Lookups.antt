@@ -39,4 +39,4 @@ standing_is s w h c flags =
     let now = λ (b : Bool). let r : Standing = record { root = flags.root; render = flags.render; authenticated = flags.authenticated; current = b } in r in
     ap (λ rows. now (option_map_or (λ (x : Member). x.is_master) o false && is_owner rows w.device_master (option_map (λ (x : Member). x.master) o))) (masters_are s w h)
     ∙ ap (λ device. now (option_map_or (λ (x : Member). x.is_master) o false && is_owner (masters_of s) device (option_map (λ (x : Member). x.master) o))) (device_master_is s w h)
-    ∙ ap now (current_is s.masters.masters s.masters.device_master o)
+    ∙ ap now (current_is s.leases.tokens s.masters.masters s.masters.device_master o)

@@ -1,17 +1,17 @@
 -- The parts of what a state stands for, and its ties, one by one.
-use Rattle.std.proofs.Common.{◌≡◌, true, false, []}
+use Rattle.std.proofs.Common.{◌≡◌, ◌≤◌, true}
 use Rattle.std.specs.List.{AllByRecursion}
 use Rattle.drm_lists.specs.Orders.{SameRows, InOrder}
 use Rattle.drm_files.specs.declared.rows.FileHold.{FileHold}
 use Rattle.drm_files.specs.Files.{is_present, hold_before}
 use Rattle.drm_model.specs.Rows.{Rows}
-use Rattle.drm_masters.specs.declared.rows.Master.{Master}
 use Rattle.drm_masters.specs.declared.rows.Member.{Member}
 use Rattle.drm_masters.specs.Masters.{AreMasters}
+use Rattle.drm_leases.specs.Leases.{AreLeases}
 use Rattle.drm_modes.specs.Modes.{AreModes}
 use Rattle.drm_state.specs.declared.state.State.{State}
-use Rattle.drm_state.specs.Parts.{clients_of, masters_of, magics_of, holds_of, objects_of, names_of, tokens_of, framebuffers_of, shown_of, last_token_of, keys_of, referring_keys}
-use Rattle.drm_state.specs.Ties.{MembersOpen, ClientsHave, MastersAre, NoneKept, MagicsSuffice, ModesAre, HoldsRise, ObjectsCounted, NamesHeld, is_tied, IsTied, AreTied, AreNamed, HasMaster}
+use Rattle.drm_state.specs.Parts.{clients_of, masters_of, magics_of, holds_of, objects_of, names_of, tokens_of, grants_of, framebuffers_of, shown_of, last_token_of, last_lease_token_of, keys_of, referring_keys}
+use Rattle.drm_state.specs.Ties.{MembersOpen, ClientsHave, MastersAre, MagicsSuffice, LesseesFew, LeasesAre, TokensOfLessees, KeptHaveTokens, ModesAre, HoldsRise, ObjectsCounted, NamesHeld, is_tied, IsTied, AreTied, AreNamed, AreOfLessees, AreKeptBy, HasMaster}
 use Rattle.drm_model.specs.Parts.{Bounds, Clients, Masters, Magics, Holds, Objects, Names, Tokens, Grants, Framebuffers, Shown, DeviceMaster, LastToken, LastLeaseToken}
 use Rattle.drm_state.specs.Refinement.{stands_for, Represents, HaveBounds}
 
@@ -48,9 +48,9 @@ module _ (s : State) (w : Rows) (h : Represents s w) where
   unfolding stands_for
   tokens_are = h Tokens
 
-  pub grants_none : w.grants ≡ []
+  pub grants_are : SameRows w.grants (grants_of s)
   unfolding stands_for
-  grants_none = h Grants
+  grants_are = h Grants
 
   pub framebuffers_are : SameRows w.framebuffers (framebuffers_of s)
   unfolding stands_for
@@ -68,9 +68,9 @@ module _ (s : State) (w : Rows) (h : Represents s w) where
   unfolding stands_for
   last_token_is = h LastToken
 
-  pub last_lease_token_none : w.last_lease_token ≡ 0
+  pub last_lease_token_is : w.last_lease_token ≡ last_lease_token_of s
   unfolding stands_for
-  last_lease_token_none = h LastLeaseToken
+  last_lease_token_is = h LastLeaseToken
 
 module _ (s : State) (t : IsTied s) where
   pub members_open : AllByRecursion (λ (x : Member). is_present s.files x.client ≡ true) s.masters.members
@@ -85,9 +85,21 @@ module _ (s : State) (t : IsTied s) where
   unfolding is_tied
   masters_so = t MastersAre
 
-  pub none_kept : AllByRecursion (λ (x : Master). x.kept ≡ false) s.masters.masters
+  pub lessees_few : s.masters.last_lessee ≤ 64
   unfolding is_tied
-  none_kept = t NoneKept
+  lessees_few = t LesseesFew
+
+  pub leases_so : AreLeases s.leases
+  unfolding is_tied
+  leases_so = t LeasesAre
+
+  pub tokens_of_lessees : AreOfLessees s.leases.tokens s.masters.masters
+  unfolding is_tied
+  tokens_of_lessees = t TokensOfLessees
+
+  pub kept_have_tokens : AreKeptBy s.leases.tokens s.masters.masters
+  unfolding is_tied
+  kept_have_tokens = t KeptHaveTokens
 
   pub magics_suffice : s.masters.last_magic ≡ s.files.limit
   unfolding is_tied

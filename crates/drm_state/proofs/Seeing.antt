@@ -3,18 +3,18 @@ use Rattle.std.proofs.Common.{◌≡◌, ℕ, ◌==◌, nat_lt, Bool, true, fals
 use Rattle.std.specs.Prelude.{nat_le}
 use Rattle.std.specs.List.{list_any}
 use Rattle.std.specs.Option.{is_some, option_map, option_map_or, option_and_then}
-use Rattle.std.proofs.Math.Bool.{or-false}
 use Rattle.std.proofs.lemmas.Bool.{eqb-true}
 use Rattle.std.proofs.lemmas.Bool.Decides.{nat_tests}
 use Rattle.drm_index_array.specs.Rows as arrays
 use Rattle.drm_lists.specs.Orders.{InOrder}
-use Rattle.drm_lists.proofs.Lists.{all_each, all_weaker, filter-map, map-map}
-use Rattle.drm_lists.proofs.Orders.{RisesTo, in_order_filter, in_order_map, same-filter, same-map, sorted-same, order_of_numbers}
+use Rattle.drm_lists.proofs.Lists.{all_each, all_weaker, filter-map, list_any-map, map-map}
+use Rattle.drm_lists.proofs.Orders.{RisesTo, in_order_filter, in_order_map, same-any, same-filter, same-map, sorted-same, order_of_numbers}
 use Rattle.drm_lists.proofs.Rising.{found}
 use Rattle.drm_files.specs.declared.rows.FileClient.{FileClient}
 use Rattle.drm_files.specs.Files as files
 use Rattle.drm_masters.specs.declared.rows.Member.{Member}
-use Rattle.drm_masters.specs.Masters.{member_of, is_lessee}
+use Rattle.drm_masters.specs.Masters.{member_of}
+use Rattle.drm_leases.specs.Leases as leases
 use Rattle.drm_modes.specs.declared.rows.Framebuffer.{Framebuffer}
 use Rattle.drm_modes.specs.declared.kinds.Kind.TheVariants.{Crtc, Plane, Connector}
 use Rattle.drm_modes.specs.Topology.{is_crtc, is_plane, is_connector, is_encoder, crtc_ids, plane_ids, connector_ids, encoder_ids, mask_over}
@@ -24,11 +24,11 @@ use Rattle.drm_model.specs.Rows.{Rows, ClientRow, GrantRow, FramebufferRow}
 use Rattle.drm_model.specs.Masters.{master_of, lessor_of}
 use Rattle.drm_model.specs.Sees as model
 use Rattle.drm_state.specs.declared.state.State.{State}
-use Rattle.drm_state.specs.Parts.{client_row_of, framebuffer_row_of, framebuffers_of}
+use Rattle.drm_state.specs.Parts.{client_row_of, grant_row_of, grants_of, framebuffer_row_of, framebuffers_of}
 use Rattle.drm_state.specs.Ties.{IsTied}
 use Rattle.drm_state.specs.Refinement.{Represents}
-use Rattle.drm_state.specs.Seeing.{controls_all, sees, sees_object, visible}
-use Rattle.drm_state.proofs.Represented.{bounds_are, masters_are, grants_none, framebuffers_are, modes_so}
+use Rattle.drm_state.specs.Seeing.{controls, sees, sees_object, visible}
+use Rattle.drm_state.proofs.Represented.{bounds_are, masters_are, grants_are, framebuffers_are, modes_so}
 use Rattle.drm_state.proofs.Lookups.{client_found}
 use Rattle.drm_state.proofs.Living.{lessors_are}
 
@@ -47,16 +47,20 @@ module _ (s : State) (w : Rows) (c : ℕ) (present : files.is_present s.files c 
           let is : f.client ≡ c = eqb-true f.client c (found (files.is_client c) (λ _. Unit {0}) f s.files.clients (all_each (λ _. Unit {0}) (λ _. tt) s.files.clients) e).0 in
           ap (λ n. option_map (λ (y : Member). y.master) (member_of s.masters.members n)) is
 
-  controls_is : (x : ℕ) → model.controls w (master_of w c) x ≡ controls_all s c
+  -- whether the lease of a master has the mode object
+  pub granted_is : (m x : ℕ) → model.is_granted w m x ≡ leases.is_granted s.leases.grants m x
+  granted_is m x =
+      let has = λ (row : GrantRow). (row.master == m) && (row.mode_object == x) in
+      same-any has w.grants (grants_of s) (grants_are s w h) ∙ list_any-map has grant_row_of s.leases.grants
+
+  controls_is : (x : ℕ) → model.controls w (master_of w c) x ≡ controls s c x
   controls_is x = ap (λ m. model.controls w m x) master_is ∙ by_member (member_of s.masters.members c)
     where
-      by_member : (o : Option Member) → model.controls w (option_map (λ (y : Member). y.master) o) x ≡ option_map_or (λ (y : Member). not (is_lessee s.masters.masters y.master)) o false
+      by_member : (o : Option Member) → model.controls w (option_map (λ (y : Member). y.master) o) x ≡ option_map_or (λ (y : Member). leases.controls s.leases.grants s.masters.masters y.master x) o false
       by_member None = refl
       by_member (Some y) =
-          ap (λ grants. not (is_some (lessor_of w.masters y.master)) || list_any (λ (row : GrantRow). (row.master == y.master) && (row.mode_object == x)) grants) (grants_none s w h)
-          ∙ or-false (not (is_some (lessor_of w.masters y.master)))
-          ∙ ap (λ rows. not (is_some (lessor_of rows y.master))) (masters_are s w h)
-          ∙ ap (λ o. not (is_some o)) (lessors_are s.masters.masters y.master)
+          (λ i. not (is_some (lessor_of (masters_are s w h i) y.master)) || granted_is y.master x i)
+          ∙ ap (λ o. not (is_some o) || leases.is_granted s.leases.grants y.master x) (lessors_are s.leases.tokens s.masters.masters y.master)
 
   pub seen_is : (x : ℕ) → model.sees w c x ≡ sees s c x
   unfolding model.sees
@@ -87,7 +91,7 @@ module _ (s : State) (w : Rows) (c : ℕ) (present : files.is_present s.files c 
 pub encoder_seen : (s : State) (w : Rows) (c : ℕ) → Represents s w → (x : ℕ) → is_encoder w.topology x ≡ (is_encoder s.modes.topology x && sees s c x)
 encoder_seen s w c h x = ap (λ t. is_encoder t x) (topology_is s w h) ∙ itself (is_encoder s.modes.topology x)
   where
-    itself : (b : Bool) → b ≡ (b && (b || controls_all s c))
+    itself : (b : Bool) → b ≡ (b && (b || controls s c x))
     itself true = refl
     itself false = refl
 

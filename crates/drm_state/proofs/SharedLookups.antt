@@ -168,7 +168,7 @@ exported_found s w n are h =
     (all_each _ (λ x. refl) s.tokens.tokens)
     (λ y e. same_number (is_token n) (λ (x : SharedToken). x.object) (birth_at s.objects.objects) y.object s.tokens.tokens (one_passes token_before (is_token n) (λ (x : SharedToken). x.object) (later_token n) s.tokens.tokens are.tokens_rise y e))
 
-or_else_is : (x y : Option ℕ) → option_or x y ≡ or_else x y
+pub or_else_is : (x y : Option ℕ) → option_or x y ≡ or_else x y
 or_else_is None y = refl
 or_else_is (Some n) y = refl
 

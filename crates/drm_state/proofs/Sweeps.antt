@@ -6,6 +6,7 @@ use Rattle.std.specs.Option.{is_some, option_map, option_map_or}
 use Rattle.std.proofs.Math.Bool.{or_assoc}
 use Rattle.std.proofs.lemmas.Bool.{eqb-true}
 use Rattle.drm_lists.specs.Orders.{SameRows, InOrder}
+use Rattle.drm_lists.specs.Chains as chains
 use Rattle.drm_lists.specs.Numbers.{is_among}
 use Rattle.drm_lists.proofs.Lists.{list_any-map, filter-map, filter_all, all_weaker, filter-same, filter_true, all_both, all_filter}
 use Rattle.drm_lists.proofs.Found.{find_others}
@@ -23,9 +24,9 @@ use Rattle.drm_files.specs.Files.{without_hold, without_client}
 use Rattle.drm_modes.specs.declared.rows.Framebuffer.{Framebuffer}
 use Rattle.drm_modes.specs.Modes as modes
 use Rattle.drm_modes.specs.Modes.{ModeSet, AreModes, shown_rows}
-use Rattle.drm_model.specs.Rows.{Rows, ClientRow, MasterRow, MagicRow, HoldRow, ObjectRow, NameRow, TokenRow, FramebufferRow, ShownRow, is_hold, is_option, is_framebuffer, client_row, without}
+use Rattle.drm_model.specs.Rows.{Rows, ClientRow, MasterRow, MagicRow, HoldRow, ObjectRow, NameRow, TokenRow, GrantRow, FramebufferRow, ShownRow, is_hold, is_option, is_framebuffer, client_row, without}
 use Rattle.drm_model.specs.Masters.{is_under}
-use Rattle.drm_model.specs.Leases.{ended}
+use Rattle.drm_model.specs.Leases as model
 use Rattle.drm_model.specs.Change.{is_referred, is_living, swept}
 use Rattle.drm_model.specs.Clients.{closed, ended_own, ended_if}
 use Rattle.drm_files.specs.declared.rows.FileFlags.{FileFlags}
@@ -35,17 +36,19 @@ use Rattle.drm_masters.specs.declared.rows.Master.{Master}
 use Rattle.drm_masters.specs.declared.rows.Member.{Member}
 use Rattle.drm_masters.specs.Masters as masters
 use Rattle.drm_masters.specs.Masters.{MasterSet, AreMasters}
+use Rattle.drm_leases.specs.Leases.{LeaseSet, AreLeases}
 use Rattle.drm_state.specs.declared.state.State.{State}
-use Rattle.drm_state.specs.Parts.{clients_of, masters_of, magics_of, names_of, objects_of, client_row_by, magic_row_of, hold_row_of, name_row_of, token_row_of, framebuffer_row_of, framebuffers_of, shown_row_of, object_row_of, master_row_of, birth_at, keys_of, token_keys, framebuffer_keys, referring, referring_keys, without_tokens_of, LosesFramebuffersOf, device_without, without_its_master}
-use Rattle.drm_state.specs.Ties.{Tie, MembersOpen, ClientsHave, MastersAre, NoneKept, MagicsSuffice, ModesAre, HoldsRise, ObjectsCounted, NamesHeld, is_tied, IsTied, HasMaster, AreTied, AreNamed, AreThoseNamed, Leaves, names_among}
+use Rattle.drm_state.specs.Parts.{clients_of, masters_of, magics_of, names_of, objects_of, client_row_by, magic_row_of, hold_row_of, name_row_of, token_row_of, framebuffer_row_of, framebuffers_of, shown_row_of, object_row_of, master_row_of, birth_at, keys_of, token_keys, framebuffer_keys, referring, referring_keys, without_tokens_of, LosesFramebuffersOf, grant_row_of, grants_of, device_without, own_master, is_below, released, ended, ends_with, without_its_master, without_its_leases}
+use Rattle.drm_state.specs.Ties.{Tie, MembersOpen, ClientsHave, MastersAre, MagicsSuffice, LesseesFew, LeasesAre, TokensOfLessees, KeptHaveTokens, ModesAre, HoldsRise, ObjectsCounted, NamesHeld, is_tied, IsTied, HasMaster, AreTied, AreNamed, AreThoseNamed, Leaves, names_among}
 use Rattle.drm_model.specs.Parts.{Part, Bounds, Clients, Masters, Magics, Holds, Objects, Names, Tokens, Grants, Framebuffers, Shown, DeviceMaster, LastToken}
 use Rattle.drm_state.specs.Refinement.{stands_for, Represents}
-use Rattle.drm_state.proofs.Represented.{bounds_are, clients_are, masters_are, magics_are, holds_are, objects_are, names_are, tokens_are, grants_none, framebuffers_are, shown_are, device_master_is, last_token_is, members_open, clients_have, masters_so, none_kept, magics_suffice, modes_so, holds_rise, objects_counted, names_held}
+use Rattle.drm_state.proofs.Represented.{bounds_are, clients_are, masters_are, magics_are, holds_are, objects_are, names_are, tokens_are, grants_are, framebuffers_are, shown_are, device_master_is, last_token_is, members_open, clients_have, masters_so, lessees_few, tokens_of_lessees, kept_have_tokens, magics_suffice, modes_so, holds_rise, objects_counted, names_held}
 use Rattle.drm_state.proofs.Counting.{all_named}
 use Rattle.drm_state.proofs.Naming.{references, references_by, among_numbers, among_key, holds_naming, holds_as_before, tokens_as_before, framebuffers_as_before, names_as_before, rows_left}
 use Rattle.drm_state.proofs.Frames.{shown_left, shown_yet, some_framed, framed_left}
 use Rattle.drm_state.proofs.Members.{masters_named, members_open_left, rows_left as clients_left}
-use Rattle.drm_state.proofs.Living.{swept_masters}
+use Rattle.drm_state.proofs.Living.{above_is, swept_masters}
+use Rattle.drm_state.proofs.Ended.{rows_released, rows_ended, grants_ended, none_released, none_ended, kept_ended, of_lessees_ended, of_lessees_swept, kept_swept}
 
 -- ---- objects
 
@@ -100,8 +103,8 @@ named_by_clients v s t e m = ap (list_any (λ (row : ClientRow). is_option m row
 -- all of them stay
 masters_left : (v : Rows) (s : State) → IsTied s → v.clients ≡ clients_of s → v.masters ≡ masters_of s → filter (λ (row : MasterRow). is_living v row.master) v.masters ≡ masters_of s
 masters_left v s t e f =
-    swept_masters v s.masters.masters s.masters.members f (none_kept s t) (named_by_clients v s t e)
-    ∙ ap (map master_row_of) (filter_all (λ (x : Master). masters.is_living s.masters.members s.masters.masters x.birth) s.masters.masters (masters_so s t).used)
+    swept_masters v s.leases.tokens s.masters.masters s.masters.members f (kept_have_tokens s t) (named_by_clients v s t e)
+    ∙ ap (map (master_row_of s.leases.tokens)) (filter_all (λ (x : Master). masters.is_living s.masters.members s.masters.masters x.birth) s.masters.masters (masters_so s t).used)
 
 -- ---- names
 
@@ -187,7 +190,7 @@ pub all_moved : (s : State) (w : Rows) (holds : List HoldRow) (tokens : List Tok
     IsTied s → Represents s w → Moves s (all_shared_rows w holds tokens last framebuffers names) hs ts ms ns left set → set.limit ≡ s.objects.limit → ms.topology ≡ s.modes.topology → ms.last ≡ s.modes.last → last ≡ unwrap_or given 0 →
     (part : Part) → stands_for part (all_moved_to s hs ts given ms left set) (swept (all_shared_rows w holds tokens last framebuffers names))
 unfolding stands_for swept
-all_moved s w holds tokens last framebuffers names hs ts given ms ns left set t h m l fixed most e Bounds = let k = bounds_are s w h in (k.0, k.1, l ∙ k.2, k.3, k.4, k.5, most ∙ k.6, fixed ∙ k.7)
+all_moved s w holds tokens last framebuffers names hs ts given ms ns left set t h m l fixed most e Bounds = let k = bounds_are s w h in (k.0, k.1, l ∙ k.2, k.3, k.4, k.5, most ∙ k.6, fixed ∙ k.7, k.8, k.9)
 all_moved s w holds tokens last framebuffers names hs ts given ms ns left set t h m l fixed most e Masters = masters_left (all_shared_rows w holds tokens last framebuffers names) s t (clients_are s w h) (masters_are s w h)
 all_moved s w holds tokens last framebuffers names hs ts given ms ns left set t h m l fixed most e Holds = holds_moved s (all_shared_rows w holds tokens last framebuffers names) hs ts ms ns left set t m
 all_moved s w holds tokens last framebuffers names hs ts given ms ns left set t h m l fixed most e Objects = objects_moved s (all_shared_rows w holds tokens last framebuffers names) hs ts ms ns left set t m (objects_are s w h)
@@ -283,14 +286,6 @@ handle_gone s w c n names set t left h =
 
 -- ---- a client goes
 
--- no lease token is open, so that none is taken
-unleased : (f : MasterRow → Bool) → (ms : List Master) → map (λ (row : MasterRow). if f row then record row { lease_token = None } else row) (map master_row_of ms) ≡ map master_row_of ms
-unleased f [] = refl
-unleased f (m ∷ ms) =
-    let g = λ (row : MasterRow). if f row then record row { lease_token = None } else row in
-    elim (f (master_row_of m)) as (λ b. ((if b then record (master_row_of m) { lease_token = None } else master_row_of m) ∷ map g (map master_row_of ms)) ≡ (master_row_of m ∷ map master_row_of ms))
-    [ true ↦ ap (λ rows. master_row_of m ∷ rows) (unleased f ms) | false ↦ ap (λ rows. master_row_of m ∷ rows) (unleased f ms) ]
-
 -- the device's master without a client that stands to masters so
 abbrev device_left : Option ℕ → Option Member → Option ℕ
 device_left d o = option_map_or (λ (x : Member). if x.is_master && masters.is_option x.master d then None else d) o d
@@ -299,22 +294,43 @@ same_option : (m : ℕ) (d : Option ℕ) → (if is_option m d then None else d)
 same_option m None = refl
 same_option m (Some n) = refl
 
--- the state whose device has this master
-abbrev pub with_device : State → Option ℕ → State
-with_device s d = record s { masters = record s.masters { device_master = d } }
+-- the state whose device has this master, where the leases of some masters ended
+abbrev pub with_ended : State → (ℕ → Bool) → Option ℕ → State
+with_ended s below d = record s { masters = record s.masters { masters = released below s.masters.masters; device_master = d }; leases = ended below s.leases }
+
+-- whether a master's row is below another's
+pub under_is : (s : State) (w : Rows) (top : ℕ) → Represents s w → is_under w.masters top ≡ is_below (Some top) s.masters.masters
+under_is s w top h = (λ i. is_under (masters_are s w h i) top) ∙ (λ i. chains.is_under (above_is s.leases.tokens s.masters.masters i) top)
+
+-- the leases of a master and of all below it end
+pub ended_represents : (s : State) (w : Rows) (top : ℕ) → Represents s w → (part : Part) → stands_for part (with_ended s (is_below (Some top) s.masters.masters) s.masters.device_master) (model.ended w top)
+unfolding stands_for model.ended
+ended_represents s w top h Masters =
+    let below : ℕ → Bool = is_below (Some top) s.masters.masters in
+    (λ i. map (λ (row : MasterRow). if under_is s w top h i row.master then record row { lease_token = None } else row) (masters_are s w h i))
+    ∙ rows_ended below s.leases.tokens s.masters.masters ∙ sym (rows_released (ended below s.leases).tokens below s.masters.masters)
+ended_represents s w top h Grants =
+    let below : ℕ → Bool = is_below (Some top) s.masters.masters in
+    subst (λ (p : ℕ → Bool). SameRows (filter (λ (row : GrantRow). not (p row.master)) w.grants) (grants_of (with_ended s below s.masters.device_master))) (sym (under_is s w top h)) (grants_ended below w.grants s.leases.grants (grants_are s w h))
+ended_represents s w top h part = h part
+
+-- no lease ends
+pub none_ended_represents : (s : State) (w : Rows) → Represents s w → (part : Part) → stands_for part (with_ended s (λ _. false) s.masters.device_master) w
+unfolding stands_for
+none_ended_represents s w h Masters = masters_are s w h ∙ (λ i. map (master_row_of (sym (none_ended s.leases) i).tokens) (sym (none_released s.masters.masters) i))
+none_ended_represents s w h Grants = subst (λ (l : LeaseSet). SameRows w.grants (map grant_row_of l.grants)) (sym (none_ended s.leases)) (grants_are s w h)
+none_ended_represents s w h part = h part
 
 -- what a client's own master gave goes, and the device's master if it was that
-ended_by_own : (s : State) (w : Rows) (m : ℕ) (b : Bool) → Represents s w → (part : Part) → stands_for part (with_device s (if b && masters.is_option m s.masters.device_master then None else s.masters.device_master)) (ended_if w b (Some m))
-unfolding stands_for ended
-ended_by_own s w m true h Masters = ap (map _) (masters_are s w h) ∙ unleased (λ row. is_under w.masters m row.master) s.masters.masters
-ended_by_own s w m true h Grants = ap (without _) (grants_none s w h)
+ended_by_own : (s : State) (w : Rows) (m : ℕ) (b : Bool) → Represents s w → (part : Part) → stands_for part (with_ended s (is_below (if b then Some m else None) s.masters.masters) (if b && masters.is_option m s.masters.device_master then None else s.masters.device_master)) (ended_if w b (Some m))
+unfolding stands_for model.ended
 ended_by_own s w m true h DeviceMaster = ap (λ (d : Option ℕ). if is_option m d then None else d) (device_master_is s w h) ∙ same_option m s.masters.device_master
-ended_by_own s w m true h part = h part
-ended_by_own s w m false h Clients = h Clients
-ended_by_own s w m false h part = h part
+ended_by_own s w m true h part = ended_represents s w m h part
+ended_by_own s w m false h Clients = none_ended_represents s w h Clients
+ended_by_own s w m false h part = none_ended_represents s w h part
 
-ended_if_represents : (s : State) (w : Rows) (o : Option Member) → Represents s w → Represents (with_device s (device_left s.masters.device_master o)) (ended_if w (option_map_or (λ (x : Member). x.is_master) o false) (option_map (λ (x : Member). x.master) o))
-ended_if_represents s w None h = h
+ended_if_represents : (s : State) (w : Rows) (o : Option Member) → Represents s w → Represents (with_ended s (is_below (own_master o) s.masters.masters) (device_left s.masters.device_master o)) (ended_if w (option_map_or (λ (x : Member). x.is_master) o false) (option_map (λ (x : Member). x.master) o))
+ended_if_represents s w None h = none_ended_represents s w h
 ended_if_represents s w (Some x) h = ended_by_own s w x.master x.is_master h
 
 -- the state without a client
@@ -325,6 +341,7 @@ without_its s c ms names set = record s {
   modes = ms;
   names = names;
   masters = without_its_master c s.masters;
+  leases = without_its_leases c s.masters s.leases;
   objects = set;
 }
 
@@ -353,18 +370,25 @@ have_left v c (f ∷ fs) h =
     ]) refl
 
 -- the ties without a client
-pub client_gone_tied : (s : State) (c : ℕ) (ms : ModeSet) (names : NameList) (set : ObjectSet) → IsTied s → AreMasters (without_its_master c s.masters) → AreModes ms → Leaves s.names s.objects (keys_without s c) (references_without s c ms) names set →
+pub client_gone_tied : (s : State) (c : ℕ) (ms : ModeSet) (names : NameList) (set : ObjectSet) → IsTied s → AreMasters (without_its_master c s.masters) → AreLeases (without_its_leases c s.masters s.leases) → AreModes ms → Leaves s.names s.objects (keys_without s c) (references_without s c ms) names set →
     (tie : Tie) → is_tied tie (without_its s c ms names set)
 unfolding is_tied
-client_gone_tied s c ms names set t are modes_are left MembersOpen = members_open_left c s.files.clients s.masters.members (members_open s t)
-client_gone_tied s c ms names set t are modes_are left ClientsHave = have_left s.masters c s.files.clients (clients_have s t)
-client_gone_tied s c ms names set t are modes_are left MastersAre = are
-client_gone_tied s c ms names set t are modes_are left NoneKept = all_filter (λ (x : Master). x.kept ≡ false) (λ (x : Master). masters.is_living (without_its_master c s.masters).members s.masters.masters x.birth) s.masters.masters (none_kept s t)
-client_gone_tied s c ms names set t are modes_are left MagicsSuffice = magics_suffice s t
-client_gone_tied s c ms names set t are modes_are left ModesAre = modes_are
-client_gone_tied s c ms names set t are modes_are left HoldsRise = in_order_filter (λ (x y : FileHold). files.hold_before x y ≡ true) _ s.files.holds (holds_rise s t)
-client_gone_tied s c ms names set t are modes_are left ObjectsCounted = left.tied
-client_gone_tied s c ms names set t are modes_are left NamesHeld = named_left s.names names s.objects set (keys_without s c) (references_without s c ms) left
+client_gone_tied s c ms names set t are leases_are modes_are left MembersOpen = members_open_left c s.files.clients s.masters.members (members_open s t)
+client_gone_tied s c ms names set t are leases_are modes_are left ClientsHave = have_left s.masters c s.files.clients (clients_have s t)
+client_gone_tied s c ms names set t are leases_are modes_are left MastersAre = are
+client_gone_tied s c ms names set t are leases_are modes_are left LesseesFew = lessees_few s t
+client_gone_tied s c ms names set t are leases_are modes_are left LeasesAre = leases_are
+client_gone_tied s c ms names set t are leases_are modes_are left TokensOfLessees =
+    let below = ends_with s.masters c in
+    of_lessees_swept (without_its_master c s.masters).members (ended below s.leases).tokens (released below s.masters.masters) (kept_ended below s.leases.tokens s.masters.masters (kept_have_tokens s t)) (of_lessees_ended below s.leases.tokens s.masters.masters (tokens_of_lessees s t))
+client_gone_tied s c ms names set t are leases_are modes_are left KeptHaveTokens =
+    let below = ends_with s.masters c in
+    kept_swept (without_its_master c s.masters).members (ended below s.leases).tokens (released below s.masters.masters) (kept_ended below s.leases.tokens s.masters.masters (kept_have_tokens s t))
+client_gone_tied s c ms names set t are leases_are modes_are left MagicsSuffice = magics_suffice s t
+client_gone_tied s c ms names set t are leases_are modes_are left ModesAre = modes_are
+client_gone_tied s c ms names set t are leases_are modes_are left HoldsRise = in_order_filter (λ (x y : FileHold). files.hold_before x y ≡ true) _ s.files.holds (holds_rise s t)
+client_gone_tied s c ms names set t are leases_are modes_are left ObjectsCounted = left.tied
+client_gone_tied s c ms names set t are leases_are modes_are left NamesHeld = named_left s.names names s.objects set (keys_without s c) (references_without s c ms) left
 
 pub some_opened : (p : SharedToken → Bool) → (ts : List SharedToken) (n : ℕ) → is_among (token_keys (filter p ts)) n ≡ true → is_among (token_keys ts) n ≡ true
 some_opened p [] n h = h
@@ -428,23 +452,23 @@ magics_left c (x ∷ xs) =
     ]
 
 module _ (s : State) (w : Rows) (c : ℕ) (flags : FileFlags) (ms : ModeSet) (names : NameList) (set : ObjectSet)
-    (t : IsTied s) (are : AreMasters (without_its_master c s.masters)) (modes_are : AreModes ms) (loses : LosesFramebuffersOf c s.modes ms) (of : client_row w c ≡ Some (client_row_by (record { client = c; flags = flags }) (masters.member_of s.masters.members c)))
+    (t : IsTied s) (are : AreMasters (without_its_master c s.masters)) (leases_are : AreLeases (without_its_leases c s.masters s.leases)) (modes_are : AreModes ms) (loses : LosesFramebuffersOf c s.modes ms) (of : client_row w c ≡ Some (client_row_by (record { client = c; flags = flags }) (masters.member_of s.masters.members c)))
     (gone : Leaves s.names s.objects (keys_without s c) (references_without s c ms) names set) (h : Represents s w) where
   now : IsTied (without_its s c ms names set)
-  now = client_gone_tied s c ms names set t are modes_are gone
+  now = client_gone_tied s c ms names set t are leases_are modes_are gone
 
   -- when what its own master gave is gone
-  ended_represents : Represents (with_device s (device_without s.masters c)) (ended_own w (client_row w c))
-  ended_represents =
-      subst (λ o. Represents (with_device s (device_without s.masters c)) (ended_own w o)) (sym of)
-      (ended_if_represents s w (masters.member_of s.masters.members c) h)
+  own_ended : Represents (with_ended s (ends_with s.masters c) (device_without s.masters c)) (ended_own w (client_row w c))
+  own_ended = subst (λ o. Represents (with_ended s (ends_with s.masters c) (device_without s.masters c)) (ended_own w o)) (sym of) (ended_if_represents s w (masters.member_of s.masters.members c) h)
 
   -- its row goes
   clients_now : without (λ (x : ClientRow). x.client == c) w.clients ≡ clients_of (without_its s c ms names set)
   clients_now = ap (without (λ (x : ClientRow). x.client == c)) (clients_are s w h) ∙ sym (clients_left c s.masters.members s.files.clients)
 
-  masters_now : (v : Rows) → v.clients ≡ clients_of (without_its s c ms names set) → v.masters ≡ masters_of s → filter (λ (x : MasterRow). is_living v x.master) v.masters ≡ masters_of (without_its s c ms names set)
-  masters_now v e f = swept_masters v s.masters.masters (without_its_master c s.masters).members f (none_kept s t) (named_by_clients v (without_its s c ms names set) now e)
+  masters_now : (v : Rows) → v.clients ≡ clients_of (without_its s c ms names set) → v.masters ≡ masters_of (with_ended s (ends_with s.masters c) (device_without s.masters c)) → filter (λ (x : MasterRow). is_living v x.master) v.masters ≡ masters_of (without_its s c ms names set)
+  masters_now v e f =
+      swept_masters v (without_its_leases c s.masters s.leases).tokens (released (ends_with s.masters c) s.masters.masters) (without_its_master c s.masters).members f (kept_ended (ends_with s.masters c) s.leases.tokens s.masters.masters (kept_have_tokens s t))
+      (named_by_clients v (without_its s c ms names set) now e)
 
   -- its framebuffers go
   framed : SameRows (closed w c).framebuffers (map (framebuffer_row_of s.objects.objects) ms.framebuffers)
@@ -460,8 +484,8 @@ module _ (s : State) (w : Rows) (c : ℕ) (flags : FileFlags) (ms : ModeSet) (na
     holds = held_left w.holds (λ x. not (x.client == c)) s.objects.objects s.files.holds (holds_are s w h);
     tokens = opened_left w.tokens (λ x. not (x.client == c)) s.objects.objects s.tokens.tokens (tokens_are s w h);
     framebuffers = framed;
-    shown = shown_left (closed w c) s.objects.objects s.modes ms framed (shown_are _ _ ended_represents) loses.shown;
-    names = names_are _ _ ended_represents;
+    shown = shown_left (closed w c) s.objects.objects s.modes ms framed (shown_are _ _ own_ended) loses.shown;
+    names = names_are _ _ own_ended;
     known = λ n e. fewer_known s (λ x. not (files.of_client c x)) (λ x. not (is_exported_by c x)) (λ x. not (modes.is_made_by c x)) n
         (subst (λ fs. is_among (keys_without s c ++ referring (without_tokens_of c s.tokens).tokens fs) n ≡ true) loses.framebuffers e);
     known_names = names_known s t;
@@ -471,14 +495,14 @@ module _ (s : State) (w : Rows) (c : ℕ) (flags : FileFlags) (ms : ModeSet) (na
 
   objects_yet : (closed w c).objects ≡ objects_of s
   unfolding closed
-  objects_yet = objects_are _ _ ended_represents
+  objects_yet = objects_are _ _ own_ended
 
   -- and the masters that no client names any more
   pub client_gone : (part : Part) → stands_for part (without_its s c ms names set) (swept (closed w c))
   unfolding stands_for swept closed
-  client_gone Bounds = let k = bounds_are _ _ ended_represents in (k.0, k.1, gone.limit ∙ k.2, ap (λ (l : NameList). l.last) gone.names ∙ k.3, k.4, k.5, loses.last ∙ k.6, loses.topology ∙ k.7)
+  client_gone Bounds = let k = bounds_are _ _ own_ended in (k.0, k.1, gone.limit ∙ k.2, ap (λ (l : NameList). l.last) gone.names ∙ k.3, k.4, k.5, loses.last ∙ k.6, loses.topology ∙ k.7, k.8, k.9)
   client_gone Clients = clients_now
-  client_gone Masters = masters_now (closed w c) clients_now (masters_are _ _ ended_represents)
+  client_gone Masters = masters_now (closed w c) clients_now (masters_are _ _ own_ended)
   client_gone Magics = subst (SameRows (without (λ (row : MagicRow). row.client == c) w.magics)) (magics_left c s.masters.members) (same-filter (λ (row : MagicRow). not (row.client == c)) w.magics (magics_of s) (magics_are s w h))
   client_gone Holds = holds_moved s (closed w c) _ _ ms s.names.names names.names set t moves
   client_gone Objects = objects_moved s (closed w c) _ _ ms s.names.names names.names set t moves objects_yet
@@ -486,4 +510,4 @@ module _ (s : State) (w : Rows) (c : ℕ) (flags : FileFlags) (ms : ModeSet) (na
   client_gone Tokens = tokens_moved s (closed w c) _ _ ms s.names.names names.names set t moves
   client_gone Framebuffers = framebuffers_moved s (closed w c) _ _ ms s.names.names names.names set t moves
   client_gone Shown = moves.shown
-  client_gone part = ended_represents part
+  client_gone part = own_ended part

@@ -1,24 +1,28 @@
 -- The rows that the parts of the device stand for.
-use Rattle.std.specs.Prelude.{◌≡◌, ℕ, Bool, false, not, ◌&&◌, List, ◌++◌, Option, None, find, filter, map, unwrap_or, if◌then◌else◌}
+use Rattle.std.specs.Prelude.{◌≡◌, ℕ, Bool, false, not, ◌&&◌, List, ◌++◌, Option, None, Some, find, filter, map, unwrap_or, if◌then◌else◌}
 use Rattle.std.specs.List.{filter_map}
-use Rattle.std.specs.Option.{option_map, option_map_or}
+use Rattle.std.specs.Option.{option_map, option_map_or, option_and_then}
 use Rattle.drm_gem.specs.declared.object.Object.{Object}
 use Rattle.drm_gem.specs.Objects.{is_key}
 use Rattle.drm_files.specs.declared.rows.FileClient.{FileClient}
 use Rattle.drm_files.specs.declared.rows.FileHold.{FileHold}
-use Rattle.drm_files.specs.Files.{is_client}
+use Rattle.drm_files.specs.Files as files
 use Rattle.drm_share.specs.declared.rows.SharedName.{SharedName}
 use Rattle.drm_share.specs.declared.rows.SharedToken.{SharedToken}
 use Rattle.drm_share.specs.Tokens.{TokenList, is_exported_by}
-use Rattle.drm_model.specs.Rows.{ClientRow, MasterRow, MagicRow, HoldRow, ObjectRow, NameRow, TokenRow, FramebufferRow, ShownRow}
+use Rattle.drm_model.specs.Rows.{ClientRow, MasterRow, MagicRow, HoldRow, ObjectRow, NameRow, TokenRow, GrantRow, FramebufferRow, ShownRow}
 use Rattle.drm_modes.specs.declared.rows.Framebuffer.{Framebuffer}
 use Rattle.drm_modes.specs.declared.rows.Shown.{Shown}
 use Rattle.drm_modes.specs.Modes.{ModeSet, shown_rows, is_made_by, has_framebuffer}
 use Rattle.drm_masters.specs.declared.rows.Magic.{Magic}
 use Rattle.drm_masters.specs.declared.rows.Master.{Master}
 use Rattle.drm_masters.specs.declared.rows.Member.{Member}
-use Rattle.drm_masters.specs.Masters.{MasterSet, member_of, is_option, swept}
-use Rattle.drm_masters.specs.Calls.{with_device, without_member}
+use Rattle.drm_masters.specs.Masters.{MasterSet, is_client, member_of, is_option, lessor_of, swept}
+use Rattle.drm_lists.specs.Chains.{is_under}
+use Rattle.drm_masters.specs.Calls.{kept_as}
+use Rattle.drm_leases.specs.declared.rows.Grant.{Grant}
+use Rattle.drm_leases.specs.declared.rows.LeaseToken.{LeaseToken}
+use Rattle.drm_leases.specs.Leases.{LeaseSet, token_of}
 use Rattle.drm_state.specs.declared.state.State.{State}
 
 -- a render client does not stand to masters
@@ -36,9 +40,12 @@ client_row_by f m = record {
 abbrev pub client_row_of : List Member → FileClient → ClientRow
 client_row_of members f = client_row_by f (member_of members f.client)
 
--- no lease token is open yet
-abbrev pub master_row_of : Master → MasterRow
-master_row_of x = record { master = x.birth; lessor = x.lessor; lessee_id = x.lessee_id; lease_token = None }
+-- a lessee that nobody redeemed has an open lease token
+abbrev pub master_row_of : List LeaseToken → Master → MasterRow
+master_row_of tokens x = record { master = x.birth; lessor = x.lessor; lessee_id = x.lessee_id; lease_token = token_of tokens x.birth }
+
+abbrev pub grant_row_of : Grant → GrantRow
+grant_row_of g = record { master = g.master; mode_object = g.mode_object }
 
 -- a client's magic, if it has one
 abbrev pub magic_row_of : Member → Option MagicRow
@@ -92,7 +99,10 @@ abbrev pub clients_of : State → List ClientRow
 clients_of s = map (client_row_of s.masters.members) s.files.clients
 
 abbrev pub masters_of : State → List MasterRow
-masters_of s = map master_row_of s.masters.masters
+masters_of s = map (master_row_of s.leases.tokens) s.masters.masters
+
+abbrev pub grants_of : State → List GrantRow
+grants_of s = map grant_row_of s.leases.grants
 
 abbrev pub magics_of : State → List MagicRow
 magics_of s = filter_map magic_row_of s.masters.members
@@ -118,6 +128,10 @@ shown_of s = map shown_row_of (shown_rows s.modes)
 -- the last token given; 0 before the first
 abbrev pub last_token_of : State → ℕ
 last_token_of s = unwrap_or s.tokens.last_given 0
+
+-- the last lease token given; 0 before the first
+abbrev pub last_lease_token_of : State → ℕ
+last_lease_token_of s = unwrap_or s.leases.last_given 0
 
 -- the keys that tokens name
 abbrev pub token_keys : List SharedToken → List ℕ
@@ -153,10 +167,40 @@ keys_of holds = map (λ (x : FileHold). x.object) holds
 abbrev pub device_without : MasterSet → ℕ → Option ℕ
 device_without v c = option_map_or (λ (x : Member). if x.is_master && is_option x.master v.device_master then None else v.device_master) (member_of v.members c) v.device_master
 
--- the masters without a client: its magic goes with it, and the masters that no client names any more
+-- the own master of a client that is one
+abbrev pub own_master : Option Member → Option ℕ
+own_master m = option_and_then (λ (x : Member). if x.is_master then Some x.master else None) m
+
+-- whether it is that master, or one below it
+abbrev pub is_below : Option ℕ → List Master → ℕ → Bool
+is_below None ms m = false
+is_below (Some top) ms m = is_under (lessor_of ms) top m
+
+-- those masters are kept no more
+abbrev pub released : (ℕ → Bool) → List Master → List Master
+released below ms = map (λ (x : Master). if below x.birth then kept_as false x else x) ms
+
+-- their leases and open lease tokens are gone
+abbrev pub ended : (ℕ → Bool) → LeaseSet → LeaseSet
+ended below l = record l { tokens = filter (λ (row : LeaseToken). not (below row.master)) l.tokens; grants = filter (λ (g : Grant). not (below g.master)) l.grants }
+
+-- the masters that end with a client: its own, if it is one, and those below it
+abbrev pub ends_with : MasterSet → ℕ → ℕ → Bool
+ends_with v c m = is_below (own_master (member_of v.members c)) v.masters m
+
+-- the masters without a client: its magic goes with it, those that end with it are kept no more, and those go that no client names
+-- any more and that are not kept
 abbrev pub without_its_master : ℕ → MasterSet → MasterSet
-without_its_master c v = swept (with_device (device_without v c) (without_member c v))
+without_its_master c v = swept (record v {
+  members = filter (λ (x : Member). not (is_client c x)) v.members;
+  masters = released (ends_with v c) v.masters;
+  device_master = device_without v c;
+})
+
+-- the leases without a client
+abbrev pub without_its_leases : ℕ → MasterSet → LeaseSet → LeaseSet
+without_its_leases c v l = ended (ends_with v c) l
 
 -- whether an open client is root
 abbrev pub root_of : State → ℕ → Bool
-root_of s c = option_map_or (λ (f : FileClient). f.flags.root) (find (is_client c) s.files.clients) false
+root_of s c = option_map_or (λ (f : FileClient). f.flags.root) (find (files.is_client c) s.files.clients) false

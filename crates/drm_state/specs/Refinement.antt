@@ -19,7 +19,7 @@ use Rattle.drm_model.specs.Change.{after, swept}
 use Rattle.drm_model.specs.Reply.{reply}
 use Rattle.drm_model.specs.Run.{Growing}
 use Rattle.drm_state.specs.declared.state.State.{State}
-use Rattle.drm_state.specs.Parts.{birth_at, clients_of, masters_of, magics_of, holds_of, objects_of, names_of, tokens_of, framebuffers_of, shown_of, last_token_of}
+use Rattle.drm_state.specs.Parts.{birth_at, clients_of, masters_of, magics_of, holds_of, objects_of, names_of, tokens_of, grants_of, framebuffers_of, shown_of, last_token_of, last_lease_token_of}
 
 -- the parts keep the limits and the fixed mode objects
 abbrev pub HaveBounds : State → Rows → Type 0
@@ -32,9 +32,11 @@ HaveBounds s w =
     × (s.masters.last_magic ≡ w.limits.clients)
     × (s.modes.last ≡ object_count w.topology + w.limits.framebuffers)
     × (s.modes.topology ≡ w.topology)
+    × (s.masters.last_lessee ≡ w.limits.lessees)
+    × (s.leases.last ≡ w.limits.tokens)
 
--- what the state stands for in a part of the rows. Magics, handles, names, tokens, framebuffers and what is shown have their own
--- order; no event makes a grant yet
+-- what the state stands for in a part of the rows. Magics, handles, names, tokens, grants, framebuffers and what is shown have
+-- their own order
 unfoldable pub stands_for : Part → State → Rows → Type 0
 stands_for Bounds s w = HaveBounds s w
 stands_for Clients s w = w.clients ≡ clients_of s
@@ -44,12 +46,12 @@ stands_for Holds s w = SameRows w.holds (holds_of s)
 stands_for Objects s w = w.objects ≡ objects_of s
 stands_for Names s w = SameRows w.names (names_of s)
 stands_for Tokens s w = SameRows w.tokens (tokens_of s)
-stands_for Grants s w = w.grants ≡ []
+stands_for Grants s w = SameRows w.grants (grants_of s)
 stands_for Framebuffers s w = SameRows w.framebuffers (framebuffers_of s)
 stands_for Shown s w = SameRows w.shown (shown_of s)
 stands_for DeviceMaster s w = w.device_master ≡ s.masters.device_master
 stands_for LastToken s w = w.last_token ≡ last_token_of s
-stands_for LastLeaseToken s w = w.last_lease_token ≡ 0
+stands_for LastLeaseToken s w = w.last_lease_token ≡ last_lease_token_of s
 
 -- the state stands for the rows
 abbrev pub Represents : State → Rows → Type 0

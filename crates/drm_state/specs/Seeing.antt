@@ -4,16 +4,17 @@ use Rattle.std.specs.Option.{option_map_or}
 use Rattle.drm_modes.specs.declared.kinds.Kind.{Kind}
 use Rattle.drm_modes.specs.Topology.{is_encoder, is_of_kind, ids_of_kind}
 use Rattle.drm_masters.specs.declared.rows.Member.{Member}
-use Rattle.drm_masters.specs.Masters.{member_of, is_lessee}
+use Rattle.drm_masters.specs.Masters.{member_of}
+use Rattle.drm_leases.specs.Leases as leases
 use Rattle.drm_state.specs.declared.state.State.{State}
 
--- whether the client's master has no lessor, so that it controls all. No lease is made yet, so a lessee controls nothing
-abbrev pub controls_all : State → ℕ → Bool
-controls_all s c = option_map_or (λ (y : Member). not (is_lessee s.masters.masters y.master)) (member_of s.masters.members c) false
+-- whether the client's master controls the mode object: one without a lessor all, a lessee what its lease has
+abbrev pub controls : State → ℕ → ℕ → Bool
+controls s c x = option_map_or (λ (y : Member). leases.controls s.leases.grants s.masters.masters y.master x) (member_of s.masters.members c) false
 
 -- whether the client sees the fixed object: all see an encoder
 abbrev pub sees : State → ℕ → ℕ → Bool
-sees s c x = is_encoder s.modes.topology x || controls_all s c
+sees s c x = is_encoder s.modes.topology x || controls s c x
 
 -- whether it is one of a kind that the client sees
 abbrev pub sees_object : State → ℕ → Kind → ℕ → Bool

@@ -13,8 +13,11 @@ use Rattle.drm_share.specs.declared.rows.SharedName.{SharedName}
 use Rattle.drm_share.specs.Names.{NameList}
 use Rattle.drm_masters.specs.declared.rows.Master.{Master}
 use Rattle.drm_masters.specs.declared.rows.Member.{Member}
-use Rattle.drm_masters.specs.Masters.{MasterSet, AreMasters, member_of}
+use Rattle.drm_masters.specs.Masters.{MasterSet, AreMasters, member_of, is_lessee}
 use Rattle.drm_masters.specs.Calls as masters
+use Rattle.drm_leases.specs.declared.rows.LeaseToken.{LeaseToken}
+use Rattle.drm_leases.specs.Leases.{AreLeases, token_of}
+use Rattle.drm_leases.specs.Calls.{IsNewLessee}
 use Rattle.drm_modes.specs.Modes.{AreModes}
 use Rattle.drm_state.specs.declared.state.State.{State}
 use Rattle.drm_state.specs.Parts.{keys_of, referring_keys}
@@ -60,16 +63,27 @@ pub record Leaves (all_names : NameList) (all_objects : ObjectSet) (keys refs : 
 abbrev pub HasMaster : MasterSet → FileClient → Type 0
 HasMaster v f = (f.flags.render || is_some (member_of v.members f.client)) ≡ true
 
+-- each open lease token is that of a lessee
+abbrev pub AreOfLessees : List LeaseToken → List Master → Type 0
+AreOfLessees tokens ms = AllByRecursion (λ (row : LeaseToken). is_lessee ms row.master ≡ true) tokens
+
+-- those masters are kept that have an open lease token
+abbrev pub AreKeptBy : List LeaseToken → List Master → Type 0
+AreKeptBy tokens ms = AllByRecursion (λ (x : Master). x.kept ≡ is_some (token_of tokens x.birth)) ms
+
 -- what ties the parts: who stands to masters is open, and of the clients all but those of render nodes do; what is so of masters
--- at all times, none of which is kept, and there are as many magics as clients may be; what is so of mode objects at all times;
--- handles stand in the order of their clients and numbers; objects are those that handles, tokens and framebuffers name, which they
+-- at all times, and there are as many magics as clients may be, and 64 ids of lessees at most; what is so of leases at all times,
+-- whose open tokens are of lessees, and of masters those are kept that have one; what is so of mode objects at all times; handles stand in the order of their clients and numbers; objects are those that handles, tokens and framebuffers name, which they
 -- count; names are of objects that handles name
 pub data Tie : Type 0 where
   MembersOpen : Tie
   ClientsHave : Tie
   MastersAre : Tie
-  NoneKept : Tie
   MagicsSuffice : Tie
+  LesseesFew : Tie
+  LeasesAre : Tie
+  TokensOfLessees : Tie
+  KeptHaveTokens : Tie
   ModesAre : Tie
   HoldsRise : Tie
   ObjectsCounted : Tie
@@ -79,8 +93,11 @@ unfoldable pub is_tied : Tie → State → Type 0
 is_tied MembersOpen s = AllByRecursion (λ (x : Member). is_present s.files x.client ≡ true) s.masters.members
 is_tied ClientsHave s = AllByRecursion (HasMaster s.masters) s.files.clients
 is_tied MastersAre s = AreMasters s.masters
-is_tied NoneKept s = AllByRecursion (λ (x : Master). x.kept ≡ false) s.masters.masters
 is_tied MagicsSuffice s = s.masters.last_magic ≡ s.files.limit
+is_tied LesseesFew s = s.masters.last_lessee ≤ 64
+is_tied LeasesAre s = AreLeases s.leases
+is_tied TokensOfLessees s = AreOfLessees s.leases.tokens s.masters.masters
+is_tied KeptHaveTokens s = AreKeptBy s.leases.tokens s.masters.masters
 is_tied ModesAre s = AreModes s.modes
 is_tied HoldsRise s = InOrder (λ (x y : FileHold). hold_before x y ≡ true) s.files.holds
 is_tied ObjectsCounted s = AreTied (keys_of s.files.holds) (referring_keys s) s.objects.objects
@@ -95,6 +112,7 @@ pub record IsLater (s : State) (birth : ℕ) : Type 0 where
   pub clients : AllByRecursion (λ (f : FileClient). f.client < birth) s.files.clients
   pub objects : IsNewBirth s.objects birth
   pub masters : masters.IsNewBirth s.masters birth
+  pub leases : IsNewLessee s.leases birth
   pub holds : length s.files.holds < birth
   pub tokens : length s.tokens.tokens < birth
   pub framebuffers : length s.modes.framebuffers < birth

@@ -2,6 +2,7 @@
 
 use drm_files::Files;
 use drm_gem::Objects;
+use drm_leases::Leases;
 use drm_masters::Masters;
 use drm_modes::Modes;
 use drm_share::{Names, Tokens};
@@ -13,6 +14,8 @@ pub struct State {
     pub files: Files,
     /// How each of them stands to masters, the masters and magics.
     pub masters: Masters,
+    /// What lessees control, and the open tokens that open their clients.
+    pub leases: Leases,
     pub objects: Objects,
     /// The global names of objects.
     pub names: Names,

@@ -45,6 +45,7 @@ told-by kinds.Dumb (U32 handle ∷ U32 pitch ∷ U64 size ∷ []) = refl
 told-by kinds.Buffer (U32 handle ∷ U64 size ∷ []) = refl
 told-by kinds.Plane (U32 framebuffer ∷ U32 mask ∷ []) = refl
 told-by kinds.Framebuffer (U32 width ∷ U32 height ∷ U32 pitch ∷ U32 bpp ∷ U32 handle ∷ []) = refl
+told-by kinds.Lease (U32 id ∷ U32 token ∷ []) = refl
 told-by kinds.Closed [] = refl
 told-by _ _ = tt
 

@@ -1,5 +1,6 @@
 pub mod Found
 pub mod AuditKinds
+pub mod IdFields
 pub mod TableRows
 pub mod Readers
 pub mod AnswerRows

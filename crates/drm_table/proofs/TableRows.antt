@@ -1,7 +1,7 @@
 -- The table of calls: its rows are found by number and word, and a call is that of its row with its fields.
 use Rattle.std.proofs.Common.{◌≡◌, ℕ, ◌^◌, ◌<◌, List, [], ◌∷◌, Option, Some, None, is_some, true, refl, sym, ap, subst, lit<, lit≤}
 use Rattle.std.specs.Prelude.{◌==◌}
-use Rattle.std.specs.Option.{option_map}
+use Rattle.std.specs.Option.{option_map, option_or}
 use Rattle.std.specs.Str.{bytes_eq}
 use Rattle.std.proofs.lemmas.Bool.{eqb-true}
 use Rattle.std.proofs.lemmas.Slice.Eq.{bytes_eq-Decides}
@@ -14,9 +14,11 @@ use Rattle.drm_table.specs.declared.fields.Field.{Field}
 use Rattle.drm_table.specs.declared.fields.Field.TheVariants.{U32, U64}
 use Rattle.drm_table.specs.Audits as audits
 use Rattle.drm_table.specs.Fields.{Layout, IsShort}
+use Rattle.drm_table.specs.LeaseCalls.{ids_in}
 use Rattle.drm_table.specs.Table.{kind_row, kind_number, kind_word, kind_layout, call_kind_of, call_kind_of_word, all_kinds, call_row, call_with, IsReadBack, AreFieldsOf, HasWidths}
 use Rattle.drm_table.proofs.AuditKinds as kinds_of_audits
 use Rattle.drm_table.proofs.Found.{found-passes}
+use Rattle.drm_table.proofs.IdFields.{ids-back, ids-are, ids-widths}
 
 -- ---- a row by its number and by its word
 
@@ -28,6 +30,7 @@ number-small _ = lit< tt
 pub kind-short : (kind : CallKind) → IsShort (kind_layout kind)
 unfolding kind_row
 kind-short kinds.Version = lit≤ tt
+kind-short kinds.CreateLease = tt
 kind-short _ = lit≤ tt
 
 -- the same of a layout that is the kind's
@@ -63,6 +66,7 @@ unfolding call_row call_with
 read-back (calls.Unknown n) = tt
 read-back (calls.BadLayout n) = tt
 read-back (calls.Audit kind from) = audit-back kind from
+read-back (calls.CreateLease ids) = ap (λ (o : Option (List ℕ)). option_or (option_map calls.CreateLease o) None) (ids-back ids)
 read-back _ = refl
 
 -- the call of the row and the fields of a call is that call
@@ -80,6 +84,11 @@ audit-by : (number from : ℕ) (found : Option AuditKind) → audits.kind_of num
 unfolding call_row
 audit-by number from None e = tt
 audit-by number from (Some kind) e = ap (λ (n : ℕ). Some (kinds.Audit, U32 n ∷ U32 from ∷ [])) (kinds_of_audits.kind-of-its-own number kind e)
+
+lease-by : (fs : List Field) (found : Option (List ℕ)) → ids_in fs ≡ found → AreFieldsOf kinds.CreateLease fs (option_or (option_map calls.CreateLease found) None)
+unfolding call_row
+lease-by fs None e = tt
+lease-by fs (Some ids) e = ap (λ (xs : List Field). Some (kinds.CreateLease, xs)) (ids-are fs ids e)
 
 pub fields-of : (kind : CallKind) (fs : List Field) → AreFieldsOf kind fs (call_with kind fs)
 unfolding call_row call_with
@@ -114,10 +123,15 @@ fields-of kinds.DestroyDumb (U32 handle ∷ []) = refl
 fields-of kinds.GetPlaneResources [] = refl
 fields-of kinds.GetPlane (U32 plane ∷ []) = refl
 fields-of kinds.SetPlane (U32 plane ∷ U32 crtc ∷ U32 framebuffer ∷ []) = refl
+fields-of kinds.CreateLease fs = lease-by fs (ids_in fs) refl
+fields-of kinds.ListLessees [] = refl
+fields-of kinds.GetLease [] = refl
+fields-of kinds.RevokeLease (U32 lessee ∷ []) = refl
 fields-of _ _ = tt
 
 pub has-widths : (call : Call) → HasWidths (call_row call)
 unfolding call_row kind_row
 has-widths (calls.Unknown n) = tt
 has-widths (calls.BadLayout n) = tt
+has-widths (calls.CreateLease ids) = ids-widths ids
 has-widths _ = refl

@@ -1,5 +1,6 @@
 -- The answers: the number of each, its word in the lines of a script, and its fields (own).
 use Rattle.std.specs.Prelude.{◌≡◌, ℕ, ◌==◌, Option, Some, None, List, [], ◌∷◌, find, map, codes}
+use Rattle.std.specs.Option.{option_or}
 use Rattle.drm_table.specs.declared.answer_kinds.AnswerKind.{AnswerKind}
 use Rattle.drm_table.specs.declared.answer_kinds.AnswerKind.TheVariants as kinds
 use Rattle.drm_table.specs.declared.answer_kinds.Told.{Told as ToldValue}
@@ -33,11 +34,12 @@ answer_kind_row kinds.Dumb = answer_row 0x1004 (codes "dumb") (U32 ∷ U32 ∷ U
 answer_kind_row kinds.Buffer = answer_row 0x1005 (codes "buffer") (U32 ∷ U64 ∷ [])
 answer_kind_row kinds.Plane = answer_row 0x1008 (codes "plane") (U32 ∷ U32 ∷ [])
 answer_kind_row kinds.Framebuffer = answer_row 0x1009 (codes "framebuffer") (U32 ∷ U32 ∷ U32 ∷ U32 ∷ U32 ∷ [])
+answer_kind_row kinds.Lease = answer_row 0x100A (codes "lease") (U32 ∷ U32 ∷ [])
 answer_kind_row kinds.Closed = answer_row 0x100C (codes "closed") []
 
 -- all kinds, rising by number
 abbrev pub all_kinds : List AnswerKind
-all_kinds = kinds.Done ∷ kinds.Opened ∷ kinds.Version ∷ kinds.Number ∷ kinds.Dumb ∷ kinds.Buffer ∷ kinds.Plane ∷ kinds.Framebuffer ∷ kinds.Closed ∷ []
+all_kinds = kinds.Done ∷ kinds.Opened ∷ kinds.Version ∷ kinds.Number ∷ kinds.Dumb ∷ kinds.Buffer ∷ kinds.Plane ∷ kinds.Framebuffer ∷ kinds.Lease ∷ kinds.Closed ∷ []
 
 -- what an answer tells: fields of fixed number, the four lists of resources, a list of ids, rows of an audit, or a denial
 pub data Told : Type 0 where
@@ -58,23 +60,33 @@ told (answers.Buffer handle size) = row kinds.Buffer (fields.U32 handle ∷ fiel
 told (answers.Resources crtcs connectors encoders framebuffers) = resources crtcs connectors encoders framebuffers
 told (answers.Plane framebuffer mask) = row kinds.Plane (fields.U32 framebuffer ∷ fields.U32 mask ∷ [])
 told (answers.Framebuffer width height pitch bpp handle) = row kinds.Framebuffer (fields.U32 width ∷ fields.U32 height ∷ fields.U32 pitch ∷ fields.U32 bpp ∷ fields.U32 handle ∷ [])
+told (answers.Lease id token) = row kinds.Lease (fields.U32 id ∷ fields.U32 token ∷ [])
 told (answers.List ids) = list ids
 told (answers.Audit rows) = page rows
 told answers.Closed = row kinds.Closed []
 told (answers.Denied rule) = denial rule
 
+-- an answer of the calls of mode setting and of leases
+abbrev pub mode_answer : AnswerKind → List Field → Option Answer
+mode_answer kinds.Plane (fields.U32 framebuffer ∷ fields.U32 mask ∷ []) = Some (answers.Plane framebuffer mask)
+mode_answer kinds.Framebuffer (fields.U32 width ∷ fields.U32 height ∷ fields.U32 pitch ∷ fields.U32 bpp ∷ fields.U32 handle ∷ []) = Some (answers.Framebuffer width height pitch bpp handle)
+mode_answer kinds.Lease (fields.U32 id ∷ fields.U32 token ∷ []) = Some (answers.Lease id token)
+mode_answer _ _ = None
+
+-- an answer of any other call, of an opening or of a closing
+abbrev pub plain_answer : AnswerKind → List Field → Option Answer
+plain_answer kinds.Done [] = Some answers.Done
+plain_answer kinds.Opened (fields.U32 client ∷ []) = Some (answers.Opened client)
+plain_answer kinds.Version (fields.U32 major ∷ fields.U32 minor ∷ fields.U32 patch ∷ []) = Some (answers.Version major minor patch)
+plain_answer kinds.Number (fields.U64 value ∷ []) = Some (answers.Number value)
+plain_answer kinds.Dumb (fields.U32 handle ∷ fields.U32 pitch ∷ fields.U64 size ∷ []) = Some (answers.Dumb handle pitch size)
+plain_answer kinds.Buffer (fields.U32 handle ∷ fields.U64 size ∷ []) = Some (answers.Buffer handle size)
+plain_answer kinds.Closed [] = Some answers.Closed
+plain_answer _ _ = None
+
 -- the answer of a kind and these fields, if they are an answer's
 unfoldable pub answer_with : AnswerKind → List Field → Option Answer
-answer_with kinds.Done [] = Some answers.Done
-answer_with kinds.Opened (fields.U32 client ∷ []) = Some (answers.Opened client)
-answer_with kinds.Version (fields.U32 major ∷ fields.U32 minor ∷ fields.U32 patch ∷ []) = Some (answers.Version major minor patch)
-answer_with kinds.Number (fields.U64 value ∷ []) = Some (answers.Number value)
-answer_with kinds.Dumb (fields.U32 handle ∷ fields.U32 pitch ∷ fields.U64 size ∷ []) = Some (answers.Dumb handle pitch size)
-answer_with kinds.Buffer (fields.U32 handle ∷ fields.U64 size ∷ []) = Some (answers.Buffer handle size)
-answer_with kinds.Plane (fields.U32 framebuffer ∷ fields.U32 mask ∷ []) = Some (answers.Plane framebuffer mask)
-answer_with kinds.Framebuffer (fields.U32 width ∷ fields.U32 height ∷ fields.U32 pitch ∷ fields.U32 bpp ∷ fields.U32 handle ∷ []) = Some (answers.Framebuffer width height pitch bpp handle)
-answer_with kinds.Closed [] = Some answers.Closed
-answer_with _ _ = None
+answer_with kind fs = option_or (plain_answer kind fs) (mode_answer kind fs)
 
 -- ---- what follows from it
 

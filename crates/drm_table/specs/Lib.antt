@@ -3,6 +3,7 @@ pub mod Audits
 pub mod BufferCalls
 pub mod DeviceCalls
 pub mod Fields
+pub mod LeaseCalls
 pub mod Limits
 pub mod MasterCalls
 pub mod ModeCalls

@@ -12,12 +12,13 @@ use Rattle.drm_table.specs.declared.calls.Call.{Call}
 use Rattle.drm_table.specs.declared.calls.Call.TheVariants as calls
 use Rattle.drm_table.specs.BufferCalls.{buffer_row, buffer_call}
 use Rattle.drm_table.specs.DeviceCalls.{device_row, device_call}
+use Rattle.drm_table.specs.LeaseCalls.{lease_row, lease_call}
 use Rattle.drm_table.specs.MasterCalls.{master_row, master_call}
 use Rattle.drm_table.specs.ModeCalls.{mode_row, mode_call}
 use Rattle.drm_table.specs.ShareCalls.{share_row, share_call}
 use Rattle.drm_table.specs.declared.rows.Row.{Row}
 use Rattle.drm_table.specs.Fields.{Layout, layout_of, width_of, widths_in}
-use Rattle.drm_table.specs.Fields.Layout.{numbers}
+use Rattle.drm_table.specs.Fields.Layout.{numbers, ids}
 
 -- the caller is root
 abbrev pub root_only : RowFlags
@@ -86,6 +87,10 @@ kind_row kinds.DestroyDumb = table_row 0xB4 (codes "MODE_DESTROY_DUMB") (codes "
 kind_row kinds.GetPlaneResources = table_row 0xB5 (codes "MODE_GETPLANERESOURCES") (codes "getplaneresources") no_flags (numbers [])
 kind_row kinds.GetPlane = table_row 0xB6 (codes "MODE_GETPLANE") (codes "getplane") no_flags (numbers (U32 ∷ []))
 kind_row kinds.SetPlane = table_row 0xB7 (codes "MODE_SETPLANE") (codes "setplane") master (numbers (U32 ∷ U32 ∷ U32 ∷ []))
+kind_row kinds.CreateLease = table_row 0xC6 (codes "MODE_CREATE_LEASE") (codes "create_lease") master ids
+kind_row kinds.ListLessees = table_row 0xC7 (codes "MODE_LIST_LESSEES") (codes "list_lessees") master (numbers [])
+kind_row kinds.GetLease = table_row 0xC8 (codes "MODE_GET_LEASE") (codes "get_lease") master (numbers [])
+kind_row kinds.RevokeLease = table_row 0xC9 (codes "MODE_REVOKE_LEASE") (codes "revoke_lease") master (numbers (U32 ∷ []))
 
 -- all kinds, rising by number
 abbrev pub all_kinds : List CallKind
@@ -121,15 +126,19 @@ all_kinds =
     ∷ kinds.GetPlaneResources
     ∷ kinds.GetPlane
     ∷ kinds.SetPlane
+    ∷ kinds.CreateLease
+    ∷ kinds.ListLessees
+    ∷ kinds.GetLease
+    ∷ kinds.RevokeLease
     ∷ []
 
 -- the row of each call and its fields in order, on the wire and in a script alike, told by family; none of a call without a row
 unfoldable pub call_row : Call → Option (CallKind × List Field)
-call_row call = option_or (option_or (option_or (option_or (buffer_row call) (share_row call)) (master_row call)) (mode_row call)) (device_row call)
+call_row call = option_or (option_or (option_or (option_or (option_or (buffer_row call) (share_row call)) (master_row call)) (mode_row call)) (lease_row call)) (device_row call)
 
 -- the call of a row and these fields, if they are a call's
 unfoldable pub call_with : CallKind → List Field → Option Call
-call_with kind fs = option_or (option_or (option_or (option_or (buffer_call kind fs) (share_call kind fs)) (master_call kind fs)) (mode_call kind fs)) (device_call kind fs)
+call_with kind fs = option_or (option_or (option_or (option_or (option_or (buffer_call kind fs) (share_call kind fs)) (master_call kind fs)) (mode_call kind fs)) (lease_call kind fs)) (device_call kind fs)
 
 -- ---- what follows from it
 

@@ -2,7 +2,7 @@
 
 ghost use Rattle.std.specs.Prelude.{◌≡◌, ◌≤◌, length};
 ghost use Rattle.drm_table.specs.Answers.Told.{row as ToldFields};
-ghost use Rattle.drm_table.specs.Answers.{answer_kind_of, answer_number, answer_widths, answer_with, answer_word, answer_kind_row, told, told_of};
+ghost use Rattle.drm_table.specs.Answers.{answer_kind_of, answer_number, answer_widths, answer_with, answer_word, answer_kind_row, mode_answer, plain_answer, told, told_of};
 
 use crate::answers::Answer;
 use crate::audits::AuditPage;
@@ -22,6 +22,7 @@ pub enum AnswerKind {
     Buffer,
     Plane,
     Framebuffer,
+    Lease,
     Closed,
 }
 
@@ -67,7 +68,7 @@ fn row(number: u16, word: &'static str, widths: &'static [Width]) -> AnswerRow
 
 impl AnswerKind {
     /// All kinds, rising by number.
-    pub const ALL: [AnswerKind; 9] = [
+    pub const ALL: [AnswerKind; 10] = [
         AnswerKind::Done,
         AnswerKind::Opened,
         AnswerKind::Version,
@@ -76,6 +77,7 @@ impl AnswerKind {
         AnswerKind::Buffer,
         AnswerKind::Plane,
         AnswerKind::Framebuffer,
+        AnswerKind::Lease,
         AnswerKind::Closed,
     ];
 
@@ -101,6 +103,7 @@ impl AnswerKind {
                 "framebuffer",
                 &[Width::U32, Width::U32, Width::U32, Width::U32, Width::U32],
             ),
+            AnswerKind::Lease => row(0x100A, "lease", &[Width::U32, Width::U32]),
             AnswerKind::Closed => row(0x100C, "closed", &[]),
         }
     }
@@ -139,10 +142,33 @@ impl AnswerKind {
             .find(|kind| kind.number() == number)
     }
 
-    /// The answer of the kind and these fields; none where they are not an answer's.
-    #[tactic(auto, unfolding(crate::specs::Answers::answer_with))]
-    pub fn answer(self, fields: &[Field]) -> Option<Answer>
-        ensures { result ≡ answer_with self fields.now }
+    // An answer of the calls of mode setting and of leases.
+    fn mode_answer(self, fields: &[Field]) -> Option<Answer>
+        ensures { result ≡ mode_answer self fields.now }
+    {
+        Some(match (self, fields) {
+            (AnswerKind::Plane, &[U32(framebuffer), U32(mask)]) => Answer::Plane {
+                framebuffer,
+                mask,
+            },
+            (
+                AnswerKind::Framebuffer,
+                &[U32(width), U32(height), U32(pitch), U32(bpp), U32(handle)],
+            ) => Answer::Framebuffer {
+                width,
+                height,
+                pitch,
+                bpp,
+                handle,
+            },
+            (AnswerKind::Lease, &[U32(id), U32(token)]) => Answer::Lease { id, token },
+            _ => return None,
+        })
+    }
+
+    // An answer of any other call, of an opening or of a closing.
+    fn plain_answer(self, fields: &[Field]) -> Option<Answer>
+        ensures { result ≡ plain_answer self fields.now }
     {
         Some(match (self, fields) {
             (AnswerKind::Done, []) => Answer::Done,
@@ -159,23 +185,18 @@ impl AnswerKind {
                 size,
             },
             (AnswerKind::Buffer, &[U32(handle), U64(size)]) => Answer::Buffer { handle, size },
-            (AnswerKind::Plane, &[U32(framebuffer), U32(mask)]) => Answer::Plane {
-                framebuffer,
-                mask,
-            },
-            (
-                AnswerKind::Framebuffer,
-                &[U32(width), U32(height), U32(pitch), U32(bpp), U32(handle)],
-            ) => Answer::Framebuffer {
-                width,
-                height,
-                pitch,
-                bpp,
-                handle,
-            },
             (AnswerKind::Closed, []) => Answer::Closed,
             _ => return None,
         })
+    }
+
+    /// The answer of the kind and these fields; none where they are not an answer's.
+    #[tactic(auto, unfolding(crate::specs::Answers::answer_with))]
+    pub fn answer(self, fields: &[Field]) -> Option<Answer>
+        ensures { result ≡ answer_with self fields.now }
+    {
+        self.plain_answer(fields)
+            .or_else(|| self.mode_answer(fields))
     }
 }
 
@@ -245,6 +266,7 @@ impl Answer {
                     U32(*handle),
                 ],
             ),
+            Answer::Lease { id, token } => row_told(AnswerKind::Lease, &[U32(*id), U32(*token)]),
             Answer::List { list } => Told::List(list),
             Answer::Audit { page } => Told::Page(page),
             Answer::Closed => row_told(AnswerKind::Closed, &[]),

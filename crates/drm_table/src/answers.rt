@@ -56,6 +56,12 @@ pub enum Answer {
         bpp: u32,
         handle: u32,
     },
+    /// A lease: the id of its lessee, and a token that opens a client of the lessee (drm-uapi, `DRM_IOCTL_MODE_CREATE_LEASE`;
+    /// tokens for file descriptors are own).
+    Lease {
+        id: u32,
+        token: u32,
+    },
     /// Ids or handles, rising.
     List {
         list: ShownList,

@@ -6,6 +6,7 @@ use crate::audits::AuditKind;
 use crate::fields::Fields;
 use crate::flags::RowFlags;
 use crate::kinds::CallKind;
+use crate::lists::IdList;
 use crate::lookup::row;
 use bitflags::Flags;
 use std::alloc::AllocError;
@@ -145,6 +146,18 @@ pub enum Call {
         crtc: u32,
         framebuffer: u32,
     },
+    /// Lease the objects of these ids to a new lessee of the caller's master (drm-uapi, `DRM_IOCTL_MODE_CREATE_LEASE`).
+    CreateLease {
+        ids: IdList,
+    },
+    /// The lessees of the caller's master (drm-uapi, `DRM_IOCTL_MODE_LIST_LESSEES`).
+    ListLessees,
+    /// The objects that are leased to the caller's master (drm-uapi, `DRM_IOCTL_MODE_GET_LEASE`).
+    GetLease,
+    /// Take all objects of a lessee's lease back (drm-uapi, `DRM_IOCTL_MODE_REVOKE_LEASE`).
+    RevokeLease {
+        lessee: u32,
+    },
 }
 
 /// The same call. It takes no memory and never fails.
@@ -177,6 +190,7 @@ impl Call {
             .or_else(|| self.share_row())
             .or_else(|| self.master_row())
             .or_else(|| self.mode_row())
+            .or_else(|| self.lease_row())
             .or_else(|| self.device_row())
     }
 

@@ -5,7 +5,7 @@ ghost use Rattle.drm_table.specs.Fields.{IsShort, layout_of};
 ghost use Rattle.drm_table.specs.Table.{all_kinds, call_with, columns, kind_layout, kind_number, call_kind_of, call_kind_of_word, kind_row, kind_word};
 
 use crate::calls::Call;
-use crate::fields::Layout::Numbers;
+use crate::fields::Layout::{Ids, Numbers};
 use crate::fields::Width::{U32, U64};
 use crate::fields::{Field, Layout};
 use crate::flags::RowFlags;
@@ -45,6 +45,10 @@ pub enum CallKind {
     GetPlaneResources,
     GetPlane,
     SetPlane,
+    CreateLease,
+    ListLessees,
+    GetLease,
+    RevokeLease,
 }
 
 // A line of the table: number, name, word, flags, and what the fields are.
@@ -71,7 +75,7 @@ const RENDER: RowFlags = RowFlags::RENDER_ALLOW;
 const ROOT: RowFlags = RowFlags::ROOT_ONLY;
 
 /// The table: a line for each call, in the order of the kinds (drm-uapi; 0x40 to 0x45 are own, as are the words).
-static ROWS: [Row; 31] = [
+static ROWS: [Row; 35] = [
     row!(0x00 => "VERSION", b"version", RENDER, Numbers(&[])),
     row!(0x02 => "GET_MAGIC", b"get_magic", NONE, Numbers(&[])),
     row!(0x09 => "GEM_CLOSE", b"gem_close", RENDER, Numbers(&[U32])),
@@ -103,6 +107,10 @@ static ROWS: [Row; 31] = [
     row!(0xB5 => "MODE_GETPLANERESOURCES", b"getplaneresources", NONE, Numbers(&[])),
     row!(0xB6 => "MODE_GETPLANE", b"getplane", NONE, Numbers(&[U32])),
     row!(0xB7 => "MODE_SETPLANE", b"setplane", MASTER, Numbers(&[U32, U32, U32])),
+    row!(0xC6 => "MODE_CREATE_LEASE", b"create_lease", MASTER, Ids),
+    row!(0xC7 => "MODE_LIST_LESSEES", b"list_lessees", MASTER, Numbers(&[])),
+    row!(0xC8 => "MODE_GET_LEASE", b"get_lease", MASTER, Numbers(&[])),
+    row!(0xC9 => "MODE_REVOKE_LEASE", b"revoke_lease", MASTER, Numbers(&[U32])),
 ];
 
 /// The rows in the order of the kinds.
@@ -116,7 +124,7 @@ fn rows() -> &'static [Row]
 
 impl CallKind {
     /// All rows, rising by number.
-    pub const ALL: [CallKind; 31] = [
+    pub const ALL: [CallKind; 35] = [
         CallKind::Version,
         CallKind::GetMagic,
         CallKind::GemClose,
@@ -148,6 +156,10 @@ impl CallKind {
         CallKind::GetPlaneResources,
         CallKind::GetPlane,
         CallKind::SetPlane,
+        CallKind::CreateLease,
+        CallKind::ListLessees,
+        CallKind::GetLease,
+        CallKind::RevokeLease,
     ];
 
     /// The row.
@@ -215,6 +227,7 @@ impl CallKind {
             .or_else(|| self.share_call(fields))
             .or_else(|| self.master_call(fields))
             .or_else(|| self.mode_call(fields))
+            .or_else(|| self.lease_call(fields))
             .or_else(|| self.device_call(fields))
     }
 }

@@ -14,6 +14,7 @@ mod fields;
 mod flags;
 mod kinds;
 mod laws;
+mod lease_calls;
 mod limits;
 mod lists;
 mod lookup;
@@ -39,7 +40,7 @@ pub use laws::{
     rows_by_their_numbers_and_words,
 };
 pub use limits::{Limits, are_in_range};
-pub use lists::ShownList;
+pub use lists::{IdList, ShownList};
 pub use lookup::row;
 pub use permits::{Standing, permit};
 pub use rows::Row;

@@ -150,6 +150,10 @@ fn rows_of_the_table(rt: HostRuntime) -> Result<(), Fail> {
         (0xB5, "MODE_GETPLANERESOURCES", RowFlags::empty()),
         (0xB6, "MODE_GETPLANE", RowFlags::empty()),
         (0xB7, "MODE_SETPLANE", RowFlags::MASTER),
+        (0xC6, "MODE_CREATE_LEASE", RowFlags::MASTER),
+        (0xC7, "MODE_LIST_LESSEES", RowFlags::MASTER),
+        (0xC8, "MODE_GET_LEASE", RowFlags::MASTER),
+        (0xC9, "MODE_REVOKE_LEASE", RowFlags::MASTER),
     ];
     for (number, name, flags) in rows {
         let row = row(number).ok_or("a number has no row")?;
@@ -222,6 +226,10 @@ fn numbers_and_flags_of_calls(rt: HostRuntime) {
             },
             0xB7,
         ),
+        (Call::CreateLease { ids: IdList::new() }, 0xC6),
+        (Call::ListLessees, 0xC7),
+        (Call::GetLease, 0xC8),
+        (Call::RevokeLease { lessee: 1 }, 0xC9),
         (Call::Unknown(7), 7),
         (Call::BadLayout(9), 9),
     ];
@@ -286,6 +294,26 @@ fn pages_and_copies(rt: HostRuntime) -> Result<(), Fail> {
     };
     let event = Event::Ask(7, call);
     assert_eq!(&rt; event.clone()?, event);
+    Ok(())
+}
+
+#[test]
+fn ids_of_a_lease(rt: HostRuntime) -> Result<(), Fail> {
+    let mut ids = IdList::new();
+    assert!(&rt; ids.ids().is_empty());
+    ids.push(2);
+    ids.push(4);
+    ids.push(u32::MAX);
+    assert_eq!(&rt; ids.ids(), [2, 4, u32::MAX].as_slice());
+    let call = Call::CreateLease { ids };
+    let (kind, fields) = call.row().ok_or("a call has no row")?;
+    assert_eq!(&rt; kind, CallKind::CreateLease);
+    assert_eq!(&rt;
+        fields.as_slice(),
+        [Field::U32(2), Field::U32(4), Field::U32(u32::MAX)].as_slice()
+    );
+    assert_eq!(&rt; call.clone()?, call);
+    assert_eq!(&rt; kind.call(&[Field::U32(2), Field::U64(4)]), None);
     Ok(())
 }
 

@@ -14,15 +14,16 @@ use Rattle.drm_model.specs.Reply.{answer_of}
 use Rattle.drm_model.proofs.Closings.{closing_verdict}
 use Rattle.drm_state.specs.declared.state.State.{State}
 use Rattle.drm_masters.specs.Masters.{MasterSet, AreMasters}
+use Rattle.drm_leases.specs.Leases.{LeaseSet, AreLeases}
 use Rattle.drm_modes.specs.declared.rows.Framebuffer.{Framebuffer}
 use Rattle.drm_modes.specs.Modes.{is_made_by}
-use Rattle.drm_state.specs.Parts.{keys_of, token_keys, framebuffer_keys, referring, without_tokens_of, without_its_master}
+use Rattle.drm_state.specs.Parts.{keys_of, token_keys, framebuffer_keys, referring, without_tokens_of, without_its_master, without_its_leases}
 use Rattle.drm_state.specs.Ties.{IsTied, Leaves}
 use Rattle.drm_state.specs.Refinement.{OwesAnswer, Represents}
 use Rattle.drm_state.proofs.Counting.{named_trans}
 use Rattle.drm_state.proofs.Frames.{some_framed}
 use Rattle.drm_state.proofs.Leaving.{names_stay, leaves_trans}
-use Rattle.drm_state.proofs.Represented.{objects_counted, names_held, masters_so, none_kept}
+use Rattle.drm_state.proofs.Represented.{objects_counted, names_held, masters_so}
 use Rattle.drm_state.proofs.Lookups.{client_row_is, no_client}
 use Rattle.drm_state.proofs.Outcomes.{denied, carried}
 use Rattle.drm_state.proofs.Sweeps.{client_gone, client_gone_tied, without_its, keys_without, references_without, some_pass}
@@ -88,27 +89,30 @@ leaves c =
     (leaves_trans s.names s.names c.release_all.new.names s.objects middle c.release_all.new.objects keys (keys_without s client) refs (λ n e. some_pass (λ x. not (of_client client x)) s.files.holds n e) closed released)
 
 -- the state without the client
-abbrev now : goal.After-release_all → FileLists → TokenList → MasterSet → State
-now c files tokens set = record c.args.state.now { files = files; tokens = tokens; modes = c.close_framebuffers.new.modes; names = c.release_all.new.names; masters = set; objects = c.release_all.new.objects }
+abbrev now : goal.After-release_all → FileLists → TokenList → MasterSet → LeaseSet → State
+now c files tokens set leases = record c.args.state.now { files = files; tokens = tokens; modes = c.close_framebuffers.new.modes; names = c.release_all.new.names; masters = set; leases = leases; objects = c.release_all.new.objects }
 
 -- the state, told by what its client had
-told : (P : State → Type 0) (c : goal.After-release_all) → P (without_its c.args.state.now c.args.client c.close_framebuffers.new.modes c.release_all.new.names c.release_all.new.objects) → P (now c c.release_all.new.files c.close_tokens.new.tokens c.close_master.new.masters)
+told : (P : State → Type 0) (c : goal.After-release_all) → P (without_its c.args.state.now c.args.client c.close_framebuffers.new.modes c.release_all.new.names c.release_all.new.objects) → P (now c c.release_all.new.files c.close_tokens.new.tokens c.close_master.new.masters c.close_master.new.leases)
 told P c h =
-    subst (λ fs. P (now c fs c.close_tokens.new.tokens c.close_master.new.masters)) (sym c.release_all.ensures.files)
-    (subst (λ ts. P (now c (without_client c.args.state.now.files c.args.client) ts c.close_master.new.masters)) (sym c.close_tokens.ensures.tokens)
-    (subst (λ set. P (now c (without_client c.args.state.now.files c.args.client) (without_tokens_of c.args.client c.args.state.now.tokens) set)) (sym c.close_master.ensures) h))
+    let files = without_client c.args.state.now.files c.args.client in
+    let tokens = without_tokens_of c.args.client c.args.state.now.tokens in
+    subst (λ fs. P (now c fs c.close_tokens.new.tokens c.close_master.new.masters c.close_master.new.leases)) (sym c.release_all.ensures.files)
+    (subst (λ ts. P (now c files ts c.close_master.new.masters c.close_master.new.leases)) (sym c.close_tokens.ensures.tokens)
+    (subst (λ set. P (now c files tokens set c.close_master.new.leases)) (sym c.close_master.ensures.masters)
+    (subst (λ l. P (now c files tokens (without_its_master c.args.client c.args.state.now.masters) l)) (sym c.close_master.ensures.leases) h)))
 
 are : (c : goal.After-release_all) → AreMasters (without_its_master c.args.client c.args.state.now.masters)
-are c = subst AreMasters c.close_master.ensures c.laws.ensures
+are c = subst AreMasters c.close_master.ensures.masters c.laws.ensures
+
+leases_are : (c : goal.After-release_all) → AreLeases (without_its_leases c.args.client c.args.state.now.masters c.args.state.now.leases)
+leases_are c = subst AreLeases c.close_master.ensures.leases c.laws-2.ensures
 
 gone_tied : (c : goal.After-release_all) → IsTied (without_its c.args.state.now c.args.client c.close_framebuffers.new.modes c.release_all.new.names c.release_all.new.objects)
-gone_tied c = client_gone_tied c.args.state.now c.args.client c.close_framebuffers.new.modes c.release_all.new.names c.release_all.new.objects c.requires (are c) c.laws-2.ensures (leaves c)
+gone_tied c = client_gone_tied c.args.state.now c.args.client c.close_framebuffers.new.modes c.release_all.new.names c.release_all.new.objects c.requires (are c) (leases_are c) c.laws-3.ensures (leaves c)
 
-pub close_master-requires-clause-are : goal.close_master-requires-clause-are
-close_master-requires-clause-are c = masters_so c.args.state.now c.requires
-
-pub close_master-requires-clause-kept : goal.close_master-requires-clause-kept
-close_master-requires-clause-kept c = none_kept c.args.state.now c.requires
+pub close_master-requires : goal.close_master-requires
+close_master-requires c = masters_so c.args.state.now c.requires
 
 pub returns-clause-tied : goal.returns-clause-tied
 returns-clause-tied c = told IsTied c (gone_tied c)
@@ -119,6 +123,6 @@ returns-clause-owes c = λ w h.
     let s = c.args.state.now in
     let is = client_row_is s w h c.args.client c.in-Some._flags (sym c.in-Some.is ∙ c.flags_of.ensures.flags) in
     let present : is_open w c.args.client ≡ true = ap is_some is in
-    carried (now c c.release_all.new.files c.close_tokens.new.tokens c.close_master.new.masters) w (Close c.args.client) Closed (closing_verdict w c.args.client ∙ rw present refl) refl
+    carried (now c c.release_all.new.files c.close_tokens.new.tokens c.close_master.new.masters c.close_master.new.leases) w (Close c.args.client) Closed (closing_verdict w c.args.client ∙ rw present refl) refl
     (told (λ t. Represents t (swept (closed w c.args.client))) c
-    (client_gone s w c.args.client c.in-Some._flags c.close_framebuffers.new.modes c.release_all.new.names c.release_all.new.objects c.requires (are c) c.laws-2.ensures c.close_framebuffers.ensures.loses is (leaves c) h))
+    (client_gone s w c.args.client c.in-Some._flags c.close_framebuffers.new.modes c.release_all.new.names c.release_all.new.objects c.requires (are c) (leases_are c) c.laws-3.ensures c.close_framebuffers.ensures.loses is (leaves c) h))

@@ -11,22 +11,22 @@ use Rattle.drm_model.specs.Clients.{opening_checks, opened, opened_primary}
 use Rattle.drm_model.specs.Change.{changed}
 use Rattle.drm_model.specs.Reply.{answer_of}
 use Rattle.drm_masters.specs.declared.rows.Member.{Member}
-use Rattle.drm_masters.specs.declared.rows.Master.{Master}
 use Rattle.drm_masters.specs.Masters.{MasterSet, AreMasters}
 use Rattle.drm_masters.specs.Calls as masters
 use Rattle.drm_state.specs.Refinement.{Owes, Represents}
 use Rattle.std.specs.Prelude.{nat_le, if◌then◌else◌}
-use Rattle.std.specs.List.{AllByRecursion}
 use Rattle.std.specs.Option.{is_none, is_some}
 use Rattle.drm_files.specs.Files.{FileLists}
 use Rattle.std.proofs.lemmas.Bool.Decides.{nat_tests}
-use Rattle.drm_lists.proofs.Lists.{all_weaker, all_append}
+use Rattle.drm_lists.proofs.Lists.{all_weaker}
 use Rattle.drm_files.specs.Files.{is_present, without_client}
 use Rattle.drm_state.specs.declared.state.State.{State}
-use Rattle.drm_state.specs.Ties.{IsTied, IsLater}
+use Rattle.drm_leases.specs.Calls.{IsNewLessee}
+use Rattle.drm_state.specs.Ties.{IsTied, IsLater, AreOfLessees, AreKeptBy}
 use Rattle.drm_state.proofs.Members.{older, found_last}
-use Rattle.drm_state.proofs.Represented.{device_master_is, members_open, masters_so, magics_suffice, none_kept}
-use Rattle.drm_client_calls.proofs.Opened.{closed_again, joined, joined_tied, guest_represents, founder_represents, fewer_members}
+use Rattle.drm_state.proofs.Represented.{device_master_is, members_open, masters_so, magics_suffice, leases_so, tokens_of_lessees, kept_have_tokens}
+use Rattle.drm_state.proofs.Ended.{fresh_token, kept_more, of_lessees_more}
+use Rattle.drm_client_calls.proofs.Opened.{not_full, newer, room_for, back, closed_again, joined, joined_tied, guest_represents, founder_represents}
 use Rattle.drm_state.proofs.Outcomes.{denied, carried_on, refused, opening_verdict, client_room}
 use Rattle.drm_client_calls.proofs.openings.open_primary.Goals as goal
 
@@ -47,9 +47,6 @@ returns-then-is_full-clause-owes c = λ w s.
     let full = client_room c.args.state.now w s.rows ∙ ap not (sym c.is_full.ensures.full ∙ c.if-is_full.true) in
     denied c.args.state.now w (Open (Primary c.args.root)) Full (opening_verdict w (Primary c.args.root) ∙ rw full refl) s.rows
 
-not_full : (a b : ℕ) → nat_le a b ≡ false → b < a
-not_full a b h = grind (arith, nat_tests)
-
 pub returns-in_err-open_file-clause-owes : goal.returns-in_err-open_file-clause-owes
 unfolding Owes changed opened
 returns-in_err-open_file-clause-owes c = λ w s.
@@ -59,22 +56,13 @@ returns-in_err-open_file-clause-owes c = λ w s.
     (subst (λ fs. Represents (record c.args.state.now { files = fs }) w) (sym c.in_err-open_file.ensures.err) s.rows))
 
 pub on_open-requires-clause-new_client : goal.on_open-requires-clause-new_client
-on_open-requires-clause-new_client c =
-    all_weaker (λ (x : Member). is_present c.args.state.now.files x.client ≡ true) (λ (x : Member). x.client < c.args.birth) (λ x e. older x.client c.args.birth c.args.state.now.files.clients c.requires.later.clients e) c.args.state.now.masters.members (members_open c.args.state.now c.requires.tied)
+on_open-requires-clause-new_client c = newer c.args.state.now c.args.birth c.requires.tied c.requires.later
 
 pub on_open-requires-clause-room : goal.on_open-requires-clause-room
-on_open-requires-clause-room c =
-    let few = fewer_members c.args.state.now.masters.members c.args.state.now.files.clients (masters_so c.args.state.now c.requires.tied).members_rise (members_open c.args.state.now c.requires.tied) in
-    let lt = not_full c.args.state.now.files.limit (length c.args.state.now.files.clients) (sym c.is_full.ensures.full ∙ c.if-is_full.false) in
-    let last = magics_suffice c.args.state.now c.requires.tied in
-    omega (arith, few, lt, last)
+on_open-requires-clause-room c = room_for c.args.state.now c.requires.tied (not_full c.args.state.now.files.limit (length c.args.state.now.files.clients) (sym c.is_full.ensures.full ∙ c.if-is_full.false))
 
 pub close-rest-requires : goal.close-rest-requires
 close-rest-requires c = record { present = subst (λ fs. is_present fs c.args.birth ≡ true) (sym c.in_ok-open_file.ensures.ok) (found_last (record { client = c.args.birth; flags = flags c.args.root c.is_none-founder.result }) c.args.state.now.files.clients) }
-
--- all is as it was
-back : (P : State → Type 0) (s : State) (fs : FileLists) (set : MasterSet) → fs ≡ s.files → set ≡ s.masters → P s → P (record s { files = fs; masters = set })
-back P s fs set e f h = subst (λ l. P (record s { files = l; masters = set })) (sym e) (subst (λ l. P (record s { masters = l })) (sym f) h)
 
 pub returns-in-Err-clause-tied : goal.returns-in-Err-clause-tied
 returns-in-Err-clause-tied c =
@@ -90,32 +78,36 @@ returns-in-Err-clause-owes c = λ w s.
     (c.close-rest.ensures.closed ∙ ap (λ l. without_client l c.args.birth) c.in_ok-open_file.ensures.ok ∙ closed_again c.args.state.now.files c.args.birth (flags c.args.root c.is_none-founder.result) c.is_full.ensures.lists c.requires.later.clients) c.in-Err.ensures.err s.rows)
 
 -- what an opening leaves of masters is tied
-tied_by : (s : State) (b : ℕ) (g : FileFlags) (new : MasterSet) (d : Option ℕ) → IsTied s → masters.IsNewBirth s.masters b → AreMasters new → masters.Opened s.masters b b d new → IsTied (joined s b g new)
+tied_by : (s : State) (b : ℕ) (g : FileFlags) (new : MasterSet) (d : Option ℕ) → IsTied s → IsNewLessee s.leases b → AreMasters new → masters.Opened s.masters b b d new → IsTied (joined s b g new s.leases)
 tied_by s b g new None t newest are h =
-    joined_tied s g (masters.owner b b) new t (ap (λ (v : MasterSet). v.members) h.2) are (subst (λ (v : MasterSet). AllByRecursion (λ (x : Master). x.kept ≡ false) v.masters) (sym h.2) (all_append (λ (x : Master). x.kept ≡ false) s.masters.masters (masters.own_master h.0 b ∷ []) (none_kept s t) (refl, tt)))
-    (ap (λ (v : MasterSet). v.last_magic) h.2)
+    joined_tied s g (masters.owner b b) new s.leases t (ap (λ (v : MasterSet). v.members) h.2) are (leases_so s t)
+    (subst (λ (v : MasterSet). AreOfLessees s.leases.tokens v.masters) (sym h.2) (of_lessees_more s.leases.tokens s.masters.masters (masters.own_master h.0 b) (tokens_of_lessees s t)))
+    (subst (λ (v : MasterSet). AreKeptBy s.leases.tokens v.masters) (sym h.2) (kept_more s.leases.tokens s.masters.masters (masters.own_master h.0 b) (kept_have_tokens s t) refl newest.tokens))
+    (ap (λ (v : MasterSet). v.last_magic) h.2) (ap (λ (v : MasterSet). v.last_lessee) h.2)
 tied_by s b g new (Some m) t newest are h =
-    joined_tied s g (masters.guest b m) new t (ap (λ (v : MasterSet). v.members) h) are (subst (λ (v : MasterSet). AllByRecursion (λ (x : Master). x.kept ≡ false) v.masters) (sym h) (none_kept s t)) (ap (λ (v : MasterSet). v.last_magic) h)
+    joined_tied s g (masters.guest b m) new s.leases t (ap (λ (v : MasterSet). v.members) h) are (leases_so s t)
+    (subst (λ (v : MasterSet). AreOfLessees s.leases.tokens v.masters) (sym h) (tokens_of_lessees s t)) (subst (λ (v : MasterSet). AreKeptBy s.leases.tokens v.masters) (sym h) (kept_have_tokens s t))
+    (ap (λ (v : MasterSet). v.last_magic) h) (ap (λ (v : MasterSet). v.last_lessee) h)
 
 pub returns-clause-tied : goal.returns-clause-tied
 returns-clause-tied c =
     let s = c.args.state.now in
     let g = flags c.args.root c.is_none-founder.result in
     subst (λ fs. IsTied (record s { files = fs; masters = c.on_open.new.self })) (sym c.in_ok-open_file.ensures.ok)
-    (tied_by s c.args.birth g c.on_open.new.self s.masters.device_master c.requires.tied c.requires.later.masters c.laws.ensures c.in_default.ensures.ok)
+    (tied_by s c.args.birth g c.on_open.new.self s.masters.device_master c.requires.tied c.requires.later.leases c.laws.ensures c.in_default.ensures.ok)
 
 -- and it stands for the rows of an opening
-rows_by : (s : State) (w : Rows) (b : ℕ) (root founder : Bool) (new : MasterSet) (d : Option ℕ) → IsTied s → IsLater s b → w.steps + 1 ≡ b → founder ≡ is_none d → masters.Opened s.masters b b d new → Represents s w → Represents (joined s b (flags root founder) new) (opened_primary w root d)
+rows_by : (s : State) (w : Rows) (b : ℕ) (root founder : Bool) (new : MasterSet) (d : Option ℕ) → IsTied s → IsLater s b → w.steps + 1 ≡ b → founder ≡ is_none d → masters.Opened s.masters b b d new → Represents s w → Represents (joined s b (flags root founder) new s.leases) (opened_primary w root d)
 rows_by s w b root founder new None t later is f h r =
     let row : ClientRow = record { client = birth w; render = false; root = root; authenticated = true; once_master = true; is_master = true; master = Some (birth w) } in
     let master : MasterRow = record { master = birth w; lessor = None; lessee_id = 0; lease_token = None } in
-    subst (λ n. Represents (joined s b (flags root n) new) (opened_primary w root None)) (sym f)
-    (subst (λ v. Represents (joined s b (flags root true) v) (opened_primary w root None)) (sym h.2)
-    (founder_represents s w (flags root true) (masters.owner b b) (masters.own_master h.0 b) row master t later refl (ap (λ n. record row { client = n; master = Some n }) (sym is)) (ap (λ n. record master { master = n }) (sym is)) r))
+    subst (λ n. Represents (joined s b (flags root n) new s.leases) (opened_primary w root None)) (sym f)
+    (subst (λ v. Represents (joined s b (flags root true) v s.leases) (opened_primary w root None)) (sym h.2)
+    (founder_represents s w (flags root true) (masters.owner b b) (masters.own_master h.0 b) row master t later refl (ap (λ n. record row { client = n; master = Some n }) (sym is)) (λ i. record { master = sym is i; lessor = None; lessee_id = 0; lease_token = fresh_token b s.leases.tokens later.leases.tokens i }) r))
 rows_by s w b root founder new (Some m) t later is f h r =
     let row : ClientRow = record { client = birth w; render = false; root = root; authenticated = root; once_master = false; is_master = false; master = Some m } in
-    subst (λ n. Represents (joined s b (flags root n) new) (opened_primary w root (Some m))) (sym f)
-    (subst (λ v. Represents (joined s b (flags root false) v) (opened_primary w root (Some m))) (sym h)
+    subst (λ n. Represents (joined s b (flags root n) new s.leases) (opened_primary w root (Some m))) (sym f)
+    (subst (λ v. Represents (joined s b (flags root false) v s.leases) (opened_primary w root (Some m))) (sym h)
     (guest_represents s w (flags root false) (masters.guest b m) row t later refl (ap (λ n. record row { client = n }) (sym is)) r))
 
 flipped : (o : Option ℕ) (b : Bool) → is_some o ≡ not b → b ≡ is_none o

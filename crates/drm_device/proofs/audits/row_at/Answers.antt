@@ -12,8 +12,7 @@ use Rattle.std.specs.Option.{option_and_then}
 use Rattle.drm_state.proofs.Magics.{magic_is}
 use Rattle.drm_state.specs.Refinement.{Represents}
 use Rattle.drm_device.specs.Audits.{IsRowAt}
-use Rattle.drm_state.proofs.Represented.{grants_none}
-use Rattle.drm_device.proofs.AuditRows.{object_row_at, client_rows, master_rows, hold_rows, name_rows, token_rows, framebuffer_rows, shown_audits, device_rows, row_of_item}
+use Rattle.drm_device.proofs.AuditRows.{object_row_at, client_rows, master_rows, hold_rows, name_rows, token_rows, grant_rows, framebuffer_rows, shown_audits, device_rows, row_of_item}
 use Rattle.drm_device.proofs.audits.row_at.Goals as goal
 
 -- what the look-up found, of the list itself
@@ -32,13 +31,18 @@ returns-in_ok-file-in-Client c = rw c.in-Client.is (λ w h.
     ap Some (c.client_row.ensures w (magic_is c.args.state.now w c.requires h.rows file.client ∙ ap (option_and_then magic_row_of) (sym c.member.ensures.member))) ∙ ap (λ m. Some (client_audit w (client_row_by file m))) c.member.ensures.member
     ∙ row_of_item (λ f. client_audit w (client_row_of c.args.state.now.masters.members f)) c.args.state.now.files.clients _ c.args.place (Some file) (client_rows c.args.state.now c.args.steps w h) (sym c.in_ok-file-in-Client.was ∙ c.nth_client.ensures))
 
-pub returns-in_err-nth_master-in-Master : goal.returns-in_err-nth_master-in-Master
+pub returns-in_err-master-in-Master : goal.returns-in_err-master-in-Master
 unfolding IsRowAt
-returns-in_err-nth_master-in-Master c = rw c.in-Master.is (λ w h. c.from_residual-in_err-nth_master-in-Master.ensures ∙ row_of_item (λ (x : Master). master_audit (master_row_of x)) c.args.state.now.masters.masters _ c.args.place None (master_rows c.args.state.now c.args.steps w h) (sym c.in_err-nth_master-in-Master.was ∙ c.nth_master.ensures))
+returns-in_err-master-in-Master c = rw c.in-Master.is (λ w h.
+    c.from_residual-in_err-master-in-Master.ensures
+    ∙ row_of_item (λ (x : Master). master_audit (master_row_of c.args.state.now.leases.tokens x)) c.args.state.now.masters.masters _ c.args.place None (master_rows c.args.state.now c.args.steps w h) (sym c.in_err-master-in-Master.was ∙ c.nth_master.ensures))
 
-pub returns-in_ok-nth_master-in-Master : goal.returns-in_ok-nth_master-in-Master
+pub returns-in_ok-master-in-Master : goal.returns-in_ok-master-in-Master
 unfolding IsRowAt
-returns-in_ok-nth_master-in-Master c = rw c.in-Master.is (λ w h. ap Some c.master_row.ensures ∙ row_of_item (λ (x : Master). master_audit (master_row_of x)) c.args.state.now.masters.masters _ c.args.place (Some c.in_ok-nth_master-in-Master.field-0) (master_rows c.args.state.now c.args.steps w h) (sym c.in_ok-nth_master-in-Master.was ∙ c.nth_master.ensures))
+returns-in_ok-master-in-Master c = rw c.in-Master.is (λ w h.
+    ap Some (c.master_row.ensures c.args.state.now.leases.tokens c.token_of.ensures)
+    ∙ row_of_item (λ (x : Master). master_audit (master_row_of c.args.state.now.leases.tokens x)) c.args.state.now.masters.masters _ c.args.place (Some c.in_ok-master-in-Master.master) (master_rows c.args.state.now c.args.steps w h)
+    (sym c.in_ok-master-in-Master.was ∙ c.nth_master.ensures))
 
 pub returns-in_err-nth-in-Object : goal.returns-in_err-nth-in-Object
 unfolding IsRowAt
@@ -62,7 +66,7 @@ returns-in-Token c = rw c.in-Token.is (λ w h. c.token_at.ensures.row ∙ ap (λ
 
 pub returns-in-Device : goal.returns-in-Device
 unfolding IsRowAt
-returns-in-Device c = rw c.in-Device.is (λ w h. c.item_at.ensures ∙ ap (λ row. slice_get (row ∷ []) c.args.place) (c.device_row.ensures ∙ (λ i. audit_row (or_zero (c.device_master.ensures i)) (or_zero (c.last_given-last_token.ensures.last_given i)) 0 c.args.steps))
+returns-in-Device c = rw c.in-Device.is (λ w h. c.item_at.ensures ∙ ap (λ row. slice_get (row ∷ []) c.args.place) (c.device_row.ensures ∙ (λ i. audit_row (or_zero (c.device_master.ensures i)) (or_zero (c.last_given.ensures.last_given i)) (or_zero (c.last_given-in-Device.ensures i)) c.args.steps))
     ∙ sym (ap (λ rows. slice_get rows c.args.place) (device_rows c.args.state.now c.args.steps w h)))
 
 pub returns-in-Framebuffer : goal.returns-in-Framebuffer
@@ -73,11 +77,6 @@ pub returns-in-Shown : goal.returns-in-Shown
 unfolding IsRowAt
 returns-in-Shown c = rw c.in-Shown.is (λ w h. c.shown_at.ensures ∙ ap (λ rows. slice_get rows c.args.place) (sym (shown_audits c.args.state.now c.args.steps w h)))
 
--- no call makes grants yet
-without_grants : (s : State) (w : Rows) → Represents s w → rising_rows (audit_rows w kinds.Grant) ≡ []
-unfolding audit_rows sorted_by
-without_grants s w h = rw (grants_none s w h) refl
-
 pub returns-in-Grant : goal.returns-in-Grant
 unfolding IsRowAt
-returns-in-Grant c = rw c.in-Grant.is (λ w h. sym (ap (λ rows. slice_get rows c.args.place) (without_grants c.args.state.now w h.rows)))
+returns-in-Grant c = rw c.in-Grant.is (λ w h. c.grant_at.ensures ∙ ap (λ rows. slice_get rows c.args.place) (sym (grant_rows c.args.state.now c.args.steps w c.requires h)))

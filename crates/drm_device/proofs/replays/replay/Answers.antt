@@ -42,9 +42,9 @@ returns-in-Err-step-clause-replays c =
       record {
         within = c.loop-event-test.true;
         found_room = subst (λ (h : History). FoundRoom (start_of h) h.journal) noted c.journal.ensures.found_room;
-        event = get_or c.args.events.now index (Open (Primary false));
-        is_there = slice_get-get_or c.args.events.now index (Open (Primary false)) c.loop-event-test.true;
-        refused = refused_at (get_or c.args.events.now index (Open (Primary false))) c.in-Err-step.apart c.loop-event.device c.step.new.self _ same at (subst (λ event. Step (rows_of c.loop-event.device) event (Err c.in-Err-step.apart) (rows_of c.step.new.self)) c.copy_of.ensures c.in-Err-step.ensures.step);
+        event = get_or c.args.events.now index c.event-item.result;
+        is_there = slice_get-get_or c.args.events.now index c.event-item.result c.loop-event-test.true;
+        refused = refused_at (get_or c.args.events.now index c.event-item.result) c.in-Err-step.apart c.loop-event.device c.step.new.self _ same at (subst (λ event. Step (rows_of c.loop-event.device) event (Err c.in-Err-step.apart) (rows_of c.step.new.self)) (c.copy_of.ensures ∙ c.event-item.is) c.in-Err-step.ensures.step);
       },
     )
 

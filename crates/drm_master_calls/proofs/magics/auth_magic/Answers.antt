@@ -11,13 +11,14 @@ use Rattle.drm_masters.specs.Calls.{AuthenticatedBy}
 use Rattle.drm_model.specs.Magics as model
 use Rattle.drm_model.specs.Calls.{meaning}
 use Rattle.drm_state.specs.Refinement.{Represents}
-use Rattle.drm_state.specs.Ties.{IsTied}
+use Rattle.drm_state.specs.Ties.{IsTied, AreOfLessees, AreKeptBy}
 use Rattle.drm_state.proofs.Outcomes.{denied, call_verdict}
 use Rattle.drm_state.proofs.Represented.{members_open}
 use Rattle.drm_files.specs.Files.{is_present}
 use Rattle.drm_lists.proofs.Rising.{found}
 use Rattle.drm_masters.specs.declared.rows.Member.{Member}
-use Rattle.drm_master_calls.proofs.Callers.{file_of, never_admitted, its_master, opens}
+use Rattle.drm_state.proofs.Callers.{file_of, never_admitted, its_master}
+use Rattle.drm_master_calls.proofs.Callers.{opens}
 use Rattle.drm_master_calls.proofs.Flags.{auth_magic_flags}
 use Rattle.drm_master_calls.proofs.Authenticated.{changed_tied, authenticated_tied}
 use Rattle.drm_master_calls.proofs.Spent.{client_is, spent_represents}
@@ -29,7 +30,7 @@ use Rattle.drm_model.specs.Change.{changed}
 use Rattle.drm_model.specs.Reply.{answer_of}
 use Rattle.std.specs.List.{AllByRecursion}
 use Rattle.drm_state.proofs.Outcomes.{carried_on}
-use Rattle.drm_state.proofs.Represented.{none_kept, magics_are, masters_so}
+use Rattle.drm_state.proofs.Represented.{tokens_of_lessees, kept_have_tokens, magics_are, masters_so}
 use Rattle.drm_master_calls.proofs.magics.auth_magic.Goals as goal
 
 pub returns-in_default-clause-owes : goal.returns-in_default-clause-owes
@@ -80,7 +81,8 @@ returns-in-Ok-clause-tied c =
     subst (λ fs. IsTied (record s { files = fs; masters = c.auth.new.self })) (sym c.set_authenticated.ensures)
     (authenticated_tied (record s { masters = c.auth.new.self }) c.in-Ok.authenticated
     (changed_tied s (with_magic c.args.number true by.0) c.auth.new.self c.requires.tied (ap (λ (v : MasterSet). v.members) by.3) c.laws.ensures
-    (subst (λ (v : MasterSet). AllByRecursion (λ (z : Master). z.kept ≡ false) v.masters) (sym by.3) (none_kept s c.requires.tied)) (ap (λ (v : MasterSet). v.last_magic) by.3)))
+    (subst (λ (v : MasterSet). AreOfLessees s.leases.tokens v.masters) (sym by.3) (tokens_of_lessees s c.requires.tied)) (subst (λ (v : MasterSet). AreKeptBy s.leases.tokens v.masters) (sym by.3) (kept_have_tokens s c.requires.tied))
+    (ap (λ (v : MasterSet). v.last_magic) by.3) (ap (λ (v : MasterSet). v.last_lessee) by.3)))
 
 pub returns-in-Ok-clause-owes : goal.returns-in-Ok-clause-owes
 unfolding OwesReply meaning changed answer_of

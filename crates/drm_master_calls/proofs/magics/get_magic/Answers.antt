@@ -21,7 +21,8 @@ use Rattle.drm_state.specs.Refinement.{OwesReply, Represents}
 use Rattle.drm_state.proofs.Represented.{masters_so}
 use Rattle.drm_state.proofs.Magics.{magic_is}
 use Rattle.drm_state.proofs.Outcomes.{carried_on, call_verdict}
-use Rattle.drm_master_calls.proofs.Callers.{file_of, never_admitted, its_master, free_is, same_client}
+use Rattle.drm_state.proofs.Callers.{file_of, never_admitted, its_master, same_client}
+use Rattle.drm_master_calls.proofs.Callers.{free_is}
 use Rattle.drm_master_calls.proofs.Changed.{magic_tied, given_represents}
 use Rattle.drm_master_calls.proofs.Flags.{get_magic_flags}
 use Rattle.drm_master_calls.proofs.magics.get_magic.Goals as goal

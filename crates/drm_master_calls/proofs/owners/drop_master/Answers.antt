@@ -11,7 +11,8 @@ use Rattle.drm_model.specs.Reply.{answer_of}
 use Rattle.drm_state.specs.Ties.{IsTied}
 use Rattle.drm_state.specs.Refinement.{OwesReply, Represents}
 use Rattle.drm_state.proofs.Outcomes.{denied, carried_on}
-use Rattle.drm_master_calls.proofs.Callers.{file_of, never_admitted, drop_verdict}
+use Rattle.drm_state.proofs.Callers.{file_of, never_admitted}
+use Rattle.drm_master_calls.proofs.Callers.{drop_verdict}
 use Rattle.drm_master_calls.proofs.Changed.{device_tied, device_represents}
 use Rattle.drm_master_calls.proofs.Flags.{drop_master_flags}
 use Rattle.drm_master_calls.proofs.owners.drop_master.Goals as goal

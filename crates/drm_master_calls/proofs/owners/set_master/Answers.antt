@@ -19,7 +19,8 @@ use Rattle.drm_model.specs.Reply.{answer_of}
 use Rattle.drm_state.specs.Ties.{IsTied}
 use Rattle.drm_state.specs.Refinement.{OwesCall, Represents}
 use Rattle.drm_state.proofs.Outcomes.{denied, refused, carried, carried_on}
-use Rattle.drm_master_calls.proofs.Callers.{file_of, same_client, never_admitted, set_verdict, current_is, master_is, its_master}
+use Rattle.drm_state.proofs.Callers.{file_of, same_client, never_admitted, its_master}
+use Rattle.drm_master_calls.proofs.Callers.{set_verdict, current_is, master_is}
 use Rattle.drm_master_calls.proofs.Changed.{device_tied, device_represents}
 use Rattle.drm_master_calls.proofs.Flags.{set_master_flags}
 use Rattle.drm_master_calls.proofs.Remade.{own_rows, remade_tied, remade_represents}
@@ -89,7 +90,7 @@ returns-in-Ok-Made-clause-tied c =
     let num = (same_client s.masters.members c.args.client x look).0 in
     subst (λ fs. IsTied (record s { files = fs; masters = c.set.new.self })) (sym (c.set_authenticated.ensures ∙ ap (with_authenticated s.files) (sym num)))
     (subst (λ v. IsTied (record s { files = with_authenticated s.files x.client; masters = v })) (sym by.1.2.2)
-    (remade_tied s x by.1.2.0 c.args.birth c.requires.ready.tied (subst AreMasters by.1.2.2 c.laws.ensures)))
+    (remade_tied s x by.1.2.0 c.args.birth c.requires.ready.tied c.requires.ready.later.leases.tokens (subst AreMasters by.1.2.2 c.laws.ensures)))
 
 pub returns-in-Ok-Made-clause-owes : goal.returns-in-Ok-Made-clause-owes
 unfolding OwesCall meaning changed answer_of
@@ -111,7 +112,7 @@ returns-in-Ok-Made-clause-owes c = λ w r admitted.
     (subst (λ fs. Represents (record s { files = fs; masters = c.set.new.self }) (swept (own_rows w c.args.client c.args.birth))) (sym c.set_authenticated.ensures)
     (subst (λ n. Represents (record s { files = with_authenticated s.files n; masters = c.set.new.self }) (swept (own_rows w n c.args.birth))) same.0
     (subst (λ v. Represents (record s { files = with_authenticated s.files x.client; masters = v }) (swept (own_rows w x.client c.args.birth))) (sym by.1.2.2)
-    (remade_represents s x by.1.2.0 c.args.birth c.requires.ready.tied (subst AreMasters by.1.2.2 c.laws.ensures) w same.1 r.rows)))))))
+    (remade_represents s x by.1.2.0 c.args.birth c.requires.ready.tied c.requires.ready.later.leases.tokens (subst AreMasters by.1.2.2 c.laws.ensures) w same.1 r.rows)))))))
 
 pub returns-in-Err-Denied-clause-tied : goal.returns-in-Err-Denied-clause-tied
 returns-in-Err-Denied-clause-tied c =

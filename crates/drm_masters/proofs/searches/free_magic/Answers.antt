@@ -1,4 +1,4 @@
-use Rattle.std.proofs.Common.{◌≡◌, ◌≤◌, true, false, not, ap, sym, ◌∙◌, below_more, arith}
+use Rattle.std.proofs.Common.{◌≡◌, ◌≤◌, false, not, ap, sym, ◌∙◌, below_more, arith}
 use Rattle.std.specs.List.{list_any}
 use Rattle.drm_index_array.proofs.Least.{least_is, least_is_none}
 use Rattle.drm_masters.specs.Masters.{has_magic}

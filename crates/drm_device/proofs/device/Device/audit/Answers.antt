@@ -7,6 +7,7 @@ use Rattle.drm_model.proofs.Counts.{few_rows, few_audit_rows}
 use Rattle.drm_model.proofs.Journals.{rows_of-steps}
 use Rattle.drm_device.specs.Device.{history_of}
 use Rattle.drm_device.specs.Audits.{IsPage}
+use Rattle.drm_device.proofs.Devices.{fixed_topology}
 use Rattle.drm_device.proofs.device.Device.audit.Goals as goal
 
 pub returns-clause-page : goal.returns-clause-page
@@ -22,7 +23,7 @@ returns-clause-page c =
 pub returns-clause-few : goal.returns-clause-few
 returns-clause-few c =
     let d = c.self.inside in
-    let few = few_audit_rows (rows_of (history_of d)) _ (few_rows (history_of d)) c.args.kind in
+    let few = few_audit_rows (rows_of (history_of d)) _ (few_rows (history_of d) (fixed_topology d c.self.invariant)) c.args.kind in
     let steps = rows_of-steps (history_of d) in
     let same = length-sorted is_before (audit_rows (rows_of (history_of d)) c.args.kind) in
     let small : length (rising_rows (audit_rows (rows_of (history_of d)) c.args.kind)) < 2 ^ 31 = omega (arith, few, same, steps, d.journal.ok.0, c.self.invariant.places, c.self.invariant.journal_fits) in

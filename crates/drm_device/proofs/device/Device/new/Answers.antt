@@ -1,5 +1,5 @@
 use Rattle.std.proofs.Common.{sym, ◌∙◌, arith}
-use Rattle.drm_device.proofs.Devices.{new_device, some_handles, some_names, some_tokens, some_framebuffers, few_framebuffers_allowed}
+use Rattle.drm_device.proofs.Devices.{new_device, some_handles, some_names, some_tokens, some_framebuffers, few_framebuffers_allowed, few_lessees_allowed}
 use Rattle.drm_device.proofs.device.Device.new.Goals as goal
 
 pub new-requires : goal.new-requires
@@ -23,8 +23,8 @@ invariant_of-result c =
     (record {
       limits = c.args.limits;
       journal = c.in-Ok.journal;
-      state = record { files = c.new.result; masters = c.new-2.result; objects = c.new-3.result; names = c.new-4.result; tokens = c.new-5.result; modes = c.new-modes.result };
+      state = record { files = c.new.result; masters = c.new-2.result; leases = c.new-leases.result; objects = c.new-3.result; names = c.new-4.result; tokens = c.new-5.result; modes = c.new-modes.result };
     })
     c.args.topology
     (sym c.are_in_range.ensures ∙ c.if-not-are_in_range.false) c.in-Ok.ensures.items (omega (arith, c.in-Ok.ensures.exact))
-    (record { files = c.new.ensures; masters = c.new-2.ensures; objects = c.new-3.ensures; names = c.new-4.ensures; tokens = c.new-5.ensures; modes = c.new-modes.ensures; modes_are = c.laws.ensures })
+    (record { files = c.new.ensures; masters = c.new-2.ensures; leases = c.new-leases.ensures; objects = c.new-3.ensures; names = c.new-4.ensures; tokens = c.new-5.ensures; modes = c.new-modes.ensures; modes_are = c.laws.ensures; leases_are = c.laws-2.ensures; lessees_few = few_lessees_allowed c.args.limits (sym c.are_in_range.ensures ∙ c.if-not-are_in_range.false) })

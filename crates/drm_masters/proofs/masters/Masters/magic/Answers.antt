@@ -6,7 +6,7 @@ use Rattle.drm_index_array.proofs.Least.{least_some}
 use Rattle.drm_masters.specs.declared.rows.Magic.{Magic}
 use Rattle.drm_masters.specs.declared.rows.Member.{Member}
 use Rattle.drm_masters.specs.Fields.{set_of}
-use Rattle.drm_masters.specs.Masters.{MasterSet, AreMasters, member_of, is_client, has_magic, free_magic}
+use Rattle.drm_masters.specs.Masters.{MasterSet, AreMasters, member_of, is_client, has_magic}
 use Rattle.drm_masters.specs.Calls as calls
 use Rattle.drm_masters.proofs.Numbered.{number_free}
 use Rattle.drm_masters.proofs.Sound.{Keyed, sound, given_are, client_found}

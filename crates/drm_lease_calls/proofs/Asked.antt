@@ -1,0 +1,176 @@
+-- What CREATE_LEASE asks of a caller, and the numbers of a new lessee, by rows and by what the device keeps.
+use Rattle.std.proofs.Common.{◌≡◌, ℕ, ◌+◌, ◌==◌, Bool, true, false, not, ◌&&◌, ◌||◌, List, [], ◌∷◌, find, Option, None, Some, refl, sym, ap, ◌∙◌}
+use Rattle.std.specs.Prelude.{unwrap_or}
+use Rattle.std.specs.Cmp.{both_ways}
+use Rattle.std.specs.List.{list_any, list_all, AllByRecursion}
+use Rattle.std.specs.Option.{is_some, option_map, option_map_or, option_and_then, option_or}
+use Rattle.std.proofs.lemmas.Bool.{eqb-true}
+use Rattle.drm_index_array.specs.Least.{least}
+use Rattle.drm_lists.specs.Chains.{top_of}
+use Rattle.drm_lists.proofs.Chains.{top_none}
+use Rattle.drm_lists.proofs.Lists.{all_each, all_both, list_any-map, list_any_gives, some_passing}
+use Rattle.drm_lists.proofs.Orders.{same-any}
+use Rattle.drm_lists.proofs.Rising.{found, any_found, all_found}
+use Rattle.drm_files.specs.Files.{is_present}
+use Rattle.drm_table.specs.declared.calls.Call.TheVariants.{CreateLease}
+use Rattle.drm_table.specs.declared.events.Event.TheVariants.{Ask}
+use Rattle.drm_table.specs.declared.rules.Rule.{Rule}
+use Rattle.drm_table.specs.declared.rules.Rule.TheVariants.{SubLease, NoModeObject, NotLeasable, Repeated, LeaseShape, LeasedOut, Full}
+use Rattle.drm_table.specs.Permit.{Check, check, first_failing}
+use Rattle.drm_modes.specs.Topology.{is_encoder, kind_of}
+use Rattle.drm_modes.specs.Modes.{has_framebuffer}
+use Rattle.drm_masters.specs.declared.rows.Master.{Master}
+use Rattle.drm_masters.specs.declared.rows.Member.{Member}
+use Rattle.drm_masters.specs.Masters as masters
+use Rattle.drm_masters.specs.Masters.{is_birth, member_of, is_option}
+use Rattle.drm_leases.specs.declared.rows.Grant.{Grant}
+use Rattle.drm_leases.specs.declared.rows.LeaseToken.{LeaseToken}
+use Rattle.drm_leases.specs.Leases as leases
+use Rattle.drm_leases.specs.Leases.{is_token, is_token_of, token_of}
+use Rattle.drm_leases.specs.Rules as rules
+use Rattle.drm_leases.specs.Rules.{lease_checks}
+use Rattle.drm_model.specs.Rows.{Rows, MasterRow, GrantRow}
+use Rattle.drm_model.specs.Masters.{lessor_of, is_lessee, owner_of}
+use Rattle.drm_model.specs.Magics.{own_master}
+use Rattle.drm_model.specs.Leases as model
+use Rattle.drm_model.specs.Calls.{meaning}
+use Rattle.drm_model.specs.Verdict.{admission_checks, verdict}
+use Rattle.drm_state.specs.declared.state.State.{State}
+use Rattle.drm_state.specs.Parts.{master_row_of, masters_of, grant_row_of, grants_of}
+use Rattle.drm_state.specs.Ties.{IsTied, AreOfLessees}
+use Rattle.drm_state.specs.Refinement.{Represents}
+use Rattle.drm_state.proofs.Represented.{bounds_are, masters_are, grants_are, last_lease_token_is, leases_so, tokens_of_lessees}
+use Rattle.drm_state.proofs.Living.{above_is}
+use Rattle.drm_state.proofs.Framing.{framebuffer_is}
+use Rattle.drm_state.proofs.Outcomes.{call_verdict}
+use Rattle.drm_state.proofs.Seeing.{topology_is, seen_is}
+use Rattle.drm_state.proofs.SharedLookups.{or_else_is}
+use Rattle.drm_state.proofs.Callers.{each_holds}
+
+-- ---- open tokens
+
+-- a master has the token open where an open token has the number
+token_open : (tokens : List LeaseToken) (ms : List Master) → AreOfLessees tokens ms → AllByRecursion (λ (row : LeaseToken). find (is_token_of row.master) tokens ≡ Some row) tokens → (t : ℕ) →
+    list_any (λ (x : Master). is_option t (token_of tokens x.birth)) ms ≡ list_any (is_token t) tokens
+token_open tokens ms of found_all t = both_ways (list_any (λ (x : Master). is_option t (token_of tokens x.birth)) ms) (list_any (is_token t) tokens) down up
+  where
+    by_token : (m : ℕ) (o : Option LeaseToken) → find (is_token_of m) tokens ≡ o → is_option t (option_map (λ (row : LeaseToken). row.token) o) ≡ true → list_any (is_token t) tokens ≡ true
+    by_token m None e k = absurd (let n : false ≡ true = k in cc)
+    by_token m (Some row) e k = any_found (is_token_of m) (is_token t) row tokens e k
+
+    down : list_any (λ (x : Master). is_option t (token_of tokens x.birth)) ms ≡ true → list_any (is_token t) tokens ≡ true
+    down = list_any_gives (λ (x : Master). is_option t (token_of tokens x.birth)) (list_any (is_token t) tokens) (λ x e. by_token x.birth (find (is_token_of x.birth) tokens) refl e) ms
+
+    by_master : (row : LeaseToken) → find (is_token_of row.master) tokens ≡ Some row → is_token t row ≡ true → (o : Option Master) → find (is_birth row.master) ms ≡ o → is_some (option_and_then (λ (x : Master). x.lessor) o) ≡ true →
+        list_any (λ (x : Master). is_option t (token_of tokens x.birth)) ms ≡ true
+    by_master row its is None e k = absurd (let n : false ≡ true = k in cc)
+    by_master row its is (Some x) e k =
+        let num : x.birth ≡ row.master = eqb-true x.birth row.master (found (is_birth row.master) (λ _. Unit {0}) x ms (all_each (λ _. Unit {0}) (λ _. tt) ms) e).0 in
+        any_found (is_birth row.master) (λ (x : Master). is_option t (token_of tokens x.birth)) x ms e (ap (λ n. is_option t (token_of tokens n)) num ∙ ap (λ o. is_option t (option_map (λ (row : LeaseToken). row.token) o)) its ∙ is)
+
+    up : list_any (is_token t) tokens ≡ true → list_any (λ (x : Master). is_option t (token_of tokens x.birth)) ms ≡ true
+    up e =
+        let it = some_passing (is_token t) (λ (row : LeaseToken). (masters.is_lessee ms row.master ≡ true) × (find (is_token_of row.master) tokens ≡ Some row)) tokens
+        (all_both (λ (row : LeaseToken). masters.is_lessee ms row.master ≡ true) (λ (row : LeaseToken). find (is_token_of row.master) tokens ≡ Some row) (λ (row : LeaseToken). (masters.is_lessee ms row.master ≡ true) × (find (is_token_of row.master) tokens ≡ Some row)) (λ row a b. (a, b)) tokens of found_all) e in
+        by_master it.0 it.2.1 it.1 (find (is_birth it.0.master) ms) refl it.2.0
+
+-- checks that agree where the first holds
+by_first : (rule : Rule) (b : Bool) (xs ys : List Check) → (b ≡ true → xs ≡ ys) → first_failing (check rule b ∷ xs) ≡ first_failing (check rule b ∷ ys)
+by_first rule true xs ys h = ap first_failing (h refl)
+by_first rule false xs ys h = refl
+
+top_is : (o : Option ℕ) → not (is_some o) ≡ true → o ≡ None
+top_is None h = refl
+top_is (Some n) h = absurd (let e : false ≡ true = h in cc)
+
+module _ (s : State) (w : Rows) (t : IsTied s) (h : Represents s w) where
+  abbrev ms : List Master
+  ms = s.masters.masters
+
+  -- ---- a new token
+
+  free_is : (token : ℕ) → model.is_free_lease_token w token ≡ leases.is_free s.leases.tokens token
+  free_is token =
+      ap (λ rows. not (list_any (λ (row : MasterRow). is_option token row.lease_token) rows)) (masters_are s w h)
+      ∙ ap not (list_any-map (λ (row : MasterRow). is_option token row.lease_token) (master_row_of s.leases.tokens) ms
+      ∙ token_open s.leases.tokens ms (tokens_of_lessees s t) (all_found (λ (row : LeaseToken). row.master) s.leases.tokens (leases_so s t).tokens_rise) token)
+
+  pub next_is : model.next_lease_token w ≡ leases.next_token s.leases
+  next_is =
+      (λ i. option_or (least (λ token. free_is token i) (last_lease_token_is s w h i + 1) (sym (bounds_are s w h).9 i)) (least (λ token. free_is token i) 1 (sym (bounds_are s w h).9 i)))
+      ∙ or_else_is (least (leases.is_free s.leases.tokens) (unwrap_or s.leases.last_given 0 + 1) s.leases.last) (least (leases.is_free s.leases.tokens) 1 s.leases.last)
+
+  -- ---- a new id
+
+  lessee_of_is : (owner id : ℕ) → list_any (model.is_lessee_of w.masters owner id) w.masters ≡ list_any (masters.is_lessee_of ms owner id) ms
+  lessee_of_is owner id =
+      ap (λ rows. list_any (model.is_lessee_of rows owner id) rows) (masters_are s w h)
+      ∙ list_any-map (model.is_lessee_of (masters_of s) owner id) (master_row_of s.leases.tokens) ms
+      ∙ (λ i. list_any (λ (x : Master). is_some x.lessor && (x.lessee_id == id) && (top_of (above_is s.leases.tokens ms i) x.birth == owner)) ms)
+
+  -- of a master without a lessor
+  owner_is : (m : ℕ) → masters.lessor_of ms m ≡ None → owner_of w.masters m ≡ m
+  owner_is m top = (λ i. owner_of (masters_are s w h i) m) ∙ (λ i. top_of (above_is s.leases.tokens ms i) m) ∙ sym (top_none (masters.lessor_of ms) m top)
+
+  pub free_lessee_is : (m : ℕ) → masters.lessor_of ms m ≡ None → model.free_lessee w m ≡ masters.free_lessee s.masters m
+  free_lessee_is m top =
+      (λ i. least (λ id. not (list_any (model.is_lessee_of w.masters (owner_is m top i) id) w.masters)) 1 (sym (bounds_are s w h).8 i))
+      ∙ (λ i. least (λ id. not (lessee_of_is m id i)) 1 s.masters.last_lessee)
+
+  -- ---- the ids
+
+  module _ (c : ℕ) (x : Member) (present : is_present s.files c ≡ true) (look : member_of s.masters.members c ≡ Some x) where
+    seen_here : (k : ℕ) → model.is_seen w c k ≡ rules.is_seen s.leases s.masters s.modes x.master k
+    seen_here k =
+        (λ i. (is_some (kind_of (topology_is s w h i) k) && seen_is s w c present h k i) || framebuffer_is s w t h k i)
+        ∙ ap (λ o. (is_some (kind_of s.modes.topology k) && (is_encoder s.modes.topology k || option_map_or (λ (y : Member). leases.controls s.leases.grants ms y.master k) o false)) || has_framebuffer s.modes k) look
+
+    leasable_is : (k : ℕ) → model.is_leasable w k ≡ rules.is_leasable s.modes k
+    leasable_is k = λ i. not (is_encoder (topology_is s w h i) k || framebuffer_is s w t h k i)
+
+    leased_out_is : (m k : ℕ) → model.is_leased_out w m k ≡ leases.is_leased_out s.leases.grants ms m k
+    leased_out_is m k =
+        ap (λ rows. list_any (λ (row : GrantRow). (row.mode_object == k) && is_option m (lessor_of rows row.master)) w.grants) (masters_are s w h)
+        ∙ same-any (λ (row : GrantRow). (row.mode_object == k) && is_option m (lessor_of (masters_of s) row.master)) w.grants (grants_of s) (grants_are s w h)
+        ∙ list_any-map (λ (row : GrantRow). (row.mode_object == k) && is_option m (lessor_of (masters_of s) row.master)) grant_row_of s.leases.grants
+        ∙ (λ i. list_any (λ (g : Grant). (g.mode_object == k) && is_option m (above_is s.leases.tokens ms i g.master)) s.leases.grants)
+
+    -- what is asked first is asked of the master, and what is asked then agrees where it has no lessor
+    pub create_verdict : (ids : List ℕ) → is_lessee w c ≡ masters.is_lessee ms x.master → own_master w c ≡ x.master → first_failing (admission_checks w c (CreateLease ids)) ≡ None →
+        verdict w (Ask c (CreateLease ids)) ≡ first_failing (lease_checks s.leases s.masters s.modes x.master ids)
+    unfolding meaning lease_checks
+    create_verdict ids lessee own admitted =
+        call_verdict w c (CreateLease ids) admitted
+        ∙ (λ i. first_failing (model.create_lease_of w c (own i) ids).checks)
+        ∙ (λ i. first_failing (check SubLease (not (lessee i)) ∷ asked))
+        ∙ by_first SubLease (not (masters.is_lessee ms x.master)) asked
+        (check NoModeObject (list_all (rules.is_seen s.leases s.masters s.modes x.master) ids)
+        ∷ check NotLeasable (list_all (rules.is_leasable s.modes) ids)
+        ∷ check Repeated (list_all (rules.stands_once ids) ids)
+        ∷ check LeaseShape (rules.is_lease s.modes.topology ids)
+        ∷ check LeasedOut (not (list_any (leases.is_leased_out s.leases.grants ms x.master) ids))
+        ∷ check Full (is_some (masters.free_lessee s.masters x.master) && is_some (leases.next_token s.leases))
+        ∷ [])
+        (λ top i.
+        check NoModeObject (list_all (λ k. seen_here k i) ids)
+        ∷ check NotLeasable (list_all (λ k. leasable_is k i) ids)
+        ∷ check Repeated (list_all (rules.stands_once ids) ids)
+        ∷ check LeaseShape (rules.is_lease (topology_is s w h i) ids)
+        ∷ check LeasedOut (not (list_any (λ k. leased_out_is x.master k i) ids))
+        ∷ check Full (is_some (free_lessee_is x.master (top_is (masters.lessor_of ms x.master) top) i) && is_some (next_is i))
+        ∷ [])
+      where
+        asked : List Check
+        asked =
+            check NoModeObject (list_all (model.is_seen w c) ids)
+            ∷ check NotLeasable (list_all (model.is_leasable w) ids)
+            ∷ check Repeated (list_all (model.stands_once ids) ids)
+            ∷ check LeaseShape (model.is_lease w.topology ids)
+            ∷ check LeasedOut (not (list_any (model.is_leased_out w x.master) ids))
+            ∷ check Full (is_some (model.free_lessee w x.master) && is_some (model.next_lease_token w))
+            ∷ []
+
+    -- whom nothing denies a lease has no lessor
+    pub has_no_lessor : (ids : List ℕ) → first_failing (lease_checks s.leases s.masters s.modes x.master ids) ≡ None → masters.lessor_of ms x.master ≡ None
+    unfolding lease_checks
+    has_no_lessor ids none = top_is (masters.lessor_of ms x.master) (each_holds (lease_checks s.leases s.masters s.modes x.master ids) none).0

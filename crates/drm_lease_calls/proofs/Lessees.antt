@@ -1,0 +1,114 @@
+-- Lessees and what their leases have, by rows and by what the device keeps.
+use Rattle.std.proofs.Common.{◌≡◌, ℕ, ◌==◌, true, false, ◌&&◌, List, [], ◌∷◌, map, filter, find, length, Option, None, Some, refl, sym, ap, ◌∙◌, arith, inl, inr}
+use Rattle.std.specs.Prelude.{nat_le, unwrap_or}
+use Rattle.std.specs.List.{list_any, AllByRecursion}
+use Rattle.std.specs.Option.{is_some, option_map, option_map_or}
+use Rattle.std.proofs.lemmas.Bool.{eqb-true}
+use Rattle.std.proofs.lemmas.Bool.Decides.{nat_tests}
+use Rattle.drm_lists.specs.Chains.{top_of}
+use Rattle.drm_lists.specs.Orders.{InOrder}
+use Rattle.drm_lists.proofs.Lists.{filter_true, filter-map, list_any-map, list_any_agree, map-map}
+use Rattle.drm_lists.proofs.Found.{find-map}
+use Rattle.drm_lists.proofs.Orders.{RisesTo, in_order_filter, in_order_map, same-any, same-filter, same-map, sorted-same, order_of_numbers}
+use Rattle.drm_modes.specs.Numbers.{numbers_from}
+use Rattle.drm_masters.specs.declared.rows.Master.{Master}
+use Rattle.drm_masters.specs.Masters as masters
+use Rattle.drm_leases.specs.declared.rows.Grant.{Grant}
+use Rattle.drm_leases.specs.Leases as leases
+use Rattle.drm_leases.specs.Leases.{grant_before, is_grant_of, granted_objects, is_direct_lessee}
+use Rattle.drm_model.specs.Numbers.{rising}
+use Rattle.drm_model.specs.Rows.{Rows, MasterRow, GrantRow}
+use Rattle.drm_model.specs.Masters.{master_row, owner_of}
+use Rattle.drm_model.specs.Leases as model
+use Rattle.drm_model.specs.Magics.{own_master}
+use Rattle.drm_model.specs.Calls.{meaning}
+use Rattle.drm_model.specs.Verdict.{admission_checks, verdict}
+use Rattle.drm_table.specs.declared.calls.Call.TheVariants.{RevokeLease}
+use Rattle.drm_table.specs.declared.events.Event.TheVariants.{Ask}
+use Rattle.drm_table.specs.declared.rules.Rule.TheVariants.{NoLessee, NotYourLessee}
+use Rattle.drm_table.specs.Permit.{check, first_failing}
+use Rattle.drm_state.specs.declared.state.State.{State}
+use Rattle.drm_state.specs.Parts.{master_row_of, masters_of, grant_row_of, grants_of}
+use Rattle.drm_state.specs.Ties.{IsTied}
+use Rattle.drm_state.specs.Refinement.{Represents}
+use Rattle.drm_state.proofs.Represented.{bounds_are, masters_are, grants_are, leases_so}
+use Rattle.drm_state.proofs.Living.{above_is}
+use Rattle.drm_state.proofs.Outcomes.{call_verdict}
+
+module _ (s : State) (w : Rows) (h : Represents s w) where
+  -- ---- the ids of lessees
+
+  direct_is : (m id n : ℕ) → option_map_or (λ (row : MasterRow). masters.is_option m row.lessor && (row.lessee_id == id)) (master_row (masters_of s) n) false ≡ option_map_or (is_direct_lessee m id) (masters.master_at s.masters.masters n) false
+  direct_is m id n =
+      ap (λ o. option_map_or (λ (row : MasterRow). masters.is_option m row.lessor && (row.lessee_id == id)) o false) (find-map (λ (row : MasterRow). row.master == n) (master_row_of s.leases.tokens) s.masters.masters)
+      ∙ by_row (masters.master_at s.masters.masters n)
+    where
+      by_row : (o : Option Master) → option_map_or (λ (row : MasterRow). masters.is_option m row.lessor && (row.lessee_id == id)) (option_map (master_row_of s.leases.tokens) o) false ≡ option_map_or (is_direct_lessee m id) o false
+      by_row None = refl
+      by_row (Some x) = refl
+
+  lent_is : (m id : ℕ) → model.has_lessee w m id ≡ leases.has_lease s.leases.grants s.masters.masters m id
+  lent_is m id =
+      ap (λ rows. list_any (model.is_lessee_grant rows m id) w.grants) (masters_are s w h)
+      ∙ same-any (model.is_lessee_grant (masters_of s) m id) w.grants (grants_of s) (grants_are s w h)
+      ∙ list_any-map (model.is_lessee_grant (masters_of s) m id) grant_row_of s.leases.grants
+      ∙ list_any_agree (λ (g : Grant). model.is_lessee_grant (masters_of s) m id (grant_row_of g)) (λ (g : Grant). option_map_or (is_direct_lessee m id) (masters.master_at s.masters.masters g.master) false) (λ g. direct_is m id g.master) s.leases.grants
+
+  pub lessees_listed : (m : ℕ) → filter (model.has_lessee w m) (numbers_from 1 w.limits.lessees) ≡ leases.lessee_ids s.leases.grants s.masters.masters s.masters.last_lessee m
+  lessees_listed m = λ i. filter (λ id. lent_is m id i) (numbers_from 1 (sym (bounds_are s w h).8 i))
+
+  -- ---- what a lease has
+
+  before_rises : (xs : List Grant) (m : ℕ) → AllByRecursion (λ (g : Grant). is_grant_of m g ≡ true) xs → InOrder grant_before xs → InOrder (λ (g k : Grant). RisesTo nat_le g.mode_object k.mode_object) xs
+  before_rises [] m its rise = tt
+  before_rises (g ∷ gs) m its rise =
+      (each gs its.1 rise.0, before_rises gs m its.1 rise.1)
+    where
+      less : (k : Grant) → is_grant_of m k ≡ true → grant_before g k → RisesTo nat_le g.mode_object k.mode_object
+      less k is (inl lt) = let a = eqb-true g.master m its.0 in let b = eqb-true k.master m is in absurd (omega (arith, a, b, lt))
+      less k is (inr same) = let lt = same.1 in (grind (arith, nat_tests), grind (arith, nat_tests))
+
+      each : (ks : List Grant) → AllByRecursion (λ (k : Grant). is_grant_of m k ≡ true) ks → AllByRecursion (grant_before g) ks → AllByRecursion (λ (k : Grant). RisesTo nat_le g.mode_object k.mode_object) ks
+      each [] is all = tt
+      each (k ∷ ks) is all = (less k is.0 all.0, each ks is.1 all.1)
+
+  pub lease_listed : (t : IsTied s) (m : ℕ) → rising (model.granted_of w m) ≡ granted_objects s.leases.grants m
+  lease_listed t m =
+      let its = λ (row : GrantRow). row.master == m in
+      let object = λ (row : GrantRow). row.mode_object in
+      let own = filter (is_grant_of m) s.leases.grants in
+      let theirs : map object (filter its (grants_of s)) ≡ granted_objects s.leases.grants m = ap (map object) (filter-map its grant_row_of s.leases.grants) ∙ map-map object grant_row_of own in
+      let rise : InOrder (RisesTo nat_le) (granted_objects s.leases.grants m) =
+      in_order_map (RisesTo nat_le) (λ (g : Grant). g.mode_object) own
+      (before_rises own m (filter_true (is_grant_of m) s.leases.grants) (in_order_filter grant_before (is_grant_of m) s.leases.grants (leases_so s t).grants_rise)) in
+      sorted-same nat_le (λ x y. x == y) order_of_numbers (map object (filter its w.grants)) (granted_objects s.leases.grants m) rise
+      (λ test. same-map object (filter its w.grants) (filter its (grants_of s)) (same-filter its w.grants (grants_of s) (grants_are s w h)) test ∙ ap (λ l. length (filter test l)) theirs)
+
+  -- ---- the lessee of an id
+
+  owner_is : (m : ℕ) → owner_of (masters_of s) m ≡ masters.owner_of s.masters.masters m
+  owner_is m = λ i. top_of (above_is s.leases.tokens s.masters.masters i) m
+
+  pub lessee_found : (m id : ℕ) → model.lessee_row w m id ≡ option_map (master_row_of s.leases.tokens) (find (masters.is_lessee_of s.masters.masters (masters.owner_of s.masters.masters m) id) s.masters.masters)
+  lessee_found m id =
+      (λ i. find (model.is_lessee_of (masters_are s w h i) (owner_of (masters_are s w h i) m) id) (masters_are s w h i))
+      ∙ find-map (model.is_lessee_of (masters_of s) (owner_of (masters_of s) m) id) (master_row_of s.leases.tokens) s.masters.masters
+      ∙ (λ i. option_map (master_row_of s.leases.tokens) (find (λ (x : Master). is_some x.lessor && (x.lessee_id == id) && (owner_is x.birth i == owner_is m i)) s.masters.masters))
+
+  pub lessee_birth : (m id : ℕ) (x : Master) → find (masters.is_lessee_of s.masters.masters (masters.owner_of s.masters.masters m) id) s.masters.masters ≡ Some x → model.lessee_master w m id ≡ x.birth
+  lessee_birth m id x e = ap (λ o. unwrap_or (option_map (λ (row : MasterRow). row.master) o) 0) (lessee_found m id ∙ ap (option_map (master_row_of s.leases.tokens)) e)
+
+  -- what REVOKE_LEASE comes to, by what is found
+  pub revoke_verdict : (c m id : ℕ) (o : Option Master) → own_master w c ≡ m → first_failing (admission_checks w c (RevokeLease id)) ≡ None → find (masters.is_lessee_of s.masters.masters (masters.owner_of s.masters.masters m) id) s.masters.masters ≡ o →
+      verdict w (Ask c (RevokeLease id)) ≡ first_failing (check NoLessee (is_some o) ∷ check NotYourLessee (option_map_or (λ (x : Master). masters.is_option m x.lessor) o false) ∷ [])
+  unfolding meaning
+  revoke_verdict c m id o own admitted e =
+      call_verdict w c (RevokeLease id) admitted
+      ∙ (λ i. first_failing (model.revoke_lease_of w (own i) id).checks)
+      ∙ ap (λ (r : Option MasterRow). first_failing (check NoLessee (is_some r) ∷ check NotYourLessee (option_map_or (λ (row : MasterRow). masters.is_option m row.lessor) r false) ∷ [])) (lessee_found m id ∙ ap (option_map (master_row_of s.leases.tokens)) e)
+      ∙ by_row o
+    where
+      by_row : (o : Option Master) → first_failing (check NoLessee (is_some (option_map (master_row_of s.leases.tokens) o)) ∷ check NotYourLessee (option_map_or (λ (row : MasterRow). masters.is_option m row.lessor) (option_map (master_row_of s.leases.tokens) o) false) ∷ []) ≡
+          first_failing (check NoLessee (is_some o) ∷ check NotYourLessee (option_map_or (λ (x : Master). masters.is_option m x.lessor) o false) ∷ [])
+      by_row None = refl
+      by_row (Some x) = refl

@@ -1,0 +1,6 @@
+mod Flags
+mod Lessees
+mod Revoked
+mod Listed
+mod Asked
+mod Leased

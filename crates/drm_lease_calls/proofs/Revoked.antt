@@ -1,0 +1,56 @@
+-- The device without the leases of a master and of all below it.
+use Rattle.std.proofs.Common.{◌≡◌, ℕ, Bool, Some}
+use Rattle.drm_masters.specs.Masters as masters
+use Rattle.drm_masters.specs.Masters.{AreMasters}
+use Rattle.drm_masters.specs.Calls.{released_under}
+use Rattle.drm_leases.specs.Leases.{AreLeases}
+use Rattle.drm_leases.specs.Calls as leases
+use Rattle.drm_model.specs.Rows.{Rows}
+use Rattle.drm_model.specs.Leases.{ended}
+use Rattle.drm_model.specs.Change.{swept}
+use Rattle.drm_model.specs.Parts.{Part, Masters, Objects, Names, Shown}
+use Rattle.drm_state.specs.declared.state.State.{State}
+use Rattle.drm_state.specs.Parts.{released, is_below, clients_of}
+use Rattle.drm_state.specs.Ties.{Tie, MastersAre, LeasesAre, TokensOfLessees, KeptHaveTokens, is_tied, IsTied, AreKeptBy}
+use Rattle.drm_state.specs.Refinement.{stands_for, Represents}
+use Rattle.drm_state.proofs.Represented.{clients_are, masters_are, tokens_of_lessees, kept_have_tokens}
+use Rattle.drm_state.proofs.Ended.{kept_ended, of_lessees_ended, kept_swept, of_lessees_swept}
+use Rattle.drm_state.proofs.Living.{swept_masters}
+use Rattle.drm_state.proofs.Sweeps.{with_ended, ended_represents, named_by_clients, unswept}
+
+module _ (s : State) (top : ℕ) where
+  abbrev pub revoked : State
+  revoked = record s { masters = masters.swept (released_under top s.masters); leases = leases.ended s.masters.masters top s.leases }
+
+  abbrev below : ℕ → Bool
+  below = is_below (Some top) s.masters.masters
+
+  module _ (t : IsTied s) (are : AreMasters revoked.masters) (leases_are : AreLeases revoked.leases) where
+    kept : AreKeptBy revoked.leases.tokens (released below s.masters.masters)
+    kept = kept_ended below s.leases.tokens s.masters.masters (kept_have_tokens s t)
+
+    pub revoked_tied : (tie : Tie) → is_tied tie revoked
+    unfolding is_tied
+    revoked_tied MastersAre = are
+    revoked_tied LeasesAre = leases_are
+    revoked_tied TokensOfLessees = of_lessees_swept s.masters.members revoked.leases.tokens (released below s.masters.masters) kept (of_lessees_ended below s.leases.tokens s.masters.masters (tokens_of_lessees s t))
+    revoked_tied KeptHaveTokens = kept_swept s.masters.members revoked.leases.tokens (released below s.masters.masters) kept
+    revoked_tied tie = t tie
+
+    module _ (w : Rows) (h : Represents s w) where
+      before : Represents (with_ended s below s.masters.device_master) (ended w top)
+      before = ended_represents s w top h
+
+      clients_yet : (ended w top).clients ≡ clients_of revoked
+      unfolding ended
+      clients_yet = clients_are s w h
+
+      pub revoked_represents : (part : Part) → stands_for part revoked (swept (ended w top))
+      unfolding stands_for swept ended
+      revoked_represents Masters =
+          swept_masters (ended w top) revoked.leases.tokens (released below s.masters.masters) s.masters.members (masters_are (with_ended s below s.masters.device_master) (ended w top) before) kept
+          (named_by_clients (ended w top) revoked revoked_tied clients_yet)
+      revoked_represents Objects = unswept s w t h Objects
+      revoked_represents Names = unswept s w t h Names
+      revoked_represents Shown = unswept s w t h Shown
+      revoked_represents part = before part

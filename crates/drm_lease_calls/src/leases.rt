@@ -1,0 +1,85 @@
+//! Leases that are made and revoked.
+
+ghost use Rattle.std.specs.Prelude.{◌≡◌, true};
+ghost use Rattle.drm_files.specs.Files.{is_present};
+ghost use Rattle.drm_masters.specs.Masters.{is_option};
+ghost use Rattle.drm_table.specs.declared.calls.Call.TheVariants.{CreateLease, RevokeLease};
+ghost use Rattle.drm_state.specs.Ties.{IsTied, IsReady};
+ghost use Rattle.drm_state.specs.Refinement.{OwesCall, OwesReply};
+
+use drm_leases::LeaseFault;
+use drm_state::State;
+use drm_table::{Answer, IdList, Rule};
+use std::alloc::AllocError;
+
+/// MODE_CREATE_LEASE (drm-uapi, leases; the order of the rules and the token are own): a new lessee of the caller's master, by
+/// the step of this number, with a lease of these mode objects, and the token that opens it. Where memory is refused nothing
+/// changes.
+pub fn create_lease(
+    state: &mut State,
+    birth: u32,
+    client: u32,
+    ids: &IdList,
+) -> Result<Answer, AllocError>
+    requires ready { IsReady state.old birth }
+    requires present { is_present state.old.files client ≡ true }
+    ensures owes { OwesCall state.old birth client (CreateLease ids.now) result state.new }
+    ensures tied { IsTied state.new }
+{
+    let Some(_member) = state.masters.member(client) else {
+        // a render client, whose call is not admitted
+        return Ok(Answer::Denied(Rule::RenderAllow));
+    };
+    match state
+        .leases
+        .create(&mut state.masters, &state.modes, client, ids.ids(), birth)
+    {
+        Ok(made) => {
+            state.masters.laws();
+            state.leases.laws();
+            Ok(Answer::Lease {
+                id: made.id,
+                token: made.token,
+            })
+        }
+        Err(LeaseFault::Denied(rule)) => Ok(Answer::Denied(rule)),
+        Err(LeaseFault::NoMemory) => Err(AllocError),
+    }
+}
+
+/// MODE_REVOKE_LEASE (drm-uapi, leases; that a lessee which nobody redeemed goes is own): the lease of a direct lessee of the
+/// caller's master ends, and all that was lent from it. It takes no memory.
+pub fn revoke_lease(state: &mut State, client: u32, lessee: u32) -> Answer
+    requires tied { IsTied state.old }
+    requires present { is_present state.old.files client ≡ true }
+    ensures owes { OwesReply state.old client (RevokeLease lessee) result state.new }
+    ensures tied { IsTied state.new }
+{
+    let Some(member) = state.masters.member(client) else {
+        // a render client, whose call is not admitted
+        return Answer::Denied(Rule::RenderAllow);
+    };
+    let Some(master) = state.masters.master(member.master) else {
+        unreachable!()
+    };
+    let Some(found) = state.masters.lessee(master.key, lessee) else {
+        return Answer::Denied(Rule::NoLessee);
+    };
+    if !is_lent_by(found.lessor, member.master) {
+        return Answer::Denied(Rule::NotYourLessee);
+    }
+    state.leases.revoke(&mut state.masters, found.birth);
+    state.masters.laws();
+    state.leases.laws();
+    Answer::Done
+}
+
+/// Whether a lessor, if there is one, is this master.
+fn is_lent_by(lessor: Option<u32>, master: u32) -> bool
+    ensures { result ≡ is_option master lessor }
+{
+    match lessor {
+        Some(lessor) => lessor == master,
+        None => false,
+    }
+}

@@ -1,0 +1,137 @@
+-- What is so of the leases at all times is so after each change.
+use Rattle.std.proofs.Common.{◌≡◌, ℕ, zero, suc, ◌+◌, ◌<◌, ◌≤◌, ◌==◌, inl, inr, Bool, true, false, cond, not, ◌||◌, List, [], ◌∷◌, ◌++◌, map, filter, find, length, Option, None, Some, refl, sym, ap, subst, ◌∙◌, arith, eq-eqb}
+use Rattle.std.specs.Prelude.{unwrap_or}
+use Rattle.std.specs.List.{list_any, AllByRecursion}
+use Rattle.std.proofs.lemmas.List.{length-map}
+use Rattle.std.proofs.lemmas.Bool.{eqb-true}
+use Rattle.drm_index_array.specs.Least.{least}
+use Rattle.drm_index_array.proofs.Least.{least_some}
+use Rattle.drm_id_alloc.specs.Table.{or_else}
+use Rattle.drm_lists.specs.Orders.{InOrder}
+use Rattle.drm_lists.specs.Numbers.{is_among}
+use Rattle.drm_lists.proofs.Lists.{all_weaker, all_each, all_append, all_filter, all_mapped, filter-shorter, length-filter_append}
+use Rattle.drm_lists.proofs.Numbers.{less-differ}
+use Rattle.drm_lists.proofs.Orders.{in_order_filter, in_order_append, in_order_map, in_order_weaker}
+use Rattle.drm_modes.specs.Numbers.{numbers_from}
+use Rattle.drm_modes.specs.Topology.{Topology, object_count}
+use Rattle.drm_leases.specs.declared.rows.Grant.{Grant}
+use Rattle.drm_leases.specs.declared.rows.LeaseToken.{LeaseToken}
+use Rattle.drm_leases.specs.declared.leases.Leases.TheInside.{Inside}
+use Rattle.drm_leases.specs.Fields.{set_of, IsSound}
+use Rattle.drm_leases.specs.Leases.{LeaseSet, AreLeases, is_token, is_free, is_grant_of, grant_before, next_token}
+use Rattle.drm_leases.specs.Calls.{IsNewLessee, grant, lease_token, with_lease, listed_objects}
+
+-- the fields stand for a set of which all of it is so
+pub sound : (a : Inside) (l : LeaseSet) → set_of a ≡ l → AreLeases l → IsSound a
+sound a l e are = record { are = subst AreLeases (sym e) are }
+
+-- ---- rows go
+
+fewer : {X : Type 0} (p q : X → Bool) → (xs : List X) → length (filter p (filter q xs)) ≤ length (filter p xs)
+fewer p q [] = omega arith
+fewer p q (x ∷ xs) =
+    let less = fewer p q xs in
+    let rest = filter p (filter q xs) in
+    elim (q x) as (λ b. length (filter p (cond b (x ∷ filter q xs) (filter q xs))) ≤ length (cond (p x) (x ∷ filter p xs) (filter p xs))) [
+      | true ↦ elim (p x) as (λ b. length (cond b (x ∷ rest) rest) ≤ length (cond b (x ∷ filter p xs) (filter p xs))) [ true ↦ omega (arith, less) | false ↦ less ]
+      | false ↦ elim (p x) as (λ b. length rest ≤ length (cond b (x ∷ filter p xs) (filter p xs))) [ true ↦ omega (arith, less) | false ↦ less ]
+    ]
+
+module _ (l : LeaseSet) (a : AreLeases l) where
+  pub fewer_tokens : (p : LeaseToken → Bool) → AreLeases (record l { tokens = filter p l.tokens })
+  fewer_tokens p = record {
+    last_high = a.last_high;
+    given_high = a.given_high;
+    tokens_low = all_filter (λ (row : LeaseToken). 1 ≤ row.token) p l.tokens a.tokens_low;
+    tokens_differ = in_order_filter (λ (x y : LeaseToken). (x.token == y.token) ≡ false) p l.tokens a.tokens_differ;
+    tokens_rise = in_order_filter (λ (x y : LeaseToken). x.master < y.master) p l.tokens a.tokens_rise;
+    grants_rise = a.grants_rise;
+    few = a.few;
+  }
+
+  pub fewer_grants : (p : Grant → Bool) → AreLeases (record l { grants = filter p l.grants })
+  fewer_grants p = record {
+    last_high = a.last_high;
+    given_high = a.given_high;
+    tokens_low = a.tokens_low;
+    tokens_differ = a.tokens_differ;
+    tokens_rise = a.tokens_rise;
+    grants_rise = in_order_filter grant_before p l.grants a.grants_rise;
+    few = λ m.
+        let object = λ (g : Grant). g.mode_object in
+        let now = length-map (filter (is_grant_of m) (filter p l.grants)) object in
+        let old = length-map (filter (is_grant_of m) l.grants) object in
+        let less = fewer (is_grant_of m) p l.grants in
+        let few = a.few m in
+        omega (arith, now, old, less, few);
+  }
+
+-- ---- the token that is given next
+
+next_of : (test : ℕ → Bool) (given last t : ℕ) → (o : Option ℕ) → least test (given + 1) last ≡ o → or_else o (least test 1 last) ≡ Some t → (1 ≤ t) × (t ≤ last) × (test t ≡ true)
+next_of test given last t None e h = let is = least_some test 1 last t h in (is.at_least, is.at_most, is.passes)
+next_of test given last t (Some n) e h =
+    let same : n ≡ t = let s : Some n ≡ Some t = h in cc in
+    let is = least_some test (given + 1) last t (e ∙ ap Some same) in
+    (let low = is.at_least in omega (arith, low), is.at_most, is.passes)
+
+pub next_is : (l : LeaseSet) (t : ℕ) → next_token l ≡ Some t → (1 ≤ t) × (t ≤ l.last) × (is_free l.tokens t ≡ true)
+next_is l t h = next_of (is_free l.tokens) (unwrap_or l.last_given 0) l.last t (least (is_free l.tokens) (unwrap_or l.last_given 0 + 1) l.last) refl h
+
+not_passing : {X : Type 0} (p : X → Bool) → (xs : List X) → not (list_any p xs) ≡ true → AllByRecursion (λ x. p x ≡ false) xs
+not_passing p [] h = tt
+not_passing p (x ∷ xs) h =
+    (elim (p x) as (λ b. p x ≡ b → not (b || list_any p xs) ≡ true → AllByRecursion (λ x. p x ≡ false) (x ∷ xs)) [
+      | true ↦ λ e k. absurd (let j : false ≡ true = k in cc)
+      | false ↦ λ e k. (e, not_passing p xs k)
+    ]) refl h
+
+-- ---- a lease comes
+
+in_order_both : {X : Type 0} (R : X → X → Type 0) → (xs ys : List X) → InOrder R xs → InOrder R ys → AllByRecursion (λ x. AllByRecursion (R x) ys) xs → InOrder R (xs ++ ys)
+in_order_both R [] ys h k m = k
+in_order_both R (x ∷ xs) ys h k m = (all_append (R x) xs ys h.0 m.0, in_order_both R xs ys h.1 k m.1)
+
+none_pass : {X : Type 0} (p : X → Bool) → (xs : List X) → AllByRecursion (λ x. p x ≡ false) xs → length (filter p xs) ≡ 0
+none_pass p [] h = refl
+none_pass p (x ∷ xs) h = ap (λ b. length (cond b (x ∷ filter p xs) (filter p xs))) h.0 ∙ none_pass p xs h.1
+
+-- the grants of one lessee among those of a lease
+its_grants : (m k : ℕ) (objects : List ℕ) → length (filter (is_grant_of k) (map (grant m) objects)) ≤ length objects
+its_grants m k objects = let less = filter-shorter (is_grant_of k) (map (grant m) objects) in let e = length-map objects (grant m) in omega (arith, less, e)
+
+module _ (l : LeaseSet) (a : AreLeases l) (t m : ℕ) (objects : List ℕ) (new : IsNewLessee l m) (next : next_token l ≡ Some t) (rise : InOrder (λ x y. x < y) objects) (few : length objects ≤ 64) where
+  abbrev grants : List Grant
+  grants = map (grant m) objects
+
+  is : (1 ≤ t) × (t ≤ l.last) × (is_free l.tokens t ≡ true)
+  is = next_is l t next
+
+  few_of : (k : ℕ) (b : Bool) → (k == m) ≡ b → length (filter (is_grant_of k) (l.grants ++ grants)) ≤ 64
+  few_of k true e =
+      let parts = length-filter_append (is_grant_of k) l.grants grants in
+      let old = none_pass (is_grant_of k) l.grants (all_weaker (λ (g : Grant). g.master < m) (λ g. is_grant_of k g ≡ false) (λ g lt. less-differ g.master k (subst (λ n. g.master < n) (sym (eqb-true k m e)) lt)) l.grants new.grants) in
+      let less = its_grants m k objects in
+      omega (arith, parts, old, less, few)
+  few_of k false e =
+      let parts = length-filter_append (is_grant_of k) l.grants grants in
+      let none = none_pass (is_grant_of k) grants (all_mapped (λ (g : Grant). is_grant_of k g ≡ false) (grant m) objects (all_each (λ x. is_grant_of k (grant m x) ≡ false) (λ x. other k m e) objects)) in
+      let old = a.few k in
+      let e2 = length-map (filter (is_grant_of k) l.grants) (λ (g : Grant). g.mode_object) in
+      omega (arith, parts, none, old, e2)
+    where
+      other : (k m : ℕ) → (k == m) ≡ false → (m == k) ≡ false
+      other k m e = (elim (m == k) as (λ b. (m == k) ≡ b → b ≡ false) [ true ↦ λ h. absurd (let j : false ≡ true = sym e ∙ eq-eqb k m (sym (eqb-true m k h)) in cc) | false ↦ λ h. refl ]) refl
+
+  pub lease_are : AreLeases (with_lease t m objects l)
+  lease_are = record {
+    last_high = a.last_high;
+    given_high = is.1;
+    tokens_low = all_append (λ (row : LeaseToken). 1 ≤ row.token) l.tokens (lease_token t m ∷ []) a.tokens_low (is.0, tt);
+    tokens_differ = in_order_append (λ (x y : LeaseToken). (x.token == y.token) ≡ false) l.tokens (lease_token t m) a.tokens_differ (not_passing (is_token t) l.tokens is.2);
+    tokens_rise = in_order_append (λ (x y : LeaseToken). x.master < y.master) l.tokens (lease_token t m) a.tokens_rise new.tokens;
+    grants_rise =
+        in_order_both grant_before l.grants grants a.grants_rise (in_order_map grant_before (grant m) objects (in_order_weaker (λ x y. x < y) (λ x y. grant_before (grant m x) (grant m y)) (λ x y lt. inr (refl, lt)) objects rise))
+        (all_weaker (λ (g : Grant). g.master < m) (λ g. AllByRecursion (grant_before g) grants) (λ g lt. all_mapped (grant_before g) (grant m) objects (all_each (λ x. grant_before g (grant m x)) (λ x. inl lt) objects)) l.grants new.grants);
+    few = λ k. let e = length-map (filter (is_grant_of k) (l.grants ++ grants)) (λ (g : Grant). g.mode_object) in let less = few_of k (k == m) refl in omega (arith, e, less);
+  }

@@ -1,0 +1,59 @@
+-- What each call does.
+use Rattle.std.specs.Prelude.{◌≡◌, ℕ, ◌<◌, Bool, not, List, [], ◌∷◌, ◌++◌, Option, None, Some, Result, Ok, Err, map, filter}
+use Rattle.std.specs.List.{AllByRecursion}
+use Rattle.drm_lists.specs.Chains.{is_under}
+use Rattle.drm_lists.specs.Numbers.{is_among}
+use Rattle.drm_table.specs.Permit.{first_failing}
+use Rattle.drm_modes.specs.Numbers.{numbers_from}
+use Rattle.drm_modes.specs.Topology.{Topology, object_count}
+use Rattle.drm_modes.specs.Modes.{ModeSet}
+use Rattle.drm_masters.specs.declared.rows.Master.{Master}
+use Rattle.drm_masters.specs.Masters.{MasterSet, lessor_of, free_lessee}
+use Rattle.drm_masters.specs.Calls.{IsFreeKey, lessee, with_master}
+use Rattle.drm_leases.specs.declared.faults.LeaseFault.{LeaseFault}
+use Rattle.drm_leases.specs.declared.faults.LeaseFault.TheVariants.{Denied, NoMemory}
+use Rattle.drm_leases.specs.declared.rows.Grant.{Grant}
+use Rattle.drm_leases.specs.declared.rows.LeaseToken.{LeaseToken}
+use Rattle.drm_leases.specs.declared.rows.Leased.{Leased}
+use Rattle.drm_leases.specs.Leases.{LeaseSet, is_token, next_token}
+use Rattle.drm_leases.specs.Rules.{lease_checks}
+
+-- each lessee that has a token or a grant is older
+pub record IsNewLessee (l : LeaseSet) (birth : ℕ) : Type 0 where
+  pub tokens : AllByRecursion (λ (row : LeaseToken). row.master < birth) l.tokens
+  pub grants : AllByRecursion (λ (g : Grant). g.master < birth) l.grants
+
+abbrev pub grant : ℕ → ℕ → Grant
+grant m x = record { master = m; mode_object = x }
+
+abbrev pub lease_token : ℕ → ℕ → LeaseToken
+lease_token t m = record { token = t; master = m }
+
+-- the fixed mode objects that are listed, rising
+abbrev pub listed_objects : Topology → List ℕ → List ℕ
+listed_objects t ids = filter (is_among ids) (numbers_from 1 (object_count t))
+
+-- a lease of these objects, with an open token
+abbrev pub with_lease : ℕ → ℕ → List ℕ → LeaseSet → LeaseSet
+with_lease t m objects l = record l { last_given = Some t; tokens = l.tokens ++ lease_token t m ∷ []; grants = l.grants ++ map (grant m) objects }
+
+abbrev pub without_token : ℕ → LeaseSet → LeaseSet
+without_token t l = record l { tokens = filter (λ (row : LeaseToken). not (is_token t row)) l.tokens }
+
+-- the grants and open tokens of the master and of all below it go
+abbrev pub ended : List Master → ℕ → LeaseSet → LeaseSet
+ended masters top l = record l {
+  tokens = filter (λ (row : LeaseToken). not (is_under (lessor_of masters) top row.master)) l.tokens;
+  grants = filter (λ (g : Grant). not (is_under (lessor_of masters) top g.master)) l.grants;
+}
+
+-- what making a lease of a master comes to
+abbrev pub Created : LeaseSet → MasterSet → ModeSet → ℕ → List ℕ → ℕ → Result Leased LeaseFault → LeaseSet → MasterSet → Type 0
+Created l v s m ids birth (Ok made) l2 v2 =
+    (first_failing (lease_checks l v s m ids) ≡ None)
+    × (free_lessee v m ≡ Some made.id)
+    × (next_token l ≡ Some made.token)
+    × (l2 ≡ with_lease made.token birth (listed_objects s.topology ids) l)
+    × ((key : ℕ) × IsFreeKey v key × (v2 ≡ with_master (lessee key birth m made.id) v))
+Created l v s m ids birth (Err (Denied rule)) l2 v2 = (first_failing (lease_checks l v s m ids) ≡ Some rule) × (l2 ≡ l) × (v2 ≡ v)
+Created l v s m ids birth (Err NoMemory) l2 v2 = (first_failing (lease_checks l v s m ids) ≡ None) × (l2 ≡ l) × (v2 ≡ v)

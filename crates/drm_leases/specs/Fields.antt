@@ -1,0 +1,9 @@
+-- What the fields of the leases stand for.
+use Rattle.drm_leases.specs.declared.leases.Leases.TheInside.{Inside}
+use Rattle.drm_leases.specs.Leases.{LeaseSet, AreLeases}
+
+abbrev pub set_of : Inside → LeaseSet
+set_of a = record { last = a.last; last_given = a.last_given; tokens = a.tokens.items; grants = a.grants.items }
+
+pub record IsSound (a : Inside) : Type 0 where
+  pub are : AreLeases (set_of a)

@@ -1,0 +1,99 @@
+-- What lessees control, and open lease tokens (drm-uapi, leases; lease tokens are own), as flat lists.
+use Rattle.std.specs.Prelude.{◌≡◌, ℕ, ◌+◌, ◌==◌, ◌<◌, ◌≤◌, ◌⊎◌, Bool, false, not, ◌&&◌, ◌||◌, List, [], length, Option, None, Some, unwrap_or, find, map, filter, IfSome}
+use Rattle.std.specs.List.{list_any, AllByRecursion}
+use Rattle.std.specs.Option.{is_some, option_map, option_map_or}
+use Rattle.drm_index_array.specs.Least.{least}
+use Rattle.drm_id_alloc.specs.Table.{or_else}
+use Rattle.drm_lists.specs.Orders.{InOrder}
+use Rattle.drm_lists.specs.Numbers.{is_among}
+use Rattle.drm_modes.specs.Numbers.{numbers_from}
+use Rattle.drm_modes.specs.Topology.{Topology, is_encoder, object_count}
+use Rattle.drm_masters.specs.declared.rows.Master.{Master}
+use Rattle.drm_masters.specs.Masters.{is_option, master_at, lessor_of, is_lessee}
+use Rattle.drm_leases.specs.declared.rows.Grant.{Grant}
+use Rattle.drm_leases.specs.declared.rows.LeaseToken.{LeaseToken}
+
+-- tokens run from 1 to `last`, of which `last_given` is the last one given, if any was. A lessee is named by its birth; tokens
+-- and grants stand in the order of their lessees
+pub record LeaseSet : Type 0 where
+  pub last : ℕ
+  pub last_given : Option ℕ
+  pub tokens : List LeaseToken
+  pub grants : List Grant
+
+abbrev pub no_leases : ℕ → LeaseSet
+no_leases last = record { last = last; last_given = None; tokens = []; grants = [] }
+
+-- what a lease has
+
+abbrev pub is_grant_of : ℕ → Grant → Bool
+is_grant_of m g = g.master == m
+
+-- whether the lease of a lessee has the mode object
+abbrev pub is_granted : List Grant → ℕ → ℕ → Bool
+is_granted grants m x = list_any (λ (g : Grant). (g.master == m) && (g.mode_object == x)) grants
+
+-- the mode objects of the lease, rising
+abbrev pub granted_objects : List Grant → ℕ → List ℕ
+granted_objects grants m = map (λ (g : Grant). g.mode_object) (filter (is_grant_of m) grants)
+
+-- whether the lease of a direct lessee of the master has the mode object
+abbrev pub is_leased_out : List Grant → List Master → ℕ → ℕ → Bool
+is_leased_out grants masters m x = list_any (λ (g : Grant). (g.mode_object == x) && is_option m (lessor_of masters g.master)) grants
+
+-- whether the master is a direct lessee of the other, with this id
+abbrev pub is_direct_lessee : ℕ → ℕ → Master → Bool
+is_direct_lessee m id x = is_option m x.lessor && (x.lessee_id == id)
+
+-- whether the lease of the direct lessee with this id isn't empty
+abbrev pub has_lease : List Grant → List Master → ℕ → ℕ → Bool
+has_lease grants masters m id = list_any (λ (g : Grant). option_map_or (is_direct_lessee m id) (master_at masters g.master) false) grants
+
+-- the ids, up to the last that a lessee may have, of the direct lessees of the master whose lease isn't empty (rising: own)
+abbrev pub lessee_ids : List Grant → List Master → ℕ → ℕ → List ℕ
+lessee_ids grants masters last m = filter (has_lease grants masters m) (numbers_from 1 last)
+
+-- what is seen
+
+-- a master without a lessor controls all, a lessee what its lease has
+abbrev pub controls : List Grant → List Master → ℕ → ℕ → Bool
+controls grants masters m x = not (is_lessee masters m) || is_granted grants m x
+
+-- tokens
+
+abbrev pub is_token : ℕ → LeaseToken → Bool
+is_token t row = row.token == t
+
+abbrev pub is_token_of : ℕ → LeaseToken → Bool
+is_token_of m row = row.master == m
+
+-- the lessee that a token opens
+abbrev pub token_master : List LeaseToken → ℕ → Option ℕ
+token_master tokens t = option_map (λ (row : LeaseToken). row.master) (find (is_token t) tokens)
+
+-- the open token of a lessee
+abbrev pub token_of : List LeaseToken → ℕ → Option ℕ
+token_of tokens m = option_map (λ (row : LeaseToken). row.token) (find (is_token_of m) tokens)
+
+abbrev pub is_free : List LeaseToken → ℕ → Bool
+is_free tokens t = not (list_any (is_token t) tokens)
+
+-- the least free token above the last one given or, where there is none, the least free one (the kernel's cyclic IDR; that
+-- tokens are given so is own)
+abbrev pub next_token : LeaseSet → Option ℕ
+next_token l = or_else (least (is_free l.tokens) (unwrap_or l.last_given 0 + 1) l.last) (least (is_free l.tokens) 1 l.last)
+
+-- what is so at all times
+
+abbrev pub grant_before : Grant → Grant → Type 0
+grant_before g h = (g.master < h.master) ⊎ ((g.master ≡ h.master) × (g.mode_object < h.mode_object))
+
+-- no token is open twice, and no lessee has two; no mode object stands twice in a lease, which has 64 at most
+pub record AreLeases (l : LeaseSet) : Type 0 where
+  pub last_high : l.last ≤ 4294967295
+  pub given_high : IfSome l.last_given (λ t. t ≤ l.last)
+  pub tokens_low : AllByRecursion (λ (row : LeaseToken). 1 ≤ row.token) l.tokens
+  pub tokens_differ : InOrder (λ (x y : LeaseToken). (x.token == y.token) ≡ false) l.tokens
+  pub tokens_rise : InOrder (λ (x y : LeaseToken). x.master < y.master) l.tokens
+  pub grants_rise : InOrder grant_before l.grants
+  pub few : (m : ℕ) → length (granted_objects l.grants m) ≤ 64

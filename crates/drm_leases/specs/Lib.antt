@@ -1,0 +1,5 @@
+pub mod Leases
+pub mod Rules
+pub mod Calls
+pub mod Fields
+pub mod Tested

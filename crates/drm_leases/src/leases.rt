@@ -1,0 +1,239 @@
+//! The leases.
+
+ghost use Rattle.std.specs.Prelude.{◌≡◌, ◌≤◌, ◌<◌, true, None, find, slice_get, length, IfSome, IfNone};
+ghost use Rattle.std.specs.Option.{is_some, option_map, option_map_or};
+ghost use Rattle.drm_masters.specs.Masters as masters_sets;
+ghost use Rattle.drm_masters.specs.Calls as masters_calls;
+ghost use Rattle.drm_leases.specs.Leases as sets;
+ghost use Rattle.drm_leases.specs.Calls as calls;
+ghost use Rattle.drm_leases.specs.Rules as rules;
+ghost use Rattle.drm_table.specs.Permit.{first_failing};
+
+use crate::faults::LeaseFault;
+use crate::rows::{Grant, LeaseToken, Leased};
+use crate::rules::{are_leasable, are_mode_objects, is_lease, stand_once};
+use crate::searches::{
+    any_leased_out, find_token, find_token_of, has_lease, is_granted, is_leased_out, lessor_of,
+    next_token,
+};
+use crate::writes::{
+    listed_objects, push_grants, remove_grants_under, remove_token, remove_tokens_under,
+};
+use drm_masters::Masters;
+use drm_modes::Modes;
+use drm_table::{Rule, ShownList};
+use std::alloc::Global;
+use std::marker::Model;
+
+/// What lessees control, and the open lease tokens (drm-uapi, leases; tokens are own). A lessee is named by the number of the
+/// step that made it, since a key may be given again. Contracts see flat lists, in the order of the lessees.
+#[derive(Drop)]
+pub struct Leases {
+    grants: Vec<Grant>,
+    tokens: Vec<LeaseToken>,
+    last_given: Option<u32>,
+    last: u32,
+}
+
+impl Model for Leases {
+    ghost use Rattle.drm_leases.specs.Leases.{LeaseSet};
+
+    ghost Value = { LeaseSet };
+
+    ghost use Rattle.drm_leases.specs.Fields.{set_of, IsSound};
+
+    ghost view = { set_of };
+
+    ghost invariant = { IsSound };
+}
+
+impl Leases {
+    /// No lease. Tokens from 1 to `last` may be given. It takes no memory.
+    pub fn new(alloc: Global, last: u32) -> Leases
+        ensures { result ≡ sets.no_leases last }
+    {
+        Leases {
+            grants: Vec::new(alloc),
+            tokens: Vec::new(alloc),
+            last_given: None,
+            last,
+        }
+    }
+
+    /// What is so of leases at all times. It does nothing.
+    pub fn laws(&self)
+        ensures { sets.AreLeases self.now }
+    {
+        let _ = &self.tokens;
+    }
+
+    /// CREATE_LEASE (drm-uapi, leases): makes a lessee of a client's master, by the step of this number, a lease of the listed
+    /// mode objects, and the token that opens it. Rules deny it in the order 35, 30 to 34, 43, each over all ids. A refusal
+    /// changes nothing.
+    pub fn create(
+        &mut self,
+        masters: &mut Masters,
+        modes: &Modes,
+        client: u32,
+        ids: &[u32],
+        birth: u32,
+    ) -> Result<Leased, LeaseFault>
+        requires present { is_some (masters_sets.member_of masters.old.members client) ≡ true }
+        requires new_birth { masters_calls.IsNewBirth masters.old birth }
+        requires new_lessee { calls.IsNewLessee self.old birth }
+        ensures { IfSome (masters_sets.member_of masters.old.members client) (λ x. calls.Created self.old masters.old modes.now x.master ids.now birth result self.new masters.new) }
+    {
+        let Some(member) = masters.member(client) else {
+            unreachable!()
+        };
+        if let Some(rule) = self.denied(masters, modes, member.master, ids) {
+            return Err(LeaseFault::Denied(rule));
+        }
+        let Some(token) = next_token(&self.tokens, self.last_given, self.last) else {
+            unreachable!()
+        };
+        let Some(master) = masters.master(member.master) else {
+            unreachable!()
+        };
+        let objects = listed_objects(modes, ids);
+        if self.tokens.reserve(1).is_err() {
+            return Err(LeaseFault::NoMemory);
+        }
+        if self.grants.reserve(objects.ids().len()).is_err() {
+            return Err(LeaseFault::NoMemory);
+        }
+        let Ok((_key, id)) = masters.make_lessee(master.key, birth) else {
+            return Err(LeaseFault::NoMemory);
+        };
+        self.tokens.push_reserved(LeaseToken {
+            token,
+            master: birth,
+        });
+        push_grants(&mut self.grants, birth, objects.ids());
+        self.last_given = Some(token);
+        Ok(Leased { id, token })
+    }
+
+    /// Whether the lease of a lessee has a mode object. It takes no memory.
+    pub fn holds(&self, master: u32, mode_object: u32) -> bool
+        ensures { result ≡ sets.is_granted self.now.grants master mode_object }
+    {
+        is_granted(&self.grants, master, mode_object)
+    }
+
+    /// Whether the lease of a direct lessee of the master has a mode object. It takes no memory.
+    pub fn leased_out(&self, masters: &Masters, master: u32, mode_object: u32) -> bool
+        ensures { result ≡ sets.is_leased_out self.now.grants masters.now.masters master mode_object }
+    {
+        is_leased_out(&self.grants, masters, master, mode_object)
+    }
+
+    /// The ids of the direct lessees of the master whose lease isn't empty, rising (drm-uapi, leases; that they rise is own). It
+    /// takes no memory.
+    pub fn list(&self, masters: &Masters, master: u32) -> ShownList
+        requires { masters.now.last_lessee ≤ 64 }
+        ensures { result ≡ sets.lessee_ids self.now.grants masters.now.masters masters.now.last_lessee master }
+    {
+        let mut list = ShownList::new();
+        let last = masters.last_lessee();
+        for id in 1..=last {
+            if has_lease(&self.grants, masters, master, id) {
+                list.push(id);
+            }
+        }
+        list
+    }
+
+    /// The mode objects in the lease of a lessee, rising. It takes no memory.
+    pub fn objects_of(&self, master: u32) -> ShownList
+        ensures { result ≡ sets.granted_objects self.now.grants master }
+    {
+        let mut list = ShownList::new();
+        for grant in &self.grants {
+            if grant.master == master {
+                list.push(grant.mode_object);
+            }
+        }
+        list
+    }
+
+    /// The lessee that a token opens, if the token is open. It takes no memory.
+    pub fn token_master(&self, token: u32) -> Option<u32>
+        ensures { result ≡ sets.token_master self.now.tokens token }
+    {
+        Some(find_token(&self.tokens, token)?.master)
+    }
+
+    /// The open token of a lessee, if it has one. It takes no memory.
+    pub fn token_of(&self, master: u32) -> Option<u32>
+        ensures { result ≡ sets.token_of self.now.tokens master }
+    {
+        Some(find_token_of(&self.tokens, master)?.token)
+    }
+
+    /// Spends an open token, and gives the lessee that it opens. Where the token isn't open nothing changes. It takes no memory.
+    pub fn redeem(&mut self, token: u32) -> Option<u32>
+        ensures master { result ≡ sets.token_master self.old.tokens token }
+        ensures spent { self.new ≡ calls.without_token token self.old }
+    {
+        let master = self.token_master(token);
+        remove_token(&mut self.tokens, token);
+        master
+    }
+
+    /// Empties the lease of a master and of all below it, takes their open tokens, and releases them: a lessee that nobody
+    /// redeemed goes, and a master that was kept (drm-uapi, leases; what comes of tokens is own). It takes no memory.
+    pub fn revoke(&mut self, masters: &mut Masters, master: u32)
+        ensures leases { self.new ≡ calls.ended masters.old.masters master self.old }
+        ensures masters { masters.new ≡ masters_sets.swept (masters_calls.released_under master masters.old) }
+    {
+        remove_tokens_under(&mut self.tokens, masters, master);
+        remove_grants_under(&mut self.grants, masters, master);
+        masters.release_under(master);
+    }
+
+    /// The last token given; none before the first.
+    pub fn last_given(&self) -> Option<u32>
+        ensures { result ≡ self.now.last_given }
+    {
+        self.last_given
+    }
+
+    /// The grant at a place, from 0, in the order of lessees and of ids in a lease; none past the last. It takes no memory.
+    pub fn nth_grant(&self, place: usize) -> Option<Grant>
+        ensures { result ≡ slice_get self.now.grants place }
+    {
+        self.grants.get(place).copied()
+    }
+
+    // the first rule that denies a lease to a master
+    #[tactic(auto, unfolding(crate::specs::Rules::lease_checks))]
+    fn denied(&self, masters: &Masters, modes: &Modes, master: u32, ids: &[u32]) -> Option<Rule>
+        ensures { result ≡ first_failing (rules.lease_checks self.now masters.now modes.now master ids.now) }
+    {
+        if lessor_of(masters, master).is_some() {
+            return Some(Rule::SubLease);
+        }
+        if !are_mode_objects(modes, ids) {
+            return Some(Rule::NoModeObject);
+        }
+        if !are_leasable(modes, ids) {
+            return Some(Rule::NotLeasable);
+        }
+        if !stand_once(ids) {
+            return Some(Rule::Repeated);
+        }
+        if !is_lease(modes, ids) {
+            return Some(Rule::LeaseShape);
+        }
+        if any_leased_out(&self.grants, masters, master, ids) {
+            return Some(Rule::LeasedOut);
+        }
+        if masters.free_lessee(master).is_none()
+            || next_token(&self.tokens, self.last_given, self.last).is_none()
+        {
+            return Some(Rule::Full);
+        }
+        None
+    }
+}

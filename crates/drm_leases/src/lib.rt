@@ -1,0 +1,16 @@
+//! Leases of outputs: which mode objects a lessee controls, and the tokens that open one (drm-uapi, leases; lease tokens are own).
+#![tactic(auto)]
+
+mod faults;
+mod leases;
+mod rows;
+mod rules;
+mod searches;
+mod writes;
+
+pub use faults::LeaseFault;
+pub use leases::Leases;
+pub use rows::{Grant, LeaseToken, Leased};
+
+#[cfg(test)]
+mod tests;

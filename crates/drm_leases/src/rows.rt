@@ -1,0 +1,28 @@
+//! What is kept of a lease.
+
+/// A fixed mode object in the lease of a lessee (drm-uapi, leases).
+#[derive(Clone, Copy, PartialEq, Eq, Debug)]
+pub struct Grant {
+    /// The lessee, by the number of the step that made it.
+    pub master: u32,
+    /// The id of the CRTC, plane or connector.
+    pub mode_object: u32,
+}
+
+/// An open token, which opens one client of a lessee (own: it stands for the file descriptor of a lease).
+#[derive(Clone, Copy, PartialEq, Eq, Debug)]
+pub struct LeaseToken {
+    /// The token, a number from 1.
+    pub token: u32,
+    /// The lessee, by the number of the step that made it.
+    pub master: u32,
+}
+
+/// A lease that was made.
+#[derive(Clone, Copy, PartialEq, Eq, Debug)]
+pub struct Leased {
+    /// The id of the lessee among all of its owner, from 1.
+    pub id: u32,
+    /// The token that opens its client.
+    pub token: u32,
+}

@@ -1,0 +1,143 @@
+//! Searches among grants and tokens.
+
+ghost use Rattle.std.specs.Prelude.{◌≡◌, ◌==◌, ◌+◌, ◌&&◌, false, find, unwrap_or};
+ghost use Rattle.std.specs.List.{list_any};
+ghost use Rattle.std.specs.Option.{option_map_or};
+ghost use Rattle.drm_index_array.specs.Least.{least};
+ghost use Rattle.drm_id_alloc.specs.Table.{or_else};
+ghost use Rattle.drm_masters.specs.Masters as masters_sets;
+ghost use Rattle.drm_leases.specs.Leases as sets;
+
+use crate::rows::{Grant, LeaseToken};
+use drm_masters::Masters;
+
+/// The row of an open token.
+pub fn find_token(tokens: &[LeaseToken], token: u32) -> Option<LeaseToken>
+    ensures { result ≡ find (sets.is_token token) tokens.now }
+{
+    for row in tokens {
+        if row.token == token {
+            return Some(*row);
+        }
+    }
+    None
+}
+
+/// The row of a lessee's open token.
+pub fn find_token_of(tokens: &[LeaseToken], master: u32) -> Option<LeaseToken>
+    ensures { result ≡ find (sets.is_token_of master) tokens.now }
+{
+    for row in tokens {
+        if row.master == master {
+            return Some(*row);
+        }
+    }
+    None
+}
+
+/// The token that is given next: the least free one above the last one given or, where there is none, the least free one.
+pub fn next_token(tokens: &[LeaseToken], last_given: Option<u32>, last: u32) -> Option<u32>
+    ensures { result ≡ or_else (least (sets.is_free tokens.now) (unwrap_or last_given 0 + 1) last) (least (sets.is_free tokens.now) 1 last) }
+{
+    let given = last_given.unwrap_or(0);
+    match free_above(tokens, given, last) {
+        Some(token) => Some(token),
+        None => free_above(tokens, 0, last),
+    }
+}
+
+fn free_above(tokens: &[LeaseToken], given: u32, last: u32) -> Option<u32>
+    ensures { result ≡ least (sets.is_free tokens.now) (given + 1) last }
+{
+    for below in given..last {
+        let Some(_taken) = find_token(tokens, below + 1) else {
+            return Some(below + 1);
+        };
+    }
+    None
+}
+
+/// Whether the lease of a lessee has the mode object.
+pub fn is_granted(grants: &[Grant], master: u32, mode_object: u32) -> bool
+    ensures { result ≡ sets.is_granted grants.now master mode_object }
+{
+    for grant in grants {
+        if grant.master == master && grant.mode_object == mode_object {
+            return true;
+        }
+    }
+    false
+}
+
+/// Whether one of the mode objects is in the lease of a direct lessee of the master.
+pub fn any_leased_out(grants: &[Grant], masters: &Masters, master: u32, ids: &[u32]) -> bool
+    ensures { result ≡ list_any (sets.is_leased_out grants.now masters.now.masters master) ids.now }
+{
+    for id in ids {
+        if is_leased_out(grants, masters, master, *id) {
+            return true;
+        }
+    }
+    false
+}
+
+/// Whether the lease of a direct lessee of the master has the mode object.
+pub fn is_leased_out(grants: &[Grant], masters: &Masters, master: u32, mode_object: u32) -> bool
+    ensures { result ≡ sets.is_leased_out grants.now masters.now.masters master mode_object }
+{
+    for grant in grants {
+        if grant.mode_object == mode_object && is_below(masters, master, grant.master) {
+            return true;
+        }
+    }
+    false
+}
+
+fn is_below(masters: &Masters, master: u32, lessee: u32) -> bool
+    ensures { result ≡ masters_sets.is_option master (masters_sets.lessor_of masters.now.masters lessee) }
+{
+    match lessor_of(masters, lessee) {
+        Some(lessor) => lessor == master,
+        None => false,
+    }
+}
+
+/// The lessor of a master, if it is a lessee.
+pub fn lessor_of(masters: &Masters, master: u32) -> Option<u32>
+    ensures { result ≡ masters_sets.lessor_of masters.now.masters master }
+{
+    match masters.master(master) {
+        Some(row) => row.lessor,
+        None => None,
+    }
+}
+
+/// Whether the direct lessee of the master with this id has a lease that isn't empty.
+pub fn has_lease(grants: &[Grant], masters: &Masters, master: u32, id: u32) -> bool
+    ensures { result ≡ sets.has_lease grants.now masters.now.masters master id }
+{
+    for grant in grants {
+        if is_direct_lessee(masters, master, id, grant.master) {
+            return true;
+        }
+    }
+    false
+}
+
+fn is_direct_lessee(masters: &Masters, master: u32, id: u32, lessee: u32) -> bool
+    ensures { result ≡ option_map_or (sets.is_direct_lessee master id) (masters_sets.master_at masters.now.masters lessee) false }
+{
+    match masters.master(lessee) {
+        Some(row) => is_option(master, row.lessor) && row.lessee_id == id,
+        None => false,
+    }
+}
+
+fn is_option(number: u32, option: Option<u32>) -> bool
+    ensures { result ≡ masters_sets.is_option number option }
+{
+    match option {
+        Some(named) => named == number,
+        None => false,
+    }
+}
