@@ -4,8 +4,6 @@
 #[cfg(test)]
 mod jobs;
 #[cfg(test)]
-mod lease_frames;
-#[cfg(test)]
 mod mode_frames;
 #[cfg(test)]
 mod sockets;
