@@ -161,7 +161,7 @@ fn wrong_frames_after_the_hello(rt: HostRuntime) -> Result<(), Fail> {
     let gem_close = [8, 0, 0, 0, 9, 0, 1, 0, 0, 0, 0, 0];
     after_hello(&rt, rt.alloc(), &gem_close, ended, &denied_layout)?;
     let create_lease = [6, 0, 0, 0, 0xc6, 0, 0xff, 0xff, 0xff, 0xff];
-    after_hello(&rt, rt.alloc(), &create_lease, ended, &denied_unknown)?;
+    after_hello(&rt, rt.alloc(), &create_lease, ended, &denied_layout)?;
     // A hello as a later frame is a number without a row.
     after_hello(
         &rt,
