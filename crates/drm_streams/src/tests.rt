@@ -2,6 +2,7 @@
 
 use crate::{FromRead, Put, Refill, Sink, Source, Taken, ToWrite, Written, put_all, take_some};
 use std::io::{self, ErrorKind, Read, Write};
+use std::process::Abort;
 
 #[test]
 fn source_reads_to_the_end(rt: HostRuntime) {
@@ -106,22 +107,69 @@ impl Write for Failing {
     }
 }
 
+/// All kinds of errors but interruptions.
+const FAILURES: [ErrorKind; 41] = [
+    ErrorKind::NotFound,
+    ErrorKind::PermissionDenied,
+    ErrorKind::ConnectionRefused,
+    ErrorKind::ConnectionReset,
+    ErrorKind::HostUnreachable,
+    ErrorKind::NetworkUnreachable,
+    ErrorKind::ConnectionAborted,
+    ErrorKind::NotConnected,
+    ErrorKind::AddrInUse,
+    ErrorKind::AddrNotAvailable,
+    ErrorKind::NetworkDown,
+    ErrorKind::BrokenPipe,
+    ErrorKind::AlreadyExists,
+    ErrorKind::WouldBlock,
+    ErrorKind::NotADirectory,
+    ErrorKind::IsADirectory,
+    ErrorKind::DirectoryNotEmpty,
+    ErrorKind::ReadOnlyFilesystem,
+    ErrorKind::FilesystemLoop,
+    ErrorKind::StaleNetworkFileHandle,
+    ErrorKind::InvalidInput,
+    ErrorKind::InvalidData,
+    ErrorKind::TimedOut,
+    ErrorKind::WriteZero,
+    ErrorKind::StorageFull,
+    ErrorKind::NotSeekable,
+    ErrorKind::QuotaExceeded,
+    ErrorKind::FileTooLarge,
+    ErrorKind::ResourceBusy,
+    ErrorKind::ExecutableFileBusy,
+    ErrorKind::Deadlock,
+    ErrorKind::CrossesDevices,
+    ErrorKind::TooManyLinks,
+    ErrorKind::InvalidFilename,
+    ErrorKind::ArgumentListTooLong,
+    ErrorKind::Unsupported,
+    ErrorKind::UnexpectedEof,
+    ErrorKind::OutOfMemory,
+    ErrorKind::InProgress,
+    ErrorKind::Other,
+    ErrorKind::Uncategorized,
+];
+
+/// So many calls are made of a source and of a sink whose errors are all of this kind.
+fn check_kind(rt: &impl Abort, kind: ErrorKind, calls: u64) {
+    let mut turns = 2000;
+    let mut source = FromRead::new(Failing(kind));
+    assert_eq!(rt;
+        take_some(&mut source, &mut [0; 4], &mut turns),
+        Refill::Fault
+    );
+    assert_eq!(rt; source.calls(), calls);
+    let mut sink = ToWrite::new(Failing(kind));
+    assert_eq!(rt; put_all(&mut sink, b"frame", &mut turns), Written::Fault);
+    assert_eq!(rt; sink.calls(), calls);
+}
+
 #[test]
 fn only_interruptions_are_tried_again(rt: HostRuntime) {
-    for (kind, calls) in [
-        (ErrorKind::Interrupted, 1000),
-        (ErrorKind::WouldBlock, 1),
-        (ErrorKind::ConnectionReset, 1),
-    ] {
-        let mut turns = 2000;
-        let mut source = FromRead::new(Failing(kind));
-        assert_eq!(rt;
-            take_some(&mut source, &mut [0; 4], &mut turns),
-            Refill::Fault
-        );
-        assert_eq!(rt; source.calls(), calls);
-        let mut sink = ToWrite::new(Failing(kind));
-        assert_eq!(rt; put_all(&mut sink, b"frame", &mut turns), Written::Fault);
-        assert_eq!(rt; sink.calls(), calls);
+    check_kind(&rt, ErrorKind::Interrupted, 1000);
+    for kind in FAILURES {
+        check_kind(&rt, kind, 1);
     }
 }
