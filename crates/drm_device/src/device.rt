@@ -82,7 +82,8 @@ impl Device {
     }
 
     /// Answers one event. A denial is an answer: it names the first rule that fails, and is noted. What stands apart, a
-    /// full journal (own) and want of memory, leaves the device as it was and isn't noted. What is answered fits one frame.
+    /// full journal (own) and want of memory, leaves the device as it was and isn't noted. The lists of an answer have at
+    /// most 251 ids together, which one frame takes.
     pub fn step(&mut self, event: Event) -> Result<Answer, Apart>
         ensures step { Step (rows_of self.old) event result (rows_of self.new) }
         ensures few { IsFew result }

@@ -339,3 +339,20 @@ fn replays_stop_where_an_event_is_not_noted(rt: HostRuntime) -> Result<(), Fail>
     }
     Ok(())
 }
+
+// With ample memory nothing is refused. Where it is, as under `rt try --test --fail-alloc N` with an N from 2 on, it is
+// behind the journal's, the first that a replay takes, and the replay tells the event.
+#[test]
+fn a_replay_without_memory_stops_at_an_event(rt: HostRuntime) -> Result<(), Fail> {
+    let topology = test_topology().ok_or("no topology")?;
+    let events = [CARD, create_dumb(1, 64, 64, 32)];
+    match replay(rt.alloc(), topology, Limits::PROGRAM, &events) {
+        Ok(device) => assert_eq!(&rt; device.journal().len(), 2),
+        Err(ReplayFault::Stopped { at, apart }) => {
+            assert!(&rt; at == 1 || at == 2);
+            assert_eq!(&rt; apart, Apart::NoMemory);
+        }
+        Err(ReplayFault::New(_)) => return Err("no device to begin with".into()),
+    }
+    Ok(())
+}

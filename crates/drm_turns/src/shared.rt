@@ -76,8 +76,9 @@ impl SharedDevice {
     /// Answers one event, once no other call has the device. It may wait.
     ///
     /// The device that is locked answers from its rows, those of its journal, and notes what it answers; its limits are
-    /// in their ranges, and each event of its journal found room. What is answered fits one frame. What stands apart, a full journal (own) and want of
-    /// memory, leaves the device as it was. A worn turn is no answer today.
+    /// in their ranges, and each event of its journal found room. The lists of an answer have at most 251 ids together, which
+    /// one frame takes. What stands apart, a full journal (own) and want of memory, leaves the device as it was. A worn turn
+    /// is no answer today.
     pub fn call<R: Wait>(&self, rt: &R, seat: &mut Seat, event: Event) -> Result<Answer, Apart>
         ensures turn { Turn event result }
         ensures few { IsFew result }
