@@ -1,8 +1,8 @@
 -- What the program ends with, by how the script's run or the listing ended (own).
 use Rattle.std.specs.Prelude.{ℕ, List, [], Option, None, Some}
 use Rattle.std.specs.Option.{option_map_or}
-use Rattle.drm_server.specs.declared.run.ScriptEnd.{ScriptEnd}
-use Rattle.drm_server.specs.declared.run.ScriptEnd.TheVariants as ends
+use Rattle.drm_runs.specs.declared.run.ScriptEnd.{ScriptEnd}
+use Rattle.drm_runs.specs.declared.run.ScriptEnd.TheVariants as ends
 use Rattle.drm_server.specs.declared.listing.ListEnd.{ListEnd}
 use Rattle.drm_server.specs.declared.listing.ListEnd.TheVariants as list_ends
 use Rattle.drm_server.specs.declared.faults.Fault.{Fault}

@@ -1,15 +1,14 @@
 //! The program.
 
 use crate::command_line::{Asked, Serving, is_memory, read_words};
-use crate::devices::make_device;
 use crate::faults::{Fault, FaultLine};
 use crate::listing::list_audit;
 use crate::outcomes::{Outcome, outcome_of, outcome_of_fault, outcome_of_listing};
-use crate::run::run_script;
 use crate::sockets::bind_all;
 use clap::Error;
 use drm_device::{Device, Limits};
 use drm_listeners::serve_all;
+use drm_runs::{make_device, run_script};
 use drm_streams::{FromRead, ToWrite};
 use log::{Log, error};
 use std::alloc::Global;

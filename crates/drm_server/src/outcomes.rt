@@ -6,7 +6,7 @@ ghost use Rattle.drm_server.specs.Faults.{fault_status, fault_line};
 
 use crate::faults::{Fault, FaultLine};
 use crate::listing::ListEnd;
-use crate::run::ScriptEnd;
+use drm_runs::ScriptEnd;
 
 /// An exit status, and the line that tells of the fault on standard error; empty where there is none.
 #[derive(Drop)]

@@ -1,0 +1,7 @@
+pub mod Interpreter
+pub mod Lines
+pub mod Reader
+pub mod Runs
+pub mod RunSteps
+pub mod Script
+pub mod Writing

@@ -1,0 +1,128 @@
+-- How a run of a script ends, and what was then read and written (own).
+use Rattle.std.specs.Prelude.{◌≡◌, ℕ, ◌+◌, ◌*◌, ◌<◌, ◌≤◌, List, [], ◌∷◌, ◌++◌, ◌⊎◌, Option, None, Some, Result, length}
+use Rattle.drm_table.specs.declared.answers.Answer.{Answer}
+use Rattle.drm_table.specs.declared.apart.Apart.{Apart}
+use Rattle.drm_model.specs.Rows.{Rows}
+use Rattle.drm_streams.specs.Streams.{SourceAccount, SinkAccount}
+use Rattle.drm_streams.specs.Turns.{Gave, Took}
+use Rattle.drm_script.specs.Lines.{answer_line}
+use Rattle.drm_runs.specs.Lines.{IsBare, joined}
+use Rattle.drm_runs.specs.Script.{Script, script_text, IsMisplaced, WantsDevice}
+use Rattle.drm_runs.specs.declared.run.ScriptEnd.{ScriptEnd}
+use Rattle.drm_runs.specs.declared.run.ScriptEnd.TheVariants as ends
+
+abbrev pub Results : Type 0
+Results = List (Result Answer Apart)
+
+-- The lines stand at the front of what was read, the last one perhaps without an end where the input has ended.
+abbrev pub Covers : Type 0 → List ℕ → List (List ℕ) → List ℕ → Type 0
+Covers ended read lines rest =
+    (read ≡ joined lines ++ rest) ⊎ ((front : List (List ℕ)) × (last : List ℕ) × (lines ≡ front ++ last ∷ []) × (read ≡ joined front ++ last) × (rest ≡ []) × ended)
+
+-- Every line that was read was used, and what the results write was written.
+pub record IsDone (ended : Type 0) (read written : List ℕ) : Type 0 where
+  pub lines : List (List ℕ)
+  pub results : Results
+  pub device : Option Rows
+  pub labels : List ℕ
+  pub script : Script lines results device labels
+  pub covers : Covers ended read lines []
+  pub text : written ≡ script_text results
+
+-- behind a line stands its end, or nothing where the input has ended
+abbrev pub EndsLine : Type 0 → List ℕ → Type 0
+EndsLine ended rest = ((rest ≡ []) × ended) ⊎ ((more : List ℕ) × (rest ≡ 10 ∷ more))
+
+-- The lines before the bad one were used. The bad one can't be used: its end was read, or the input ended, or it is too long,
+-- which its first 256 bytes tell. No more was read behind it than one read gives.
+pub record IsMalformed (ended : Type 0) (number : ℕ) (read written : List ℕ) : Type 0 where
+  pub lines : List (List ℕ)
+  pub results : Results
+  pub device : Option Rows
+  pub labels : List ℕ
+  pub bad : List ℕ
+  pub rest : List ℕ
+  pub script : Script lines results device labels
+  pub whole : read ≡ joined lines ++ (bad ++ rest)
+  pub misplaced : IsMisplaced device bad
+  pub bare : IsBare bad
+  pub until : EndsLine ended rest ⊎ (length bad ≡ 256)
+  pub short : length bad ≤ 256
+  pub behind : length rest ≤ 256
+  pub counted : number ≡ length lines + 1
+  pub text : written ≡ script_text results
+
+-- Every whole line that was read was used, and what is left is shorter than a line that is too long.
+pub record IsCutShort (read written : List ℕ) : Type 0 where
+  pub lines : List (List ℕ)
+  pub results : Results
+  pub device : Option Rows
+  pub labels : List ℕ
+  pub rest : List ℕ
+  pub script : Script lines results device labels
+  pub whole : read ≡ joined lines ++ rest
+  pub bare : IsBare rest
+  pub short : length rest ≤ 255
+  pub text : written ≡ script_text results
+
+-- Writing stopped in the last answer's line: those before it were written, and of it a front that lacks a byte at least.
+pub record IsCutInLast (results : Results) (written : List ℕ) : Type 0 where
+  pub before : Results
+  pub last : Result Answer Apart
+  pub sent : List ℕ
+  pub unsent : List ℕ
+  pub whole : results ≡ before ++ last ∷ []
+  pub parts : answer_line last ≡ sent ++ unsent
+  pub more : 0 < length unsent
+  pub text : written ≡ script_text before ++ sent
+
+-- Some lines were used, and writing stopped in the answer of the last one; so no line is used after a failed write, and no
+-- more was read behind it than one read gives.
+pub record IsStopped (ended : Type 0) (read written : List ℕ) : Type 0 where
+  pub lines : List (List ℕ)
+  pub results : Results
+  pub device : Option Rows
+  pub labels : List ℕ
+  pub rest : List ℕ
+  pub script : Script lines results device labels
+  pub covers : Covers ended read lines rest
+  pub behind : length rest ≤ 256
+  pub cut : IsCutInLast results written
+
+-- The lines before were all skipped; the next one wants a device, for which there was no memory. Nothing was written, and no
+-- more was read behind that line than one read gives.
+pub record IsUnmade (ended : Type 0) (read written : List ℕ) : Type 0 where
+  pub lines : List (List ℕ)
+  pub labels : List ℕ
+  pub next : List ℕ
+  pub rest : List ℕ
+  pub script : Script lines [] None labels
+  pub whole : read ≡ joined lines ++ (next ++ rest)
+  pub bare : IsBare next
+  pub until : EndsLine ended rest
+  pub behind : length rest ≤ 256
+  pub wants : WantsDevice next
+  pub nothing : written ≡ []
+
+-- each end with its cause
+abbrev pub Ends : ScriptEnd → SourceAccount → SourceAccount → SinkAccount → SinkAccount → ℕ → List ℕ → List ℕ → Type 0
+Ends ends.Done source source' sink sink' turns read written =
+    IsDone (source.counts.ends < source'.counts.ends) read written × (source.counts.ends < source'.counts.ends)
+Ends (ends.Malformed number) source source' sink sink' turns read written = IsMalformed (source.counts.ends < source'.counts.ends) number read written
+Ends ends.ReadFault source source' sink sink' turns read written = IsCutShort read written × (source.counts.faults < source'.counts.faults)
+Ends ends.WriteFault source source' sink sink' turns read written =
+    IsStopped (source.counts.ends < source'.counts.ends) read written × (sink.counts.faults < sink'.counts.faults)
+Ends ends.TurnsUsed source source' sink sink' turns read written =
+    (IsCutShort read written ⊎ IsStopped (source.counts.ends < source'.counts.ends) read written)
+    × (source'.counts.calls + sink'.counts.calls ≡ source.counts.calls + sink.counts.calls + turns)
+Ends ends.NoMemory source source' sink sink' turns read written = IsUnmade (source.counts.ends < source'.counts.ends) read written
+
+-- A run: what it read and wrote, at what cost, and why it ended. Each take asks for 256 bytes at most.
+pub record Runs (source source' : SourceAccount) (sink sink' : SinkAccount) (turns : ℕ) (end : ScriptEnd) : Type 0 where
+  pub read : List ℕ
+  pub written : List ℕ
+  pub gave : Gave source source' read
+  pub took : Took sink sink' written
+  pub chunks : length read + 256 * source.counts.calls ≤ 256 * source'.counts.calls
+  pub turns_at_most : source'.counts.calls + sink'.counts.calls ≤ source.counts.calls + sink.counts.calls + turns
+  pub ends : Ends end source source' sink sink' turns read written

@@ -1,0 +1,90 @@
+-- What the lines of a script ask of the device, and what a run writes (scripts are this project's own).
+use Rattle.std.specs.Prelude.{◌≡◌, ℕ, List, [], ◌∷◌, ◌++◌, Option, Some, None, Result, Ok, slice_index, slice_set, replicate}
+use Rattle.drm_table.specs.declared.answers.Answer.{Answer}
+use Rattle.drm_table.specs.declared.answers.Answer.TheVariants as answers
+use Rattle.drm_table.specs.declared.apart.Apart.{Apart}
+use Rattle.drm_table.specs.declared.events.Event.{Event}
+use Rattle.drm_table.specs.declared.events.Event.TheVariants as events
+use Rattle.drm_table.specs.declared.limits.Limits.{Limits}
+use Rattle.drm_modes.specs.Topology.{Topology}
+use Rattle.drm_model.specs.Rows.{Rows, empty_rows}
+use Rattle.drm_model.specs.Run.{Step, Answers}
+use Rattle.drm_script.specs.declared.commands.Command.{Command}
+use Rattle.drm_script.specs.declared.commands.Command.TheVariants as commands
+use Rattle.drm_script.specs.declared.reading.Reading.TheVariants as readings
+use Rattle.drm_script.specs.Reading.{reading_of}
+use Rattle.drm_script.specs.Lines.{answer_line}
+use Rattle.drm_runs.specs.Lines.{IsBare}
+
+-- two CRTCs, two planes, two encoders and two connectors
+abbrev pub test_topology : Topology
+test_topology = record { crtcs = 2; planes = 1 ∷ 2 ∷ []; encoders = 3 ∷ 2 ∷ []; connectors = 5 ∷ 6 ∷ [] }
+
+-- the limits of a script that has no line of them: the greatest, save 64 clients
+abbrev pub program_limits : Limits
+program_limits = record { clients = 64; handles = 65535; names = 65535; tokens = 65535; objects = 65535; framebuffers = 64; lessees = 64; journal = 100000 }
+
+abbrev pub empty_device : Limits → Rows
+empty_device limits = empty_rows test_topology limits
+
+-- the device, which is made as the first line asks for it
+abbrev pub made : Option Rows → Rows
+made None = empty_device program_limits
+made (Some rows) = rows
+
+-- what a command asks of the device; a label that was never bound stands for client 0
+abbrev pub event_of : List ℕ → Command → Event
+event_of labels (commands.Open label opening) = events.Open opening
+event_of labels (commands.Close label) = events.Close (slice_index labels label)
+event_of labels (commands.Ask label call) = events.Ask (slice_index labels label) call
+
+-- the label that a command would bind
+abbrev pub label_bound : Command → Option ℕ
+label_bound (commands.Open label opening) = Some label
+label_bound (commands.Close label) = None
+label_bound (commands.Ask label call) = None
+
+-- the label of an accepted opening stands for the new client; what else is answered binds none
+abbrev pub bound : List ℕ → Option ℕ → Result Answer Apart → List ℕ
+bound labels (Some label) (Ok (answers.Opened client)) = slice_set labels label client
+bound labels (Some label) result = labels
+bound labels None result = labels
+
+-- what one line comes to: the results that it adds, the device and the labels after it
+pub data Uses (device : Option Rows) (labels line : List ℕ) : List (Result Answer Apart) → Option Rows → List ℕ → Type 0 where
+  skipped : reading_of line ≡ readings.Skipped → Uses device labels line [] device labels
+  limited : {limits : Limits} → device ≡ None → reading_of line ≡ readings.Limits limits → Uses device labels line [] (Some (empty_device limits)) labels
+  asked : {command : Command} {result : Result Answer Apart} {after : Rows} → reading_of line ≡ readings.Says command
+      → Step (made device) (event_of labels command) result after → Uses device labels line (result ∷ []) (Some after) (bound labels (label_bound command) result)
+
+-- no label is bound yet
+abbrev pub unbound : List ℕ
+unbound = replicate 26 0
+
+-- the lines of a script, one after another, with the results that they got
+pub data Script : List (List ℕ) → List (Result Answer Apart) → Option Rows → List ℕ → Type 0 where
+  start : Script [] [] None unbound
+  line : {lines : List (List ℕ)} {results more : List (Result Answer Apart)} {device device' : Option Rows} {labels labels' next : List ℕ}
+      → Script lines results device labels → IsBare next → Uses device labels next more device' labels' → Script (lines ++ next ∷ []) (results ++ more) device' labels'
+
+-- what the results write: a line each
+abbrev pub script_text : List (Result Answer Apart) → List ℕ
+script_text [] = []
+script_text (result ∷ results) = answer_line result ++ script_text results
+
+-- a line that can't be used here: it is malformed, or sets limits where the device is made already
+pub data IsMisplaced (device : Option Rows) (line : List ℕ) : Type 0 where
+  malformed : reading_of line ≡ readings.Malformed → IsMisplaced device line
+  late : {limits : Limits} {rows : Rows} → device ≡ Some rows → reading_of line ≡ readings.Limits limits → IsMisplaced device line
+
+-- a line that wants a device where none is made yet
+pub data WantsDevice (line : List ℕ) : Type 0 where
+  limits : {limits : Limits} → reading_of line ≡ readings.Limits limits → WantsDevice line
+  command : {command : Command} → reading_of line ≡ readings.Says command → WantsDevice line
+
+-- The results are a device's answers to some events, from an empty one on.
+abbrev pub AnswersFromEmpty : List (Result Answer Apart) → Option Rows → Type 0
+AnswersFromEmpty results device = (limits : Limits) × (events : List Event) × Answers (empty_device limits) events results (made device)
+
+abbrev pub ScriptsAreAnswered : Type 0
+ScriptsAreAnswered = (lines : List (List ℕ)) (results : List (Result Answer Apart)) (device : Option Rows) (labels : List ℕ) → Script lines results device labels → AnswersFromEmpty results device

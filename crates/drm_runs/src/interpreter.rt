@@ -1,0 +1,153 @@
+//! The device of a script and the clients that its labels stand for, asked line by line.
+
+use crate::devices::make_device;
+use drm_device::{Device, Limits};
+use drm_script::{Command, Label, Reading, read_line};
+use drm_table::{Answer, Apart, Event};
+use std::alloc::Global;
+use std::marker::Model;
+
+/// What a line came to (own).
+#[derive(Drop)]
+pub enum LineResult {
+    /// No answer: it says nothing, or made the device with its limits.
+    Unanswered,
+    /// The device's answer.
+    Answered(Result<Answer, Apart>),
+    /// It can't be used here: it is malformed, or sets limits where the device is made already.
+    Malformed,
+    /// It wants a device where none is made yet, and there was no memory for it.
+    NoMemory,
+}
+
+/// The device of a script, once it is made, and the clients that its labels stand for.
+#[derive(Drop)]
+pub struct Interpreter {
+    device: Option<Device>,
+    labels: [u32; 26],
+}
+
+impl Model for Interpreter {
+    ghost use Rattle.std.specs.Option.{option_map};
+    ghost use Rattle.drm_model.specs.Run.{rows_of};
+    ghost use Rattle.drm_runs.specs.Interpreter.{Standing};
+
+    ghost Value = { Standing };
+
+    ghost view = { λ s. record { device = option_map rows_of s.device; labels = s.labels } };
+}
+
+impl Interpreter {
+    ghost use Rattle.std.specs.Prelude.{◌≡◌, slice_index, IfSome, IfNone, None, Some, true};
+    ghost use Rattle.drm_table.specs.Limits as ranges;
+    ghost use Rattle.drm_model.specs.Rows.{Rows};
+    ghost use Rattle.drm_model.specs.Run.{Step};
+    ghost use Rattle.drm_runs.specs.Script.{made, bound, event_of, label_bound};
+    ghost use Rattle.drm_runs.specs.Interpreter.{Asks, Interprets, SetsLimits, at_start};
+
+    /// No device yet, and no label bound.
+    pub fn new() -> Interpreter
+        ensures { result ≡ at_start }
+    {
+        Interpreter {
+            device: None,
+            labels: [0; 26],
+        }
+    }
+
+    /// The client that a label stands for; 0 where it was never bound.
+    fn client(&self, label: Label) -> u32
+        ensures { result ≡ slice_index self.now.labels label }
+    {
+        self.labels[label.place()]
+    }
+
+    /// Lets the label stand for the client of an accepted opening.
+    fn bind(&mut self, label: Option<Label>, outcome: &Result<Answer, Apart>)
+        ensures { self.new ≡ record { device = self.old.device; labels = bound self.old.labels label outcome.now } }
+    {
+        if let Some(label) = label {
+            if let Ok(Answer::Opened { client }) = outcome {
+                self.labels[label.place()] = *client;
+            }
+        }
+    }
+
+    /// One step of the device, which is made if it isn't there; none if there is no memory to make it.
+    fn step(&mut self, alloc: Global, event: Event) -> Option<Result<Answer, Apart>>
+        ensures some { IfSome result (λ outcome. (after : Rows) × Step (made self.old.device) event outcome after × (self.new.device ≡ Some after)) }
+        ensures labels { self.new.labels ≡ self.old.labels }
+        ensures none { IfNone result (self.old.device ≡ None) }
+    {
+        match &mut self.device {
+            Some(device) => Some(device.step(event)),
+            None => {
+                let mut device = make_device(alloc, Limits::PROGRAM)?;
+                let outcome = device.step(event);
+                self.device = Some(device);
+                Some(outcome)
+            }
+        }
+    }
+
+    /// Asks the device, and binds the label of an opening; none if there is no memory for the device.
+    fn ask(
+        &mut self,
+        alloc: Global,
+        binds: Option<Label>,
+        event: Event,
+    ) -> Option<Result<Answer, Apart>>
+        ensures { Asks self.old self.new binds event result }
+    {
+        let outcome = self.step(alloc, event)?;
+        self.bind(binds, &outcome);
+        Some(outcome)
+    }
+
+    /// Asks what a command says; none if there is no memory for the device.
+    fn perform(&mut self, alloc: Global, command: Command) -> Option<Result<Answer, Apart>>
+        ensures { Asks self.old self.new (label_bound command) (event_of self.old.labels command) result }
+    {
+        match command {
+            Command::Open { label, opening } => self.ask(alloc, Some(label), Event::Open(opening)),
+            Command::Close { label } => {
+                let client = self.client(label);
+                self.ask(alloc, None, Event::Close(client))
+            }
+            Command::Ask { label, call } => {
+                let client = self.client(label);
+                self.ask(alloc, None, Event::Ask(client, call))
+            }
+        }
+    }
+
+    /// Makes a device with these limits, where there is none.
+    fn limit(&mut self, alloc: Global, limits: Limits) -> LineResult
+        requires { ranges.are_in_range limits ≡ true }
+        ensures { SetsLimits self.old self.new limits result }
+    {
+        if self.device.is_some() {
+            return LineResult::Malformed;
+        }
+        let Some(device) = make_device(alloc, limits) else {
+            return LineResult::NoMemory;
+        };
+        self.device = Some(device);
+        LineResult::Unanswered
+    }
+
+    /// Reads a line, which is given without its end, and asks what it says.
+    pub fn interpret(&mut self, alloc: Global, line: &[u8]) -> LineResult
+        ensures { Interprets self.old self.new line.now result }
+    {
+        match read_line(line) {
+            Reading::Malformed => LineResult::Malformed,
+            Reading::Skipped => LineResult::Unanswered,
+            Reading::Limits(limits) => self.limit(alloc, limits),
+            Reading::Says(command) => match self.perform(alloc, command) {
+                Some(answer) => LineResult::Answered(answer),
+                None => LineResult::NoMemory,
+            },
+        }
+    }
+}

@@ -1,0 +1,20 @@
+//! Scripts: lines are read from a source, a device is asked, and its answers are written to a sink.
+#![tactic(auto)]
+
+mod devices;
+mod interpreter;
+mod laws;
+mod reader;
+mod run;
+mod writing;
+
+pub use devices::make_device;
+pub use interpreter::{Interpreter, LineResult};
+pub use laws::scripts_are_answered;
+pub use reader::{LineReader, NextLine};
+pub use run::{ScriptEnd, run_script};
+
+#[cfg(test)]
+mod row_tests;
+#[cfg(test)]
+mod tests;

@@ -1,0 +1,136 @@
+//! Running a script.
+
+ghost use Rattle.std.specs.Prelude.{◌≡◌, ◌<◌, ◌+◌, ◌^◌};
+ghost use Rattle.drm_runs.specs.Runs.{Runs};
+ghost use Rattle.drm_runs.specs.RunSteps.{stop_of};
+
+use crate::interpreter::Interpreter;
+use crate::reader::{LineReader, NextLine};
+use crate::writing::{LineEnd, use_line};
+use drm_streams::{Sink, Source};
+use std::alloc::Global;
+
+/// How the run of a script ends (own).
+#[derive(Clone, Copy, Debug, PartialEq, Eq)]
+pub enum ScriptEnd {
+    /// The input ended, and every line was used.
+    Done,
+    /// The line of this number, from 1, can't be used; those before it were, and their answers are written.
+    Malformed(u64),
+    /// The source failed; every whole line that it gave was used, and the answers are written.
+    ReadFault,
+    /// The sink failed; a front of the answers is written.
+    WriteFault,
+    /// A call of the source or the sink was wanted, and no turn was left for it; a front of the answers is written.
+    TurnsUsed,
+    /// No memory for the device; nothing is written.
+    NoMemory,
+}
+
+/// How a run ends where a line does not let it go on.
+fn stop(line: LineEnd, number: u64) -> Option<ScriptEnd>
+    ensures { result ≡ stop_of line number }
+{
+    match line {
+        LineEnd::Used => None,
+        LineEnd::Malformed => Some(ScriptEnd::Malformed(number)),
+        LineEnd::WriteFault => Some(ScriptEnd::WriteFault),
+        LineEnd::TurnsUsed => Some(ScriptEnd::TurnsUsed),
+        LineEnd::NoMemory => Some(ScriptEnd::NoMemory),
+    }
+}
+
+/// A run that goes on.
+#[derive(Drop)]
+struct Run {
+    reader: LineReader,
+    interpreter: Interpreter,
+    /// How many lines were used.
+    number: u64,
+    /// How many calls of the source and the sink may still be made.
+    turns: u64,
+}
+
+impl Run {
+    ghost use Rattle.drm_runs.specs.Reader.{Lines};
+    ghost use Rattle.drm_runs.specs.RunSteps.{Advances, IsCountable, UsesHeld, UsesLast, at_first};
+
+    fn new(turns: u64) -> Run
+        ensures { result ≡ at_first turns }
+    {
+        Run {
+            reader: LineReader::new(),
+            interpreter: Interpreter::new(),
+            number: 0,
+            turns,
+        }
+    }
+
+    /// Uses the line that is held. Gives how the run ends, where it doesn't go on.
+    fn use_held<K: Sink>(&mut self, alloc: Global, sink: &mut K) -> Option<ScriptEnd>
+        requires number { self.old.number + 1 < 2 ^ 64 }
+        requires sink_calls { (K.account sink.old).counts.calls + self.old.turns < 2 ^ 48 }
+        ensures number { self.new.number ≡ self.old.number + 1 }
+        ensures reader { self.new.reader ≡ self.old.reader }
+        ensures uses { UsesHeld self.old self.new (K.account sink.old) (K.account sink.new) result }
+    {
+        self.number += 1;
+        let line = self.reader.line();
+        let used = use_line(&mut self.interpreter, alloc, line, sink, &mut self.turns);
+        stop(used, self.number)
+    }
+
+    /// Uses what stands behind the last line end, if anything does.
+    fn use_last<K: Sink>(&mut self, alloc: Global, sink: &mut K) -> ScriptEnd
+        requires number { self.old.number + 1 < 2 ^ 64 }
+        requires sink_calls { (K.account sink.old).counts.calls + self.old.turns < 2 ^ 48 }
+        ensures { UsesLast self.old self.new (K.account sink.old) (K.account sink.new) result }
+    {
+        if self.reader.line().is_empty() {
+            return ScriptEnd::Done;
+        }
+        self.use_held(alloc, sink).unwrap_or(ScriptEnd::Done)
+    }
+
+    /// Reads a line and uses it. Gives how the run ends, where it doesn't go on.
+    fn use_next<S: Source, K: Sink>(
+        &mut self,
+        alloc: Global,
+        source: &mut S,
+        sink: &mut K,
+    ) -> Option<ScriptEnd>
+        requires countable { IsCountable self.old (S.account source.old) (K.account sink.old) }
+        ensures { Advances self.old self.new (S.account source.old) (S.account source.new) (K.account sink.old) (K.account sink.new) result }
+    {
+        match self.reader.next_line(source, &mut self.turns) {
+            NextLine::Line => self.use_held(alloc, sink),
+            NextLine::End => Some(self.use_last(alloc, sink)),
+            NextLine::TooLong => Some(ScriptEnd::Malformed(self.number + 1)),
+            NextLine::ReadFault => Some(ScriptEnd::ReadFault),
+            NextLine::TurnsUsed => Some(ScriptEnd::TurnsUsed),
+        }
+    }
+}
+
+/// Runs a script over the source, and writes its answers to the sink, a line each, in at most so many calls of both.
+///
+/// The device has the test topology, and the limits that the script's first line sets, or the program's. It is made once
+/// the first line that isn't skipped was found well formed. Want of memory in a step is an answer like others. Clients that
+/// are open at the end stay so: the device goes with the run.
+pub fn run_script<S: Source, K: Sink>(
+    alloc: Global,
+    source: &mut S,
+    sink: &mut K,
+    turns: u64,
+) -> ScriptEnd
+    requires source_calls { (S.account source.old).counts.calls + turns < 2 ^ 48 }
+    requires sink_calls { (K.account sink.old).counts.calls + turns < 2 ^ 48 }
+    ensures { Runs (S.account source.old) (S.account source.new) (K.account sink.old) (K.account sink.new) turns result }
+{
+    let mut run = Run::new(turns);
+    'lines: loop {
+        if let Some(end) = run.use_next(alloc, source, sink) {
+            return end;
+        }
+    }
+}

@@ -1,8 +1,0 @@
-use Rattle.std.proofs.Common.{◌≡◌, false, true, refl}
-use Rattle.drm_modes.specs.Numbers.{numbers_from}
-use Rattle.drm_modes.specs.Topology.{is_topology}
-use Rattle.drm_server.proofs.devices.test_topology.Goals as goal
-
-pub unreachable-requires : goal.unreachable-requires
-unfolding is_topology numbers_from
-unreachable-requires c = let e : false ≡ true = c.in-None.ensures.made.1 refl in cc

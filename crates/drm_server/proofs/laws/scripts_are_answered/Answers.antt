@@ -1,5 +1,0 @@
-use Rattle.drm_server.proofs.AnswerLaws.{answered}
-use Rattle.drm_server.proofs.laws.scripts_are_answered.Goals as goal
-
-pub returns : goal.returns
-returns c = λ lines results device labels script. answered script

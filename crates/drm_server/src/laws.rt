@@ -1,8 +1,0 @@
-//! Laws of scripts, each on a function that does nothing.
-
-ghost use Rattle.drm_server.specs.Script.{ScriptsAreAnswered};
-
-/// The results of a script are a device's answers to some events, from an empty device on.
-pub fn scripts_are_answered()
-    ensures { ScriptsAreAnswered }
-{}
