@@ -3,3 +3,5 @@ pub mod InterpreterLemmas
 pub mod LineLemmas
 pub mod ReaderLemmas
 pub mod RunLemmas
+pub mod StepLemmas
+pub mod WritingLemmas

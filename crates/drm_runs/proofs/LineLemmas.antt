@@ -1,6 +1,6 @@
 -- Where a line ends.
-use Rattle.std.proofs.Common.{◌≡◌, ℕ, ◌+◌, ◌≤◌, ◌<◌, ◌*◌, ◌↔◌, List, [], ◌∷◌, ◌++◌, length, take, drop, refl, sym, ap, ◌∙◌, arith, Bool, true, false, not, cond, nat_lt, suc, Some, None, Result, Ok, Err, OnOk, IsOk, append_assoc, append-nil, take-append-drop, length-append, length-take}
-use Rattle.std.proofs.lemmas.List.{length-drop}
+use Rattle.std.proofs.Common.{◌≡◌, ℕ, ◌+◌, ◌-◌, ◌≤◌, ◌<◌, ◌*◌, min, List, [], ◌∷◌, ◌++◌, length, take, drop, refl, sym, ap, ◌∙◌, arith, Bool, true, false, not, cond, nat_lt, suc, Some, None, append_assoc, append-nil, take-append-drop, length-append, length-take}
+use Rattle.std.proofs.lemmas.List.{length-drop, nil_from_length}
 use Prim.Native.Nat.{zero}
 use Rattle.std.specs.List.{position, position_or_len}
 use Rattle.std.proofs.lemmas.Option.{cond_some, none-some}
@@ -85,19 +85,11 @@ too_long xs a b e p l m = record {
   behind = (let n = ap length e in let s = length-append a b in rw (length-append, length-drop) (omega arith));
 }
 
--- what an extension of a vector that has room leaves
-pub extended : {E : Type 0} (r : Result (Unit {0}) E) (P Q : Type 0) → (IsOk r ↔ Q) → Q → OnOk r P → P
-extended (Ok x) P Q v q h = h
-extended (Err e) P Q v q h = absurd (not_ok (v.1 q))
-  where
-    not_ok : false ≡ true → ⊥
-    not_ok h = (cc)
-
 -- ---- what one scan finds, with h held and p pending
 
-pub scan_long_line : (h p : List ℕ) (n room : ℕ) → position is_end p ≡ Some n → room + length h ≡ 255 → length p ≤ 256 → room < n → IsBare h
+pub scan_long_line : (h p : List ℕ) (n : ℕ) → position is_end p ≡ Some n → length h ≤ 255 → length p ≤ 256 → 255 < length h + n → IsBare h
     → (front rest : List ℕ) × IsTooLong (h ++ p) front rest
-scan_long_line h p n room e r m l bare =
+scan_long_line h p n e short l m bare =
     let place = some_place p n e in
     let below : n < length p = place.1 in
     let front = h ++ take n p in
@@ -105,9 +97,9 @@ scan_long_line h p n room e r m l bare =
     let long : 256 ≤ length front = rw (length-append, length-take) (omega arith) in
     (take 256 front, drop 256 front ++ drop n p, too_long (h ++ p) front (drop n p) whole (IsBare-append h (take n p) bare (bare_front p n e)) long (rw length-append (omega arith)))
 
-pub scan_long_rest : (h p : List ℕ) (room : ℕ) → position is_end p ≡ None → room + length h ≡ 255 → length p ≤ 256 → room < length p → IsBare h
+pub scan_long_rest : (h p : List ℕ) → position is_end p ≡ None → length h ≤ 255 → length p ≤ 256 → 255 < length h + length p → IsBare h
     → (front rest : List ℕ) × IsTooLong (h ++ p) front rest
-scan_long_rest h p room e r m l bare =
+scan_long_rest h p e short l m bare =
     let front = h ++ p in
     let long : 256 ≤ length front = rw length-append (omega arith) in
     (take 256 front, drop 256 front ++ [], too_long (h ++ p) front [] (sym (append-nil front)) (IsBare-append h p bare (bare_all p e)) long (rw length-append (omega arith)))
@@ -136,3 +128,12 @@ few_pending p chunk next end e l = rw e (rw (length-drop, length-take) (omega ar
 
 pub few_left : (chunk : List ℕ) (next n end : ℕ) → end ≤ 256 → length (drop (next + (n + 1)) (take end chunk)) ≤ 255
 few_left chunk next n end l = rw (length-drop, length-take) (omega arith)
+
+-- a chunk that is used up has nothing pending, whatever is put in its place
+pub nothing_pending : (chunk other : List ℕ) (next end : ℕ) → length chunk ≡ 256 → next ≤ end → end ≤ 256 → drop next (take end chunk) ≡ []
+    → length other ≡ length chunk → drop next (take end other) ≡ []
+nothing_pending chunk other next end full n l e same =
+    let none : length (drop next (take end chunk)) ≡ 0 = ap length e in
+    let size : length (drop next (take end chunk)) ≡ min end (length chunk) - next = rw (length-drop, length-take) refl in
+    let other_size : length (drop next (take end other)) ≡ min end (length other) - next = rw (length-drop, length-take) refl in
+    nil_from_length _ (omega (arith, none, size, other_size, full, same))

@@ -15,13 +15,14 @@ use Rattle.drm_runs.specs.Script.{Script, Uses, IsMisplaced, WantsDevice, script
 use Rattle.drm_runs.specs.Script.Script.{start, line}
 use Rattle.drm_runs.specs.Script.Uses.{skipped, limited, asked}
 use Rattle.drm_runs.specs.Script.IsMisplaced.{malformed}
-use Rattle.drm_runs.specs.Interpreter.{device_of, UsesLine}
-use Rattle.drm_runs.specs.Runs.{Results, EndsLine, SoFar, Runs, IsCutInLast, IsStopped, stop_of}
+use Rattle.drm_runs.specs.Interpreter.{Standing}
+use Rattle.drm_runs.specs.Writing.{UsesLine}
+use Rattle.drm_runs.specs.Runs.{Results, EndsLine, Runs, IsCutInLast, IsStopped}
+use Rattle.drm_runs.specs.RunSteps.{SoFar, stop_of}
 use Rattle.drm_runs.specs.declared.run.ScriptEnd.{ScriptEnd}
 use Rattle.drm_runs.specs.declared.run.ScriptEnd.TheVariants as ends
-use Rattle.drm_runs.specs.declared.interpreter.Interpreter.{Interpreter}
-use Rattle.drm_runs.specs.declared.interpreter.LineEnd.{LineEnd}
-use Rattle.drm_runs.specs.declared.interpreter.LineEnd.TheVariants as line_ends
+use Rattle.drm_runs.specs.declared.writing.LineEnd.{LineEnd}
+use Rattle.drm_runs.specs.declared.writing.LineEnd.TheVariants as line_ends
 
 pub script_text-append : (xs ys : Results) → script_text (xs ++ ys) ≡ script_text xs ++ script_text ys
 script_text-append [] ys = refl
@@ -226,14 +227,14 @@ some_end : (a b : ScriptEnd) → Some a ≡ Some b → a ≡ b
 some_end a b e = cc
 
 -- a line that doesn't let the run go on
-pub run_stop : {s0 s : SourceAccount} {k0 k : SinkAccount} {turns has n : ℕ} {rest : List ℕ} (old new : Interpreter) (next more : List ℕ) (k' : SinkAccount) (has' : ℕ) (end : LineEnd) (stop : ScriptEnd)
-    → SoFar s0 s k0 k turns has n rest (device_of old) old.labels → rest ≡ next ++ more → EndsLine (s0.counts.ends < s.counts.ends) more → length next ≤ 255 → length more ≤ 256 → IsBare next
+pub run_stop : {s0 s : SourceAccount} {k0 k : SinkAccount} {turns has n : ℕ} {rest : List ℕ} (old new : Standing) (next more : List ℕ) (k' : SinkAccount) (has' : ℕ) (end : LineEnd) (stop : ScriptEnd)
+    → SoFar s0 s k0 k turns has n rest old.device old.labels → rest ≡ next ++ more → EndsLine (s0.counts.ends < s.counts.ends) more → length next ≤ 255 → length more ≤ 256 → IsBare next
     → UsesLine old new next k k' has has' end → stop_of end (n + 1) ≡ Some stop → Runs s0 s k0 k' turns stop
 run_stop old new next more k' has' line_ends.Used stop so e t l m b u h = absurd (cc)
 run_stop {s0} {s} {k0} {k} {turns} old new next more k' has' line_ends.Malformed stop so e t l m b u h =
     subst (λ q. Runs s0 s k0 q turns stop) (sym u.1) (subst (Runs s0 s k0 k turns) (some_end _ _ h) (run_malformed so next more e u.0 b (inl t) (omega arith) m))
 run_stop {s0} {s} {k0} {k} {turns} old new next more k' has' line_ends.WriteFault stop so e t l m b u h =
-    let w = run_stopped so next more u.0 (device_of new) new.labels k' has' e t m b u.1 u.2 in
+    let w = run_stopped so next more u.0 new.device new.labels k' has' e t m b u.1 u.2 in
     subst (Runs s0 s k0 k' turns) (some_end _ _ h) (record {
       read = so.read;
       written = w.0;
@@ -244,7 +245,7 @@ run_stop {s0} {s} {k0} {k} {turns} old new next more k' has' line_ends.WriteFaul
       ends = (w.3, (let a = so.took.counts.faults in omega (arith, a, u.3)));
     })
 run_stop {s0} {s} {k0} {k} {turns} old new next more k' has' line_ends.TurnsUsed stop so e t l m b u h =
-    let w = run_stopped so next more u.0 (device_of new) new.labels k' has' e t m b u.1 u.2 in
+    let w = run_stopped so next more u.0 new.device new.labels k' has' e t m b u.1 u.2 in
     subst (Runs s0 s k0 k' turns) (some_end _ _ h) (record {
       read = so.read;
       written = w.0;
@@ -258,10 +259,10 @@ run_stop {s0} {s} {k0} {k} {turns} old new next more k' has' line_ends.NoMemory 
     subst (λ q. Runs s0 s k0 q turns stop) (sym u.2) (subst (Runs s0 s k0 k turns) (some_end _ _ h) (run_unmade so next more e t m b u.0 u.1))
 
 -- the last line
-pub run_last : {s0 s : SourceAccount} {k0 k : SinkAccount} {turns has n : ℕ} {rest : List ℕ} (old new : Interpreter) (k' : SinkAccount) (has' : ℕ) (end : LineEnd)
-    → SoFar s0 s k0 k turns has n rest (device_of old) old.labels → IsBare rest → length rest ≤ 255 → s0.counts.ends < s.counts.ends
+pub run_last : {s0 s : SourceAccount} {k0 k : SinkAccount} {turns has n : ℕ} {rest : List ℕ} (old new : Standing) (k' : SinkAccount) (has' : ℕ) (end : LineEnd)
+    → SoFar s0 s k0 k turns has n rest old.device old.labels → IsBare rest → length rest ≤ 255 → s0.counts.ends < s.counts.ends
     → UsesLine old new rest k k' has has' end → Runs s0 s k0 k' turns (unwrap_or (stop_of end (n + 1)) ends.Done)
-run_last {rest} old new k' has' line_ends.Used so b l f u = run_done_last so u.0 (device_of new) new.labels k' has' b u.1 u.2 f
+run_last {rest} old new k' has' line_ends.Used so b l f u = run_done_last so u.0 new.device new.labels k' has' b u.1 u.2 f
 run_last {rest} old new k' has' line_ends.Malformed so b l f u = run_stop old new rest [] k' has' line_ends.Malformed _ so (sym (append-nil rest)) (inl (refl, f)) l (omega arith) b u refl
 run_last {rest} old new k' has' line_ends.WriteFault so b l f u = run_stop old new rest [] k' has' line_ends.WriteFault _ so (sym (append-nil rest)) (inl (refl, f)) l (omega arith) b u refl
 run_last {rest} old new k' has' line_ends.TurnsUsed so b l f u = run_stop old new rest [] k' has' line_ends.TurnsUsed _ so (sym (append-nil rest)) (inl (refl, f)) l (omega arith) b u refl
@@ -287,12 +288,20 @@ so_far_none source sink turns rest device labels e f h = record {
 }
 
 -- a line that lets the run go on
-pub so_far_used : {s0 s : SourceAccount} {k0 k : SinkAccount} {turns has n : ℕ} {rest : List ℕ} (old new : Interpreter) (next more : List ℕ) (k' : SinkAccount) (has' m : ℕ) (end : LineEnd)
-    → SoFar s0 s k0 k turns has n rest (device_of old) old.labels → rest ≡ next ++ 10 ∷ more → IsBare next
-    → UsesLine old new next k k' has has' end → stop_of end m ≡ None
-    → SoFar s0 s k0 k' turns has' (n + 1) more (device_of new) new.labels × (k'.counts.calls + has' ≡ k.counts.calls + has) × (has' ≤ has)
-so_far_used old new next more k' has' m line_ends.Used so e b u h = (so_far_line so next more u.0 (device_of new) new.labels k' has' e b u.1 u.2, u.2.cost, (let a = u.2.cost in let b = u.2.took.counts.calls in omega arith))
+pub so_far_used : {s0 s : SourceAccount} {k0 k : SinkAccount} {turns has n : ℕ} {rest : List ℕ} (old new : Standing) (next more : List ℕ) (k' : SinkAccount) (has' m : ℕ) (end : LineEnd)
+    → SoFar s0 s k0 k turns has n rest old.device old.labels → rest ≡ next ++ 10 ∷ more → IsBare next
+    → UsesLine old new next k k' has has' end → stop_of end m ≡ None → SoFar s0 s k0 k' turns has' (n + 1) more new.device new.labels
+so_far_used old new next more k' has' m line_ends.Used so e b u h = so_far_line so next more u.0 new.device new.labels k' has' e b u.1 u.2
 so_far_used old new next more k' has' m line_ends.Malformed so e b u h = absurd (cc)
 so_far_used old new next more k' has' m line_ends.WriteFault so e b u h = absurd (cc)
 so_far_used old new next more k' has' m line_ends.TurnsUsed so e b u h = absurd (cc)
 so_far_used old new next more k' has' m line_ends.NoMemory so e b u h = absurd (cc)
+
+-- what it cost
+pub used_cost : (old new : Standing) (next : List ℕ) (k k' : SinkAccount) (has has' m : ℕ) (end : LineEnd) → UsesLine old new next k k' has has' end → stop_of end m ≡ None
+    → (k'.counts.calls + has' ≡ k.counts.calls + has) × (has' ≤ has)
+used_cost old new next k k' has has' m line_ends.Used u h = (u.2.cost, (let a = u.2.cost in let b = u.2.took.counts.calls in omega arith))
+used_cost old new next k k' has has' m line_ends.Malformed u h = absurd (cc)
+used_cost old new next k k' has has' m line_ends.WriteFault u h = absurd (cc)
+used_cost old new next k k' has has' m line_ends.TurnsUsed u h = absurd (cc)
+used_cost old new next k k' has has' m line_ends.NoMemory u h = absurd (cc)

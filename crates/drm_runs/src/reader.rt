@@ -1,6 +1,6 @@
 //! Reading lines from a source, one at a time.
 
-ghost use Rattle.std.specs.Prelude.{◌≡◌, ◌≤◌, ◌<◌, ◌^◌, ◌+◌, ◌++◌, ℕ, List, [], true, false, length, position, take, drop};
+ghost use Rattle.std.specs.Prelude.{◌≡◌, ◌≤◌, ◌<◌, ◌+◌, ◌++◌, true, false, length, position};
 ghost use Rattle.drm_runs.specs.Lines.{is_end};
 
 use arrayvec::ArrayVec;
@@ -46,6 +46,7 @@ pub struct LineReader {
 }
 
 impl Model for LineReader {
+    ghost use Rattle.std.specs.Prelude.{◌≤◌, take, drop};
     ghost use Rattle.drm_runs.specs.Reader.{Buffered};
 
     ghost Value = { Buffered };
@@ -65,11 +66,16 @@ fn end_of_line(bytes: &[u8]) -> Option<usize>
 fn extend_line(line: &mut ArrayVec<u8, LINE>, bytes: &[u8]) -> bool
     ensures room { result ≡ true → (line.new.items ≡ line.old.items ++ bytes.now) × (length line.new.items ≤ 255) }
     ensures none { result ≡ false → 255 < length line.old.items + length bytes.now }
+    ensures short { length line.old.items ≤ 255 }
 {
+    if line.remaining_capacity() < bytes.len() {
+        return false;
+    }
     line.try_extend_from_slice(bytes).is_ok()
 }
 
 impl LineReader {
+    ghost use Rattle.std.specs.Prelude.{◌≡◌, ◌<◌, ◌^◌, ◌+◌, ℕ, List, []};
     ghost use Rattle.drm_runs.specs.Reader.{Refilled, ReadsOn, Reads, Scans};
 
     /// Nothing was read yet.

@@ -52,7 +52,7 @@ struct Run {
 }
 
 impl Run {
-    ghost use Rattle.drm_runs.specs.Reader.{Lines};
+    ghost use Rattle.std.specs.Prelude.{◌≡◌, ◌<◌, ◌+◌, ◌^◌};
     ghost use Rattle.drm_runs.specs.RunSteps.{Advances, IsCountable, UsesHeld, UsesLast, at_first};
 
     fn new(turns: u64) -> Run

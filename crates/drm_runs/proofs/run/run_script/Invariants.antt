@@ -1,7 +1,5 @@
-use Rattle.std.proofs.Common.{◌≤◌, ◌+◌, ◌*◌, length}
-use Rattle.drm_runs.specs.Reader.{pending}
-use Rattle.drm_runs.specs.Interpreter.{device_of}
-use Rattle.drm_runs.specs.Runs.{SoFar}
+use Rattle.std.proofs.Common.{◌≤◌, ◌+◌, ◌*◌}
+use Rattle.drm_runs.specs.RunSteps.{StandsSoFar, fuel_of}
 use Rattle.drm_runs.proofs.run.run_script.Given as goal
 
 abbrev pub invariant-lines : goal.invariant-lines
@@ -9,11 +7,11 @@ invariant-lines g l =
     let source = g.S.Source.account in
     let sink = g.K.Sink.account in
     record {
-      so_far : SoFar (source l.fn.source) (source l.source) (sink l.fn.sink) (sink l.sink) l.fn.turns l.turns l.number (pending l.reader) (device_of l.interpreter) l.interpreter.labels;
-      source_calls : (source l.source).counts.calls + l.turns ≤ (source l.fn.source).counts.calls + l.fn.turns;
-      sink_calls : (sink l.sink).counts.calls + l.turns ≤ (sink l.fn.sink).counts.calls + l.fn.turns;
-      fuel : l.number + 256 * l.turns + length (pending l.reader) ≤ 256 * l.fn.turns;
+      so_far : StandsSoFar (source l.fn.source) (source l.source) (sink l.fn.sink) (sink l.sink) l.fn.turns l.run;
+      source_calls : (source l.source).counts.calls + l.run.turns ≤ (source l.fn.source).counts.calls + l.fn.turns;
+      sink_calls : (sink l.sink).counts.calls + l.run.turns ≤ (sink l.fn.sink).counts.calls + l.fn.turns;
+      fuel : l.run.number + fuel_of l.run ≤ 256 * l.fn.turns;
     }
 
 abbrev pub decreases-lines : goal.decreases-lines
-decreases-lines g l = 256 * l.turns + length (pending l.reader)
+decreases-lines g l = fuel_of l.run
