@@ -6,9 +6,7 @@ use Rattle.drm_table.specs.Audits.{kinds}
 use Rattle.drm_model.specs.Rows.{Rows}
 use Rattle.drm_model.specs.Audit.{audit_rows, rising_rows}
 use Rattle.drm_streams.specs.Streams.{SinkAccount}
-use Rattle.drm_streams.specs.Turns.{Took, Pays, PaysPart}
-use Rattle.drm_streams.specs.declared.turns.Written.{Written}
-use Rattle.drm_streams.specs.declared.turns.Written.TheVariants as written
+use Rattle.drm_streams.specs.Turns.{Took}
 use Rattle.drm_script.specs.Lines.{audit_line}
 use Rattle.drm_server.specs.declared.listing.ListEnd.{ListEnd}
 use Rattle.drm_server.specs.declared.listing.ListEnd.TheVariants as ends
@@ -20,12 +18,6 @@ kind_text w kind = flat_map (audit_line kind) (rising_rows (audit_rows w kind))
 -- the lines of all kinds, rising by number
 unfoldable pub audit_text : Rows → List ℕ
 audit_text w = flat_map (kind_text w) kinds
-
--- what came of writing a text: the whole was written, or a front of it that isn't; each call cost a turn
-abbrev pub WritesOut : Written → SinkAccount → SinkAccount → List ℕ → ℕ → ℕ → Type 0
-WritesOut written.Whole old new text had has = Pays old new text had has
-WritesOut written.Fault old new text had has = PaysPart old new text had has × (old.counts.faults < new.counts.faults)
-WritesOut written.TurnsUsed old new text had has = PaysPart old new text had has × (has ≡ 0)
 
 -- why a listing ended, by what was not written and what the sink's account shows
 abbrev pub Because : ListEnd → List ℕ → SinkAccount → SinkAccount → ℕ → Type 0

@@ -4,7 +4,8 @@ ghost use Rattle.std.specs.Prelude.{◌≡◌, ◌<◌, ◌+◌, ◌^◌};
 ghost use Rattle.std.specs.List.{flat_map};
 ghost use Rattle.drm_model.specs.Run.{rows_of};
 ghost use Rattle.drm_script.specs.Lines as lines;
-ghost use Rattle.drm_server.specs.Listing.{Lists, WritesOut, kind_text};
+ghost use Rattle.drm_streams.specs.Texts.{WritesOut};
+ghost use Rattle.drm_server.specs.Listing.{Lists, kind_text};
 
 use drm_device::Device;
 use drm_script::audit_line;

@@ -1,3 +1,4 @@
 pub mod Accounts
 pub mod Calls
 pub mod PutSoFar
+pub mod TextLemmas

@@ -5,11 +5,13 @@ use Rattle.drm_model.specs.Run.{rows_of}
 use Rattle.drm_streams.specs.Turns.{Pays}
 use Rattle.drm_streams.specs.declared.turns.Written.TheVariants as written
 use Rattle.drm_server.specs.Listing.{kind_text, audit_text}
-use Rattle.drm_server.proofs.ListingLemmas.{pays-none, pays-then, stops, next-text, whole-text, all-taken, listed, listed-fault, listed-turns}
+use Rattle.drm_streams.proofs.Accounts.{Pays-none, Pays-then}
+use Rattle.drm_streams.proofs.TextLemmas.{stops, next-text, whole-text, all-taken}
+use Rattle.drm_server.proofs.ListingLemmas.{listed, listed-fault, listed-turns}
 use Rattle.drm_server.proofs.listing.list_audit.Goals as goal
 
 pub loop-kind-init : goal.loop-kind-init
-loop-kind-init g c = record { all = refl; pays = pays-none (g.K.Sink.account c.args.sink.now) c.args.turns }
+loop-kind-init g c = record { all = refl; pays = Pays-none (g.K.Sink.account c.args.sink.now) c.args.turns }
 
 pub list_kind-requires : goal.list_kind-requires
 list_kind-requires g c = let paid = c.loop-kind.invariant.pays.cost in omega (arith, paid, c.requires)
@@ -36,7 +38,7 @@ loop-kind-preserved g c =
     record {
       all = refl;
       pays = subst (λ all. Pays (g.K.Sink.account c.args.sink.now) (g.K.Sink.account c.list_kind.new.sink) all c.args.turns c.list_kind.new.turns)
-          (next-text text kinds c.loop-kind.kind-index _ c.loop-kind-test.true) (pays-then _ _ _ _ _ _ _ _ c.loop-kind.invariant.pays c.in-Whole.ensures);
+          (next-text text kinds c.loop-kind.kind-index _ c.loop-kind-test.true) (Pays-then c.loop-kind.invariant.pays c.in-Whole.ensures);
     }
 
 pub returns : goal.returns

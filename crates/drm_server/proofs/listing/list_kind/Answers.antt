@@ -6,8 +6,10 @@ use Rattle.drm_model.specs.Audit.{audit_rows, rising_rows, audit_page}
 use Rattle.drm_model.specs.Run.{rows_of}
 use Rattle.drm_streams.specs.Turns.{Pays}
 use Rattle.drm_script.specs.Lines as lines
-use Rattle.drm_server.specs.Listing.{WritesOut}
-use Rattle.drm_server.proofs.ListingLemmas.{pays-none, pays-then, stops, next-page, whole-page, last-page, all-taken}
+use Rattle.drm_streams.specs.Texts.{WritesOut}
+use Rattle.drm_streams.proofs.Accounts.{Pays-none, Pays-then}
+use Rattle.drm_streams.proofs.TextLemmas.{stops, all-taken}
+use Rattle.drm_server.proofs.ListingLemmas.{next-page, whole-page, last-page}
 use Rattle.drm_server.proofs.listing.list_kind.Goals as goal
 
 empty : (xs : List AuditRow) → length xs ≡ 0 → xs ≡ []
@@ -18,7 +20,7 @@ times : (n : ℕ) → n * 16 + 16 ≡ (n + 1) * 16
 times n = omega arith
 
 pub loop-number-init : goal.loop-number-init
-loop-number-init g c = record { pays = pays-none (g.K.Sink.account c.args.sink.now) c.args.turns.now; few = λ h. absurd (omega (arith, h)) }
+loop-number-init g c = record { pays = Pays-none (g.K.Sink.account c.args.sink.now) c.args.turns.now; few = λ h. absurd (omega (arith, h)) }
 
 pub returns-then-is_empty : goal.returns-then-is_empty
 unfolding audit_page
@@ -52,7 +54,7 @@ loop-number-preserved g c =
     let text = subst (λ xs. Pays (g.K.Sink.account c.loop-number.sink) (g.K.Sink.account c.list_rows.new.sink) (flat_map line xs) c.loop-number.turns c.list_rows.new.turns) page c.in-Whole.ensures in
     record {
       pays = subst (λ all. Pays (g.K.Sink.account c.args.sink.now) (g.K.Sink.account c.list_rows.new.sink) all c.args.turns.now c.list_rows.new.turns)
-          (next-page line rows (c.loop-number.number * 16) 16 ∙ ap (λ n. flat_map line (take n rows)) (times c.loop-number.number)) (pays-then _ _ _ _ _ _ _ _ c.loop-number.invariant.pays text);
+          (next-page line rows (c.loop-number.number * 16) 16 ∙ ap (λ n. flat_map line (take n rows)) (times c.loop-number.number)) (Pays-then c.loop-number.invariant.pays text);
       few = λ h. c.audit-page.ensures.few;
     }
 

@@ -2,11 +2,12 @@ use Rattle.std.proofs.Common.{◌∙◌, subst, take, drop, arith, suc}
 use Rattle.std.specs.List.{flat_map}
 use Rattle.drm_streams.specs.Turns.{Pays, Writes}
 use Rattle.drm_script.specs.Lines as lines
-use Rattle.drm_server.proofs.ListingLemmas.{pays-none, pays-then, stops, writes_out, next-text, whole-text, all-taken}
+use Rattle.drm_streams.proofs.Accounts.{Pays-none, Pays-then}
+use Rattle.drm_streams.proofs.TextLemmas.{stops, writes_out, next-text, whole-text, all-taken}
 use Rattle.drm_server.proofs.listing.list_rows.Goals as goal
 
 pub loop-row-init : goal.loop-row-init
-loop-row-init g c = pays-none (g.K.Sink.account c.args.sink.now) c.args.turns.now
+loop-row-init g c = Pays-none (g.K.Sink.account c.args.sink.now) c.args.turns.now
 
 pub put_all-requires : goal.put_all-requires
 put_all-requires g c = let paid = c.loop-row.invariant.cost in record { countable = omega (arith, paid, c.requires) }
@@ -24,7 +25,7 @@ loop-row-preserved g c =
     let line = lines.audit_line c.args.kind in
     let text = subst (λ bytes. Pays (g.K.Sink.account c.loop-row.sink) (g.K.Sink.account c.put_all.new.sink) bytes c.loop-row.turns c.put_all.new.turns) (c.as_bytes.ensures.bytes ∙ c.audit_line.ensures.line) c.in-Whole.ensures.writes.0 in
     subst (λ all. Pays (g.K.Sink.account c.args.sink.now) (g.K.Sink.account c.put_all.new.sink) all c.args.turns.now c.put_all.new.turns) (next-text line c.args.rows.now c.loop-row.row-index _ c.loop-row-test.true)
-    (pays-then _ _ _ _ _ _ _ _ c.loop-row.invariant text)
+    (Pays-then c.loop-row.invariant text)
 
 pub returns : goal.returns
 returns g c =

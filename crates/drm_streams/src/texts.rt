@@ -1,0 +1,21 @@
+//! Several texts, one behind the other.
+
+ghost use Rattle.std.specs.Prelude.{◌<◌, ◌+◌, ◌^◌};
+ghost use Rattle.drm_streams.specs.Texts.{WritesOut, joined_texts};
+
+use crate::sink::Sink;
+use crate::turns::{Written, put_all};
+
+/// Puts each text whole, in order, until one isn't put whole. Each call costs a turn.
+pub fn put_each<K: Sink>(sink: &mut K, texts: &[&[u8]], turns: &mut u64) -> Written
+    requires { (K.account sink.old).counts.calls + turns.old < 2 ^ 48 }
+    ensures { WritesOut result (K.account sink.old) (K.account sink.new) (joined_texts texts.now) turns.old turns.new }
+{
+    for text in texts {
+        match put_all(sink, text, turns) {
+            Written::Whole => {}
+            stopped => return stopped,
+        }
+    }
+    Written::Whole
+}
