@@ -1,0 +1,80 @@
+-- The check of a file: which of its expectations are met by the answers of its script, and how it ends (own).
+use Rattle.std.specs.Prelude.{◌≡◌, ℕ, ◌+◌, ◌<◌, ◌≤◌, List, [], ◌∷◌, ◌++◌, ◌⊎◌, Option, None, Some, Result, length}
+use Rattle.std.specs.List.{map}
+use Rattle.drm_table.specs.declared.answers.Answer.{Answer}
+use Rattle.drm_table.specs.declared.apart.Apart.{Apart}
+use Rattle.drm_model.specs.Rows.{Rows}
+use Rattle.drm_streams.specs.Streams.{SourceAccount, SinkAccount}
+use Rattle.drm_streams.specs.Turns.{Gave, Took}
+use Rattle.drm_runs.specs.Lines.{IsBare, joined}
+use Rattle.drm_runs.specs.Script.{Script, Uses, IsMisplaced, WantsDevice, unbound}
+use Rattle.drm_runs.specs.Runs.{Covers, EndsLine}
+use Rattle.drm_runs.specs.declared.run.ScriptEnd.{ScriptEnd}
+use Rattle.drm_runs.specs.declared.run.ScriptEnd.TheVariants as ends
+use Rattle.drm_checks.specs.Expectations.{script_part, expected_part}
+use Rattle.drm_checks.specs.Differences.{Difference, differences_text, met, unmet}
+use Rattle.drm_checks.specs.Checker.{results_of}
+use Rattle.drm_checks.specs.declared.check.Report.{Report}
+
+-- The lines of a file, one after another, each used as a line of a script: how many expectations were met, those that were not,
+-- and the device and the labels.
+pub data Checked : List (List ℕ) → ℕ → List Difference → Option Rows → List ℕ → Type 0 where
+  start : Checked [] 0 [] None unbound
+  line : {lines : List (List ℕ)} {passed : ℕ} {differences : List Difference} {device device' : Option Rows} {labels labels' next : List ℕ} {came : Option (Result Answer Apart)}
+      → Checked lines passed differences device labels → IsBare next → Uses device labels (script_part next) (results_of came) device' labels'
+      → Checked (lines ++ next ∷ []) (passed + met (expected_part next) came) (differences ++ unmet (length lines + 1) (expected_part next) came) device' labels'
+
+-- A line that can't be used: the input or the line ended behind it and its script part can't be used, or it is too long, which
+-- its first 256 bytes tell.
+pub record IsUnusable (ended : Type 0) (device : Option Rows) (rest : List ℕ) : Type 0 where
+  pub bad : List ℕ
+  pub behind : List ℕ
+  pub parts : rest ≡ bad ++ behind
+  pub bare : IsBare bad
+  pub because : (IsMisplaced device (script_part bad) × EndsLine ended behind) ⊎ (length bad ≡ 256)
+
+-- A line that wants a device, for which there was no memory.
+pub record IsUnmade (ended : Type 0) (device : Option Rows) (rest : List ℕ) : Type 0 where
+  pub next : List ℕ
+  pub behind : List ℕ
+  pub parts : rest ≡ next ++ behind
+  pub bare : IsBare next
+  pub until : EndsLine ended behind
+  pub none : device ≡ None
+  pub wants : WantsDevice (script_part next)
+
+-- the whole text was written, or a front of it
+abbrev pub IsFront : List ℕ → List ℕ → Type 0
+IsFront written text = (later : List ℕ) × (text ≡ written ++ later)
+
+-- Each end with its cause, where these lines were checked, this stands behind them in what was read, and this text was owed.
+abbrev pub Ends : ScriptEnd → Type 0 → SourceAccount → SourceAccount → SinkAccount → SinkAccount → ℕ → ℕ → Option Rows → List ℕ → List ℕ → List ℕ → Type 0
+Ends ends.Done ended source source' sink sink' turns n device rest written text = (rest ≡ []) × ended × (written ≡ text)
+Ends (ends.Malformed number) ended source source' sink sink' turns n device rest written text = (number ≡ n + 1) × IsUnusable ended device rest × (written ≡ text)
+Ends ends.ReadFault ended source source' sink sink' turns n device rest written text = IsBare rest × (source.counts.faults < source'.counts.faults) × (written ≡ text)
+Ends ends.WriteFault ended source source' sink sink' turns n device rest written text = (sink.counts.faults < sink'.counts.faults) × IsFront written text
+Ends ends.TurnsUsed ended source source' sink sink' turns n device rest written text =
+    (source'.counts.calls + sink'.counts.calls ≡ source.counts.calls + sink.counts.calls + turns) × IsFront written text
+Ends ends.NoMemory ended source source' sink sink' turns n device rest written text = IsUnmade ended device rest × (written ≡ text)
+
+-- A check: what it read and wrote, at what cost, which lines it used, what they expect, and why it ended.
+pub record Checks (name : List ℕ) (source source' : SourceAccount) (sink sink' : SinkAccount) (turns : ℕ) (report : Report) : Type 0 where
+  pub read : List ℕ
+  pub written : List ℕ
+  pub lines : List (List ℕ)
+  pub rest : List ℕ
+  pub differences : List Difference
+  pub device : Option Rows
+  pub labels : List ℕ
+  pub gave : Gave source source' read
+  pub took : Took sink sink' written
+  pub turns_at_most : source'.counts.calls + sink'.counts.calls ≤ source.counts.calls + sink.counts.calls + turns
+  pub checked : Checked lines report.passed differences device labels
+  pub failed : report.failed ≡ length differences
+  pub covers : Covers (source.counts.ends < source'.counts.ends) read lines rest
+  pub ends : Ends report.end (source.counts.ends < source'.counts.ends) source source' sink sink' turns (length lines) device rest written (differences_text name differences)
+
+-- What the lines get as answers is what the script of their parts without expectations gets.
+abbrev pub CheckedFilesAreScripts : Type 0
+CheckedFilesAreScripts = (lines : List (List ℕ)) (passed : ℕ) (differences : List Difference) (device : Option Rows) (labels : List ℕ) → Checked lines passed differences device labels
+    → (results : List (Result Answer Apart)) × Script (map script_part lines) results device labels

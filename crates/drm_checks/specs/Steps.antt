@@ -1,0 +1,67 @@
+-- A check that goes on, line by line.
+use Rattle.std.specs.Prelude.{◌≡◌, ℕ, ◌+◌, ◌*◌, ◌<◌, ◌≤◌, ◌^◌, List, [], ◌⊎◌, Option, None, Some, unwrap_or, length}
+use Rattle.std.specs.Prelude.{◌++◌}
+use Rattle.drm_streams.specs.Streams.{SourceAccount, SinkAccount}
+use Rattle.drm_streams.specs.Turns.{Gave, Took}
+use Rattle.drm_runs.specs.Lines.{joined}
+use Rattle.drm_runs.specs.declared.run.ScriptEnd.{ScriptEnd}
+use Rattle.drm_runs.specs.declared.run.ScriptEnd.TheVariants as ends
+use Rattle.drm_checks.specs.Differences.{Difference, differences_text}
+use Rattle.drm_checks.specs.Checker.{ChecksLine, first_checker}
+use Rattle.drm_checks.specs.Checks.{Checked, Checks}
+use Rattle.drm_checks.specs.declared.check.Check.{Check}
+use Rattle.drm_checks.specs.declared.check.Report.{Report}
+
+abbrev pub first_check : ℕ → Check
+first_check turns = record { reader = record { held = []; pending = [] }; checker = first_checker turns }
+
+-- A check so far, with what is pending of the bytes that were read.
+pub record SoFar (name : List ℕ) (source source' : SourceAccount) (sink sink' : SinkAccount) (turns : ℕ) (check : Check) : Type 0 where
+  pub read : List ℕ
+  pub lines : List (List ℕ)
+  pub differences : List Difference
+  pub gave : Gave source source' read
+  pub took : Took sink sink' (differences_text name differences)
+  pub cost : source'.counts.calls + sink'.counts.calls + check.checker.turns ≡ source.counts.calls + sink.counts.calls + turns
+  pub checked : Checked lines check.checker.passed differences check.checker.interpreter.device check.checker.interpreter.labels
+  pub failed : check.checker.failed ≡ length differences
+  pub whole : read ≡ joined lines ++ check.reader.pending
+  pub number : check.checker.number ≡ length lines
+
+-- what is left to be read and written, at most
+abbrev pub fuel_of : Check → ℕ
+fuel_of check = 256 * check.checker.turns + length check.reader.pending
+
+-- no count leaves its type
+pub record IsCountable (check : Check) (source : SourceAccount) (sink : SinkAccount) : Type 0 where
+  pub number : check.checker.number + fuel_of check < 2 ^ 63
+  pub passed : check.checker.passed ≤ check.checker.number
+  pub failed : check.checker.failed ≤ check.checker.number
+  pub source_calls : source.counts.calls + check.checker.turns < 2 ^ 48
+  pub sink_calls : sink.counts.calls + check.checker.turns < 2 ^ 48
+
+-- what came of what stands behind the last line end: nothing does, or it was checked
+abbrev pub ChecksLast : Check → Check → List ℕ → SinkAccount → SinkAccount → ScriptEnd → Type 0
+ChecksLast old new name sink sink' end =
+    ((old.reader.held ≡ []) × (sink' ≡ sink) × (new.checker ≡ old.checker) × (end ≡ ends.Done))
+    ⊎ ((line_end : Option ScriptEnd) × ChecksLine old.checker new.checker name old.reader.held sink sink' line_end × (end ≡ unwrap_or line_end ends.Done))
+
+-- One line more was checked.
+pub record GoesOn (name : List ℕ) (old new : Check) (source source' : SourceAccount) (sink sink' : SinkAccount) : Type 0 where
+  pub so_far : (start : SourceAccount) (first : SinkAccount) (turns : ℕ) → SoFar name start source first sink turns old → SoFar name start source' first sink' turns new
+  pub number : new.checker.number ≡ old.checker.number + 1
+  pub passed : new.checker.passed ≤ old.checker.passed + 1
+  pub failed : new.checker.failed ≤ old.checker.failed + 1
+  pub source_calls : source'.counts.calls + new.checker.turns ≤ source.counts.calls + old.checker.turns
+  pub sink_calls : sink'.counts.calls + new.checker.turns ≤ sink.counts.calls + old.checker.turns
+  pub fuel : fuel_of new < fuel_of old
+
+-- the report of a check that ended
+abbrev pub report_of : Check → ScriptEnd → Report
+report_of check end = record { end = end; passed = check.checker.passed; failed = check.checker.failed }
+
+-- Whichever check was under way goes on, or has ended.
+abbrev pub Advances : Check → Check → List ℕ → SourceAccount → SourceAccount → SinkAccount → SinkAccount → Option ScriptEnd → Type 0
+Advances old new name source source' sink sink' None = GoesOn name old new source source' sink sink'
+Advances old new name source source' sink sink' (Some end) =
+    (start : SourceAccount) (first : SinkAccount) (turns : ℕ) → SoFar name start source first sink turns old → Checks name start source' first sink' turns (report_of new end)

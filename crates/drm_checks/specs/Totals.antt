@@ -1,0 +1,33 @@
+-- What the checks of several files came to (own).
+use Rattle.std.specs.Prelude.{ℕ, ◌+◌, ◌-◌, ◌^◌, min, List, ◌++◌, codes, decimal}
+use Rattle.drm_runs.specs.declared.run.ScriptEnd.{ScriptEnd}
+use Rattle.drm_runs.specs.declared.run.ScriptEnd.TheVariants as ends
+use Rattle.drm_checks.specs.declared.check.Report.{Report}
+use Rattle.drm_checks.specs.declared.totals.Totals.{Totals}
+
+abbrev pub no_files : Totals
+no_files = record { passed = 0; failed = 0; malformed = 0 }
+
+-- 1 where the file was malformed
+abbrev pub malformed_by : ScriptEnd → ℕ
+malformed_by (ends.Malformed number) = 1
+malformed_by ends.Done = 0
+malformed_by ends.ReadFault = 0
+malformed_by ends.WriteFault = 0
+malformed_by ends.TurnsUsed = 0
+malformed_by ends.NoMemory = 0
+
+-- a sum that stays within 64 bits
+abbrev pub sum_within : ℕ → ℕ → ℕ
+sum_within a b = min (a + b) (2 ^ 64 - 1)
+
+-- the totals with a file more
+abbrev pub added : Totals → Report → Totals
+added totals report = record {
+  passed = sum_within totals.passed report.passed;
+  failed = sum_within totals.failed report.failed;
+  malformed = sum_within totals.malformed (malformed_by report.end);
+}
+
+abbrev pub totals_text : Totals → List ℕ
+totals_text totals = decimal totals.passed ++ (codes " passed, " ++ (decimal totals.failed ++ (codes " failed" ++ 10 ∷ [])))

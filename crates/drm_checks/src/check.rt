@@ -1,0 +1,109 @@
+//! Checking a file.
+
+ghost use Rattle.std.specs.Prelude.{◌≡◌, ◌<◌, ◌+◌, ◌^◌};
+ghost use Rattle.drm_checks.specs.Checks.{Checks};
+
+use crate::checker::Checker;
+use drm_runs::{LineReader, NextLine, ScriptEnd};
+use drm_streams::{Sink, Source};
+use std::alloc::Global;
+
+/// What the check of a file came to (own).
+#[derive(Clone, Copy, Debug, PartialEq, Eq)]
+pub struct Report {
+    /// How the run of its script ended.
+    pub end: ScriptEnd,
+    /// How many expectations were met.
+    pub passed: u64,
+    /// How many expectations were not.
+    pub failed: u64,
+}
+
+/// A check that goes on.
+#[derive(Drop)]
+struct Check {
+    reader: LineReader,
+    checker: Checker,
+}
+
+impl Check {
+    ghost use Rattle.std.specs.Prelude.{◌≡◌, ◌<◌, ◌+◌, ◌^◌};
+    ghost use Rattle.drm_checks.specs.Steps.{Advances, IsCountable, ChecksHeld, ChecksLast, first_check};
+
+    fn new(turns: u64) -> Check
+        ensures { result ≡ first_check turns }
+    {
+        Check {
+            reader: LineReader::new(),
+            checker: Checker::new(turns),
+        }
+    }
+
+    /// Checks what stands behind the last line end, if anything does.
+    fn check_last<K: Sink>(&mut self, alloc: Global, name: &[u8], sink: &mut K) -> ScriptEnd
+        requires number { self.old.checker.number + 1 < 2 ^ 64 }
+        requires passed { self.old.checker.passed + 1 < 2 ^ 64 }
+        requires failed { self.old.checker.failed + 1 < 2 ^ 64 }
+        requires sink_calls { (K.account sink.old).counts.calls + self.old.checker.turns < 2 ^ 48 }
+        ensures { ChecksLast self.old self.new name.now (K.account sink.old) (K.account sink.new) result }
+    {
+        let line = self.reader.line();
+        if line.is_empty() {
+            return ScriptEnd::Done;
+        }
+        let end = self.checker.check_line(alloc, name, line, sink);
+        end.unwrap_or(ScriptEnd::Done)
+    }
+
+    /// Reads a line and checks it. Gives how the check ends, where it doesn't go on.
+    fn check_next<S: Source, K: Sink>(
+        &mut self,
+        alloc: Global,
+        name: &[u8],
+        source: &mut S,
+        sink: &mut K,
+    ) -> Option<ScriptEnd>
+        requires countable { IsCountable self.old (S.account source.old) (K.account sink.old) }
+        ensures { Advances self.old self.new name.now (S.account source.old) (S.account source.new) (K.account sink.old) (K.account sink.new) result }
+    {
+        match self.reader.next_line(source, &mut self.checker.turns) {
+            NextLine::Line => {
+                let line = self.reader.line();
+                self.checker.check_line(alloc, name, line, sink)
+            }
+            NextLine::End => Some(self.check_last(alloc, name, sink)),
+            NextLine::TooLong => Some(ScriptEnd::Malformed(self.checker.number + 1)),
+            NextLine::ReadFault => Some(ScriptEnd::ReadFault),
+            NextLine::TurnsUsed => Some(ScriptEnd::TurnsUsed),
+        }
+    }
+}
+
+/// Runs the script of the source on a device of its own, looks whether each answer is the one that its line expects, and
+/// tells the sink of each that differs, under the file's name, in at most so many calls of both.
+///
+/// What stands in a line before its first ` -> ` is a line of a script, and what stands behind it the line that is expected to
+/// be answered; `denied N` and `apart N` stand for the whole line. A line without ` -> ` and a comment expect nothing.
+pub fn check_script<S: Source, K: Sink>(
+    alloc: Global,
+    name: &str,
+    source: &mut S,
+    sink: &mut K,
+    turns: u64,
+) -> Report
+    requires source_calls { (S.account source.old).counts.calls + turns < 2 ^ 48 }
+    requires sink_calls { (K.account sink.old).counts.calls + turns < 2 ^ 48 }
+    ensures { Checks name.now (S.account source.old) (S.account source.new) (K.account sink.old) (K.account sink.new) turns result }
+{
+    let name = name.as_bytes();
+    let mut check = Check::new(turns);
+    'lines: loop {
+        if let Some(end) = check.check_next(alloc, name, source, sink) {
+            return Report {
+                end,
+                passed: check.checker.passed,
+                failed: check.checker.failed,
+            };
+        }
+    }
+}

@@ -1,0 +1,130 @@
+//! The lines of a file, checked one by one.
+
+use crate::expectations::{is_met, parts_of};
+use drm_runs::{Interpreter, LineResult, ScriptEnd};
+use drm_script::line_of;
+use drm_streams::{Sink, Written, put_each};
+use drm_table::{Answer, Apart};
+use std::alloc::Global;
+
+ghost use Rattle.std.specs.Prelude.{◌≡◌, ◌<◌, ◌+◌, ◌^◌};
+ghost use Rattle.drm_streams.specs.Texts.{WritesOut};
+ghost use Rattle.drm_checks.specs.Differences.{difference_text, end_of_writing};
+
+/// How a check ends where a difference could not be told.
+fn end_of(written: Written) -> Option<ScriptEnd>
+    ensures { result ≡ end_of_writing written }
+{
+    match written {
+        Written::Whole => None,
+        Written::Fault => Some(ScriptEnd::WriteFault),
+        Written::TurnsUsed => Some(ScriptEnd::TurnsUsed),
+    }
+}
+
+/// Tells of a difference: the file's name, the line's number, what was expected and what came.
+fn tell<K: Sink>(
+    name: &[u8],
+    number: u64,
+    expected: &[u8],
+    came: &Option<Result<Answer, Apart>>,
+    sink: &mut K,
+    turns: &mut u64,
+) -> Written
+    requires { (K.account sink.old).counts.calls + turns.old < 2 ^ 48 }
+    ensures { WritesOut result (K.account sink.old) (K.account sink.new) (difference_text name.now number expected.now came.now) turns.old turns.new }
+{
+    let mut buffer = itoa::Buffer::new();
+    let digits = buffer.format(number).as_bytes();
+    match came {
+        Some(answer) => {
+            let line = line_of(answer);
+            let texts = [name, b":", digits, b": expected ", expected, b", came ", line.as_bytes()];
+            put_each(sink, &texts, turns)
+        }
+        None => {
+            let texts = [name, b":", digits, b": expected ", expected, b", came nothing\n"];
+            put_each(sink, &texts, turns)
+        }
+    }
+}
+
+/// What the lines of a file came to so far.
+#[derive(Drop)]
+pub(crate) struct Checker {
+    interpreter: Interpreter,
+    /// How many lines were used.
+    pub(crate) number: u64,
+    /// How many expectations were met.
+    pub(crate) passed: u64,
+    /// How many expectations were not.
+    pub(crate) failed: u64,
+    /// How many calls of the source and the sink may still be made.
+    pub(crate) turns: u64,
+}
+
+impl Checker {
+    ghost use Rattle.std.specs.Prelude.{◌≡◌, ◌<◌, ◌+◌, ◌^◌};
+    ghost use Rattle.std.specs.Option.{option_map};
+    ghost use Rattle.drm_checks.specs.Checker.{ChecksLine, Notes, first_checker};
+
+    pub(crate) fn new(turns: u64) -> Checker
+        ensures { result ≡ first_checker turns }
+    {
+        Checker {
+            interpreter: Interpreter::new(),
+            number: 0,
+            passed: 0,
+            failed: 0,
+            turns,
+        }
+    }
+
+    /// Counts whether what is expected came, and tells of it where it didn't. Gives how the check ends, where it doesn't go on.
+    fn note<K: Sink>(
+        &mut self,
+        name: &[u8],
+        expected: Option<&[u8]>,
+        came: &Option<Result<Answer, Apart>>,
+        sink: &mut K,
+    ) -> Option<ScriptEnd>
+        requires passed { self.old.passed + 1 < 2 ^ 64 }
+        requires failed { self.old.failed + 1 < 2 ^ 64 }
+        requires sink_calls { (K.account sink.old).counts.calls + self.old.turns < 2 ^ 48 }
+        ensures { Notes self.old self.new name.now (option_map (λ e. e.now) expected) came.now (K.account sink.old) (K.account sink.new) result }
+    {
+        let Some(expected) = expected else {
+            return None;
+        };
+        if is_met(expected, came) {
+            self.passed += 1;
+            return None;
+        }
+        self.failed += 1;
+        end_of(tell(name, self.number, expected, came, sink, &mut self.turns))
+    }
+
+    /// Asks what a line says, and looks whether what it expects came. Gives how the check ends, where it doesn't go on.
+    pub(crate) fn check_line<K: Sink>(
+        &mut self,
+        alloc: Global,
+        name: &[u8],
+        line: &[u8],
+        sink: &mut K,
+    ) -> Option<ScriptEnd>
+        requires number { self.old.number + 1 < 2 ^ 64 }
+        requires passed { self.old.passed + 1 < 2 ^ 64 }
+        requires failed { self.old.failed + 1 < 2 ^ 64 }
+        requires sink_calls { (K.account sink.old).counts.calls + self.old.turns < 2 ^ 48 }
+        ensures { ChecksLine self.old self.new name.now line.now (K.account sink.old) (K.account sink.new) result }
+    {
+        self.number += 1;
+        let (script, expected) = parts_of(line);
+        match self.interpreter.interpret(alloc, script) {
+            LineResult::Unanswered => self.note(name, expected, &None, sink),
+            LineResult::Answered(answer) => self.note(name, expected, &Some(answer), sink),
+            LineResult::Malformed => Some(ScriptEnd::Malformed(self.number)),
+            LineResult::NoMemory => Some(ScriptEnd::NoMemory),
+        }
+    }
+}

@@ -1,0 +1,100 @@
+//! What a line expects, and whether an answer is that.
+
+ghost use Rattle.std.specs.Prelude.{◌≡◌, ◌+◌, ◌≤◌, length, IfSome};
+ghost use Rattle.std.specs.Option.{option_map};
+ghost use Rattle.drm_checks.specs.Expectations.{arrow_from, arrow_place, begins_with_arrow, expected_part, is_met, is_short, is_whole, meets, script_part, numbered};
+
+use arrayvec::ArrayString;
+use drm_script::{line_of, push_number};
+use drm_table::{Answer, Apart};
+
+/// What stands between a line of the script and the answer that it expects.
+const ARROW: &[u8] = b" -> ";
+
+fn begins_with_arrow(text: &[u8]) -> bool
+    ensures { result ≡ begins_with_arrow text.now }
+{
+    text.starts_with(ARROW)
+}
+
+/// Where ` -> ` begins for the first time.
+fn first_arrow(line: &[u8]) -> Option<usize>
+    ensures { result ≡ arrow_from 0 line.now }
+{
+    for at in 0..line.len() {
+        if begins_with_arrow(&line[at..]) {
+            return Some(at);
+        }
+    }
+    None
+}
+
+/// Where the line of the script ends, if an answer is expected. A comment expects none.
+fn arrow_place(line: &[u8]) -> Option<usize>
+    ensures place { result ≡ arrow_place line.now }
+    ensures within { IfSome result (λ at. at + 4 ≤ length line.now) }
+{
+    match line {
+        [b'#', ..] => None,
+        _ => first_arrow(line),
+    }
+}
+
+/// The line of the script, and the answer that it expects.
+pub(crate) fn parts_of(line: &[u8]) -> (&[u8], Option<&[u8]>)
+    ensures script { result.0.now ≡ script_part line.now }
+    ensures expected { option_map (λ e. e.now) result.1 ≡ expected_part line.now }
+{
+    match arrow_place(line) {
+        Some(at) => {
+            let (script, rest) = line.split_at(at);
+            let (_, expected) = rest.split_at(ARROW.len());
+            (script, Some(expected))
+        }
+        None => (line, None),
+    }
+}
+
+/// A word and a number.
+fn numbered(word: &str, number: u64) -> ArrayString<32>
+    requires { length word.now ≤ 8 }
+    ensures { result.bytes ≡ numbered word.now number }
+{
+    let mut text = ArrayString::new();
+    text.push_str(word);
+    push_number(&mut text, number);
+    text
+}
+
+/// Whether these are the words of the answer's line.
+fn is_whole(expected: &[u8], answer: &Result<Answer, Apart>) -> bool
+    ensures { result ≡ is_whole expected.now answer.now }
+{
+    let line = line_of(answer);
+    let bytes = line.as_bytes();
+    let (words, _) = bytes.split_at(bytes.len() - 1);
+    words == expected
+}
+
+/// Whether these are the first two words of a denial, or of what stands apart.
+fn is_short(expected: &[u8], answer: &Result<Answer, Apart>) -> bool
+    ensures { result ≡ is_short expected.now answer.now }
+{
+    match answer {
+        Ok(Answer::Denied(rule)) => {
+            numbered("denied ", u64::from(rule.number())).as_str().as_bytes() == expected
+        }
+        Ok(_) => false,
+        Err(apart) => numbered("apart ", u64::from(apart.number())).as_str().as_bytes() == expected,
+    }
+}
+
+/// Whether an answer is what is expected; where nothing is answered, it isn't.
+pub(crate) fn is_met(expected: &[u8], came: &Option<Result<Answer, Apart>>) -> bool
+    ensures { result ≡ is_met expected.now came.now }
+{
+    match came {
+        Some(answer) => is_whole(expected, answer) || is_short(expected, answer),
+        None => false,
+    }
+}

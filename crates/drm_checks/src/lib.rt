@@ -1,0 +1,15 @@
+//! Scripts that check themselves: each line may tell behind ` -> ` which answer it expects.
+#![tactic(auto)]
+
+mod check;
+mod checker;
+mod expectations;
+mod laws;
+mod totals;
+
+pub use check::{Report, check_script};
+pub use laws::checked_files_are_scripts;
+pub use totals::{Totals, write_totals};
+
+#[cfg(test)]
+mod tests;

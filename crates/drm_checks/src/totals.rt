@@ -1,0 +1,63 @@
+//! What the checks of several files came to.
+
+ghost use Rattle.std.specs.Prelude.{◌≡◌, ◌<◌, ◌+◌, ◌^◌};
+ghost use Rattle.drm_streams.specs.Texts.{WritesOut};
+ghost use Rattle.drm_checks.specs.Totals.{totals_text};
+
+use crate::check::Report;
+use drm_runs::ScriptEnd;
+use drm_streams::{Sink, Written, put_each};
+
+/// The expectations and the files of several checks (own).
+#[derive(Clone, Copy, Debug, PartialEq, Eq)]
+pub struct Totals {
+    /// How many expectations were met.
+    pub passed: u64,
+    /// How many expectations were not.
+    pub failed: u64,
+    /// How many files were malformed.
+    pub malformed: u64,
+}
+
+impl Totals {
+    ghost use Rattle.std.specs.Prelude.{◌≡◌};
+    ghost use Rattle.drm_checks.specs.Totals.{added, no_files};
+
+    /// No file was checked yet.
+    pub fn new() -> Totals
+        ensures { result ≡ no_files }
+    {
+        Totals {
+            passed: 0,
+            failed: 0,
+            malformed: 0,
+        }
+    }
+
+    /// The totals with one file more. No count goes beyond 2^64 - 1.
+    pub fn add(self, report: &Report) -> Totals
+        ensures { result ≡ added self report.now }
+    {
+        let malformed = match report.end {
+            ScriptEnd::Malformed(_) => 1,
+            _ => 0,
+        };
+        Totals {
+            passed: self.passed.saturating_add(report.passed),
+            failed: self.failed.saturating_add(report.failed),
+            malformed: self.malformed.saturating_add(malformed),
+        }
+    }
+}
+
+/// Writes how many expectations passed and failed.
+pub fn write_totals<K: Sink>(totals: &Totals, sink: &mut K, turns: &mut u64) -> Written
+    requires { (K.account sink.old).counts.calls + turns.old < 2 ^ 48 }
+    ensures { WritesOut result (K.account sink.old) (K.account sink.new) (totals_text totals.now) turns.old turns.new }
+{
+    let mut passed = itoa::Buffer::new();
+    let mut failed = itoa::Buffer::new();
+    let passed = passed.format(totals.passed).as_bytes();
+    let failed = failed.format(totals.failed).as_bytes();
+    put_each(sink, &[passed, b" passed, ", failed, b" failed\n"], turns)
+}
