@@ -1,0 +1,5 @@
+pub mod ArrowLemmas
+pub mod CheckLemmas
+pub mod CheckedLaws
+pub mod CheckerLemmas
+pub mod StepLemmas

@@ -31,8 +31,8 @@ pub record Notes (old new : Checker) (name : List ℕ) (expected : Option (List 
   pub number : new.number ≡ old.number
   pub interpreter : new.interpreter ≡ old.interpreter
 
--- A line was used and noted.
-pub record Checked (old new : Checker) (name line : List ℕ) (sink sink' : SinkAccount) (end : Option ScriptEnd) : Type 0 where
+-- A line was used, what it expects counted, and a difference told.
+pub record UsedLine (old new : Checker) (name line : List ℕ) (sink sink' : SinkAccount) (end : Option ScriptEnd) : Type 0 where
   pub came : Option (Result Answer Apart)
   pub uses : Uses old.interpreter.device old.interpreter.labels (script_part line) (results_of came) new.interpreter.device new.interpreter.labels
   pub written : Written
@@ -44,13 +44,13 @@ pub record Checked (old new : Checker) (name line : List ℕ) (sink sink' : Sink
 
 -- A line could not be used: nothing was counted or written.
 pub record Stands (old new : Checker) (sink sink' : SinkAccount) : Type 0 where
-  pub sink : sink' ≡ sink
+  pub unwritten : sink' ≡ sink
   pub turns : new.turns ≡ old.turns
   pub passed : new.passed ≡ old.passed
   pub failed : new.failed ≡ old.failed
 
 -- what came of a line
 pub data ChecksLine (old new : Checker) (name line : List ℕ) (sink sink' : SinkAccount) : Option ScriptEnd → Type 0 where
-  used : {end : Option ScriptEnd} → Checked old new name line sink sink' end → ChecksLine old new name line sink sink' end
+  used : {end : Option ScriptEnd} → UsedLine old new name line sink sink' end → ChecksLine old new name line sink sink' end
   bad : IsMisplaced old.interpreter.device (script_part line) → Stands old new sink sink' → ChecksLine old new name line sink sink' (Some (ends.Malformed (old.number + 1)))
   unmade : old.interpreter.device ≡ None → WantsDevice (script_part line) → Stands old new sink sink' → ChecksLine old new name line sink sink' (Some ends.NoMemory)

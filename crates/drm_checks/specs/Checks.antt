@@ -1,6 +1,5 @@
 -- The check of a file: which of its expectations are met by the answers of its script, and how it ends (own).
-use Rattle.std.specs.Prelude.{◌≡◌, ℕ, ◌+◌, ◌<◌, ◌≤◌, List, [], ◌∷◌, ◌++◌, ◌⊎◌, Option, None, Some, Result, length}
-use Rattle.std.specs.List.{map}
+use Rattle.std.specs.Prelude.{◌≡◌, ℕ, ◌+◌, ◌<◌, ◌≤◌, List, [], ◌∷◌, ◌++◌, ◌⊎◌, Option, None, Some, Result, length, map}
 use Rattle.drm_table.specs.declared.answers.Answer.{Answer}
 use Rattle.drm_table.specs.declared.apart.Apart.{Apart}
 use Rattle.drm_model.specs.Rows.{Rows}
@@ -20,7 +19,7 @@ use Rattle.drm_checks.specs.declared.check.Report.{Report}
 -- and the device and the labels.
 pub data Checked : List (List ℕ) → ℕ → List Difference → Option Rows → List ℕ → Type 0 where
   start : Checked [] 0 [] None unbound
-  line : {lines : List (List ℕ)} {passed : ℕ} {differences : List Difference} {device device' : Option Rows} {labels labels' next : List ℕ} {came : Option (Result Answer Apart)}
+  line : {lines : List (List ℕ)} {passed : ℕ} {differences : List Difference} {device device' : Option Rows} {labels labels' : List ℕ} (next : List ℕ) (came : Option (Result Answer Apart))
       → Checked lines passed differences device labels → IsBare next → Uses device labels (script_part next) (results_of came) device' labels'
       → Checked (lines ++ next ∷ []) (passed + met (expected_part next) came) (differences ++ unmet (length lines + 1) (expected_part next) came) device' labels'
 

@@ -1,6 +1,6 @@
 -- What a line of a file expects, and which answers are that (own).
 use Rattle.std.specs.Prelude.{ℕ, ◌+◌, List, [], ◌∷◌, ◌++◌, take, drop, codes, decimal, Bool, true, false, if◌then◌else◌, Option, None, Some, Result, Ok, Err}
-use Rattle.std.specs.Slice.Bytes.{bytes_eq}
+use Rattle.std.specs.Str.{bytes_eq}
 use Rattle.drm_table.specs.declared.answers.Answer.{Answer}
 use Rattle.drm_table.specs.declared.answers.Answer.TheVariants as answers
 use Rattle.drm_table.specs.declared.apart.Apart.{Apart}

@@ -1,6 +1,6 @@
 -- A check that goes on, line by line.
-use Rattle.std.specs.Prelude.{◌≡◌, ℕ, ◌+◌, ◌*◌, ◌<◌, ◌≤◌, ◌^◌, List, [], ◌⊎◌, Option, None, Some, unwrap_or, length}
-use Rattle.std.specs.Prelude.{◌++◌}
+use Rattle.std.specs.Prelude.{◌≡◌, ℕ, ◌+◌, ◌*◌, ◌<◌, ◌≤◌, ◌^◌, List, [], ◌++◌, ◌⊎◌, Option, None, Some, unwrap_or, length}
+use Rattle.drm_model.specs.Rows.{Rows}
 use Rattle.drm_streams.specs.Streams.{SourceAccount, SinkAccount}
 use Rattle.drm_streams.specs.Turns.{Gave, Took}
 use Rattle.drm_runs.specs.Lines.{joined}
@@ -15,18 +15,23 @@ use Rattle.drm_checks.specs.declared.check.Report.{Report}
 abbrev pub first_check : ℕ → Check
 first_check turns = record { reader = record { held = []; pending = [] }; checker = first_checker turns }
 
--- A check so far, with what is pending of the bytes that were read.
-pub record SoFar (name : List ℕ) (source source' : SourceAccount) (sink sink' : SinkAccount) (turns : ℕ) (check : Check) : Type 0 where
+-- A check so far, with n lines used, and this behind them in what was read.
+pub record SoFar (name : List ℕ) (source source' : SourceAccount) (sink sink' : SinkAccount) (turns has n passed failed : ℕ) (rest : List ℕ) (device : Option Rows) (labels : List ℕ) : Type 0 where
   pub read : List ℕ
   pub lines : List (List ℕ)
   pub differences : List Difference
   pub gave : Gave source source' read
   pub took : Took sink sink' (differences_text name differences)
-  pub cost : source'.counts.calls + sink'.counts.calls + check.checker.turns ≡ source.counts.calls + sink.counts.calls + turns
-  pub checked : Checked lines check.checker.passed differences check.checker.interpreter.device check.checker.interpreter.labels
-  pub failed : check.checker.failed ≡ length differences
-  pub whole : read ≡ joined lines ++ check.reader.pending
-  pub number : check.checker.number ≡ length lines
+  pub cost : source'.counts.calls + sink'.counts.calls + has ≡ source.counts.calls + sink.counts.calls + turns
+  pub checked : Checked lines passed differences device labels
+  pub counted : failed ≡ length differences
+  pub whole : read ≡ joined lines ++ rest
+  pub number : n ≡ length lines
+
+-- a check so far, as it stands
+abbrev pub StandsSoFar : List ℕ → SourceAccount → SourceAccount → SinkAccount → SinkAccount → ℕ → Check → Type 0
+StandsSoFar name source source' sink sink' turns check =
+    SoFar name source source' sink sink' turns check.checker.turns check.checker.number check.checker.passed check.checker.failed check.reader.pending check.checker.interpreter.device check.checker.interpreter.labels
 
 -- what is left to be read and written, at most
 abbrev pub fuel_of : Check → ℕ
@@ -48,7 +53,7 @@ ChecksLast old new name sink sink' end =
 
 -- One line more was checked.
 pub record GoesOn (name : List ℕ) (old new : Check) (source source' : SourceAccount) (sink sink' : SinkAccount) : Type 0 where
-  pub so_far : (start : SourceAccount) (first : SinkAccount) (turns : ℕ) → SoFar name start source first sink turns old → SoFar name start source' first sink' turns new
+  pub so_far : (start : SourceAccount) (first : SinkAccount) (turns : ℕ) → StandsSoFar name start source first sink turns old → StandsSoFar name start source' first sink' turns new
   pub number : new.checker.number ≡ old.checker.number + 1
   pub passed : new.checker.passed ≤ old.checker.passed + 1
   pub failed : new.checker.failed ≤ old.checker.failed + 1
@@ -64,4 +69,4 @@ report_of check end = record { end = end; passed = check.checker.passed; failed 
 abbrev pub Advances : Check → Check → List ℕ → SourceAccount → SourceAccount → SinkAccount → SinkAccount → Option ScriptEnd → Type 0
 Advances old new name source source' sink sink' None = GoesOn name old new source source' sink sink'
 Advances old new name source source' sink sink' (Some end) =
-    (start : SourceAccount) (first : SinkAccount) (turns : ℕ) → SoFar name start source first sink turns old → Checks name start source' first sink' turns (report_of new end)
+    (start : SourceAccount) (first : SinkAccount) (turns : ℕ) → StandsSoFar name start source first sink turns old → Checks name start source' first sink' turns (report_of new end)

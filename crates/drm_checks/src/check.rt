@@ -28,7 +28,7 @@ struct Check {
 
 impl Check {
     ghost use Rattle.std.specs.Prelude.{◌≡◌, ◌<◌, ◌+◌, ◌^◌};
-    ghost use Rattle.drm_checks.specs.Steps.{Advances, IsCountable, ChecksHeld, ChecksLast, first_check};
+    ghost use Rattle.drm_checks.specs.Steps.{Advances, IsCountable, ChecksLast, first_check};
 
     fn new(turns: u64) -> Check
         ensures { result ≡ first_check turns }

@@ -91,7 +91,7 @@ impl Checker {
         requires passed { self.old.passed + 1 < 2 ^ 64 }
         requires failed { self.old.failed + 1 < 2 ^ 64 }
         requires sink_calls { (K.account sink.old).counts.calls + self.old.turns < 2 ^ 48 }
-        ensures { Notes self.old self.new name.now (option_map (λ e. e.now) expected) came.now (K.account sink.old) (K.account sink.new) result }
+        ensures { Notes self.old self.new name.now (option_map (λ e. e.now) expected.entry) came.now (K.account sink.old) (K.account sink.new) result }
     {
         let Some(expected) = expected else {
             return None;

@@ -1,6 +1,6 @@
 //! What a line expects, and whether an answer is that.
 
-ghost use Rattle.std.specs.Prelude.{◌≡◌, ◌+◌, ◌≤◌, length, IfSome};
+ghost use Rattle.std.specs.Prelude.{◌≡◌, ◌+◌, ◌≤◌, true, length, IfSome};
 ghost use Rattle.std.specs.Option.{option_map};
 ghost use Rattle.drm_checks.specs.Expectations.{arrow_from, arrow_place, begins_with_arrow, expected_part, is_met, is_short, is_whole, meets, script_part, numbered};
 
@@ -12,17 +12,20 @@ use drm_table::{Answer, Apart};
 const ARROW: &[u8] = b" -> ";
 
 fn begins_with_arrow(text: &[u8]) -> bool
-    ensures { result ≡ begins_with_arrow text.now }
+    ensures value { result ≡ begins_with_arrow text.now }
+    ensures within { result ≡ true → 4 ≤ length text.now }
 {
     text.starts_with(ARROW)
 }
 
 /// Where ` -> ` begins for the first time.
 fn first_arrow(line: &[u8]) -> Option<usize>
-    ensures { result ≡ arrow_from 0 line.now }
+    ensures place { result ≡ arrow_from 0 line.now }
+    ensures within { IfSome result (λ at. at + 4 ≤ length line.now) }
 {
     for at in 0..line.len() {
-        if begins_with_arrow(&line[at..]) {
+        let (_, rest) = line.split_at(at);
+        if begins_with_arrow(rest) {
             return Some(at);
         }
     }

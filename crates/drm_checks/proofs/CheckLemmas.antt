@@ -1,0 +1,230 @@
+-- A check, line by line.
+use Rattle.std.proofs.Common.{◌≡◌, ℕ, ◌+◌, ◌*◌, ◌≤◌, ◌<◌, List, [], ◌∷◌, ◌++◌, length, refl, sym, ap, subst, ◌∙◌, arith, Some, None, Option, Result, append_assoc, append-nil, length-append, inl, inr, ◌⊎◌, unwrap_or, Bool, true, false, if◌then◌else◌}
+use Rattle.std.proofs.lemmas.Grind.{flat_map-append}
+use Rattle.std.proofs.lemmas.List.{length_push}
+use Rattle.drm_table.specs.declared.answers.Answer.{Answer}
+use Rattle.drm_table.specs.declared.apart.Apart.{Apart}
+use Rattle.drm_model.specs.Rows.{Rows}
+use Rattle.drm_streams.specs.Streams.{SourceAccount, SinkAccount}
+use Rattle.drm_streams.specs.Turns.{Took, Spends, Pays, PaysPart}
+use Rattle.drm_streams.specs.Texts.{WritesOut}
+use Rattle.drm_streams.specs.declared.turns.Written.{Written}
+use Rattle.drm_streams.specs.declared.turns.Written.TheVariants as written
+use Rattle.drm_streams.proofs.Accounts.{Gave-none, Gave-then, Took-none, Took-then}
+use Rattle.drm_runs.specs.Lines.{IsBare, joined}
+use Rattle.drm_runs.specs.Runs.{Covers, EndsLine}
+use Rattle.drm_runs.specs.Reader.{IsTooLong}
+use Rattle.drm_runs.specs.Script.{Uses, IsMisplaced, WantsDevice, unbound}
+use Rattle.drm_runs.specs.declared.run.ScriptEnd.{ScriptEnd}
+use Rattle.drm_runs.specs.declared.run.ScriptEnd.TheVariants as ends
+use Rattle.drm_runs.proofs.RunLemmas.{joined-push}
+use Rattle.drm_checks.specs.Expectations.{script_part, expected_part, is_met}
+use Rattle.drm_checks.specs.Differences.{Difference, differences_text, text_of, met, unmet, end_of_writing}
+use Rattle.drm_checks.specs.Checker.{UsedLine, Stands, ChecksLine, results_of}
+use Rattle.drm_checks.specs.Checker.ChecksLine.{used, bad, unmade}
+use Rattle.drm_checks.specs.Checks.{Checked, Checks, Ends, IsUnusable, IsUnmade, IsFront}
+use Rattle.drm_checks.specs.Checks.Checked.{start, line}
+use Rattle.drm_checks.specs.Steps.{SoFar}
+use Rattle.drm_checks.specs.declared.checker.Checker.{Checker}
+use Rattle.drm_checks.specs.declared.check.Report.{Report}
+
+-- ---- a line has one expectation at most
+
+few : (b : Bool) (d : Difference) → (if b then 1 else 0) + length (if b then [] else d ∷ []) ≤ 1
+few true d = omega arith
+few false d = omega arith
+
+pub one_at_most : (n : ℕ) (expected : Option (List ℕ)) (came : Option (Result Answer Apart)) → met expected came + length (unmet n expected came) ≤ 1
+one_at_most n None came = omega arith
+one_at_most n (Some expected) came = few (is_met expected came) (record { number = n; expected = expected; came = came })
+
+-- ---- a check so far
+
+pub so_far_none : (name : List ℕ) (source : SourceAccount) (sink : SinkAccount) (turns : ℕ) → SoFar name source source sink sink turns turns 0 0 0 [] None unbound
+so_far_none name source sink turns = record {
+  read = [];
+  lines = [];
+  differences = [];
+  gave = Gave-none source;
+  took = Took-none sink;
+  cost = refl;
+  checked = start;
+  counted = refl;
+  whole = refl;
+  number = refl;
+}
+
+abbrev pub report_with : ScriptEnd → ℕ → ℕ → Report
+report_with end passed failed = record { end = end; passed = passed; failed = failed }
+
+module _ {name : List ℕ} {s0 s : SourceAccount} {k0 k : SinkAccount} {turns has n passed failed : ℕ} {rest : List ℕ} {device : Option Rows} {labels : List ℕ} (so : SoFar name s0 s k0 k turns has n passed failed rest device labels) where
+  pub so_far_read : (s' : SourceAccount) (given : List ℕ) (has' : ℕ) (rest' : List ℕ) → Spends s s' given has has' → rest ++ given ≡ rest' → SoFar name s0 s' k0 k turns has' n passed failed rest' device labels
+  so_far_read s' given has' rest' p e = record {
+    read = so.read ++ given;
+    lines = so.lines;
+    differences = so.differences;
+    gave = Gave-then so.gave p.gave;
+    took = so.took;
+    cost = (let a = p.cost in let b = so.cost in omega arith);
+    checked = so.checked;
+    counted = so.counted;
+    whole = ap (λ z. z ++ given) so.whole ∙ append_assoc (joined so.lines) rest given ∙ ap (λ z. joined so.lines ++ z) e;
+    number = so.number;
+  }
+
+  module _ (next : List ℕ) (came : Option (Result Answer Apart)) (device' : Option Rows) (labels' : List ℕ) (bare : IsBare next) (u : Uses device labels (script_part next) (results_of came) device' labels') where
+    found : List Difference
+    found = unmet (n + 1) (expected_part next) came
+
+    grown : Checked (so.lines ++ next ∷ []) (passed + met (expected_part next) came) (so.differences ++ found) device' labels'
+    unfolding found
+    grown = subst (λ m. Checked (so.lines ++ next ∷ []) (passed + met (expected_part next) came) (so.differences ++ unmet (m + 1) (expected_part next) came) device' labels') (sym so.number) (line next came so.checked bare u)
+
+    grown_text : differences_text name (so.differences ++ found) ≡ differences_text name so.differences ++ differences_text name found
+    grown_text = flat_map-append (text_of name) so.differences found
+
+    grown_count : failed + length found ≡ length (so.differences ++ found)
+    grown_count = let a = so.counted in let b = length-append so.differences found in omega (arith, a, b)
+
+    grown_number : length (so.lines ++ next ∷ []) ≡ n + 1
+    grown_number = let a = so.number in let b = length_push so.lines next in omega (arith, a, b)
+
+    pub so_far_line : (more : List ℕ) (k' : SinkAccount) (has' : ℕ) → rest ≡ next ++ 10 ∷ more → Pays k k' (differences_text name (unmet (n + 1) (expected_part next) came)) has has'
+        → SoFar name s0 s k0 k' turns has' (n + 1) (passed + met (expected_part next) came) (failed + length (unmet (n + 1) (expected_part next) came)) more device' labels'
+    unfolding found
+    so_far_line more k' has' e p = record {
+      read = so.read;
+      lines = so.lines ++ next ∷ [];
+      differences = so.differences ++ found;
+      gave = so.gave;
+      took = subst (Took k0 k') (sym grown_text) (Took-then so.took p.took);
+      cost = (let a = p.cost in let b = so.cost in omega (arith, a, b));
+      checked = grown;
+      counted = grown_count;
+      whole = so.whole ∙ ap (λ z. joined so.lines ++ z) e ∙ sym (joined-push so.lines next more);
+      number = sym grown_number;
+    }
+
+    -- the line covers what was read, up to what stands behind its end
+    covered : (more : List ℕ) → rest ≡ next ++ more → EndsLine (s0.counts.ends < s.counts.ends) more
+        → (behind : List ℕ) × Covers (s0.counts.ends < s.counts.ends) so.read (so.lines ++ next ∷ []) behind
+    covered more e (inl (none, f)) =
+        let whole : so.read ≡ joined so.lines ++ next = so.whole ∙ ap (λ z. joined so.lines ++ z) (e ∙ ap (λ z. next ++ z) none ∙ append-nil next) in
+        ([], inr (so.lines, next, refl, whole, refl, f))
+    covered more e (inr (behind, f)) =
+        let whole : so.read ≡ joined (so.lines ++ next ∷ []) ++ behind =
+        so.whole ∙ ap (λ z. joined so.lines ++ z) (e ∙ ap (λ z. next ++ z) f) ∙ sym (joined-push so.lines next behind) in
+        (behind, inl whole)
+
+    -- a front of the difference was told
+    cut_front : (k' : SinkAccount) (has' : ℕ) (p : PaysPart k k' (differences_text name found) has has') → IsFront (differences_text name so.differences ++ p.front) (differences_text name (so.differences ++ found))
+    cut_front k' has' p =
+        (p.rest, grown_text ∙ ap (λ z. differences_text name so.differences ++ z) p.parts ∙ sym (append_assoc (differences_text name so.differences) p.front p.rest))
+
+    pub cut_by_fault : (more : List ℕ) (k' : SinkAccount) (has' : ℕ) → rest ≡ next ++ more → EndsLine (s0.counts.ends < s.counts.ends) more
+        → PaysPart k k' (differences_text name (unmet (n + 1) (expected_part next) came)) has has' → k.counts.faults < k'.counts.faults
+        → Checks name s0 s k0 k' turns (report_with ends.WriteFault (passed + met (expected_part next) came) (failed + length (unmet (n + 1) (expected_part next) came)))
+    unfolding found
+    cut_by_fault more k' has' e until p f =
+        let over = covered more e until in record {
+          read = so.read;
+          written = differences_text name so.differences ++ p.front;
+          lines = so.lines ++ next ∷ [];
+          rest = over.0;
+          differences = so.differences ++ found;
+          device = device';
+          labels = labels';
+          gave = so.gave;
+          took = Took-then so.took p.pays.took;
+          turns_at_most = (let a = p.pays.cost in let b = so.cost in omega (arith, a, b));
+          checked = grown;
+          failed = grown_count;
+          covers = over.1;
+          ends = ((let a = so.took.counts.faults in omega (arith, a, f)), cut_front k' has' p);
+        }
+
+    pub cut_by_turns : (more : List ℕ) (k' : SinkAccount) (has' : ℕ) → rest ≡ next ++ more → EndsLine (s0.counts.ends < s.counts.ends) more
+        → PaysPart k k' (differences_text name (unmet (n + 1) (expected_part next) came)) has has' → has' ≡ 0
+        → Checks name s0 s k0 k' turns (report_with ends.TurnsUsed (passed + met (expected_part next) came) (failed + length (unmet (n + 1) (expected_part next) came)))
+    unfolding found
+    cut_by_turns more k' has' e until p none =
+        let over = covered more e until in record {
+          read = so.read;
+          written = differences_text name so.differences ++ p.front;
+          lines = so.lines ++ next ∷ [];
+          rest = over.0;
+          differences = so.differences ++ found;
+          device = device';
+          labels = labels';
+          gave = so.gave;
+          took = Took-then so.took p.pays.took;
+          turns_at_most = (let a = p.pays.cost in let b = so.cost in omega (arith, a, b));
+          checked = grown;
+          failed = grown_count;
+          covers = over.1;
+          ends = ((let a = p.pays.cost in let b = so.cost in omega (arith, a, b, none)), cut_front k' has' p);
+        }
+
+    -- the last line, behind which the input has ended
+    pub done_last : (k' : SinkAccount) (has' : ℕ) → rest ≡ next → s0.counts.ends < s.counts.ends → Pays k k' (differences_text name (unmet (n + 1) (expected_part next) came)) has has'
+        → Checks name s0 s k0 k' turns (report_with ends.Done (passed + met (expected_part next) came) (failed + length (unmet (n + 1) (expected_part next) came)))
+    unfolding found
+    done_last k' has' e f p = record {
+      read = so.read;
+      written = differences_text name so.differences ++ differences_text name found;
+      lines = so.lines ++ next ∷ [];
+      rest = [];
+      differences = so.differences ++ found;
+      device = device';
+      labels = labels';
+      gave = so.gave;
+      took = Took-then so.took p.took;
+      turns_at_most = (let a = p.cost in let b = so.cost in omega (arith, a, b));
+      checked = grown;
+      failed = grown_count;
+      covers = inr (so.lines, next, refl, so.whole ∙ ap (λ z. joined so.lines ++ z) e, refl, f);
+      ends = (refl, f, sym grown_text);
+    }
+
+  -- a check that ends with no further line
+  ended : (end : ScriptEnd) → Ends end (s0.counts.ends < s.counts.ends) s0 s k0 k turns (length so.lines) device rest (differences_text name so.differences) (differences_text name so.differences)
+      → Checks name s0 s k0 k turns (report_with end passed failed)
+  ended end h = record {
+    read = so.read;
+    written = differences_text name so.differences;
+    lines = so.lines;
+    rest = rest;
+    differences = so.differences;
+    device = device;
+    labels = labels;
+    gave = so.gave;
+    took = so.took;
+    turns_at_most = (let b = so.cost in omega (arith, b));
+    checked = so.checked;
+    failed = so.counted;
+    covers = inl so.whole;
+    ends = h;
+  }
+
+  pub done_empty : rest ≡ [] → s0.counts.ends < s.counts.ends → Checks name s0 s k0 k turns (report_with ends.Done passed failed)
+  done_empty e f = ended ends.Done (e, f, refl)
+
+  pub read_fault : IsBare rest → s0.counts.faults < s.counts.faults → Checks name s0 s k0 k turns (report_with ends.ReadFault passed failed)
+  read_fault bare f = ended ends.ReadFault (bare, f, refl)
+
+  pub turns_used : has ≡ 0 → Checks name s0 s k0 k turns (report_with ends.TurnsUsed passed failed)
+  turns_used none = ended ends.TurnsUsed ((let b = so.cost in omega (arith, b, none)), ([], sym (append-nil (differences_text name so.differences))))
+
+  unusable : IsUnusable (s0.counts.ends < s.counts.ends) device rest → Checks name s0 s k0 k turns (report_with (ends.Malformed (n + 1)) passed failed)
+  unusable h = ended (ends.Malformed (n + 1)) (ap (λ m. m + 1) so.number, h, refl)
+
+  pub too_long : (front more : List ℕ) → IsTooLong rest front more → Checks name s0 s k0 k turns (report_with (ends.Malformed (n + 1)) passed failed)
+  too_long front more t = unusable (record { bad = front; behind = more; parts = t.whole; bare = t.bare; because = inr t.long })
+
+  pub malformed : (next more : List ℕ) → rest ≡ next ++ more → EndsLine (s0.counts.ends < s.counts.ends) more → IsBare next → IsMisplaced device (script_part next)
+      → Checks name s0 s k0 k turns (report_with (ends.Malformed (n + 1)) passed failed)
+  malformed next more e until bare m = unusable (record { bad = next; behind = more; parts = e; bare = bare; because = inl (m, until) })
+
+  pub no_memory : (next more : List ℕ) → rest ≡ next ++ more → EndsLine (s0.counts.ends < s.counts.ends) more → IsBare next → device ≡ None → WantsDevice (script_part next)
+      → Checks name s0 s k0 k turns (report_with ends.NoMemory passed failed)
+  no_memory next more e until bare none wants = ended ends.NoMemory (record { next = next; behind = more; parts = e; bare = bare; until = until; none = none; wants = wants }, refl)

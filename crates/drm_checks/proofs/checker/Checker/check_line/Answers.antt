@@ -1,0 +1,19 @@
+use Rattle.std.proofs.Common.{None, Some, subst, sym, refl}
+use Rattle.drm_runs.specs.Script.{IsMisplaced, WantsDevice}
+use Rattle.drm_checks.specs.Checker.ChecksLine.{bad, unmade}
+use Rattle.drm_checks.proofs.CheckerLemmas.{used_line}
+use Rattle.drm_checks.proofs.checker.Checker.check_line.Goals as goal
+
+pub returns-in-Unanswered : goal.returns-in-Unanswered
+returns-in-Unanswered g c = used_line _ _ _ _ _ _ _ None _ _ _ c.parts_of.ensures.script c.parts_of.ensures.expected c.in-Unanswered.ensures c.note.ensures
+
+pub returns-in-Answered : goal.returns-in-Answered
+returns-in-Answered g c = used_line _ _ _ _ _ _ _ (Some c.in-Answered.answer) _ _ _ c.parts_of.ensures.script c.parts_of.ensures.expected c.in-Answered.ensures c.note-in-Answered.ensures
+
+pub returns-in-Malformed : goal.returns-in-Malformed
+returns-in-Malformed g c =
+    bad (subst (IsMisplaced c.args.self.now.interpreter.device) c.parts_of.ensures.script c.in-Malformed.ensures) (record { unwritten = refl; turns = refl; passed = refl; failed = refl })
+
+pub returns-in-NoMemory : goal.returns-in-NoMemory
+returns-in-NoMemory g c =
+    unmade c.in-NoMemory.ensures.0 (subst WantsDevice c.parts_of.ensures.script c.in-NoMemory.ensures.1) (record { unwritten = refl; turns = refl; passed = refl; failed = refl })
