@@ -31,3 +31,7 @@ added totals report = record {
 
 abbrev pub totals_text : Totals → List ℕ
 totals_text totals = decimal totals.passed ++ (codes " passed, " ++ (decimal totals.failed ++ (codes " failed" ++ 10 ∷ [])))
+
+-- the file's name and the line's number
+abbrev pub malformed_text : List ℕ → ℕ → List ℕ
+malformed_text name number = name ++ (codes ":" ++ (decimal number ++ (codes ": malformed" ++ 10 ∷ [])))

@@ -9,7 +9,7 @@ mod totals;
 
 pub use check::{Report, check_script};
 pub use laws::checked_files_are_scripts;
-pub use totals::{Totals, write_totals};
+pub use totals::{Totals, write_malformed, write_totals};
 
 #[cfg(test)]
 mod tests;

@@ -2,7 +2,7 @@
 
 ghost use Rattle.std.specs.Prelude.{◌+◌, ◌<◌, ◌^◌};
 
-use crate::{Report, Totals, check_script, write_totals};
+use crate::{Report, Totals, check_script, write_malformed, write_totals};
 use drm_runs::ScriptEnd;
 use drm_streams::Written;
 use drm_test_streams::{CutSink, CutSource};
@@ -146,4 +146,7 @@ fn totals(rt: HostRuntime) {
     let mut turns = 9;
     assert_eq!(rt; write_totals(&totals, &mut sink, &mut turns), Written::Whole);
     assert_eq!(rt; sink.written(), b"8 passed, 3 failed\n".as_slice());
+    let mut sink: CutSink<512> = CutSink::new(512);
+    assert_eq!(rt; write_malformed("f", 12, &mut sink, &mut turns), Written::Whole);
+    assert_eq!(rt; sink.written(), b"f:12: malformed\n".as_slice());
 }

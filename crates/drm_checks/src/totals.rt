@@ -2,7 +2,7 @@
 
 ghost use Rattle.std.specs.Prelude.{◌≡◌, ◌<◌, ◌+◌, ◌^◌};
 ghost use Rattle.drm_streams.specs.Texts.{WritesOut};
-ghost use Rattle.drm_checks.specs.Totals.{totals_text};
+ghost use Rattle.drm_checks.specs.Totals.{malformed_text, totals_text};
 
 use crate::check::Report;
 use drm_runs::ScriptEnd;
@@ -60,4 +60,14 @@ pub fn write_totals<K: Sink>(totals: &Totals, sink: &mut K, turns: &mut u64) -> 
     let passed = passed.format(totals.passed).as_bytes();
     let failed = failed.format(totals.failed).as_bytes();
     put_each(sink, &[passed, b" passed, ", failed, b" failed\n"], turns)
+}
+
+/// Writes that a line of a file is malformed: the file's name and the line's number.
+pub fn write_malformed<K: Sink>(name: &str, number: u64, sink: &mut K, turns: &mut u64) -> Written
+    requires { (K.account sink.old).counts.calls + turns.old < 2 ^ 48 }
+    ensures { WritesOut result (K.account sink.old) (K.account sink.new) (malformed_text name.now number) turns.old turns.new }
+{
+    let mut buffer = itoa::Buffer::new();
+    let digits = buffer.format(number).as_bytes();
+    put_each(sink, &[name.as_bytes(), b":", digits, b": malformed\n"], turns)
 }

@@ -1,8 +1,9 @@
 -- What the program ends with, by how the script's run or the listing ended (own).
-use Rattle.std.specs.Prelude.{ℕ, List, [], Option, None, Some}
+use Rattle.std.specs.Prelude.{ℕ, List, [], Option, None, Some, nat_lt, if◌then◌else◌}
 use Rattle.std.specs.Option.{option_map_or}
 use Rattle.drm_runs.specs.declared.run.ScriptEnd.{ScriptEnd}
 use Rattle.drm_runs.specs.declared.run.ScriptEnd.TheVariants as ends
+use Rattle.drm_checks.specs.declared.totals.Totals.{Totals}
 use Rattle.drm_server.specs.declared.listing.ListEnd.{ListEnd}
 use Rattle.drm_server.specs.declared.listing.ListEnd.TheVariants as list_ends
 use Rattle.drm_server.specs.declared.faults.Fault.{Fault}
@@ -30,3 +31,7 @@ status_by fault = option_map_or fault_status fault 0
 
 abbrev pub line_by : Option Fault → List ℕ
 line_by fault = option_map_or fault_line fault []
+
+-- 2 where a file is malformed, 4 where an expectation isn't met, and else 0
+abbrev pub checks_status : Totals → ℕ
+checks_status totals = if nat_lt 0 totals.malformed then 2 else (if nat_lt 0 totals.failed then 4 else 0)

@@ -3,9 +3,9 @@
 use crate::sockets::Paths;
 use clap::builder::ValueParser;
 use clap::error::ErrorKind;
-use clap::{Arg, ArgMatches, Command, Error};
+use clap::{Arg, ArgAction, ArgMatches, Command, Error};
 use drm_listeners::Counts;
-use std::alloc::Global;
+use std::alloc::{AllocError, Global};
 
 /// How many connections each listener may be told to accept.
 const MOST_CONNECTIONS: u64 = 64;
@@ -18,10 +18,12 @@ pub(crate) struct Serving<'a> {
 }
 
 /// What the command line asks for.
-#[derive(Clone, Copy, Debug, PartialEq, Eq)]
+#[derive(Debug, PartialEq, Eq, Drop)]
 pub(crate) enum Asked<'a> {
     /// To run a script.
     Run,
+    /// To check the files of these paths.
+    Check(Vec<&'a str>),
     /// To serve connections.
     Serve(Serving<'a>),
 }
@@ -41,6 +43,20 @@ fn count<'a>(alloc: Global, name: &'a str, help: &'a str) -> Arg<'a> {
         .value_parser(ValueParser::unsigned(0, MOST_CONNECTIONS))
         .default_value("1")
         .help(help)
+}
+
+fn check_command<'a>(alloc: Global) -> Result<Command<'a>, Error> {
+    let files = Arg::new(alloc, "FILE")
+        .required(true)
+        .num_args(1..)
+        .action(ArgAction::Append)
+        .help("A script whose lines tell behind ' -> ' which answers they expect");
+    let command = Command::new(alloc, "check")
+        .about(
+            "Runs the scripts in files, each on a device of its own, and tells which answers are not those that they expect",
+        )
+        .arg(files)?;
+    Ok(command)
 }
 
 fn serve_command<'a>(alloc: Global) -> Result<Command<'a>, Error> {
@@ -78,6 +94,7 @@ fn command<'a>(alloc: Global) -> Result<Command<'a>, Error> {
         .about("A display and buffer server with the access rules of the Linux DRM interface")
         .subcommand_required(true)
         .subcommand(run)?
+        .subcommand(check_command(alloc)?)?
         .subcommand(serve_command(alloc)?)?;
     Ok(command)
 }
@@ -96,6 +113,17 @@ fn serving_of<'a>(matches: &ArgMatches<'a>) -> Option<Serving<'a>> {
     Some(Serving { paths, counts })
 }
 
+fn files_of<'a>(alloc: Global, matches: &ArgMatches<'a>) -> Result<Option<Vec<&'a str>>, AllocError> {
+    let Some(paths) = matches.get_strs("FILE") else {
+        return Ok(None);
+    };
+    let mut files = Vec::new(alloc);
+    for path in paths {
+        files.push(*path)?;
+    }
+    Ok(Some(files))
+}
+
 /// Reads the words of a command line, the program's name first. An error is a mistake, a request for help, or want of memory.
 pub(crate) fn read_words<'a>(
     alloc: Global,
@@ -104,6 +132,7 @@ pub(crate) fn read_words<'a>(
     let matches = command(alloc)?.try_get_matches_from(words)?;
     match matches.subcommand() {
         Some(("run", _)) => Ok(Some(Asked::Run)),
+        Some(("check", found)) => Ok(files_of(alloc, found)?.map(Asked::Check)),
         Some(("serve", found)) => Ok(serving_of(found).map(Asked::Serve)),
         _ => Ok(None),
     }

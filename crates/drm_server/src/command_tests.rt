@@ -4,6 +4,7 @@ use crate::Counts;
 use crate::command_line::{Asked, Serving, read_words};
 use crate::sockets::Paths;
 use std::alloc::{AllocError, Global};
+use std::process::Abort;
 use std::test::Fail;
 
 /// The words of a line, which stand between single spaces.
@@ -28,6 +29,28 @@ fn serving(cards: u8, renders: u8, roots: u8) -> Option<Asked<'static>> {
         roots,
     };
     Some(Asked::Serve(Serving { paths, counts }))
+}
+
+/// The files that a line asks to be checked, joined by single spaces.
+fn check_files(
+    rt: &impl Abort,
+    alloc: Global,
+    line: &str,
+    files: &[&str],
+) -> Result<(), Fail> {
+    let words = words_of(alloc, line)?;
+    let Some(Asked::Check(found)) = read_words(alloc, words.as_slice())? else {
+        return Err(Fail::from("no check"));
+    };
+    assert_eq!(rt; found.as_slice(), files);
+    Ok(())
+}
+
+#[test]
+fn files_to_check(rt: HostRuntime) -> Result<(), Fail> {
+    check_files(&rt, rt.alloc(), "drm_server check a", &["a"])?;
+    check_files(&rt, rt.alloc(), "drm_server check a b/c.script a", &["a", "b/c.script", "a"])?;
+    check_files(&rt, rt.alloc(), "drm_server check -- -a", &["-a"])
 }
 
 #[test]
@@ -56,10 +79,12 @@ fn command_lines_that_are_read(rt: HostRuntime) -> Result<(), Fail> {
 
 #[test]
 fn command_lines_that_are_refused(rt: HostRuntime) -> Result<(), Fail> {
-    let rows: [(&str, bool); 11] = [
+    let rows: [(&str, bool); 14] = [
         ("drm_server", true),
         ("drm_server fly", true),
         ("drm_server run now", true),
+        ("drm_server check", true),
+        ("drm_server check a --fast", true),
         ("drm_server serve --card c --render r", true),
         ("drm_server serve --card c --render r --root", true),
         (
@@ -79,6 +104,7 @@ fn command_lines_that_are_refused(rt: HostRuntime) -> Result<(), Fail> {
             true,
         ),
         ("drm_server --help", false),
+        ("drm_server check --help", false),
         ("drm_server serve --help", false),
     ];
     for (line, is_mistake) in rows {

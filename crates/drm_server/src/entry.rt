@@ -1,5 +1,6 @@
 //! The program.
 
+use crate::checking::check;
 use crate::command_line::{Asked, Serving, is_memory, read_words};
 use crate::faults::{Fault, FaultLine};
 use crate::listing::list_audit;
@@ -96,6 +97,7 @@ fn carry_out<R: Input + Print + Eprint + Files + Net + Log + Wait + Threads + Sy
 ) -> Outcome {
     match read_words(alloc, words) {
         Ok(Some(Asked::Run)) => run(rt, alloc),
+        Ok(Some(Asked::Check(files))) => check(rt, alloc, files.as_slice()),
         Ok(Some(Asked::Serve(serving))) => serve(rt, alloc, serving),
         Ok(None) => outcome_of_fault(Fault::CommandLine),
         Err(error) => stop_at(rt, &error),

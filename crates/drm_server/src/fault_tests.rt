@@ -1,6 +1,7 @@
 //! What the program tells of the ends of runs and listings, and of faults.
 
 use super::*;
+use drm_checks::Totals;
 use drm_sessions::Class;
 use std::alloc::{AllocError, Global};
 use std::process::Abort;
@@ -29,6 +30,28 @@ fn outcomes(rt: HostRuntime) {
     assert_eq!(&rt; unwritten.line.as_str(), "fault: write");
     let unlisted = outcome_of_listing(&ListEnd::TurnsUsed);
     assert_eq!(&rt; unlisted.line.as_str(), "fault: turns");
+}
+
+#[test]
+fn ends_of_checks(rt: HostRuntime) {
+    let rows: [(u64, u64, u64, u8); 6] = [
+        (0, 0, 0, 0),
+        (7, 0, 0, 0),
+        (7, 1, 0, 4),
+        (0, 1, 0, 4),
+        (7, 0, 1, 2),
+        (7, 3, 2, 2),
+    ];
+    for (passed, failed, malformed, status) in rows {
+        let totals = Totals {
+            passed,
+            failed,
+            malformed,
+        };
+        let outcome = outcome_of_checks(&totals);
+        assert_eq!(&rt; outcome.status, status);
+        assert_eq!(&rt; outcome.line.as_str(), "");
+    }
 }
 
 #[test]

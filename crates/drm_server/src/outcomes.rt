@@ -1,11 +1,12 @@
 //! What the program ends with.
 
-ghost use Rattle.std.specs.Prelude.{◌≡◌};
-ghost use Rattle.drm_server.specs.Outcomes.{fault_of, fault_of_listing, line_by, status_by};
+ghost use Rattle.std.specs.Prelude.{◌≡◌, []};
+ghost use Rattle.drm_server.specs.Outcomes.{checks_status, fault_of, fault_of_listing, line_by, status_by};
 ghost use Rattle.drm_server.specs.Faults.{fault_status, fault_line};
 
 use crate::faults::{Fault, FaultLine};
 use crate::listing::ListEnd;
+use drm_checks::Totals;
 use drm_runs::ScriptEnd;
 
 /// An exit status, and the line that tells of the fault on standard error; empty where there is none.
@@ -15,7 +16,7 @@ pub struct Outcome {
     pub line: FaultLine,
 }
 
-fn script_fault(end: &ScriptEnd) -> Option<Fault>
+pub(crate) fn script_fault(end: &ScriptEnd) -> Option<Fault>
     ensures { result ≡ fault_of end.now }
 {
     match end {
@@ -77,4 +78,23 @@ pub fn outcome_of_listing(end: &ListEnd) -> Outcome
     ensures line { result.line ≡ line_by (fault_of_listing end.now) }
 {
     outcome_by(listing_fault(end))
+}
+
+/// What `drm_server check` ends with, by what its files came to: status 0 where all expectations are met, 4 where one isn't,
+/// and 2 where a file is malformed (own).
+pub fn outcome_of_checks(totals: &Totals) -> Outcome
+    ensures status { result.status ≡ checks_status totals.now }
+    ensures line { result.line ≡ [] }
+{
+    let status = if totals.malformed > 0 {
+        2
+    } else if totals.failed > 0 {
+        4
+    } else {
+        0
+    };
+    Outcome {
+        status,
+        line: FaultLine::empty(),
+    }
 }
