@@ -1,5 +1,5 @@
 -- Where ` -> ` stands in a line.
-use Rattle.std.proofs.Common.{◌≡◌, ℕ, ◌+◌, ◌<◌, ◌∙◌, List, [], ◌∷◌, length, drop, refl, sym, ap, arith, Bool, true, false, if◌then◌else◌, Option, Some, length-drop}
+use Rattle.std.proofs.Common.{◌≡◌, ℕ, ◌+◌, ◌<◌, ◌∙◌, List, [], ◌∷◌, length, drop, refl, ap, arith, Bool, true, false, if◌then◌else◌, Some, length-drop}
 use Rattle.std.proofs.lemmas.List.{drop-drop}
 use Rattle.drm_checks.specs.Expectations.{arrow_from, begins_with_arrow}
 

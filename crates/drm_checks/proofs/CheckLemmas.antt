@@ -1,5 +1,5 @@
 -- A check, line by line.
-use Rattle.std.proofs.Common.{◌≡◌, ℕ, ◌+◌, ◌*◌, ◌≤◌, ◌<◌, List, [], ◌∷◌, ◌++◌, length, refl, sym, ap, subst, ◌∙◌, arith, Some, None, Option, Result, append_assoc, append-nil, length-append, inl, inr, ◌⊎◌, unwrap_or, Bool, true, false, if◌then◌else◌}
+use Rattle.std.proofs.Common.{◌≡◌, ℕ, ◌+◌, ◌≤◌, ◌<◌, List, [], ◌∷◌, ◌++◌, length, refl, sym, ap, subst, ◌∙◌, arith, Some, None, Option, Result, append_assoc, append-nil, length-append, inl, inr, Bool, true, false, if◌then◌else◌}
 use Rattle.std.proofs.lemmas.Grind.{flat_map-append}
 use Rattle.std.proofs.lemmas.List.{length_push}
 use Rattle.drm_table.specs.declared.answers.Answer.{Answer}
@@ -7,9 +7,6 @@ use Rattle.drm_table.specs.declared.apart.Apart.{Apart}
 use Rattle.drm_model.specs.Rows.{Rows}
 use Rattle.drm_streams.specs.Streams.{SourceAccount, SinkAccount}
 use Rattle.drm_streams.specs.Turns.{Took, Spends, Pays, PaysPart}
-use Rattle.drm_streams.specs.Texts.{WritesOut}
-use Rattle.drm_streams.specs.declared.turns.Written.{Written}
-use Rattle.drm_streams.specs.declared.turns.Written.TheVariants as written
 use Rattle.drm_streams.proofs.Accounts.{Gave-none, Gave-then, Took-none, Took-then}
 use Rattle.drm_runs.specs.Lines.{IsBare, joined}
 use Rattle.drm_runs.specs.Runs.{Covers, EndsLine}
@@ -19,13 +16,11 @@ use Rattle.drm_runs.specs.declared.run.ScriptEnd.{ScriptEnd}
 use Rattle.drm_runs.specs.declared.run.ScriptEnd.TheVariants as ends
 use Rattle.drm_runs.proofs.RunLemmas.{joined-push}
 use Rattle.drm_checks.specs.Expectations.{script_part, expected_part, is_met}
-use Rattle.drm_checks.specs.Differences.{Difference, differences_text, text_of, met, unmet, end_of_writing}
-use Rattle.drm_checks.specs.Checker.{UsedLine, Stands, ChecksLine, results_of}
-use Rattle.drm_checks.specs.Checker.ChecksLine.{used, bad, unmade}
-use Rattle.drm_checks.specs.Checks.{Checked, Checks, Ends, IsUnusable, IsUnmade, IsFront}
+use Rattle.drm_checks.specs.Differences.{Difference, differences_text, text_of, met, unmet}
+use Rattle.drm_checks.specs.Checker.{results_of}
+use Rattle.drm_checks.specs.Checks.{Checked, Checks, Ends, IsUnusable, IsFront}
 use Rattle.drm_checks.specs.Checks.Checked.{start, line}
 use Rattle.drm_checks.specs.Steps.{SoFar}
-use Rattle.drm_checks.specs.declared.checker.Checker.{Checker}
 use Rattle.drm_checks.specs.declared.check.Report.{Report}
 
 -- ---- a line has one expectation at most

@@ -1,5 +1,5 @@
 -- A checked file is a script.
-use Rattle.std.proofs.Common.{◌≡◌, ℕ, List, [], ◌∷◌, ◌++◌, map, refl, sym, ap, subst, ◌∙◌, Option, Result, take, cond, Bool, true, false, None, Some}
+use Rattle.std.proofs.Common.{◌≡◌, ℕ, List, [], ◌∷◌, ◌++◌, map, refl, sym, ap, subst, Option, Result, None, Some}
 use Rattle.drm_table.specs.declared.answers.Answer.{Answer}
 use Rattle.drm_table.specs.declared.apart.Apart.{Apart}
 use Rattle.drm_model.specs.Rows.{Rows}

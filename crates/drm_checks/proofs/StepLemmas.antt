@@ -1,5 +1,5 @@
 -- A check goes on by a line, or ends with it.
-use Rattle.std.proofs.Common.{◌≡◌, ℕ, ◌+◌, ◌*◌, ◌≤◌, ◌<◌, List, [], ◌∷◌, ◌++◌, length, refl, sym, ap, subst, ◌∙◌, arith, Some, None, Option, Result, append-nil, inl, inr, unwrap_or}
+use Rattle.std.proofs.Common.{◌≡◌, ℕ, ◌+◌, ◌<◌, List, [], ◌∷◌, ◌++◌, length, refl, sym, ap, subst, arith, Some, None, Option, Result, append-nil, inl, inr, unwrap_or}
 use Rattle.drm_table.specs.declared.answers.Answer.{Answer}
 use Rattle.drm_table.specs.declared.apart.Apart.{Apart}
 use Rattle.drm_model.specs.Rows.{Rows}
@@ -20,7 +20,7 @@ use Rattle.drm_checks.specs.Differences.{differences_text, met, unmet, end_of_wr
 use Rattle.drm_checks.specs.Checker.{UsedLine, Stands, ChecksLine, results_of}
 use Rattle.drm_checks.specs.Checker.ChecksLine.{used, bad, unmade}
 use Rattle.drm_checks.specs.Checks.{Checks}
-use Rattle.drm_checks.specs.Steps.{SoFar, StandsSoFar, ChecksLast, GoesOn, Advances, first_check, fuel_of, report_of}
+use Rattle.drm_checks.specs.Steps.{SoFar, StandsSoFar, ChecksLast, GoesOn, Advances, first_check, report_of}
 use Rattle.drm_checks.specs.declared.checker.Checker.{Checker}
 use Rattle.drm_checks.specs.declared.check.Check.{Check}
 use Rattle.drm_checks.proofs.CheckLemmas.{report_with, one_at_most, so_far_none, so_far_read, so_far_line, cut_by_fault, cut_by_turns, done_last, done_empty, read_fault, turns_used, too_long, malformed, no_memory}

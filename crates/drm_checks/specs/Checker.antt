@@ -10,7 +10,7 @@ use Rattle.drm_runs.specs.Interpreter.{at_start}
 use Rattle.drm_runs.specs.declared.run.ScriptEnd.{ScriptEnd}
 use Rattle.drm_runs.specs.declared.run.ScriptEnd.TheVariants as ends
 use Rattle.drm_checks.specs.Expectations.{script_part, expected_part}
-use Rattle.drm_checks.specs.Differences.{Difference, differences_text, met, unmet, end_of_writing}
+use Rattle.drm_checks.specs.Differences.{differences_text, met, unmet, end_of_writing}
 use Rattle.drm_checks.specs.declared.checker.Checker.{Checker}
 
 abbrev pub first_checker : ℕ → Checker

@@ -1,11 +1,11 @@
 -- The check of a file: which of its expectations are met by the answers of its script, and how it ends (own).
-use Rattle.std.specs.Prelude.{◌≡◌, ℕ, ◌+◌, ◌<◌, ◌≤◌, List, [], ◌∷◌, ◌++◌, ◌⊎◌, Option, None, Some, Result, length, map}
+use Rattle.std.specs.Prelude.{◌≡◌, ℕ, ◌+◌, ◌<◌, ◌≤◌, List, [], ◌∷◌, ◌++◌, ◌⊎◌, Option, None, Result, length, map}
 use Rattle.drm_table.specs.declared.answers.Answer.{Answer}
 use Rattle.drm_table.specs.declared.apart.Apart.{Apart}
 use Rattle.drm_model.specs.Rows.{Rows}
 use Rattle.drm_streams.specs.Streams.{SourceAccount, SinkAccount}
 use Rattle.drm_streams.specs.Turns.{Gave, Took}
-use Rattle.drm_runs.specs.Lines.{IsBare, joined}
+use Rattle.drm_runs.specs.Lines.{IsBare}
 use Rattle.drm_runs.specs.Script.{Script, Uses, IsMisplaced, WantsDevice, unbound}
 use Rattle.drm_runs.specs.Runs.{Covers, EndsLine}
 use Rattle.drm_runs.specs.declared.run.ScriptEnd.{ScriptEnd}

@@ -1,15 +1,15 @@
 //! The lines of a file, checked one by one.
 
+ghost use Rattle.std.specs.Prelude.{◌≡◌, ◌<◌, ◌+◌, ◌^◌};
+ghost use Rattle.drm_streams.specs.Texts.{WritesOut};
+ghost use Rattle.drm_checks.specs.Differences.{difference_text, end_of_writing};
+
 use crate::expectations::{is_met, parts_of};
 use drm_runs::{Interpreter, LineResult, ScriptEnd};
 use drm_script::line_of;
 use drm_streams::{Sink, Written, put_each};
 use drm_table::{Answer, Apart};
 use std::alloc::Global;
-
-ghost use Rattle.std.specs.Prelude.{◌≡◌, ◌<◌, ◌+◌, ◌^◌};
-ghost use Rattle.drm_streams.specs.Texts.{WritesOut};
-ghost use Rattle.drm_checks.specs.Differences.{difference_text, end_of_writing};
 
 /// How a check ends where a difference could not be told.
 fn end_of(written: Written) -> Option<ScriptEnd>
@@ -39,11 +39,26 @@ fn tell<K: Sink>(
     match came {
         Some(answer) => {
             let line = line_of(answer);
-            let texts = [name, b":", digits, b": expected ", expected, b", came ", line.as_bytes()];
+            let texts = [
+                name,
+                b":",
+                digits,
+                b": expected ",
+                expected,
+                b", came ",
+                line.as_bytes(),
+            ];
             put_each(sink, &texts, turns)
         }
         None => {
-            let texts = [name, b":", digits, b": expected ", expected, b", came nothing\n"];
+            let texts = [
+                name,
+                b":",
+                digits,
+                b": expected ",
+                expected,
+                b", came nothing\n",
+            ];
             put_each(sink, &texts, turns)
         }
     }

@@ -85,10 +85,16 @@ fn is_short(expected: &[u8], answer: &Result<Answer, Apart>) -> bool
 {
     match answer {
         Ok(Answer::Denied(rule)) => {
-            numbered("denied ", u64::from(rule.number())).as_str().as_bytes() == expected
+            numbered("denied ", u64::from(rule.number()))
+                .as_str()
+                .as_bytes()
+                == expected
         }
         Ok(_) => false,
-        Err(apart) => numbered("apart ", u64::from(apart.number())).as_str().as_bytes() == expected,
+        Err(apart) => numbered("apart ", u64::from(apart.number()))
+            .as_str()
+            .as_bytes()
+            == expected,
     }
 }
 

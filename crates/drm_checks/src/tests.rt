@@ -29,7 +29,14 @@ fn check_file(
 {
     let report = check_script(alloc, "f", &mut source, &mut sink, turns);
     let (end, passed, failed, told) = expected;
-    assert_eq!(rt; report, Report { end, passed, failed });
+    assert_eq!(rt;
+        report,
+        Report {
+            end,
+            passed,
+            failed
+        }
+    );
     assert_eq!(rt; sink.written(), told);
 }
 
@@ -72,13 +79,26 @@ fn files_in_one_piece(rt: HostRuntime) {
             1,
             b"f:1: expected client 2, came client 1\n",
         ),
-        (b"open a card ->client 1\n", ScriptEnd::Malformed(1), 0, 0, b""),
+        (
+            b"open a card ->client 1\n",
+            ScriptEnd::Malformed(1),
+            0,
+            0,
+            b"",
+        ),
         (b"", ScriptEnd::Done, 0, 0, b""),
     ];
     for (file, end, passed, failed, told) in rows {
         let source = CutSource::new(file, 256);
         let sink = CutSink::new(512);
-        check_file(&rt, rt.alloc(), source, sink, TURNS, (end, passed, failed, told));
+        check_file(
+            &rt,
+            rt.alloc(),
+            source,
+            sink,
+            TURNS,
+            (end, passed, failed, told),
+        );
     }
 }
 
@@ -87,7 +107,14 @@ fn files_in_pieces(rt: HostRuntime) {
     for piece in [1, 2, 3, 7] {
         let source = CutSource::new(MET, piece);
         let sink = CutSink::new(piece);
-        check_file(&rt, rt.alloc(), source, sink, TURNS, (ScriptEnd::Done, 6, 0, b""));
+        check_file(
+            &rt,
+            rt.alloc(),
+            source,
+            sink,
+            TURNS,
+            (ScriptEnd::Done, 6, 0, b""),
+        );
     }
 }
 
@@ -133,20 +160,45 @@ fn checks_that_are_cut(rt: HostRuntime) {
 #[test]
 fn totals(rt: HostRuntime) {
     let reports = [
-        Report { end: ScriptEnd::Done, passed: 7, failed: 0 },
-        Report { end: ScriptEnd::Malformed(3), passed: 1, failed: 2 },
-        Report { end: ScriptEnd::Done, passed: 0, failed: 1 },
+        Report {
+            end: ScriptEnd::Done,
+            passed: 7,
+            failed: 0,
+        },
+        Report {
+            end: ScriptEnd::Malformed(3),
+            passed: 1,
+            failed: 2,
+        },
+        Report {
+            end: ScriptEnd::Done,
+            passed: 0,
+            failed: 1,
+        },
     ];
     let mut totals = Totals::new();
     for report in &reports {
         totals = totals.add(report);
     }
-    assert_eq!(rt; totals, Totals { passed: 8, failed: 3, malformed: 1 });
+    assert_eq!(rt;
+        totals,
+        Totals {
+            passed: 8,
+            failed: 3,
+            malformed: 1
+        }
+    );
     let mut sink: CutSink<512> = CutSink::new(512);
     let mut turns = 9;
-    assert_eq!(rt; write_totals(&totals, &mut sink, &mut turns), Written::Whole);
+    assert_eq!(rt;
+        write_totals(&totals, &mut sink, &mut turns),
+        Written::Whole
+    );
     assert_eq!(rt; sink.written(), b"8 passed, 3 failed\n".as_slice());
     let mut sink: CutSink<512> = CutSink::new(512);
-    assert_eq!(rt; write_malformed("f", 12, &mut sink, &mut turns), Written::Whole);
+    assert_eq!(rt;
+        write_malformed("f", 12, &mut sink, &mut turns),
+        Written::Whole
+    );
     assert_eq!(rt; sink.written(), b"f:12: malformed\n".as_slice());
 }

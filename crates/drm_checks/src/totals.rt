@@ -69,5 +69,9 @@ pub fn write_malformed<K: Sink>(name: &str, number: u64, sink: &mut K, turns: &m
 {
     let mut buffer = itoa::Buffer::new();
     let digits = buffer.format(number).as_bytes();
-    put_each(sink, &[name.as_bytes(), b":", digits, b": malformed\n"], turns)
+    put_each(
+        sink,
+        &[name.as_bytes(), b":", digits, b": malformed\n"],
+        turns,
+    )
 }

@@ -13,7 +13,7 @@ use Rattle.drm_script.specs.Reading.{reading_of}
 use Rattle.drm_runs.specs.Script.{Uses, made, event_of, label_bound, program_limits, test_topology, empty_device}
 use Rattle.drm_runs.specs.Script.Uses.{limited, asked}
 use Rattle.drm_runs.specs.Script.IsMisplaced.{late}
-use Rattle.drm_runs.specs.Script.WantsDevice.{limits as wants_limits, command as wants_command}
+use Rattle.drm_runs.specs.Script.WantsDevice.{limits as wants_limits}
 use Rattle.drm_runs.specs.Interpreter.{Standing, Steps, Interprets, SetsLimits}
 use Rattle.drm_runs.specs.declared.interpreter.LineResult.{LineResult}
 use Rattle.drm_runs.specs.declared.interpreter.LineResult.TheVariants as results

@@ -1,5 +1,5 @@
 -- A line that is read piece by piece.
-use Rattle.std.proofs.Common.{◌≡◌, ℕ, ◌+◌, ◌*◌, ◌<◌, ◌≤◌, List, [], ◌∷◌, ◌++◌, length, refl, sym, ap, subst, ◌∙◌, arith, append-nil, append_assoc, length-append, Option, Some, None}
+use Rattle.std.proofs.Common.{◌≡◌, ℕ, List, [], ◌++◌, length, refl, sym, ap, subst, ◌∙◌, arith, append-nil, None}
 use Rattle.drm_streams.specs.Streams.{SourceAccount}
 use Rattle.drm_streams.specs.Turns.{Spends, Refills}
 use Rattle.drm_streams.specs.declared.turns.Refill.{Refill}

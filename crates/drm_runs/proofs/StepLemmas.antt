@@ -1,14 +1,12 @@
 -- A run goes on by a line, or ends with it.
-use Rattle.std.proofs.Common.{◌≡◌, ℕ, ◌+◌, ◌*◌, ◌≤◌, ◌<◌, List, [], ◌∷◌, ◌++◌, length, refl, sym, ap, subst, ◌∙◌, arith, Some, None, Option, inl, inr}
-use Rattle.drm_model.specs.Rows.{Rows}
+use Rattle.std.proofs.Common.{◌≡◌, ℕ, ◌+◌, ◌≤◌, List, [], ◌∷◌, ◌++◌, length, refl, sym, ap, subst, arith, Some, None, Option, inl, inr}
 use Rattle.drm_streams.specs.Streams.{SourceAccount, SinkAccount}
 use Rattle.drm_runs.specs.Reader.{Buffered, Reads}
 use Rattle.drm_runs.specs.Runs.{Runs}
-use Rattle.drm_runs.specs.RunSteps.{SoFar, StandsSoFar, UsesHeld, UsesLast, GoesOn, Advances, at_first, fuel_of}
+use Rattle.drm_runs.specs.RunSteps.{SoFar, StandsSoFar, UsesHeld, UsesLast, GoesOn, Advances, at_first}
 use Rattle.drm_runs.specs.declared.run.Run.{Run}
 use Rattle.drm_runs.specs.declared.run.ScriptEnd.{ScriptEnd}
 use Rattle.drm_runs.specs.declared.run.ScriptEnd.TheVariants as ends
-use Rattle.drm_runs.specs.declared.reader.NextLine.{NextLine}
 use Rattle.drm_runs.specs.declared.reader.NextLine.TheVariants as next_line
 use Rattle.drm_runs.proofs.RunLemmas.{so_far_none, so_far_read, so_far_used, used_cost, run_stop, run_last, run_done_empty, run_too_long, run_read_fault, run_turns_used}
 

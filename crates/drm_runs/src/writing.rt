@@ -20,11 +20,7 @@ pub(crate) enum LineEnd {
 }
 
 /// Writes the line of an answer.
-fn write_answer<K: Sink>(
-    answer: &Result<Answer, Apart>,
-    sink: &mut K,
-    turns: &mut u64,
-) -> LineEnd
+fn write_answer<K: Sink>(answer: &Result<Answer, Apart>, sink: &mut K, turns: &mut u64) -> LineEnd
     requires { (K.account sink.old).counts.calls + turns.old < 2 ^ 48 }
     ensures { WritesAnswer answer.now (K.account sink.old) (K.account sink.new) turns.old turns.new result }
 {

@@ -113,7 +113,10 @@ fn serving_of<'a>(matches: &ArgMatches<'a>) -> Option<Serving<'a>> {
     Some(Serving { paths, counts })
 }
 
-fn files_of<'a>(alloc: Global, matches: &ArgMatches<'a>) -> Result<Option<Vec<&'a str>>, AllocError> {
+fn files_of<'a>(
+    alloc: Global,
+    matches: &ArgMatches<'a>,
+) -> Result<Option<Vec<&'a str>>, AllocError> {
     let Some(paths) = matches.get_strs("FILE") else {
         return Ok(None);
     };

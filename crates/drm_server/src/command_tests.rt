@@ -32,12 +32,7 @@ fn serving(cards: u8, renders: u8, roots: u8) -> Option<Asked<'static>> {
 }
 
 /// The files that a line asks to be checked, joined by single spaces.
-fn check_files(
-    rt: &impl Abort,
-    alloc: Global,
-    line: &str,
-    files: &[&str],
-) -> Result<(), Fail> {
+fn check_files(rt: &impl Abort, alloc: Global, line: &str, files: &[&str]) -> Result<(), Fail> {
     let words = words_of(alloc, line)?;
     let Some(Asked::Check(found)) = read_words(alloc, words.as_slice())? else {
         return Err(Fail::from("no check"));
@@ -49,7 +44,12 @@ fn check_files(
 #[test]
 fn files_to_check(rt: HostRuntime) -> Result<(), Fail> {
     check_files(&rt, rt.alloc(), "drm_server check a", &["a"])?;
-    check_files(&rt, rt.alloc(), "drm_server check a b/c.script a", &["a", "b/c.script", "a"])?;
+    check_files(
+        &rt,
+        rt.alloc(),
+        "drm_server check a b/c.script a",
+        &["a", "b/c.script", "a"],
+    )?;
     check_files(&rt, rt.alloc(), "drm_server check -- -a", &["-a"])
 }
 

@@ -14,9 +14,7 @@ pub use drm_runs::{ScriptEnd, run_script, scripts_are_answered};
 pub use entry::program;
 pub use faults::{Fault, FaultLine};
 pub use listing::{ListEnd, list_audit};
-pub use outcomes::{
-    Outcome, outcome_of, outcome_of_checks, outcome_of_fault, outcome_of_listing,
-};
+pub use outcomes::{Outcome, outcome_of, outcome_of_checks, outcome_of_fault, outcome_of_listing};
 
 #[cfg(test)]
 mod command_tests;

@@ -1,7 +1,7 @@
 -- What calls of a loop count.
 use Rattle.std.proofs.Common.{◌≡◌, ℕ, ◌+◌, ◌<◌, ◌≤◌, zero, suc, List, [], ◌∷◌, ◌++◌, length, refl, ap, ◌∙◌, arith}
 use Rattle.std.specs.List.{AllByRecursion}
-use Rattle.drm_streams.specs.Streams.{Counts, one_call, one_interruption, counts_put}
+use Rattle.drm_streams.specs.Streams.{Counts, one_call, counts_put}
 use Rattle.drm_streams.specs.Turns.{interrupted, pieces_put, PutPieces}
 use Rattle.drm_streams.specs.declared.sink.Put.TheVariants as put
 

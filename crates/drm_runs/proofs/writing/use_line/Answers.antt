@@ -1,4 +1,4 @@
-use Rattle.std.proofs.Common.{[], ◌∷◌}
+use Rattle.std.proofs.Common.{[]}
 use Rattle.drm_streams.proofs.Accounts.{Pays-none}
 use Rattle.drm_runs.proofs.WritingLemmas.{answered_uses}
 use Rattle.drm_runs.proofs.writing.use_line.Goals as goal

@@ -1,4 +1,4 @@
-use Rattle.std.proofs.Common.{None, Some, subst, sym, refl}
+use Rattle.std.proofs.Common.{None, Some, subst, refl}
 use Rattle.drm_runs.specs.Script.{IsMisplaced, WantsDevice}
 use Rattle.drm_checks.specs.Checker.ChecksLine.{bad, unmade}
 use Rattle.drm_checks.proofs.CheckerLemmas.{used_line}

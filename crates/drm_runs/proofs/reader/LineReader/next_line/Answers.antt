@@ -1,5 +1,4 @@
 use Rattle.std.proofs.Common.{arith}
-use Rattle.drm_runs.proofs.ReaderLemmas.{reads_so_far_none}
 use Rattle.drm_runs.proofs.reader.LineReader.next_line.Goals as goal
 
 pub returns-in-Some : goal.returns-in-Some

@@ -1,4 +1,4 @@
-use Rattle.std.proofs.Common.{◌≡◌, List, ℕ, ap, sym, ◌∙◌}
+use Rattle.std.proofs.Common.{List, ℕ, ap, sym, ◌∙◌}
 use Rattle.drm_runs.specs.Reader.{Buffered}
 use Rattle.drm_runs.proofs.LineLemmas.{nothing_pending}
 use Rattle.drm_runs.proofs.ReaderLemmas.{refilled_other}
