@@ -3,7 +3,7 @@
 
 Run it at the top of the repository after an edit of tools/worked_rows.txt, and `rt fmt` in crates/drm_model then.
 It writes crates/drm_model/proofs/Worked*.antt and their lines in proofs/Lib.antt. A row whose answers are not those of
-the definitions is refused by the check.
+the definitions is refused by the check. It also writes each row as a file of examples/rows, for `drm_server check`.
 """
 import pathlib
 import re
@@ -12,6 +12,7 @@ MODEL = pathlib.Path("crates/drm_model")
 TABLE = pathlib.Path("crates/drm_table/specs")
 ARRAYS = pathlib.Path("crates/drm_index_array/specs")
 LISTS = pathlib.Path("crates/drm_lists/specs")
+SCRIPTS = pathlib.Path("examples/rows")
 MODES = pathlib.Path("crates/drm_modes/specs")
 # the word of each answer that is told by numbers, and the variant that stands for it
 ANSWERS = {
@@ -176,12 +177,21 @@ def lemma(name, lines):
     return head + "".join(used(line, body) for line in uses) + "\n" + body
 
 
+def write_scripts(rows):
+    for old in SCRIPTS.glob("*.script"):
+        old.unlink()
+    for name, lines in rows.items():
+        (SCRIPTS / f"{name}.script").write_text("".join(f"{line}\n" for line in lines))
+
+
 def main():
+    rows = read(pathlib.Path("tools/worked_rows.txt"))
+    write_scripts(rows)
     proofs = MODEL / "proofs"
     for old in proofs.glob("Worked*.antt"):
         old.unlink()
     modules = []
-    for name, lines in read(pathlib.Path("tools/worked_rows.txt")).items():
+    for name, lines in rows.items():
         module = "Worked" + "".join(word.capitalize() for word in name.split("_"))
         (proofs / f"{module}.antt").write_text(lemma(name, lines))
         modules.append(module)
