@@ -4,7 +4,6 @@ use crate::Counts;
 use crate::command_line::{Asked, Serving, read_words};
 use crate::sockets::Paths;
 use std::alloc::{AllocError, Global};
-use std::process::Abort;
 use std::test::Fail;
 
 /// The words of a line, which stand between single spaces.
@@ -17,7 +16,7 @@ fn words_of(alloc: Global, line: &str) -> Result<Vec<String>, AllocError> {
 }
 
 /// What `serve` is asked with so many connections on the sockets c, r and t.
-fn serving(cards: u8, renders: u8, roots: u8) -> Option<Asked<'static>> {
+fn serving(cards: u8, renders: u8, roots: u8) -> Serving<'static> {
     let paths = Paths {
         card: "c",
         render: "r",
@@ -28,35 +27,46 @@ fn serving(cards: u8, renders: u8, roots: u8) -> Option<Asked<'static>> {
         renders,
         roots,
     };
-    Some(Asked::Serve(Serving { paths, counts }))
+    Serving { paths, counts }
 }
 
-/// The files that a line asks to be checked, joined by single spaces.
-fn check_files(rt: &impl Abort, alloc: Global, line: &str, files: &[&str]) -> Result<(), Fail> {
+/// What a line asks for: `run`, `serve`, or `check` and each file between bars.
+fn asked_text(alloc: Global, line: &str) -> Result<String, Fail> {
     let words = words_of(alloc, line)?;
-    let Some(Asked::Check(found)) = read_words(alloc, words.as_slice())? else {
-        return Err(Fail::from("no check"));
-    };
-    assert_eq!(rt; found.as_slice(), files);
+    let mut text = String::new(alloc);
+    match read_words(alloc, words.as_slice())? {
+        Some(Asked::Run) => text.push_str("run")?,
+        Some(Asked::Serve(_)) => text.push_str("serve")?,
+        Some(Asked::Check(files)) => {
+            text.push_str("check|")?;
+            for file in &files {
+                text.push_str(file)?;
+                text.push_str("|")?;
+            }
+        }
+        None => {}
+    }
+    Ok(text)
+}
+
+#[test]
+fn what_is_asked_for(rt: HostRuntime) -> Result<(), Fail> {
+    let rows: [(&str, &str); 5] = [
+        ("drm_server run", "run"),
+        ("drm_server serve --card c --render r --root t", "serve"),
+        ("drm_server check a", "check|a|"),
+        ("drm_server check a b/c.script a", "check|a|b/c.script|a|"),
+        ("drm_server check -- -a", "check|-a|"),
+    ];
+    for (line, asked) in rows {
+        assert_eq!(&rt; asked_text(rt.alloc(), line)?.as_str(), asked);
+    }
     Ok(())
 }
 
 #[test]
-fn files_to_check(rt: HostRuntime) -> Result<(), Fail> {
-    check_files(&rt, rt.alloc(), "drm_server check a", &["a"])?;
-    check_files(
-        &rt,
-        rt.alloc(),
-        "drm_server check a b/c.script a",
-        &["a", "b/c.script", "a"],
-    )?;
-    check_files(&rt, rt.alloc(), "drm_server check -- -a", &["-a"])
-}
-
-#[test]
-fn command_lines_that_are_read(rt: HostRuntime) -> Result<(), Fail> {
-    let rows: [(&str, Option<Asked<'_>>); 4] = [
-        ("drm_server run", Some(Asked::Run)),
+fn servers_that_are_asked_for(rt: HostRuntime) -> Result<(), Fail> {
+    let rows: [(&str, Serving<'_>); 3] = [
         (
             "drm_server serve --card c --render r --root t",
             serving(1, 1, 1),
@@ -70,9 +80,12 @@ fn command_lines_that_are_read(rt: HostRuntime) -> Result<(), Fail> {
             serving(2, 1, 1),
         ),
     ];
-    for (line, asked) in rows {
+    for (line, wanted) in rows {
         let words = words_of(rt.alloc(), line)?;
-        assert_eq!(&rt; read_words(rt.alloc(), words.as_slice())?, asked);
+        match read_words(rt.alloc(), words.as_slice())? {
+            Some(Asked::Serve(found)) => assert_eq!(&rt; found, wanted),
+            _ => return Err(Fail::from("another command")),
+        }
     }
     Ok(())
 }
