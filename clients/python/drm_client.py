@@ -375,8 +375,10 @@ def connect(path: str, deadline: Deadline) -> socket.socket:
                 return made
             except BlockingIOError:  # as many connections as the listener lets wait are waiting already
                 time.sleep(min(0.01, deadline.left()))
-    except BaseException:
+    except BaseException as error:
         made.close()
+        if isinstance(error, OSError):
+            error.filename = path
         raise
 
 
