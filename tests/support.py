@@ -122,11 +122,18 @@ def build():
     return ran.returncode == 0 and PROGRAM.exists()
 
 
+class Skipped(Exception):
+    """What a test raises that can't be run here, with the reason."""
+
+
 def passes(test):
-    """Runs one test in a folder of its own, and says how it went."""
+    """Runs one test in a folder of its own, and says how it went; None where it couldn't be run here."""
     with tempfile.TemporaryDirectory(prefix="drm_") as folder:
         try:
             test(pathlib.Path(folder))
+        except Skipped as reason:
+            print(f"skipped {test.__name__}: {reason}", flush=True)
+            return None
         except Exception:  # whatever a test raises, it has failed, and the others go on
             print(f"FAILED {test.__name__}", flush=True)
             traceback.print_exc(file=sys.stdout)
@@ -136,7 +143,10 @@ def passes(test):
 
 
 def run_tests(found):
-    """Runs each test `test_..` among what a file defines, prints `N passed, M failed`, and gives the status of the program."""
+    """Runs each test `test_..` among what a file defines, or those that the command line names, and gives the status.
+
+    The last line is `N passed, M failed`.
+    """
     if not build():
         print("0 passed, 1 failed")
         return 1
@@ -145,5 +155,5 @@ def run_tests(found):
     tests = [value for name, value in found.items() if name.startswith("test_") and (not chosen or name in chosen)]
     results = [passes(test) for test in tests]
     failed = results.count(False)
-    print(f"{len(results) - failed} passed, {failed} failed")
+    print(f"{results.count(True)} passed, {failed} failed")
     return 1 if failed else 0
