@@ -377,7 +377,7 @@ def connect(path: str, deadline: Deadline) -> socket.socket:
                 time.sleep(min(0.01, deadline.left()))
     except BaseException as error:
         made.close()
-        if isinstance(error, OSError):
+        if isinstance(error, OSError) and error.errno is not None:
             error.filename = path
         raise
 
