@@ -63,6 +63,11 @@ def terminals_of(path):
     return [commands_of(block) for _, block in blocks_of(path) if block[0].startswith("$ ")]
 
 
+def server_line():
+    """The command that starts a server in the README."""
+    return next(block[0] for _, block in blocks_of("README.md") if block[0].startswith("./drm_server serve "))
+
+
 def fences_of(path, language):
     """The blocks between fences of a document that are in this language."""
     return re.findall(rf"^```{language}\n(.*?)^```$", (REPOSITORY / path).read_text(), re.M | re.S)

@@ -6,16 +6,19 @@ from support import expect
 SVG = "{http://www.w3.org/2000/svg}"
 
 
+def edges_of(left, top, width, height):
+    return left, top, left + width, top + height
+
+
 def drawn(text):
     """The boxes of a picture as edges, its texts as place and extent, and its arrows as lists of points."""
     root = ElementTree.fromstring(text)
-    number = {name: lambda element, name=name: float(element.get(name)) for name in ("x", "y", "width", "height")}
-    boxes = [(number["x"](box), number["y"](box), number["x"](box) + number["width"](box), number["y"](box) + number["height"](box))
+    boxes = [edges_of(*(float(box.get(name)) for name in ("x", "y", "width", "height")))
              for box in root.iter(SVG + "rect") if (box.get("class") or "").startswith("box")]
     # letters are at most so wide, on the average of a line
     letter = {"title": 8.8, "line": 7.0, "head": 8.8}
-    texts = [(shown.text, number["x"](shown), number["y"](shown), letter[shown.get("class")] * len(shown.text), shown.get("class"))
-             for shown in root.iter(SVG + "text")]
+    texts = [(shown.text, float(shown.get("x")), float(shown.get("y")), letter[shown.get("class")] * len(shown.text),
+              shown.get("class")) for shown in root.iter(SVG + "text")]
     arrows = [[float(word) for word in path.get("d").split() if word not in "MC"] for path in root.iter(SVG + "path")
               if path.get("class") == "arrow"]
     return float(root.get("width")), float(root.get("height")), boxes, texts, arrows
@@ -23,6 +26,11 @@ def drawn(text):
 
 def overlap(one, other):
     return one[0] < other[2] and other[0] < one[2] and one[1] < other[3] and other[1] < one[3]
+
+
+def overlapping(frames):
+    """Those that overlap with one before them."""
+    return [one for place, one in enumerate(frames) if any(overlap(one, other) for other in frames[:place])]
 
 
 def is_inside(box, x, y):
@@ -39,9 +47,9 @@ def expect_picture(text, count_boxes, count_arrows):
     """No two boxes and no two texts overlap, each text is in its box, and no arrow crosses a box."""
     width, height, boxes, texts, arrows = drawn(text)
     expect("boxes and arrows", (len(boxes), len(arrows)), (count_boxes, count_arrows))
-    expect("boxes that overlap", [box for place, box in enumerate(boxes) if any(overlap(box, other) for other in boxes[:place])], [])
+    expect("boxes that overlap", overlapping(boxes), [])
     frames = [(x, y - 11, x + extent, y + 3) for _, x, y, extent, _ in texts]
-    expect("texts that overlap", [place for place, one in enumerate(frames) if any(overlap(one, other) for other in frames[:place])], [])
+    expect("texts that overlap", overlapping(frames), [])
     outside = [shown for (shown, *_, kind), (left, top, right, bottom) in zip(texts, frames) if kind != "head" and not any(
         box[0] < left and box[1] < top and right < box[2] and bottom < box[3] for box in boxes)]
     expect("texts outside of boxes", outside, [])

@@ -13,7 +13,8 @@ static void tell(const struct zirkoshe_client *client, int failed, const char *f
 
     va_start(values, format);
     if (failed && client->rule)
-        printf("%s %" PRIu32 " %s %d", client->rule < 50 ? "denied" : "apart", client->rule, zirkoshe_rule_name(client->rule), -failed);
+        printf("%s %" PRIu32 " %s %d", client->rule < 50 ? "denied" : "apart", client->rule, zirkoshe_rule_name(client->rule),
+               -failed);
     else if (failed)
         printf("error %s", strerror(-failed));
     else

@@ -260,7 +260,8 @@ def client_box(audit: Audit, row: ClientRow) -> Box:
     may_set = [audit.name_of(number) for number in audit.may_set(row)]
     lines += wrap("may set", may_set) if may_set else ["may set nothing"]
     lines += [f"handle {hold.handle}" for hold in audit.holds if hold.client == row.client]
-    return Box(f"client {row.client}", tuple(line.strip() for line in lines), "auditor" if row.client == audit.auditor else "client")
+    look = "auditor" if row.client == audit.auditor else "client"
+    return Box(f"client {row.client}", tuple(line.strip() for line in lines), look)
 
 
 def buffer_box(audit: Audit, row: ObjectRow) -> Box:
@@ -388,8 +389,8 @@ def text(x: float, y: float, words: str, kind: str) -> str:
 
 def drawn_box(at: Place) -> List[str]:
     """A box with its title and its lines."""
-    parts = [f'<rect class="box {at.box.look}" x="{at.left:.1f}" y="{at.top:.1f}" width="{at.width:.1f}" height="{at.height:.1f}" '
-             'rx="7"/>', text(at.left + PAD, at.top + PAD + 12, at.box.title, "title")]
+    parts = [f'<rect class="box {at.box.look}" x="{at.left:.1f}" y="{at.top:.1f}" width="{at.width:.1f}" '
+             f'height="{at.height:.1f}" rx="7"/>', text(at.left + PAD, at.top + PAD + 12, at.box.title, "title")]
     parts += [text(at.left + PAD, at.baseline(number), line, "line") for number, line in enumerate(at.box.lines)]
     return parts
 

@@ -2,9 +2,9 @@
 //!
 //! A `Client` is one connection to one of the server's sockets, with a method for each call. A refusal by a rule is
 //! `Error::Denied`, what stands apart from the rules `Error::Apart`, an answer that is none `Error::Protocol`, and what the
-//! connection itself fails of `Error::Io`: `TimedOut` where the server doesn't answer in time, `UnexpectedEof` where it has closed
-//! the connection. After `Protocol` and `Io` the connection is closed, since what comes late could be taken for the answer to
-//! another call. docs/FORMATS.md has the calls, the answers and the frames.
+//! connection itself fails of `Error::Io`: `TimedOut` where the server doesn't answer in time, `UnexpectedEof` where it has
+//! gone. After `Protocol` and `Io` the connection is closed, since what comes late could be taken for the answer to another
+//! call; `InvalidInput` alone leaves it as it was. docs/FORMATS.md has the calls, the answers and the frames.
 //!
 //! Put the file beside your own sources, with `mod drm_client;`.
 #![allow(dead_code)] // a program uses the calls that it needs
@@ -325,10 +325,11 @@ impl Client {
     /// Sends a frame, and reads the answer, which has this number, by its fields.
     fn ask<T>(&mut self, frame: Frame, wanted: u16, read: fn(&mut Fields<'_>) -> Result<T, Error>) -> Result<T, Error> {
         let bytes = frame.bytes()?;
+        let deadline = Deadline::new(self.timeout)?;
         let Some(mut stream) = self.stream.take() else {
             return Err(io::Error::new(ErrorKind::NotConnected, "the connection is closed").into());
         };
-        let body = exchange(&mut stream, &bytes, &Deadline::new(self.timeout)?)?;
+        let body = exchange(&mut stream, &bytes, &deadline)?;
         let mut fields = Fields { left: &body };
         let number = u16::from_le_bytes(fields.take()?);
         let answer = match number {
