@@ -170,8 +170,7 @@ def read_audit(path: str, timeout: float) -> Audit:
 def plain(audit: Audit) -> Dict[str, Any]:
     """The audit in types that JSON has."""
     told: Dict[str, Any] = {"auditor": audit.auditor}
-    for name, _ in KINDS:
-        told[name] = [row._asdict() for row in getattr(audit, name)]
+    told.update({name: [row._asdict() for row in getattr(audit, name)] for name, _ in KINDS})
     for row, shown in zip(audit.clients, told["clients"]):
         shown["flags"] = flag_words(row.flags)
         shown["may_set"] = audit.may_set(row)
@@ -305,10 +304,12 @@ def dot(graph: Graph) -> str:
         names = "; ".join(f'"{box.title}"' for box in column)
         lines += [f"    {{ rank=same; {names} }}"] if column else []
         lines += [f'    "{box.title}" [label="' + "\\n".join([box.title, *box.lines]) + '"];' for box in column]
-    for arrow in graph.arrows:
-        label = f' [label="{arrow.line}"]' if arrow.line else ""
-        lines.append(f'    "{arrow.start}" -> "{arrow.end}"{label};')
-    return "\n".join([*lines, "}"])
+    return "\n".join([*lines, *map(dot_arrow, graph.arrows), "}"])
+
+
+def dot_arrow(arrow: Arrow) -> str:
+    label = f' [label="{arrow.line}"]' if arrow.line else ""
+    return f'    "{arrow.start}" -> "{arrow.end}"{label};'
 
 
 # the graph as a picture
@@ -445,10 +446,8 @@ def svg(graph: Graph) -> str:
              '<defs><marker id="tip" viewBox="0 0 10 10" refX="9" refY="5" markerWidth="8" markerHeight="8" orient="auto">'
              '<path d="M 0 1 L 10 5 L 0 9 z" fill="#4b5563"/></marker></defs>',
              f'<rect width="{width:.0f}" height="{height:.0f}" fill="#ffffff"/>']
-    left = float(MARGIN)
-    for head, column_width in zip(graph.heads, widths):
-        parts.append(text(left, TOP - 24, head, "head"))
-        left += column_width + GAP_X
+    lefts = [MARGIN + sum(widths[:number]) + GAP_X * number for number in range(len(widths))]
+    parts += [text(left, TOP - 24, head, "head") for head, left in zip(graph.heads, lefts)]
     parts += [drawn_arrow(graph, places, arrow) for arrow in graph.arrows]
     for at in places.values():
         parts += drawn_box(at)
