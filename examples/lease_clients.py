@@ -7,9 +7,11 @@ PATH is the server's card socket, which accepts two connections. Each line is a 
 only.
 """
 import argparse
+import pathlib
 import sys
 
-from client import Client
+sys.path.insert(0, str(pathlib.Path(__file__).resolve().parent.parent / "clients/python"))
+from drm_client import Client, ClientError, words  # noqa: E402  (the client stands in clients/python)
 
 # CRTC 2, plane 4 and connector 8 of the test topology
 OUTPUT = "2 4 8"
@@ -25,13 +27,13 @@ def ask(name, client, call):
 def show(path):
     """Lends an output and takes it back; between, the lessee shows a framebuffer on it."""
     owner = Client(path)
-    print(f"owner -> {owner.opened}")
+    print(f"owner -> {words(owner.opened)}")
     kind, *numbers = ask("owner", owner, f"create_lease {OUTPUT}")
     if kind != "lease":
         sys.exit("lease_clients.py: the output wasn't leased")
     lessee_id, token = numbers
     lessee = Client(path, int(token))
-    print(f"lessee by token {token} -> {lessee.opened}")
+    print(f"lessee by token {token} -> {words(lessee.opened)}")
     ask("lessee", lessee, "getresources")
     ask("lessee", lessee, "create_dumb 64 64 32")
     ask("lessee", lessee, "addfb 64 64 256 32 1")
@@ -52,5 +54,5 @@ def main():
 if __name__ == "__main__":
     try:
         main()
-    except OSError as error:
+    except (ClientError, OSError) as error:
         sys.exit(f"lease_clients.py: {error}")

@@ -1,0 +1,159 @@
+"""What the tests of the built program and of the clients share: how a server is run, and how tests are run and counted."""
+import contextlib
+import os
+import pathlib
+import resource
+import socket
+import subprocess
+import sys
+import tempfile
+import time
+import traceback
+
+REPOSITORY = pathlib.Path(__file__).resolve().parent.parent
+PROGRAM = REPOSITORY / "crates/drm_server_main/out/drm_server_main"
+CLIENTS = REPOSITORY / "clients"
+SECONDS = 30
+
+sys.dont_write_bytecode = True
+sys.path.insert(0, str(CLIENTS / "python"))
+from drm_client import Client, Refusal, words  # noqa: E402  (the client stands in clients/python)
+
+CLASSES = ("card", "render", "root")
+
+
+def expect(what, found, wanted):
+    """Fails the test where a value isn't the one that is wanted."""
+    if found != wanted:
+        raise AssertionError(f"{what}: {found!r} in place of {wanted!r}")
+
+
+def expect_end(ran, status, error, output):
+    """Compares an ended run's status, error output and output."""
+    expect("error output", ran.stderr, error)
+    expect("status", ran.returncode, status)
+    expect("output", ran.stdout, output)
+
+
+def run_program(*words, script=""):
+    """Runs the program to its end over this input."""
+    return subprocess.run([PROGRAM, *words], input=script, capture_output=True, text=True, timeout=SECONDS)
+
+
+def path_words(folder):
+    """The words of the command line that name a socket for each class."""
+    return [word for name in CLASSES for word in (f"--{name}", str(folder / name))]
+
+
+def count_words(cards, renders, roots):
+    """The words of the command line that say how many connections are accepted."""
+    return ["--cards", str(cards), "--renders", str(renders), "--roots", str(roots)]
+
+
+@contextlib.contextmanager
+def server(folder, *counts, most_files=None):
+    """A server on the three sockets of a folder, which is killed where the test didn't let it end."""
+    def limit_files():
+        if most_files is not None:
+            resource.setrlimit(resource.RLIMIT_NOFILE, (most_files, most_files))
+
+    started = subprocess.Popen(
+        [PROGRAM, "serve", *path_words(folder), *count_words(*counts)],
+        stdin=subprocess.DEVNULL, stdout=subprocess.PIPE, stderr=subprocess.PIPE, text=True, preexec_fn=limit_files)
+    try:
+        yield started
+    finally:
+        if started.poll() is None:
+            started.kill()
+        started.communicate()
+
+
+def end_of(started):
+    """Waits for a server that ends by itself."""
+    output, error = started.communicate(timeout=SECONDS)
+    return subprocess.CompletedProcess(started.args, started.returncode, output, error)
+
+
+def retry(action):
+    """What the action gives once it is no longer refused: the server makes its sockets while the test goes on."""
+    until = time.monotonic() + SECONDS
+    while True:
+        try:
+            return action()
+        except (FileNotFoundError, ConnectionRefusedError):
+            if time.monotonic() > until:
+                raise
+            time.sleep(0.01)
+
+
+def connect(path, lease=None):
+    """A client of the socket, once the server has made it: of the node, or by a lease token."""
+    return retry(lambda: Client(path, lease, SECONDS))
+
+
+def refusal_of(path, lease=None):
+    """The words by which an opening is refused."""
+    try:
+        connect(path, lease).abandon()
+    except Refusal as refusal:
+        return str(refusal)
+    raise AssertionError(f"an opening on {path} was accepted")
+
+
+def opened_by(client):
+    """The words by which its opening was accepted."""
+    return words(client.opened)
+
+
+def expect_answers(asked):
+    """Compares the answers to calls, each a client, its call and the answer, in their order."""
+    for client, call, answer in asked:
+        expect(call, client.ask(call), answer)
+
+
+def expect_no_sockets(folder):
+    """The server has removed its files."""
+    expect("files left", sorted(path.name for path in folder.iterdir()), [])
+
+
+def build():
+    """Builds the program where that is still to be done."""
+    ran = subprocess.run([REPOSITORY / "drm_server", "--help"], stdout=subprocess.DEVNULL, check=False)
+    return ran.returncode == 0 and PROGRAM.exists()
+
+
+class Skipped(Exception):
+    """What a test raises that can't be run here, with the reason."""
+
+
+def passes(test):
+    """Runs one test in a folder of its own, and says how it went; None where it couldn't be run here."""
+    with tempfile.TemporaryDirectory(prefix="drm_") as folder:
+        try:
+            test(pathlib.Path(folder))
+        except Skipped as reason:
+            print(f"skipped {test.__name__}: {reason}", flush=True)
+            return None
+        except Exception:  # whatever a test raises, it has failed, and the others go on
+            print(f"FAILED {test.__name__}", flush=True)
+            traceback.print_exc(file=sys.stdout)
+            return False
+    print(f"passed {test.__name__}", flush=True)
+    return True
+
+
+def run_tests(found):
+    """Runs each test `test_..` among what a file defines, or those that the command line names, and gives the status.
+
+    The last line is `N passed, M failed`.
+    """
+    if not build():
+        print("0 passed, 1 failed")
+        return 1
+    socket.setdefaulttimeout(SECONDS)
+    chosen = sys.argv[1:]
+    tests = [value for name, value in found.items() if name.startswith("test_") and (not chosen or name in chosen)]
+    results = [passes(test) for test in tests]
+    failed = results.count(False)
+    print(f"{results.count(True)} passed, {failed} failed")
+    return 1 if failed else 0
