@@ -2,7 +2,11 @@
 #![tactic(auto)]
 
 #[cfg(test)]
+mod exchanges;
+#[cfg(test)]
 mod jobs;
+#[cfg(test)]
+mod lease_frames;
 #[cfg(test)]
 mod mode_frames;
 #[cfg(test)]
