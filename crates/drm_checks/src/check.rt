@@ -1,10 +1,13 @@
 //! Checking a file.
 
-ghost use Rattle.std.specs.Prelude.{◌≡◌, ◌<◌, ◌+◌, ◌^◌};
+ghost use Rattle.std.specs.Prelude.{◌≡◌, ◌<◌, ◌+◌, ◌^◌, is_some};
+ghost use Rattle.drm_runs.specs.Runs.{is_malformed};
 ghost use Rattle.drm_checks.specs.Checks.{Checks};
 
 use crate::checker::Checker;
-use drm_runs::{LineReader, NextLine, ScriptEnd};
+use crate::expectations::parts_of;
+use drm_runs::{LineReader, NextLine, ScriptEnd, cause_of};
+use drm_script::Malformation;
 use drm_streams::{Sink, Source};
 use std::alloc::Global;
 
@@ -95,15 +98,34 @@ pub fn check_script<S: Source, K: Sink>(
     requires sink_calls { (K.account sink.old).counts.calls + turns < 2 ^ 48 }
     ensures { Checks name.now (S.account source.old) (S.account source.new) (K.account sink.old) (K.account sink.new) turns result }
 {
+    check_with_cause(alloc, name, source, sink, turns).0
+}
+
+/// Checks a file as `check_script` does, and tells beside the report why a line can't be used, where one can't.
+pub fn check_with_cause<S: Source, K: Sink>(
+    alloc: Global,
+    name: &str,
+    source: &mut S,
+    sink: &mut K,
+    turns: u64,
+) -> (Report, Option<Malformation>)
+    requires source_calls { (S.account source.old).counts.calls + turns < 2 ^ 48 }
+    requires sink_calls { (K.account sink.old).counts.calls + turns < 2 ^ 48 }
+    ensures checks { Checks name.now (S.account source.old) (S.account source.new) (K.account sink.old) (K.account sink.new) turns result.0 }
+    ensures told { is_some result.1 ≡ is_malformed result.0.end }
+{
     let name = name.as_bytes();
     let mut check = Check::new(turns);
     'lines: loop {
         if let Some(end) = check.check_next(alloc, name, source, sink) {
-            return Report {
+            let (script, _) = parts_of(check.reader.line());
+            let cause = cause_of(end, check.checker.number, script);
+            let report = Report {
                 end,
                 passed: check.checker.passed,
                 failed: check.checker.failed,
             };
+            return (report, cause);
         }
     }
 }

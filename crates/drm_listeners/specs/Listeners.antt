@@ -1,20 +1,25 @@
 -- What came of three listeners.
-use Rattle.std.specs.Prelude.{◌≡◌}
-use Rattle.drm_turns.specs.Seats.{Standing, fresh}
+use Rattle.atomic_table.specs.Seated.{TableId}
+use Rattle.drm_turns.specs.Seats.{IsChild, Standing}
 use Rattle.drm_sessions.specs.declared.class.Class.TheVariants.{Card, Render, Root}
 use Rattle.drm_listeners.specs.declared.connections.ServedListener.{ServedListener}
 use Rattle.drm_listeners.specs.declared.counts.Counts.{Counts}
 use Rattle.drm_listeners.specs.declared.listeners.ByClass.{ByClass}
-use Rattle.drm_listeners.specs.Connections.{IsServed}
+use Rattle.drm_listeners.specs.Connections.{IsFresh, IsServed}
 
--- None of the three seats has taken in another.
-pub record AreFresh (seats : ByClass Standing) : Type 0 where
-  pub card : seats.card ≡ fresh
-  pub render : seats.render ≡ fresh
-  pub root : seats.root ≡ fresh
+pub record AreFresh (table : TableId) (seats : ByClass Standing) : Type 0 where
+  pub card : IsFresh table seats.card
+  pub render : IsFresh table seats.render
+  pub root : IsFresh table seats.root
 
--- Each of the three accepted and served as many connections as it was to.
-pub record AreServed (counts : Counts) (served : ByClass ServedListener) : Type 0 where
-  pub card : IsServed Card counts.cards served.card
-  pub render : IsServed Render counts.renders served.render
-  pub root : IsServed Root counts.roots served.root
+-- Each of the three accepted and served as many connections as it was to, through its seat.
+pub record AreServed (counts : Counts) (seats : ByClass Standing) (served : ByClass ServedListener) : Type 0 where
+  pub card : IsServed Card counts.cards seats.card served.card
+  pub render : IsServed Render counts.renders seats.render served.render
+  pub root : IsServed Root counts.roots seats.root served.root
+
+-- The seats of the three were split off this one, and none is out of them.
+pub record AreChildren (seat : Standing) (served : ByClass ServedListener) : Type 0 where
+  pub card : IsChild seat served.card.seat
+  pub render : IsChild seat served.render.seat
+  pub root : IsChild seat served.root.seat

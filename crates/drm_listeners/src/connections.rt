@@ -1,13 +1,13 @@
 //! The connections of one listener, each served in a thread of its own.
 
-ghost use Rattle.std.specs.Prelude.{◌≡◌, ◌≤◌, [], All, IfOk, IfErr, vec_len};
+ghost use Rattle.std.specs.Prelude.{◌≡◌, ◌+◌, ◌-◌, ◌≤◌, [], All, List, IfOk, IfErr, vec_len};
 ghost use Rattle.std.specs.Vec.{vec_capacity};
-ghost use Rattle.drm_turns.specs.Seats.{fresh};
+ghost use Rattle.drm_turns.specs.Seats.{HasTakenIn, IsChild, Same, Stays, with_out};
 ghost use Rattle.drm_streams.specs.Streams.{no_calls};
 ghost use Rattle.drm_sessions.specs.Matched.{Matched};
 ghost use Rattle.drm_sessions.specs.Serving.{Costs};
 ghost use Rattle.drm_sessions.specs.Shared.{ServesShared};
-ghost use Rattle.drm_listeners.specs.Connections.{IsFaultOf, IsSessionOf, Serves, connection_turns};
+ghost use Rattle.drm_listeners.specs.Connections.{IsFaultOf, IsFresh, IsSessionBy, Serves, Sitting, connection_turns, seats_in, sessions_in};
 
 use crate::serve_faults::ServeFault;
 use drm_sessions::{Class, NoGate, Served, Session, serve_through};
@@ -15,6 +15,7 @@ use drm_streams::{FromRead, Sink, Source, ToWrite};
 use drm_turns::{Seat, SharedDevice, Sharing};
 use std::alloc::Global;
 use std::os::unix::net::{UnixListener, UnixStream};
+use std::snapshot::Snapshot;
 use std::sync::Wait;
 use std::thread;
 use std::thread::{Promise, PromisedHandle, Scope, Threads};
@@ -23,9 +24,9 @@ use std::thread::{Promise, PromisedHandle, Scope, Threads};
 const MOST_TURNS: u64 = 1_000_000;
 
 /// A listener, and how many connections of which class it accepts.
-#[derive(Clone, Copy)]
-pub(crate) struct Listener<'a> {
-    pub(crate) socket: &'a UnixListener,
+#[derive(Drop)]
+pub(crate) struct Listener {
+    pub(crate) socket: UnixListener,
     pub(crate) class: Class,
     pub(crate) count: u8,
 }
@@ -37,14 +38,16 @@ pub(crate) struct ServedListener {
     pub(crate) seat: Seat,
 }
 
-/// That a thread serves a connection of this class, and gives its seat back.
-#[derive(Clone, Copy)]
+/// That a thread serves a connection of this class through the seat, and gives that back.
+#[derive(Drop)]
 struct ConnectionServed {
     class: Class,
+    seat: Snapshot<Seat>,
 }
 
 impl Promise<Served> for ConnectionServed {
-    ghost kept_by = { λ promise served. IsSessionOf promise.class served.session × (served.seat ≡ fresh) };
+    ghost kept_by = { λ promise served. IsSessionBy promise.class served.seat served.session
+        × Same promise.seat.value served.seat × (served.seat.joined ≡ []) × Stays promise.seat.value served.seat };
 }
 
 /// A thread that serves a connection.
@@ -59,15 +62,14 @@ fn serve_sides<R: Wait, D: Sharing, S: Source, K: Sink>(
     source: &mut S,
     sink: &mut K,
 ) -> Served
-    requires seat { seat ≡ fresh }
+    requires own { seat.table ≡ D.table shared.now }
     requires unread { (S.account source.old).counts ≡ no_calls }
     requires unwritten { (K.account sink.old).counts ≡ no_calls }
-    ensures serves { ServesShared class fresh fresh
+    ensures serves { ServesShared class seat result.seat
         (S.account source.old) (S.account source.new) (K.account sink.old) (K.account sink.new)
         result.session }
     ensures costs { Costs (S.account source.old) (S.account source.new)
         (K.account sink.old) (K.account sink.new) connection_turns result.session.end }
-    ensures seat { result.seat ≡ fresh }
 {
     serve_through(
         rt,
@@ -89,32 +91,38 @@ fn serve_connection<R: Wait, D: Sharing>(
     class: Class,
     stream: UnixStream,
 ) -> Served
-    requires { seat ≡ fresh }
-    ensures session { IsSessionOf class result.session }
-    ensures seat { result.seat ≡ fresh }
+    requires { IsFresh (D.table shared.now) seat }
+    ensures session { IsSessionBy class result.seat result.session }
+    ensures same { Same seat result.seat }
+    ensures joined { result.seat.joined ≡ [] }
+    ensures stays { Stays seat result.seat }
 {
     let mut source = FromRead::new(&stream);
     let mut sink = ToWrite::new(&stream);
     serve_sides(rt, shared, seat, class, &mut source, &mut sink)
 }
 
-// Accepts a connection, and starts the thread that serves it.
+// Accepts a connection, and starts the thread that serves it. Where none can be started, the connection is closed.
 fn start_connection<'s, E: 's, R: Wait + Threads + Sync, D: Sharing + Sync>(
     scope: &Scope<'s, E>,
     rt: &'s R,
     shared: &'s D,
     seat: Seat,
-    listener: Listener<'_>,
+    listener: &Listener,
 ) -> Result<ConnectionHandle, ServeFault>
-    requires { seat ≡ fresh }
-    ensures class { IfOk result (λ handle. handle.promise.class ≡ listener.entry.class) }
-    ensures fault { IfErr result (λ fault. IsFaultOf listener.entry.class fault) }
+    requires { IsFresh (D.table shared.now) seat }
+    ensures class { IfOk result (λ handle. handle.promise.class ≡ listener.now.class) }
+    ensures seat { IfOk result (λ handle. handle.promise.seat.value ≡ seat) }
+    ensures fault { IfErr result (λ fault. IsFaultOf listener.now.class fault) }
 {
     let class = listener.class;
     let Ok((stream, _)) = listener.socket.accept() else {
         return Err(ServeFault::Accept(class));
     };
-    let promise = ConnectionServed { class };
+    let promise = ConnectionServed {
+        class,
+        seat: Snapshot::of(&seat),
+    };
     match scope.spawn_with(
         promise,
         move || serve_connection(rt, shared, seat, class, stream),
@@ -124,26 +132,31 @@ fn start_connection<'s, E: 's, R: Wait + Threads + Sync, D: Sharing + Sync>(
     }
 }
 
-// Starts a thread for each connection, with a seat of its own.
+// Starts a thread for each connection, with a seat of its own. The listener is closed once the last connection was accepted, or
+// one couldn't be served.
 fn start_connections<'s, E: 's, R: Wait + Threads + Sync>(
     scope: &Scope<'s, E>,
     rt: &'s R,
     shared: &'s SharedDevice,
     own: &mut Seat,
-    listener: Listener<'_>,
+    listener: Listener,
     handles: Vec<ConnectionHandle>,
 ) -> Result<Vec<ConnectionHandle>, ServeFault>
+    requires own { own.old.table ≡ shared.now }
     requires empty { handles.items ≡ [] }
     requires reserved { listener.count ≤ vec_capacity handles }
-    ensures count { IfOk result (λ handles. vec_len handles ≡ listener.entry.count) }
-    ensures class { IfOk result (λ handles. All (λ handle. handle.promise.class ≡ listener.entry.class) handles.items) }
-    ensures fault { IfErr result (λ fault. IsFaultOf listener.entry.class fault) }
-    ensures own { own.new ≡ own.old }
+    ensures count { IfOk result (λ handles. vec_len handles ≡ listener.count) }
+    ensures class { IfOk result (λ handles. All (λ handle. handle.promise.class ≡ listener.class) handles.items) }
+    ensures seats { IfOk result (λ handles. All (λ handle. handle.promise.seat.value.table ≡ own.old.table) handles.items) }
+    ensures children { IfOk result (λ handles. All (λ handle. IsChild own.old handle.promise.seat.value) handles.items) }
+    ensures fault { IfErr result (λ fault. IsFaultOf listener.class fault) }
+    ensures own { own.new ≡ with_out own.old own.new.out }
+    ensures out { IfOk result (λ handles. own.new.out ≡ own.old.out + vec_len handles) }
 {
     let mut handles = handles;
     for _ in 0..listener.count {
         let seat = shared.split(own);
-        handles.push_reserved(start_connection(scope, rt, shared, seat, listener)?);
+        handles.push_reserved(start_connection(scope, rt, shared, seat, &listener)?);
     }
     Ok(handles)
 }
@@ -156,12 +169,18 @@ fn join_connections<R: Threads>(
     handles: Vec<ConnectionHandle>,
     sessions: Vec<Session>,
 ) -> Vec<Session>
-    requires own { own.old ≡ fresh }
-    requires few { vec_len handles ≤ 255 }
+    requires own { own.old.table ≡ shared.now }
+    requires joined { own.old.joined ≡ [] }
+    requires seats { All (λ handle. handle.promise.seat.value.table ≡ own.old.table) handles.items }
+    requires children { All (λ handle. IsChild own.old handle.promise.seat.value) handles.items }
     requires empty { sessions.items ≡ [] }
     requires reserved { vec_len handles ≤ vec_capacity sessions }
-    ensures sessions { Matched (λ handle session. IsSessionOf handle.promise.class session) handles.items result.items }
-    ensures own { own.new.joined ≡ vec_len handles }
+    ensures sessions { (sittings : List Sitting) × (result.items ≡ sessions_in sittings)
+        × Matched (λ handle sitting. IsSessionBy handle.promise.class sitting.seat sitting.session) handles.items sittings
+        × HasTakenIn own.new (seats_in sittings) }
+    ensures same { Same own.old own.new }
+    ensures parent { own.new.parent ≡ own.old.parent }
+    ensures out { own.new.out ≡ own.old.out - vec_len result }
 {
     let mut sessions = sessions;
     for handle in handles {
@@ -179,10 +198,10 @@ fn serve_in_scope<'s, E: 's, R: Wait + Threads + Sync>(
     alloc: Global,
     shared: &'s SharedDevice,
     seat: Seat,
-    listener: Listener<'_>,
+    listener: Listener,
 ) -> Result<ServedListener, ServeFault>
-    requires { seat ≡ fresh }
-    ensures { Serves listener.entry.class listener.entry.count result }
+    requires { IsFresh shared.now seat }
+    ensures { Serves listener.class listener.count seat result }
 {
     let mut seat = seat;
     let count = usize::from(listener.count);
@@ -195,35 +214,23 @@ fn serve_in_scope<'s, E: 's, R: Wait + Threads + Sync>(
 
 /// Accepts the connections of a listener and serves each in a thread of its own, until all have ended. It may wait.
 ///
-/// On a fault the threads that were started are waited for.
+/// The listener is closed before the sessions are waited for. On a fault the threads that were started are waited for.
 pub(crate) fn serve_listener<R: Wait + Threads + Sync>(
     rt: &R,
     alloc: Global,
     shared: &SharedDevice,
     seat: Seat,
-    listener: Listener<'_>,
+    listener: Listener,
 ) -> Result<ServedListener, ServeFault>
-    requires { seat ≡ fresh }
-    ensures { Serves listener.entry.class listener.entry.count result }
+    requires { IsFresh shared.now seat }
+    ensures { Serves listener.class listener.count seat result }
 {
-    let Listener {
-        socket,
-        class,
-        count,
-    } = listener;
     thread::scope(
         thread::scope_env(),
         rt,
         move |scope| -> Result<ServedListener, ServeFault>
-            requires { seat ≡ fresh }
-            ensures { Serves class count result }
-        {
-            let listener = Listener {
-                socket,
-                class,
-                count,
-            };
-            serve_in_scope(scope, rt, alloc, shared, seat, listener)
-        },
+            requires { IsFresh shared.now seat }
+            ensures { Serves listener.class listener.count seat result }
+        { serve_in_scope(scope, rt, alloc, shared, seat, listener) },
     )
 }

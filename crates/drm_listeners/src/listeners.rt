@@ -1,9 +1,8 @@
 //! Three listeners at once, each in a thread of its own.
 
 ghost use Rattle.std.specs.Prelude.{◌≡◌, ◌≢◌, Err, IfErr, IfOk};
-ghost use Rattle.drm_turns.specs.Seats.{fresh};
 ghost use Rattle.drm_listeners.specs.declared.serve_faults.ServeFault.TheVariants.{NoThread, TurnOut};
-ghost use Rattle.drm_listeners.specs.Connections.{Serves};
+ghost use Rattle.drm_listeners.specs.Connections.{IsFresh, Serves};
 ghost use Rattle.drm_listeners.specs.Listeners.{AreFresh, AreServed};
 
 use crate::connections::{Listener, ServedListener, serve_listener};
@@ -13,6 +12,7 @@ use drm_sessions::Class;
 use drm_turns::{Seat, SharedDevice, Sharing};
 use std::alloc::Global;
 use std::os::unix::net::UnixListener;
+use std::snapshot::Snapshot;
 use std::sync::Wait;
 use std::thread;
 use std::thread::{Promise, PromisedHandle, Scope, Threads};
@@ -25,15 +25,16 @@ pub(crate) struct ByClass<T> {
     pub(crate) root: T,
 }
 
-/// That a thread serves a listener of this class, with so many connections.
-#[derive(Clone, Copy)]
+/// That a thread serves a listener of this class through the seat, with so many connections.
+#[derive(Drop)]
 struct ListenerServed {
     class: Class,
     count: u8,
+    seat: Snapshot<Seat>,
 }
 
 impl Promise<Result<ServedListener, ServeFault>> for ListenerServed {
-    ghost kept_by = { λ promise served. Serves promise.class promise.count served };
+    ghost kept_by = { λ promise served. Serves promise.class promise.count promise.seat.value served };
 }
 
 /// A thread that serves a listener.
@@ -46,32 +47,25 @@ fn start_listener<'s, E: 's, R: Wait + Threads + Sync, D: Sharing + Sync>(
     alloc: Global,
     shared: &'s D,
     seat: Seat,
-    listener: Listener<'s>,
+    listener: Listener,
 ) -> Result<ListenerHandle, ServeFault>
-    requires { seat ≡ fresh }
-    ensures class { IfOk result (λ handle. handle.promise.class ≡ listener.entry.class) }
-    ensures count { IfOk result (λ handle. handle.promise.count ≡ listener.entry.count) }
+    requires { IsFresh (D.table shared.now) seat }
+    ensures class { IfOk result (λ handle. handle.promise.class ≡ listener.class) }
+    ensures count { IfOk result (λ handle. handle.promise.count ≡ listener.count) }
+    ensures seat { IfOk result (λ handle. handle.promise.seat.value ≡ seat) }
     ensures fault { IfErr result (λ fault. fault ≡ NoThread) }
 {
-    let Listener {
-        socket,
-        class,
-        count,
-    } = listener;
-    let promise = ListenerServed { class, count };
+    let promise = ListenerServed {
+        class: listener.class,
+        count: listener.count,
+        seat: Snapshot::of(&seat),
+    };
     let served = scope.spawn_with(
         promise,
         move || -> Result<ServedListener, ServeFault>
-            requires { seat ≡ fresh }
-            ensures { Serves class count result }
-        {
-            let listener = Listener {
-                socket,
-                class,
-                count,
-            };
-            serve_listener(rt, alloc, shared.device(), seat, listener)
-        },
+            requires { IsFresh (D.table shared.now) seat }
+            ensures { Serves listener.class listener.count seat result }
+        { serve_listener(rt, alloc, shared.device(), seat, listener) },
     );
     match served {
         Ok(handle) => Ok(handle),
@@ -86,11 +80,11 @@ fn serve_in_scope<'s, E: 's, R: Wait + Threads + Sync>(
     alloc: Global,
     shared: &'s SharedDevice,
     seats: ByClass<Seat>,
-    sockets: ByClass<&'s UnixListener>,
+    sockets: ByClass<UnixListener>,
     counts: Counts,
 ) -> Result<ByClass<ServedListener>, ServeFault>
-    requires { AreFresh seats }
-    ensures served { IfOk result (λ served. AreServed counts served) }
+    requires { AreFresh shared.now seats }
+    ensures served { IfOk result (λ served. AreServed counts seats served) }
     ensures turn { result ≢ Err TurnOut }
 {
     let card = Listener {
@@ -127,23 +121,19 @@ pub(crate) fn serve_listeners<R: Wait + Threads + Sync>(
     alloc: Global,
     shared: &SharedDevice,
     seats: ByClass<Seat>,
-    sockets: ByClass<&UnixListener>,
+    sockets: ByClass<UnixListener>,
     counts: Counts,
 ) -> Result<ByClass<ServedListener>, ServeFault>
-    requires { AreFresh seats }
-    ensures served { IfOk result (λ served. AreServed counts served) }
+    requires { AreFresh shared.now seats }
+    ensures served { IfOk result (λ served. AreServed counts seats served) }
     ensures turn { result ≢ Err TurnOut }
 {
-    let ByClass { card, render, root } = sockets;
     thread::scope(
         thread::scope_env(),
         rt,
         move |scope| -> Result<ByClass<ServedListener>, ServeFault>
-            requires { AreFresh seats }
-            ensures { IfOk result (λ served. AreServed counts served) × (result ≢ Err TurnOut) }
-        {
-            let sockets = ByClass { card, render, root };
-            serve_in_scope(scope, rt, alloc, shared, seats, sockets, counts)
-        },
+            requires { AreFresh shared.now seats }
+            ensures { IfOk result (λ served. AreServed counts seats served) × (result ≢ Err TurnOut) }
+        { serve_in_scope(scope, rt, alloc, shared, seats, sockets, counts) },
     )
 }

@@ -1,11 +1,13 @@
 //! Serving the connections of three listeners.
 
-ghost use Rattle.std.specs.Prelude.{◌≡◌, ◌≢◌, ◌+◌, ◌≤◌, ◌++◌, Err, All, IfOk, OnOk, vec_len};
-ghost use Rattle.drm_turns.specs.Seats.{fresh};
+ghost use Rattle.std.specs.Prelude.{◌≡◌, ◌≢◌, ◌-◌, ◌∷◌, ◌++◌, [], Err, All, IfOk, OnOk, vec_len};
+ghost use Rattle.drm_turns.specs.History.{AllDiffer, StartsWith};
+ghost use Rattle.drm_turns.specs.Seats.{Same};
 ghost use Rattle.drm_sessions.specs.declared.class.Class.TheVariants.{Card, Render, Root};
 ghost use Rattle.drm_listeners.specs.declared.serve_faults.ServeFault.TheVariants.{TurnOut};
 ghost use Rattle.drm_listeners.specs.Connections.{IsSessionOf};
-ghost use Rattle.drm_listeners.specs.Serving.{AreSessionsOf, card_sessions, connections, render_sessions, root_sessions};
+ghost use Rattle.drm_listeners.specs.Listeners.{AreChildren};
+ghost use Rattle.drm_listeners.specs.Serving.{AreSessionsOf, HaveSat, IsHistoryOf, card_sessions, connections, render_sessions, root_sessions};
 
 use crate::connections::ServedListener;
 use crate::counts::Counts;
@@ -25,11 +27,20 @@ fn gather(
     seat: &mut Seat,
     served: ByClass<ServedListener>,
 ) -> Result<Vec<Session>, ServeFault>
-    requires seat { seat.old ≡ fresh }
-    requires few { (served.card.seat.joined ≤ 255) × (served.render.seat.joined ≤ 255) × (served.root.seat.joined ≤ 255) }
+    requires own { seat.old.table ≡ shared.now }
+    requires cards { served.card.seat.table ≡ shared.now }
+    requires renders { served.render.seat.table ≡ shared.now }
+    requires roots { served.root.seat.table ≡ shared.now }
+    requires children { AreChildren seat.old served }
     ensures sessions { IfOk result (λ sessions. sessions.items
         ≡ served.card.sessions.items ++ (served.render.sessions.items ++ served.root.sessions.items)) }
-    ensures seats { seat.new.joined ≡ served.card.seat.joined + served.render.seat.joined + served.root.seat.joined + 3 }
+    ensures same { Same seat.old seat.new × StartsWith seat.new.seen seat.old.seen }
+    ensures seen { StartsWith seat.new.seen served.card.seat.seen × StartsWith seat.new.seen served.render.seat.seen
+        × StartsWith seat.new.seen served.root.seat.seen }
+    ensures joined { seat.new.joined ≡ ((seat.old.joined ++ served.card.seat.number ∷ served.card.seat.joined)
+        ++ served.render.seat.number ∷ served.render.seat.joined) ++ served.root.seat.number ∷ served.root.seat.joined }
+    ensures differ { AllDiffer seat.new.joined }
+    ensures out { OnOk result (seat.new.out ≡ seat.old.out - 3) }
     ensures turn { result ≢ Err TurnOut }
 {
     let ByClass { card, render, root } = served;
@@ -54,12 +65,15 @@ fn serve_shared<R: Wait + Threads + Sync>(
     alloc: Global,
     shared: &SharedDevice,
     seat: &mut Seat,
-    sockets: ByClass<&UnixListener>,
+    sockets: ByClass<UnixListener>,
     counts: Counts,
 ) -> Result<Vec<Session>, ServeFault>
-    requires { seat.old ≡ fresh }
+    requires own { seat.old.table ≡ shared.now }
+    requires joined { seat.old.joined ≡ [] }
     ensures sessions { IfOk result (λ sessions. AreSessionsOf counts sessions.items) }
-    ensures seats { OnOk result (seat.new.joined ≡ connections counts + 3) }
+    ensures seats { IfOk result (λ sessions. HaveSat seat.new sessions.items) }
+    ensures same { Same seat.old seat.new × StartsWith seat.new.seen seat.old.seen }
+    ensures out { OnOk result (seat.new.out ≡ seat.old.out) }
     ensures turn { result ≢ Err TurnOut }
 {
     let seats = ByClass {
@@ -78,21 +92,28 @@ fn serve_shared<R: Wait + Threads + Sync>(
 /// listener's in the order in which they were accepted. A session makes at most 1,000,000 reads and writes, and its
 /// connection is closed as it ends. However a session ends, the others go on.
 ///
+/// The device has the events of one legal history, which begins with what it had noted before. Each session's steps stand
+/// there as the entries of its seat, whose number no other session's has.
+///
+/// A listener is closed once it has accepted its last connection, or couldn't accept one, while sessions go on: whoever
+/// connects later is refused. One that accepts none is closed at once.
+///
 /// On a fault the threads that were started are waited for, and then the device is dropped. `NoThread` comes where a thread
-/// can't be started, for whatever cause. `TurnOut` doesn't come today.
+/// can't be started, for whatever cause.
 pub fn serve_all<R: Wait + Threads + Sync>(
     rt: &R,
     alloc: Global,
     device: Device,
-    card: &UnixListener,
-    render: &UnixListener,
-    root: &UnixListener,
+    card: UnixListener,
+    render: UnixListener,
+    root: UnixListener,
     counts: Counts,
 ) -> Result<(Device, Vec<Session>), ServeFault>
     ensures count { IfOk result (λ served. vec_len served.1 ≡ connections counts) }
     ensures cards { IfOk result (λ served. All (IsSessionOf Card) (card_sessions counts served.1.items)) }
     ensures renders { IfOk result (λ served. All (IsSessionOf Render) (render_sessions counts served.1.items)) }
     ensures roots { IfOk result (λ served. All (IsSessionOf Root) (root_sessions counts served.1.items)) }
+    ensures history { IfOk result (λ served. IsHistoryOf device served.0 served.1.items) }
     ensures turn { result ≢ Err TurnOut }
 {
     let Ok((shared, mut seat)) = SharedDevice::new(alloc, device) else {
@@ -100,6 +121,8 @@ pub fn serve_all<R: Wait + Threads + Sync>(
     };
     let sockets = ByClass { card, render, root };
     let sessions = serve_shared(rt, alloc, &shared, &mut seat, sockets, counts)?;
-    let device = shared.close(seat).map_err(|_| ServeFault::TurnOut)?;
+    let Ok(device) = shared.close(seat) else {
+        return Err(ServeFault::TurnOut);
+    };
     Ok((device, sessions))
 }

@@ -92,7 +92,9 @@ fn jobs_wait_for_each_other(rt: HostRuntime) -> Result<(), Fail> {
     let alloc: Global = rt.alloc();
     let topology = Topology::new(2, &[1, 2], &[3, 2], &[5, 6]).ok_or("no topology")?;
     let device = Device::new(alloc, topology, Limits::PROGRAM)?;
-    let (shared, mut seat) = SharedDevice::new(alloc, device).map_err(|_| "no memory")?;
+    let Ok((shared, mut seat)) = SharedDevice::new(alloc, device) else {
+        return Err("no memory".into());
+    };
     let first = AtomicBool::new(false);
     let second = AtomicBool::new(false);
     let failed = AtomicBool::new(false);

@@ -5,13 +5,13 @@ use drm_server::{Counts, ListEnd, ServeFault, list_audit, serve_all};
 use drm_sessions::{Class, Session, SessionEnd};
 use drm_test_streams::CutSink;
 use std::alloc::Global;
-use std::io::{Read, Write};
+use std::io::{ErrorKind, Read, Write};
 use std::net::{Net, Shutdown};
 use std::os::unix::net::{UnixListener, UnixStream};
 use std::sync::Wait;
 use std::test::Fail;
 use std::thread::Threads;
-use std::time::Duration;
+use std::time::{Clock, Duration};
 use std::{env, fs, io, process, thread};
 
 /// A hello for a node, and VERSION.
@@ -26,6 +26,9 @@ const AUDIT: [u8; 14] = [0x0a, 0, 0, 0, 0x45, 0, 0x0a, 0, 0, 0, 0, 0, 0, 0];
 const ROWS: [u8; 2] = [0x0b, 0x10];
 
 const DENIED: [u8; 2] = [0, 0x20];
+
+/// How often a client connects at most until it is refused.
+const MOST_TRIES: u32 = 2_000;
 
 /// Client 1 was opened, and the version is 1.0.0.
 const ANSWERS: [u8; 28] = [
@@ -142,6 +145,26 @@ fn ask_in_turn<R: Net>(rt: &R, path: &str, times: u32) -> io::Result<()> {
     stream.shutdown(Shutdown::Both)
 }
 
+/// Opens a client, connects again until that fails, and gives the error, which comes while the client is still served.
+fn refusal<R: Net + Clock>(rt: &R, path: &str) -> io::Result<Option<ErrorKind>> {
+    let (_, version) = HELLO_VERSION.split_at(18);
+    let mut first = open(rt, path)?;
+    let mut refused = None;
+    for _ in 0..MOST_TRIES {
+        match UnixStream::connect(rt, path) {
+            Ok(_) => thread::sleep(rt, Duration::from_millis(10)),
+            Err(reason) => {
+                refused = Some(reason.kind());
+                break;
+            }
+        }
+    }
+    first.write_all(version)?;
+    let mut answer = [0; 18];
+    first.read_exact(&mut answer)?;
+    Ok(refused)
+}
+
 /// Opens a client, asks for an audit of the device, and gives the number of the answer.
 fn ask_audit<R: Net>(rt: &R, path: &str) -> io::Result<[u8; 2]> {
     let mut stream = open(rt, path)?;
@@ -163,7 +186,7 @@ struct Outcome {
 fn serve<R: Wait + Threads + Sync>(
     rt: &R,
     alloc: Global,
-    sockets: &Sockets,
+    sockets: Sockets,
     counts: Counts,
 ) -> Option<Outcome> {
     let topology = Topology::new(2, &[1, 2], &[3, 2], &[5, 6])?;
@@ -172,9 +195,9 @@ fn serve<R: Wait + Threads + Sync>(
         rt,
         alloc,
         device,
-        &sockets.card,
-        &sockets.render,
-        &sockets.root,
+        sockets.card,
+        sockets.render,
+        sockets.root,
         counts,
     );
     let (device, sessions) = served.ok()?;
@@ -202,7 +225,7 @@ fn serves_one_connection(rt: HostRuntime) -> Result<(), Fail> {
     let (answers, served) = thread::join(
         &rt,
         || ask(&rt, alloc, places.card.as_str(), &HELLO_VERSION),
-        || serve(&rt, alloc, &sockets, counts),
+        || serve(&rt, alloc, sockets, counts),
     );
     remove(&rt, &places)?;
     assert_eq!(&rt; answers?.as_slice(), ANSWERS.as_slice());
@@ -230,7 +253,7 @@ fn serves_four_connections_at_once(rt: HostRuntime) -> Result<(), Fail> {
     let (opened, served) = thread::join(
         &rt,
         || open_four(&rt, &places),
-        || serve(&rt, alloc, &sockets, counts),
+        || serve(&rt, alloc, sockets, counts),
     );
     remove(&rt, &places)?;
     opened?;
@@ -262,9 +285,9 @@ fn tells_of_a_connection_that_is_not_accepted(rt: HostRuntime) -> Result<(), Fai
         &rt,
         alloc,
         device,
-        &sockets.card,
-        &sockets.render,
-        &sockets.root,
+        sockets.card,
+        sockets.render,
+        sockets.root,
         counts,
     );
     remove(&rt, &places)?;
@@ -285,12 +308,39 @@ fn connection_ends_with_its_session(rt: HostRuntime) -> Result<(), Fail> {
     let (rest, served) = thread::join(
         &rt,
         || end_second_first(&rt, alloc, places.card.as_str()),
-        || serve(&rt, alloc, &sockets, counts),
+        || serve(&rt, alloc, sockets, counts),
     );
     remove(&rt, &places)?;
     assert_eq!(&rt; rest?.len(), 0);
     let served = served.ok_or("no outcome")?;
     assert_eq!(&rt; served.sessions.len(), 2);
+    Ok(())
+}
+
+#[test]
+fn listener_that_has_its_connections_is_closed(rt: HostRuntime) -> Result<(), Fail> {
+    let alloc: Global = rt.alloc();
+    let places = choose_places(&rt, alloc)?;
+    let sockets = bind(&rt, &places)?;
+    let counts = Counts {
+        cards: 1,
+        renders: 0,
+        roots: 0,
+    };
+    let (refused, served) = thread::join(
+        &rt,
+        || refusal(&rt, places.card.as_str()),
+        || serve(&rt, alloc, sockets, counts),
+    );
+    remove(&rt, &places)?;
+    assert_eq!(&rt; refused?, Some(ErrorKind::ConnectionRefused));
+    let served = served.ok_or("no outcome")?;
+    let session = Session {
+        end: SessionEnd::Ended,
+        client: 1,
+        steps: 3,
+    };
+    assert_eq!(&rt; served.sessions.as_slice(), [session].as_slice());
     Ok(())
 }
 
@@ -307,7 +357,7 @@ fn session_of_many_requests(rt: HostRuntime) -> Result<(), Fail> {
     let (asked, served) = thread::join(
         &rt,
         || ask_in_turn(&rt, places.render.as_str(), 1_000),
-        || serve(&rt, alloc, &sockets, counts),
+        || serve(&rt, alloc, sockets, counts),
     );
     remove(&rt, &places)?;
     asked?;
@@ -340,7 +390,7 @@ fn root_alone_is_root(rt: HostRuntime) -> Result<(), Fail> {
                 ask_audit(&rt, places.root.as_str())?,
             ])
         },
-        || serve(&rt, alloc, &sockets, counts),
+        || serve(&rt, alloc, sockets, counts),
     );
     remove(&rt, &places)?;
     assert_eq!(&rt; answers?, [DENIED, DENIED, ROWS]);

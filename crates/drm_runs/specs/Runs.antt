@@ -1,5 +1,5 @@
 -- How a run of a script ends, and what was then read and written (own).
-use Rattle.std.specs.Prelude.{◌≡◌, ℕ, ◌+◌, ◌*◌, ◌<◌, ◌≤◌, List, [], ◌∷◌, ◌++◌, ◌⊎◌, Option, None, Result, length}
+use Rattle.std.specs.Prelude.{◌≡◌, ℕ, ◌+◌, ◌*◌, ◌<◌, ◌≤◌, List, [], ◌∷◌, ◌++◌, ◌⊎◌, Bool, true, false, Option, None, Result, length}
 use Rattle.drm_table.specs.declared.answers.Answer.{Answer}
 use Rattle.drm_table.specs.declared.apart.Apart.{Apart}
 use Rattle.drm_model.specs.Rows.{Rows}
@@ -103,6 +103,15 @@ pub record IsUnmade (ended : Type 0) (read written : List ℕ) : Type 0 where
   pub behind : length rest ≤ 256
   pub wants : WantsDevice next
   pub nothing : written ≡ []
+
+-- a line can't be used
+abbrev pub is_malformed : ScriptEnd → Bool
+is_malformed ends.Done = false
+is_malformed (ends.Malformed number) = true
+is_malformed ends.ReadFault = false
+is_malformed ends.WriteFault = false
+is_malformed ends.TurnsUsed = false
+is_malformed ends.NoMemory = false
 
 -- each end with its cause
 abbrev pub Ends : ScriptEnd → SourceAccount → SourceAccount → SinkAccount → SinkAccount → ℕ → List ℕ → List ℕ → Type 0

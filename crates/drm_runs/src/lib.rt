@@ -1,6 +1,7 @@
 //! Scripts: lines are read from a source, a device is asked, and its answers are written to a sink.
 #![tactic(auto)]
 
+mod causes;
 mod devices;
 mod interpreter;
 mod laws;
@@ -8,12 +9,15 @@ mod reader;
 mod run;
 mod writing;
 
+pub use causes::cause_of;
 pub use devices::make_device;
 pub use interpreter::{Interpreter, LineResult};
 pub use laws::scripts_are_answered;
 pub use reader::{LineReader, NextLine};
-pub use run::{ScriptEnd, run_script};
+pub use run::{ScriptEnd, run_script, run_with_cause};
 
+#[cfg(test)]
+mod cause_tests;
 #[cfg(test)]
 mod row_tests;
 #[cfg(test)]

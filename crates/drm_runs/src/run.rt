@@ -1,12 +1,14 @@
 //! Running a script.
 
-ghost use Rattle.std.specs.Prelude.{◌≡◌, ◌<◌, ◌+◌, ◌^◌};
-ghost use Rattle.drm_runs.specs.Runs.{Runs};
+ghost use Rattle.std.specs.Prelude.{◌≡◌, ◌<◌, ◌+◌, ◌^◌, is_some};
+ghost use Rattle.drm_runs.specs.Runs.{Runs, is_malformed};
 ghost use Rattle.drm_runs.specs.RunSteps.{stop_of};
 
+use crate::causes::cause_of;
 use crate::interpreter::Interpreter;
 use crate::reader::{LineReader, NextLine};
 use crate::writing::{LineEnd, use_line};
+use drm_script::Malformation;
 use drm_streams::{Sink, Source};
 use std::alloc::Global;
 
@@ -127,10 +129,26 @@ pub fn run_script<S: Source, K: Sink>(
     requires sink_calls { (K.account sink.old).counts.calls + turns < 2 ^ 48 }
     ensures { Runs (S.account source.old) (S.account source.new) (K.account sink.old) (K.account sink.new) turns result }
 {
+    run_with_cause(alloc, source, sink, turns).0
+}
+
+/// Runs a script as `run_script` does, and tells beside its end why a line can't be used, where one can't.
+pub fn run_with_cause<S: Source, K: Sink>(
+    alloc: Global,
+    source: &mut S,
+    sink: &mut K,
+    turns: u64,
+) -> (ScriptEnd, Option<Malformation>)
+    requires source_calls { (S.account source.old).counts.calls + turns < 2 ^ 48 }
+    requires sink_calls { (K.account sink.old).counts.calls + turns < 2 ^ 48 }
+    ensures runs { Runs (S.account source.old) (S.account source.new) (K.account sink.old) (K.account sink.new) turns result.0 }
+    ensures told { is_some result.1 ≡ is_malformed result.0 }
+{
     let mut run = Run::new(turns);
     'lines: loop {
         if let Some(end) = run.use_next(alloc, source, sink) {
-            return end;
+            let cause = cause_of(end, run.number, run.reader.line());
+            return (end, cause);
         }
     }
 }

@@ -10,7 +10,7 @@ use crate::words::{end_of, next_word};
 use drm_table::{Call, CallKind, row};
 
 /// The word of a call by its bare number.
-const RAW: &[u8] = b"raw";
+pub(crate) const RAW: &[u8] = b"raw";
 
 /// A call by its bare number: with the wrong fields where the number has a row, unknown otherwise.
 fn raw_of(number: u16) -> Call
@@ -34,7 +34,7 @@ fn raw(text: &[u8]) -> Option<Call>
 
 /// `WORD FIELDS`, the word apart from the fields.
 #[tactic(auto, unfolding(crate::specs::Calls::row_call_at))]
-fn row_call(word: &[u8], text: &[u8]) -> Option<Call>
+pub(crate) fn row_call(word: &[u8], text: &[u8]) -> Option<Call>
     ensures { result ≡ row_call_at word.now (words_of text.now) }
 {
     let kind = CallKind::of_word(word)?;

@@ -10,6 +10,7 @@ mod laws;
 mod limits_line;
 mod lines;
 mod lists;
+mod malformations;
 mod numbers;
 mod openings;
 mod reading;
@@ -24,9 +25,12 @@ pub use laws::{
     skips_comments_and_blank_lines, words_stand_between_spaces,
 };
 pub use lines::line_of;
+pub use malformations::{Malformation, malformation_of};
 pub use reading::{Reading, read_line};
 pub use texts::{LINE, LineText, push_number};
 
+#[cfg(test)]
+mod malformation_tests;
 #[cfg(test)]
 mod row_tests;
 #[cfg(test)]

@@ -11,7 +11,7 @@ use crate::words::next_word;
 const PLUS: u8 = b'+';
 
 /// The number that a word spells; None where it has a sign or another letter, or doesn't fit.
-fn number(word: &[u8]) -> Option<u64>
+pub(crate) fn number(word: &[u8]) -> Option<u64>
     ensures { result ≡ number_of word.now }
 {
     if word.is_empty() {

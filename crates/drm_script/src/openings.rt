@@ -42,7 +42,7 @@ impl OpeningWord {
 
 /// The opening that a word names.
 #[tactic(auto, unfolding(crate::specs::Openings::opening_word_of))]
-fn opening_word(word: &[u8]) -> Option<OpeningWord>
+pub(crate) fn opening_word(word: &[u8]) -> Option<OpeningWord>
     ensures { result ≡ opening_word_of word.now }
 {
     OPENING_WORDS

@@ -14,7 +14,7 @@ use crate::words::next_word;
 use drm_table::Limits;
 
 /// How many bytes a line may have, without its end (own).
-const LONGEST: usize = 255;
+pub(crate) const LONGEST: usize = 255;
 
 /// What a line says (own).
 #[derive(PartialEq, Eq, Debug, Drop)]
@@ -53,7 +53,7 @@ impl LineWord {
 
 /// What a first word that is no label begins.
 #[tactic(auto, unfolding(crate::specs::Reading::line_word_of))]
-fn line_word(word: &[u8]) -> Option<LineWord>
+pub(crate) fn line_word(word: &[u8]) -> Option<LineWord>
     ensures { result ≡ line_word_of word.now }
 {
     LINE_WORDS.iter().copied().find(|name| name.text() == word)
@@ -76,14 +76,14 @@ fn words_reading(text: &[u8]) -> Reading
 }
 
 /// Whether each byte is at most 127.
-fn is_ascii(line: &[u8]) -> bool
+pub(crate) fn is_ascii(line: &[u8]) -> bool
     ensures { result ≡ list_all chars.is_ascii line.now }
 {
     line.iter().all(|byte| *byte < 128)
 }
 
 /// Whether the first byte is `#`.
-fn is_comment(line: &[u8]) -> bool
+pub(crate) fn is_comment(line: &[u8]) -> bool
     ensures { result ≡ is_comment line.now }
 {
     match line {

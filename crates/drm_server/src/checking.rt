@@ -2,8 +2,9 @@
 
 use crate::faults::Fault;
 use crate::outcomes::{Outcome, outcome_of_checks, outcome_of_fault, script_fault};
-use drm_checks::{Report, Totals, check_script, write_malformed, write_totals};
+use drm_checks::{Report, Totals, check_with_cause, write_malformed, write_totals};
 use drm_runs::ScriptEnd;
+use drm_script::Malformation;
 use drm_streams::{FromRead, ToWrite, Written};
 use log::{Log, error};
 use std::alloc::Global;
@@ -23,7 +24,11 @@ fn fault_of(written: Written) -> Result<(), Fault> {
 }
 
 /// Checks a file, and tells on standard output of the answers that it doesn't expect.
-fn check_file<R: Files + Print + Log>(rt: &R, alloc: Global, path: &str) -> Result<Report, Fault> {
+fn check_file<R: Files + Print + Log>(
+    rt: &R,
+    alloc: Global,
+    path: &str,
+) -> Result<(Report, Option<Malformation>), Fault> {
     let file = match fs::open(rt, path) {
         Ok(file) => file,
         Err(reason) => {
@@ -33,13 +38,21 @@ fn check_file<R: Files + Print + Log>(rt: &R, alloc: Global, path: &str) -> Resu
     };
     let mut source = FromRead::new(file);
     let mut sink = ToWrite::new(io::writer(rt));
-    Ok(check_script(alloc, path, &mut source, &mut sink, MOST_TURNS))
+    Ok(check_with_cause(alloc, path, &mut source, &mut sink, MOST_TURNS))
 }
 
-/// Tells on standard output of a line that can't be used. What else ended a run early is a fault.
-fn tell_end<R: Print>(rt: &R, path: &str, end: &ScriptEnd) -> Result<(), Fault> {
+/// Tells on standard output of a line that can't be used, and logs the cause. What else ended a run early is a fault.
+fn tell_end<R: Print + Log>(
+    rt: &R,
+    path: &str,
+    end: &ScriptEnd,
+    cause: Option<Malformation>,
+) -> Result<(), Fault> {
     match end {
         ScriptEnd::Malformed(number) => {
+            if let Some(cause) = cause {
+                error!(rt; "{path}:{number}: {cause}");
+            }
             let mut sink = ToWrite::new(io::writer(rt));
             let mut turns = MOST_TURNS;
             fault_of(write_malformed(path, *number, &mut sink, &mut turns))
@@ -59,8 +72,8 @@ fn check_files<R: Files + Print + Log>(
 ) -> Result<Totals, Fault> {
     let mut totals = Totals::new();
     for path in paths {
-        let report = check_file(rt, alloc, path)?;
-        tell_end(rt, path, &report.end)?;
+        let (report, cause) = check_file(rt, alloc, path)?;
+        tell_end(rt, path, &report.end, cause)?;
         totals = totals.add(&report);
     }
     let mut sink = ToWrite::new(io::writer(rt));

@@ -32,6 +32,7 @@ fn path<'a>(alloc: Global, name: &'a str, help: &'a str) -> Arg<'a> {
     Arg::new(alloc, name)
         .long(name)
         .value_name("PATH")
+        .value_parser(ValueParser::NonEmptyString)
         .required(true)
         .help(help)
 }
@@ -47,6 +48,7 @@ fn count<'a>(alloc: Global, name: &'a str, help: &'a str) -> Arg<'a> {
 
 fn check_command<'a>(alloc: Global) -> Result<Command<'a>, Error> {
     let files = Arg::new(alloc, "FILE")
+        .value_parser(ValueParser::NonEmptyString)
         .required(true)
         .num_args(1..)
         .action(ArgAction::Append)
@@ -91,6 +93,7 @@ fn command<'a>(alloc: Global) -> Result<Command<'a>, Error> {
     );
     let command = Command::new(alloc, "drm_server")
         .bin_name("drm_server")?
+        .version("1.0.0")
         .about("A display and buffer server with the access rules of the Linux DRM interface")
         .subcommand_required(true)
         .subcommand(run)?

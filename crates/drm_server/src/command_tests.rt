@@ -92,7 +92,7 @@ fn servers_that_are_asked_for(rt: HostRuntime) -> Result<(), Fail> {
 
 #[test]
 fn command_lines_that_are_refused(rt: HostRuntime) -> Result<(), Fail> {
-    let rows: [(&str, bool); 14] = [
+    let rows: [(&str, bool); 18] = [
         ("drm_server", true),
         ("drm_server fly", true),
         ("drm_server run now", true),
@@ -116,7 +116,11 @@ fn command_lines_that_are_refused(rt: HostRuntime) -> Result<(), Fail> {
             "drm_server serve --card c --render r --root t --cards 1 --cards 1",
             true,
         ),
+        ("drm_server serve --card  --render r --root t", true),
+        ("drm_server serve --card c --render= --root t", true),
+        ("drm_server check  a", true),
         ("drm_server --help", false),
+        ("drm_server --version", false),
         ("drm_server check --help", false),
         ("drm_server serve --help", false),
     ];

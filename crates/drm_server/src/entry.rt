@@ -4,30 +4,36 @@ use crate::checking::check;
 use crate::command_line::{Asked, Serving, is_memory, read_words};
 use crate::faults::{Fault, FaultLine};
 use crate::listing::list_audit;
+use crate::notes::note_sessions;
 use crate::outcomes::{Outcome, outcome_of, outcome_of_fault, outcome_of_listing};
-use crate::sockets::bind_all;
+use crate::sockets::{Sockets, bind_all};
+use crate::words::words_of;
 use clap::Error;
 use drm_device::{Device, Limits};
 use drm_listeners::serve_all;
-use drm_runs::{make_device, run_script};
+use drm_runs::{ScriptEnd, make_device, run_with_cause};
 use drm_streams::{FromRead, ToWrite};
 use log::{Log, error};
 use std::alloc::Global;
+use std::io;
 use std::net::Net;
 use std::process::ExitCode;
 use std::rt::{Env, Files};
 use std::sync::Wait;
 use std::thread::Threads;
-use std::{env, io};
 
 /// How many reads and writes a run, and how many writes a listing makes at most.
 const MOST_TURNS: u64 = 1_000_000;
 
-/// Runs the script on standard input.
-fn run<R: Input + Print>(rt: &R, alloc: Global) -> Outcome {
+/// Runs the script on standard input. Where a line can't be used, the cause is logged.
+fn run<R: Input + Print + Log>(rt: &R, alloc: Global) -> Outcome {
     let mut source = FromRead::new(rt.reader());
     let mut sink = ToWrite::new(io::writer(rt));
-    outcome_of(&run_script(alloc, &mut source, &mut sink, MOST_TURNS))
+    let (end, cause) = run_with_cause(alloc, &mut source, &mut sink, MOST_TURNS);
+    if let (ScriptEnd::Malformed(number), Some(cause)) = (end, cause) {
+        error!(rt; "line {number}: {cause}");
+    }
+    outcome_of(&end)
 }
 
 /// Lists on standard output what the device holds.
@@ -36,19 +42,21 @@ fn list<R: Print>(rt: &R, device: &Device) -> Outcome {
     outcome_of_listing(&list_audit(device, &mut sink, MOST_TURNS))
 }
 
-/// Serves a device on three sockets, which are closed and whose files are removed at the end.
+/// Serves a device on three sockets, whose files are removed at the end. Sessions that don't end plainly are logged.
 fn serve_device<R: Files + Net + Log + Wait + Threads + Sync>(
     rt: &R,
     alloc: Global,
     device: Device,
     serving: Serving<'_>,
 ) -> Result<Device, Fault> {
-    let sockets = bind_all(rt, serving.paths)?;
-    let card = &sockets.card.listener;
-    let render = &sockets.render.listener;
-    let root = &sockets.root.listener;
+    let Sockets { card, render, root } = bind_all(rt, serving.paths)?;
+    let _files = (card.file, render.file, root.file);
+    let (card, render, root) = (card.listener, render.listener, root.listener);
     match serve_all(rt, alloc, device, card, render, root, serving.counts) {
-        Ok((device, _)) => Ok(device),
+        Ok((device, sessions)) => {
+            note_sessions(rt, serving.counts, sessions.as_slice());
+            Ok(device)
+        }
         Err(fault) => {
             error!(rt; "{fault}");
             Err(Fault::from(fault))
@@ -102,14 +110,6 @@ fn carry_out<R: Input + Print + Eprint + Files + Net + Log + Wait + Threads + Sy
         Ok(None) => outcome_of_fault(Fault::CommandLine),
         Err(error) => stop_at(rt, &error),
     }
-}
-
-/// The words of the command line.
-fn words_of<R: Env + AllocGlobal>(rt: &R, alloc: Global) -> Result<Vec<String>, Fault> {
-    let Ok(words) = env::args(rt) else {
-        return Err(Fault::CommandLine);
-    };
-    words.collect(alloc).map_err(|_| Fault::Memory)
 }
 
 /// The whole program: does what the command line asks for, tells of a fault on standard error, and gives the status.

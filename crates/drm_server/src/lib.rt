@@ -6,11 +6,13 @@ mod command_line;
 mod entry;
 mod faults;
 mod listing;
+mod notes;
 mod outcomes;
 mod sockets;
+mod words;
 
 pub use drm_listeners::{Counts, ServeFault, class_word, serve_all};
-pub use drm_runs::{ScriptEnd, run_script, scripts_are_answered};
+pub use drm_runs::{ScriptEnd, run_script, run_with_cause, scripts_are_answered};
 pub use entry::program;
 pub use faults::{Fault, FaultLine};
 pub use listing::{ListEnd, list_audit};
@@ -22,3 +24,5 @@ mod command_tests;
 mod fault_tests;
 #[cfg(test)]
 mod listing_tests;
+#[cfg(test)]
+mod note_tests;

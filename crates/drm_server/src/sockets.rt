@@ -5,10 +5,14 @@ ghost use Rattle.drm_server.specs.declared.faults.Fault.TheVariants.{Listen};
 
 use crate::faults::Fault;
 use drm_sessions::Class;
-use std::fs;
+use log::{Log, error};
+use std::io::ErrorKind;
 use std::net::Net;
+use std::os::unix::fs::MetadataExt;
 use std::os::unix::net::UnixListener;
 use std::rt::Files;
+use std::time::SystemTime;
+use std::{fs, io};
 
 /// The paths of the three sockets.
 #[derive(Clone, Copy, Debug, PartialEq, Eq)]
@@ -18,30 +22,71 @@ pub(crate) struct Paths<'a> {
     pub(crate) root: &'a str,
 }
 
-/// A bound socket. As it is let go it is closed, and its file is removed.
-pub(crate) struct Socket<'a, R: Files> {
-    rt: &'a R,
-    path: &'a str,
-    pub(crate) listener: UnixListener,
+/// Which file a path names. Where the file system tells when it was made, a number that was given again is another file's.
+#[derive(Clone, Copy, PartialEq, Eq)]
+struct FileId {
+    device: u64,
+    inode: u64,
+    created: Option<SystemTime>,
 }
 
-impl<'a, R: Files + Net> Socket<'a, R> {
-    /// Binds a socket at a path where no file is. Where that fails, what stands there is left alone.
-    pub(crate) fn bind(rt: &'a R, path: &'a str, class: Class) -> Result<Socket<'a, R>, Fault>
-        ensures { IfErr result (λ fault. fault ≡ Listen class) }
-    {
-        match UnixListener::bind(rt, path) {
-            Ok(listener) => Ok(Socket { rt, path, listener }),
-            Err(_) => Err(Fault::Listen(class)),
+fn file_at<R: Files>(rt: &R, path: &str) -> Option<FileId> {
+    let metadata = fs::symlink_metadata(rt, path).ok()?;
+    Some(FileId {
+        device: metadata.dev(),
+        inode: metadata.ino(),
+        created: metadata.created().ok(),
+    })
+}
+
+/// The file of a bound socket. As this is let go the file is removed, if it is still the one that was bound.
+pub(crate) struct SocketFile<'a, R: Files> {
+    rt: &'a R,
+    path: &'a str,
+    bound: Option<FileId>,
+}
+
+impl<R: Files> Drop for SocketFile<'_, R> {
+    fn drop(self) {
+        let Self { rt, path, bound } = self;
+        if bound.is_some() && file_at(rt, path) == bound {
+            let _ = fs::remove_file(rt, path);
         }
     }
 }
 
-impl<R: Files> Drop for Socket<'_, R> {
-    fn drop(self) {
-        let Self { rt, path, listener } = self;
-        drop(listener);
-        let _ = fs::remove_file(rt, path);
+/// Logs why a socket can't be bound.
+fn tell<R: Log>(rt: &R, path: &str, reason: &io::Error) {
+    if reason.kind() == ErrorKind::AddrInUse {
+        error!(rt; "{path}: a file is there already: remove it if no server uses it");
+    } else {
+        error!(rt; "{path}: {reason}");
+    }
+}
+
+/// A bound socket.
+#[derive(Drop)]
+pub(crate) struct Socket<'a, R: Files> {
+    pub(crate) listener: UnixListener,
+    pub(crate) file: SocketFile<'a, R>,
+}
+
+impl<'a, R: Files + Net + Log> Socket<'a, R> {
+    /// Binds a socket at a path where no file is. Where that fails, what stands there is left alone, and the cause is logged.
+    pub(crate) fn bind(rt: &'a R, path: &'a str, class: Class) -> Result<Socket<'a, R>, Fault>
+        ensures { IfErr result (λ fault. fault ≡ Listen class) }
+    {
+        match UnixListener::bind(rt, path) {
+            Ok(listener) => {
+                let bound = file_at(rt, path);
+                let file = SocketFile { rt, path, bound };
+                Ok(Socket { listener, file })
+            }
+            Err(reason) => {
+                tell(rt, path, &reason);
+                Err(Fault::Listen(class))
+            }
+        }
     }
 }
 
@@ -55,7 +100,7 @@ pub(crate) struct Sockets<'a, R: Files> {
 
 /// Binds the sockets in the order card, render, root. Where one can't be bound, those before it are closed and their files
 /// are removed.
-pub(crate) fn bind_all<'a, R: Files + Net>(
+pub(crate) fn bind_all<'a, R: Files + Net + Log>(
     rt: &'a R,
     paths: Paths<'a>,
 ) -> Result<Sockets<'a, R>, Fault>

@@ -10,3 +10,5 @@ pub mod DeviceRuns
 pub mod SameInput
 pub mod Sharing
 pub mod Matching
+pub mod Joining
+pub mod Crossing

@@ -1,5 +1,6 @@
 -- Lists that are matched member by member.
-use Rattle.std.proofs.Common.{◌≡◌, suc, List, [], ◌∷◌, ◌++◌, length, refl, ap}
+use Rattle.std.proofs.Common.{◌≡◌, suc, List, [], ◌∷◌, ◌++◌, All, length, refl, ap}
+use Rattle.std.proofs.lemmas.List.Elements.{All-head, All-tail}
 use Rattle.drm_sessions.specs.Matched.{Matched}
 
 -- one more of each
@@ -15,11 +16,18 @@ Matched-length R [] (b ∷ ys) m = absurd m
 Matched-length R (a ∷ xs) [] m = absurd m
 Matched-length R (a ∷ xs) (b ∷ ys) m = ap suc (Matched-length R xs ys m.1)
 
--- through a list in between
-pub Matched-through : {X Y Z : Type 0} (P : X → Y → Type 0) (Q : Y → Z → Type 0) (R : X → Z → Type 0) → ((x : X) (y : Y) (z : Z) → P x y → Q y z → R x z) → (xs : List X) (ys : List Y) (zs : List Z) → Matched P xs ys → Matched Q ys zs → Matched R xs zs
-Matched-through P Q R step [] [] [] m n = tt
-Matched-through P Q R step [] [] (c ∷ zs) m n = absurd n
-Matched-through P Q R step [] (b ∷ ys) zs m n = absurd m
-Matched-through P Q R step (a ∷ xs) [] zs m n = absurd m
-Matched-through P Q R step (a ∷ xs) (b ∷ ys) [] m n = absurd n
-Matched-through P Q R step (a ∷ xs) (b ∷ ys) (c ∷ zs) m n = (step a b c m.0 n.0, Matched-through P Q R step xs ys zs m.1 n.1)
+-- through a list in between, of each of which P holds
+pub Matched-beside : {X Y Z : Type 0} (P : Y → Type 0) (Q : X → Y → Type 0) (R : Y → Z → Type 0) (S : X → Z → Type 0) → ((x : X) (y : Y) (z : Z) → P y → Q x y → R y z → S x z) → (xs : List X) (ys : List Y) (zs : List Z) → All P ys → Matched Q xs ys → Matched R ys zs → Matched S xs zs
+Matched-beside P Q R S step [] [] [] all m n = tt
+Matched-beside P Q R S step [] [] (c ∷ zs) all m n = absurd n
+Matched-beside P Q R S step [] (b ∷ ys) zs all m n = absurd m
+Matched-beside P Q R S step (a ∷ xs) [] zs all m n = absurd m
+Matched-beside P Q R S step (a ∷ xs) (b ∷ ys) [] all m n = absurd n
+Matched-beside P Q R S step (a ∷ xs) (b ∷ ys) (c ∷ zs) all m n = (step a b c (All-head P b ys all) m.0 n.0, Matched-beside P Q R S step xs ys zs (All-tail P b ys all) m.1 n.1)
+
+-- each pair by itself
+pub Matched-map : {X Y : Type 0} (P Q : X → Y → Type 0) → ((x : X) (y : Y) → P x y → Q x y) → (xs : List X) (ys : List Y) → Matched P xs ys → Matched Q xs ys
+Matched-map P Q step [] [] m = tt
+Matched-map P Q step [] (b ∷ ys) m = absurd m
+Matched-map P Q step (a ∷ xs) [] m = absurd m
+Matched-map P Q step (a ∷ xs) (b ∷ ys) m = (step a b m.0, Matched-map P Q step xs ys m.1)

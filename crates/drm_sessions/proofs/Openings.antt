@@ -9,6 +9,7 @@ use Rattle.drm_model.specs.Rows.{Rows}
 use Rattle.drm_model.specs.Reply.{answer_of, reply_by, reply}
 use Rattle.drm_model.specs.Verdict.{verdict}
 use Rattle.drm_model.specs.Run.{Step}
+use Rattle.drm_turns.specs.Turns.{Answered}
 use Rattle.drm_frames.specs.Answers.{Outcome}
 use Rattle.drm_sessions.specs.Opening.{IsOpeningAnswer, AnswersOpening}
 
@@ -23,3 +24,10 @@ Step-opening w (Open opening) (Ok answer) v h = subst (λ (x : Answer). IsOpenin
 Step-opening w (Open opening) (Err apart) v h = tt
 Step-opening w (Ask client call) result v h = tt
 Step-opening w (Close client) result v h = tt
+
+-- the same of a call that may find no ticket for its turn
+pub Answered-opening : (event : Event) (result : Outcome) → Answered event result → AnswersOpening event result
+Answered-opening (Open opening) (Ok answer) h = Step-opening _ (Open opening) (Ok answer) _ h.steps.step
+Answered-opening (Open opening) (Err apart) h = tt
+Answered-opening (Ask client call) result h = tt
+Answered-opening (Close client) result h = tt

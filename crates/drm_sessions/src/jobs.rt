@@ -1,7 +1,6 @@
 //! A session that is to be served in a thread of its own.
 
 ghost use Rattle.std.specs.Prelude.{◌≡◌, IfSome};
-ghost use Rattle.drm_turns.specs.Seats.{fresh};
 ghost use Rattle.drm_sessions.specs.Jobs.{HasTurns, IsServed};
 
 use crate::access::Gate;
@@ -38,6 +37,8 @@ pub struct Finished<S, K> {
     pub source: S,
     /// The sink, as the session left it.
     pub sink: K,
+    /// The seat that the session had, as it ended; contracts speak of it.
+    pub seat: Snapshot<Seat>,
 }
 
 /// What a job's thread gives back.
@@ -47,13 +48,17 @@ pub(crate) struct Returned<S, K> {
     pub(crate) seat: Seat,
 }
 
-/// That a thread serves the job that it was given.
+/// That a thread serves the job that it was given, through the seat that it was given.
 #[derive(Drop)]
-pub(crate) struct JobServed<G, S, K>(Snapshot<Job<G, S, K>>);
+pub(crate) struct JobServed<G, S, K> {
+    pub(crate) job: Snapshot<Job<G, S, K>>,
+    pub(crate) seat: Snapshot<Seat>,
+}
 
 impl<G, S: Source, K: Sink> Promise<Returned<S, K>> for JobServed<G, S, K> {
-    ghost kept_by = { λ promise returned. IsServed S.account K.account promise.0.value returned.finished
-        × (returned.seat ≡ fresh) };
+    ghost kept_by = { λ promise returned.
+        IsServed S.account K.account promise.seat.value promise.job.value returned.finished
+        × (returned.finished.seat.value ≡ returned.seat) };
 }
 
 /// A thread that serves a job.
@@ -67,9 +72,9 @@ fn run_job<R: Wait, D: Sharing, G: Gate + Drop, S: Source, K: Sink>(
     job: Job<G, S, K>,
 ) -> Returned<S, K>
     requires turns { HasTurns S.account K.account job }
-    requires seat { seat ≡ fresh }
-    ensures served { IsServed S.account K.account job result.finished }
-    ensures seat { result.seat ≡ fresh }
+    requires own { seat.table ≡ D.table shared.now }
+    ensures served { IsServed S.account K.account seat job result.finished }
+    ensures seat { result.finished.seat.value ≡ result.seat }
 {
     let Job {
         mut gate,
@@ -93,12 +98,13 @@ fn run_job<R: Wait, D: Sharing, G: Gate + Drop, S: Source, K: Sink>(
             session,
             source,
             sink,
+            seat: Snapshot::of(&seat),
         },
         seat,
     }
 }
 
-/// Starts a thread that serves the job, where one can be made.
+/// Starts a thread that serves the job through the seat, where one can be made.
 pub(crate) fn start_job<
     's,
     E: 's,
@@ -115,10 +121,14 @@ pub(crate) fn start_job<
     job: Job<G, S, K>,
 ) -> Option<JobHandle<G, S, K>>
     requires turns { HasTurns S.account K.account job }
-    requires seat { seat ≡ fresh }
-    ensures { IfSome result (λ handle. handle.promise.0.value ≡ job) }
+    requires own { seat.table ≡ D.table shared.now }
+    ensures job { IfSome result (λ handle. handle.promise.job.value ≡ job) }
+    ensures seat { IfSome result (λ handle. handle.promise.seat.value ≡ seat) }
 {
-    let promise = JobServed(Snapshot::of(&job));
+    let promise = JobServed {
+        job: Snapshot::of(&job),
+        seat: Snapshot::of(&seat),
+    };
     match scope.spawn_with(promise, move || run_job(rt, shared, seat, job)) {
         Ok(handle) => Some(handle),
         Err(_) => None,

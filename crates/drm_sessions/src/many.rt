@@ -1,9 +1,11 @@
 //! Many sessions at once.
 
-ghost use Rattle.std.specs.Prelude.{◌≡◌, ◌+◌, ◌≤◌, [], All, IfOk, OnOk, OnErr, vec_len};
+ghost use Rattle.std.specs.Prelude.{◌≡◌, ℕ, ◌+◌, ◌-◌, ◌≤◌, [], ◌∷◌, ◌++◌, All, IfOk, OnErr, OnOk, vec_len};
+ghost use Rattle.std.specs.List.{AllByRecursion};
 ghost use Rattle.std.specs.Vec.{vec_capacity};
-ghost use Rattle.drm_turns.specs.Seats.{capped, fresh};
-ghost use Rattle.drm_sessions.specs.Jobs.{HasTurns, IsServed};
+ghost use Rattle.drm_turns.specs.History.{AllDiffer};
+ghost use Rattle.drm_turns.specs.Seats.{HasSeen, HasTakenIn, IsChild, IsSplitOff, Reaches, Same, numbers_of, with_out};
+ghost use Rattle.drm_sessions.specs.Jobs.{HasTurns, IsServed, IsServedBeside, seats_of};
 ghost use Rattle.drm_sessions.specs.Matched.{Matched};
 
 use crate::access::Gate;
@@ -41,11 +43,17 @@ fn start_all<
     handles: Vec<JobHandle<G, S, K>>,
 ) -> Result<Vec<JobHandle<G, S, K>>, ManyFault>
     requires turns { All (λ job. HasTurns S.account K.account job) jobs.items }
+    requires own { own.old.table ≡ shared.now }
     requires empty { handles.items ≡ [] }
     requires reserved { vec_len jobs ≤ vec_capacity handles }
     ensures started { IfOk result (λ handles.
-        Matched (λ job handle. handle.promise.0.value ≡ job) jobs.items handles.items) }
-    ensures own { own.new ≡ own.old }
+        Matched (λ job handle. handle.promise.job.value ≡ job) jobs.items handles.items) }
+    ensures split { IfOk result (λ handles.
+        All (λ handle. IsSplitOff own.old handle.promise.seat.value) handles.items) }
+    ensures children { IfOk result (λ handles.
+        All (λ handle. IsChild own.old handle.promise.seat.value) handles.items) }
+    ensures own { own.new ≡ with_out own.old own.new.out }
+    ensures out { IfOk result (λ handles. own.new.out ≡ own.old.out + vec_len handles) }
 {
     let mut handles = handles;
     for job in jobs {
@@ -66,13 +74,19 @@ fn join_all<R: Wait + Threads + Sync, G, S: Source + Drop, K: Sink + Drop>(
     handles: Vec<JobHandle<G, S, K>>,
     sessions: Vec<Finished<S, K>>,
 ) -> Vec<Finished<S, K>>
-    requires own { own.old ≡ fresh }
+    requires own { own.old.table ≡ shared.now }
+    requires joined { own.old.joined ≡ [] }
+    requires split { All (λ handle. IsSplitOff own.old handle.promise.seat.value) handles.items }
+    requires children { All (λ handle. IsChild own.old handle.promise.seat.value) handles.items }
     requires empty { sessions.items ≡ [] }
     requires reserved { vec_len handles ≤ vec_capacity sessions }
     ensures served { Matched
-        (λ handle finished. IsServed S.account K.account handle.promise.0.value finished)
+        (λ handle finished. IsServed S.account K.account handle.promise.seat.value handle.promise.job.value finished)
         handles.items result.items }
-    ensures own { own.new.joined ≡ capped (vec_len handles) }
+    ensures taken { HasTakenIn own.new (seats_of result.items) }
+    ensures same { Same own.old own.new }
+    ensures parent { own.new.parent ≡ own.old.parent }
+    ensures out { own.new.out ≡ own.old.out - vec_len result }
 {
     let mut sessions = sessions;
     for handle in handles {
@@ -100,11 +114,15 @@ fn serve_in_scope<
     jobs: Vec<Job<G, S, K>>,
 ) -> Result<Vec<Finished<S, K>>, ManyFault>
     requires turns { All (λ job. HasTurns S.account K.account job) jobs.items }
-    requires own { own.old ≡ fresh }
+    requires own { own.old.table ≡ shared.now }
+    requires joined { own.old.joined ≡ [] }
     ensures served { IfOk result (λ sessions. Matched
-        (λ job finished. IsServed S.account K.account job finished) jobs.items sessions.items) }
-    ensures own { OnOk result (own.new.joined ≡ capped (vec_len jobs)) }
-    ensures fault { OnErr result (own.new ≡ fresh) }
+        (λ job finished. IsServedBeside S.account K.account own.old job finished) jobs.items sessions.items) }
+    ensures taken { IfOk result (λ sessions. HasTakenIn own.new (seats_of sessions.items)) }
+    ensures same { Same own.old own.new }
+    ensures parent { own.new.parent ≡ own.old.parent }
+    ensures out { OnOk result (own.new.out ≡ own.old.out) }
+    ensures fault { OnErr result (own.new.joined ≡ []) }
 {
     let count = jobs.len();
     let handles = Vec::with_capacity(alloc, count).map_err(|_| ManyFault::NoMemory)?;
@@ -115,8 +133,10 @@ fn serve_in_scope<
 
 /// Serves each job in a thread of its own, and gives their sessions in the order of the jobs. It may wait.
 ///
-/// Each job is served as `serve_through` says, through a seat that is split off and joined again. On a fault the threads
-/// that were started are waited for, and their steps of the device stand.
+/// Each job is served as `serve_through` says, through a seat that is split off and joined again: what that seat had seen is
+/// told, and the entries of its number there are those of its session. The numbers of the jobs' seats differ, and stand
+/// behind the number of one that took them in. On a fault the threads that were started are waited for, and their steps of
+/// the device stand. What the lent seat made itself is as it was, and without a fault no more are out of it.
 pub fn serve_many<
     R: Wait + Threads + Sync,
     G: Gate + Send + Drop,
@@ -130,23 +150,34 @@ pub fn serve_many<
     jobs: Vec<Job<G, S, K>>,
 ) -> Result<Vec<Finished<S, K>>, ManyFault>
     requires turns { All (λ job. HasTurns S.account K.account job) jobs.items }
+    requires own { seat.old.table ≡ shared.now }
     ensures served { IfOk result (λ sessions. Matched
-        (λ job finished. IsServed S.account K.account job finished) jobs.items sessions.items) }
-    // The jobs' seats come with one that took them in.
-    ensures joined { OnOk result (seat.new.joined ≡ capped (seat.old.joined + (vec_len jobs + 1))) }
-    ensures fault { OnErr result (seat.new.joined ≡ capped (seat.old.joined + 1)) }
+        (λ job finished. IsServedBeside S.account K.account seat.old job finished) jobs.items sessions.items) }
+    ensures seen { IfOk result (λ sessions. AllByRecursion (λ other. HasSeen seat.new other) (seats_of sessions.items)) }
+    ensures joined { (number : ℕ)
+        × IfOk result (λ sessions. seat.new.joined ≡ seat.old.joined ++ number ∷ numbers_of (seats_of sessions.items))
+        × OnErr result (seat.new.joined ≡ seat.old.joined ++ number ∷ []) }
+    ensures differ { AllDiffer (seat.new.number ∷ seat.new.joined) }
+    ensures reaches { Reaches seat.old seat.new }
+    ensures mine { seat.new.mine ≡ seat.old.mine }
+    ensures parent { seat.new.parent ≡ seat.old.parent }
+    ensures out { OnOk result (seat.new.out ≡ seat.old.out) }
 {
     let own = shared.split(seat);
     let (own, sessions) = thread::scope(
         thread::scope_env(),
         rt,
         move |scope| -> (Seat, Result<Vec<Finished<S, K>>, ManyFault>)
-            requires { All (λ job. HasTurns S.account K.account job) jobs.items × (own ≡ fresh) }
+            requires { All (λ job. HasTurns S.account K.account job) jobs.items
+                × (own.table ≡ shared.now) × (own.joined ≡ []) }
             ensures { IfOk result.1 (λ sessions. Matched
-                (λ job finished. IsServed S.account K.account job finished)
+                (λ job finished. IsServedBeside S.account K.account own job finished)
                 jobs.items sessions.items)
-                × OnOk result.1 (result.0.joined ≡ capped (vec_len jobs))
-                × OnErr result.1 (result.0 ≡ fresh) }
+                × IfOk result.1 (λ sessions. HasTakenIn result.0 (seats_of sessions.items))
+                × Same own result.0
+                × (result.0.parent ≡ own.parent)
+                × OnOk result.1 (result.0.out ≡ own.out)
+                × OnErr result.1 (result.0.joined ≡ []) }
         {
             let mut own = own;
             let sessions = serve_in_scope(scope, rt, alloc, shared, &mut own, jobs);

@@ -28,11 +28,16 @@ impl<'a, R: Wait> Model for Through<'a, R> {
     ghost Value = { Standing };
 
     ghost view = { λ through. through.seat };
+
+    ghost use Rattle.std.specs.Prelude.{◌≡◌};
+
+    ghost invariant = { λ through. through.seat.table ≡ through.shared.now };
 }
 
 impl<'a, R: Wait> Through<'a, R> {
     /// The shared device, through this seat of it.
     pub fn new(rt: &'a R, shared: &'a SharedDevice, seat: Seat) -> Through<'a, R>
+        requires own { seat.table ≡ shared.now }
         ensures seat { result ≡ seat }
     {
         Through { rt, shared, seat }
@@ -60,13 +65,14 @@ impl<R: Wait> Access for Through<'_, R> {
 pub struct Served {
     /// How it ended, and what it did.
     pub session: Session,
-    /// The seat, as it was handed in.
+    /// The seat, which has the noted events of the session with their answers more.
     pub seat: Seat,
 }
 
 /// One session through a seat of a shared device. It may wait for its turns.
 ///
-/// The rest is as `serve` says.
+/// Each call has a turn of the device, in the history that the seat then has seen. The seat's own entries are those that it
+/// had, and the noted events of the session with their answers. The rest is as `serve` says.
 pub fn serve_through<R: Wait, G: Gate, S: Source, K: Sink>(
     rt: &R,
     shared: &SharedDevice,
@@ -77,9 +83,9 @@ pub fn serve_through<R: Wait, G: Gate, S: Source, K: Sink>(
     sink: &mut K,
     turns: u64,
 ) -> Served
+    requires own { seat.table ≡ shared.now }
     requires source { (S.account source.old).counts.calls + turns < 2 ^ 48 }
     requires sink { (K.account sink.old).counts.calls + turns < 2 ^ 48 }
-    ensures seat { result.seat ≡ seat }
     ensures serves { ServesShared class seat result.seat
         (S.account source.old) (S.account source.new) (K.account sink.old) (K.account sink.new)
         result.session }

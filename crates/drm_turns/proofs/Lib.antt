@@ -1,2 +1,9 @@
-pub mod Stepping
+pub mod Histories
+pub mod Rule
+pub mod Moves
+pub mod Kept
+pub mod Lent
+pub mod Ends
+pub mod Held
 pub mod Crossing
+pub mod Taken

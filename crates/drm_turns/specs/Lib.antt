@@ -1,2 +1,7 @@
-pub mod Turns
+pub mod History
+pub mod Views
+pub mod Rule
+pub mod Plays
 pub mod Seats
+pub mod Turns
+pub mod Sitting

@@ -1,7 +1,8 @@
--- What one call does to the device that it has locked.
-use Rattle.std.specs.Prelude.{◌≡◌, true, Result, Ok, Err}
+-- What one call does to the device in its turn.
+use Rattle.std.specs.Prelude.{◌≡◌, true, Result, Ok, Err, ⊤}
 use Rattle.drm_table.specs.declared.answers.Answer.{Answer}
 use Rattle.drm_table.specs.declared.apart.Apart.{Apart}
+use Rattle.drm_table.specs.declared.apart.Apart.TheVariants.{JournalFull, NoMemory, Worn}
 use Rattle.drm_table.specs.declared.events.Event.{Event}
 use Rattle.drm_table.specs.Limits.{are_in_range}
 use Rattle.drm_model.specs.Run.{History, FoundRoom, Step, noted_in, rows_of, start_of}
@@ -16,11 +17,18 @@ pub record Steps (old : History) (event : Event) (result : Result Answer Apart) 
   pub step : Step (rows_of old) event result (rows_of new)
   pub history : new ≡ history_after old event result
 
--- Some device that was locked answered the event, and was let go as the step left it: its limits are in their ranges, and each
--- event of its journal found room.
+-- The device that has its turn answered the event, and is left as the step left it: its limits are in their ranges, and
+-- each event of its journal found room.
 pub record Turn (event : Event) (result : Result Answer Apart) : Type 0 where
   pub before : History
   pub after : History
   pub steps : Steps before event result after
   pub in_range : are_in_range after.limits ≡ true
   pub found_room : FoundRoom (start_of after) after.journal
+
+-- What a call answers: what its turn gives, or that there is no ticket for a turn.
+abbrev pub Answered : Event → Result Answer Apart → Type 0
+Answered event (Err Worn) = ⊤
+Answered event (Err JournalFull) = Turn event (Err JournalFull)
+Answered event (Err NoMemory) = Turn event (Err NoMemory)
+Answered event (Ok answer) = Turn event (Ok answer)

@@ -1,10 +1,15 @@
-//! A device that several threads use, one event at a time.
+//! A device that threads share. Each call is one turn, and the calls of all threads stand in one legal history.
 #![tactic(auto)]
 
+mod history;
+mod laws;
 mod seat;
 mod shared;
+mod turn;
 
-pub use seat::Seat;
+pub use history::{Entry, Stage, View};
+pub use laws::{device_is_placed, tickets_differ};
+pub use seat::{Note, Seat};
 pub use shared::{NoMemory, SharedDevice, Sharing, TurnOut};
 
 #[cfg(test)]

@@ -1,14 +1,14 @@
-//! The right to call a shared device.
+//! What gives the right to call a shared device.
 
-ghost use Rattle.std.specs.Prelude.{◌≡◌, ◌+◌};
-ghost use Rattle.drm_turns.specs.Seats.{capped, fresh};
-
+use crate::history::View;
+use crate::turn::Slot;
+use atomic_table::Seat as Place;
 use std::marker::Model;
 
-/// The right of one thread to call a shared device. It counts the seats that it has taken in, up to 2^64 - 1.
+/// The right of one thread to call a shared device, with what it has seen and made. It takes no memory.
 #[derive(Drop)]
 pub struct Seat {
-    joined: u64,
+    pub(crate) place: Place<Slot, View>,
 }
 
 impl Model for Seat {
@@ -16,29 +16,27 @@ impl Model for Seat {
 
     ghost Value = { Standing };
 
-    ghost view = { λ seat. record { joined = seat.joined } };
+    ghost use Rattle.drm_turns.specs.Sitting.{standing_of, IsSeated};
+
+    ghost view = { standing_of };
+
+    ghost invariant = { IsSeated };
 }
 
-impl Seat {
-    /// A seat that has taken in no other.
-    pub(crate) fn new() -> Seat
-        ensures { result ≡ fresh }
-    {
-        Seat { joined: 0 }
-    }
+/// What a seat had seen, for another seat. It takes no memory.
+#[derive(Drop)]
+pub struct Note {
+    pub(crate) place: Place<Slot, View>,
+}
 
-    /// A seat beside this one, which stays as it is.
-    pub(crate) fn split_off(&mut self) -> Seat
-        ensures split { result ≡ fresh }
-        ensures same { self.new ≡ self.old }
-    {
-        Seat::new()
-    }
+impl Model for Note {
+    ghost use Rattle.drm_turns.specs.Seats.{Witness};
 
-    /// Takes in another seat, with those that it has taken in.
-    pub(crate) fn take_in(&mut self, other: Seat)
-        ensures { self.new ≡ record { joined = capped (self.old.joined + 1 + other.joined) } }
-    {
-        self.joined = self.joined.saturating_add(1).saturating_add(other.joined);
-    }
+    ghost Value = { Witness };
+
+    ghost use Rattle.drm_turns.specs.Sitting.{witness_of, IsNoted};
+
+    ghost view = { witness_of };
+
+    ghost invariant = { IsNoted };
 }

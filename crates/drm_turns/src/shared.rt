@@ -1,112 +1,348 @@
-//! The device behind its lock.
+//! A device that threads share, and the turn of a call.
 
-ghost use Rattle.std.specs.Prelude.{◌≡◌, ◌≢◌, ◌+◌, true, Err, IsOk, IfOk};
-ghost use Rattle.drm_table.specs.declared.apart.Apart.TheVariants.{Worn};
-ghost use Rattle.std.specs.Sync.Mutex.{mutex_guard_value};
+ghost use Rattle.std.specs.Prelude.{◌≡◌, ◌≢◌, ◌<◌, ◌-◌, ◌^◌, ◌++◌, [], ◌∷◌, true, false, Some, None, Err, IfSome, IfNone, IfOk, IfErr, IsOk, ◌+◌, length};
 ghost use Rattle.drm_table.specs.Limits.{are_in_range};
 ghost use Rattle.drm_table.specs.Results.{IsFew};
-ghost use Rattle.drm_model.specs.Run.{FoundRoom, start_of};
-ghost use Rattle.drm_turns.specs.Seats.{capped, fresh};
-ghost use Rattle.drm_turns.specs.Turns.{Steps, Turn};
+ghost use Rattle.drm_model.specs.Reply.{reply};
+ghost use Rattle.drm_model.specs.Run.{Step, no_room};
+ghost use Rattle.drm_turns.specs.declared.history.Stage.TheVariants.{Idle, Serving, Waiting};
+ghost use Rattle.drm_turns.specs.History.{AllDiffer, StartsWith, calls_by, device_at, entry, noted_before, rows_after};
+ghost use Rattle.drm_turns.specs.Views.{Grows, IsOwn, counted, found_at, out_after, passed, waiting};
+ghost use Rattle.drm_turns.specs.Plays.{IsInformed, IsServed};
+ghost use Rattle.drm_turns.specs.Seats.{Adds, Closes, Excuses, Reaches, Stays, with_out};
+ghost use Rattle.drm_turns.specs.Turns.{Answered, Turn};
 
-use crate::seat::Seat;
+use crate::history::View;
+use crate::seat::{Note, Seat};
+use crate::turn::{
+    Another, Count, Draw, Find, InTurn, Learn, Look, Met, Noted, Pass, Settle, Slot, Told,
+};
+use atomic_table::{Refused, Seat as Place, Table};
 use drm_device::Device;
 use drm_table::{Answer, Apart, Event};
 use std::alloc::Global;
-use std::marker::Model;
-use std::sync::{Mutex, MutexGuard, Wait};
+use std::hint;
+use std::marker::{Brand, Model};
+use std::snapshot::Snapshot;
+use std::sync::Wait;
 
-/// A device that threads share by reference. Each call has the device alone (own).
-#[derive(Drop)]
-pub struct SharedDevice {
-    device: Mutex<Device>,
-}
+/// The word of the length of the history.
+const COUNT: usize = 0;
 
-impl Model for SharedDevice {
-    // Contracts see nothing of it: which device a lock holds shows where it is locked.
-    ghost Value = { Unit {0} };
+/// The word of the next ticket.
+const TICKET: usize = 1;
 
-    ghost view = { λ shared. tt };
-}
+/// The word of the ticket that is served.
+const SERVING: usize = 2;
+
+/// How often a call looks whether it is served, before it sleeps until it is woken (own).
+const LOOKS: u32 = 64;
 
 /// No memory for a shared device.
 #[derive(Clone, Copy, Debug, PartialEq, Eq)]
 pub struct NoMemory;
 
-/// The device is still out with a call.
+/// A ticket was drawn that was not passed on.
 #[derive(Clone, Copy, Debug, PartialEq, Eq)]
 pub struct TurnOut;
 
-/// Makes one step of the device that a call has locked.
-fn step_locked(device: &mut MutexGuard<'_, Device>, event: Event) -> Result<Answer, Apart>
-    ensures steps { Steps (mutex_guard_value device.old) event result (mutex_guard_value device.new) }
-    ensures in_range { are_in_range (mutex_guard_value device.new).limits ≡ true }
-    ensures found_room { FoundRoom (start_of (mutex_guard_value device.new)) (mutex_guard_value device.new).journal }
-    ensures few { IsFew result }
-{
-    device.step(event)
+/// A device that threads share by reference. Each call has the device alone (own). Contracts see the name that it shares
+/// with its seats and notes.
+#[derive(Drop)]
+pub struct SharedDevice {
+    table: Table<Slot, View, Snapshot<Device>, InTurn, Global>,
+}
+
+impl Model for SharedDevice {
+    ghost use Rattle.std.specs.Prelude.{◌≡◌};
+    ghost use Rattle.atomic_table.specs.Seated.{TableId, table_id_coded};
+
+    ghost Value = { TableId };
+
+    ghost coded = { table_id_coded };
+
+    ghost view = { λ shared. shared.table.shared.table_id };
+
+    ghost invariant = { λ shared. (shared.table.shared.table_id.words ≡ 3) × (shared.table.shared.table_id.slots ≡ 1) };
 }
 
 /// What threads share a device by. A function that starts threads takes it as a type parameter, so that what crosses to
 /// a thread is told by a bound (`Sync`).
 pub trait Sharing {
+    ghost use Rattle.atomic_table.specs.Seated.{TableId};
+
+    /// The name of the device.
+    ghost table: { Self → TableId };
+
     /// The device.
-    fn device(&self) -> &SharedDevice;
+    fn device(&self) -> &SharedDevice
+        ensures device { result.now ≡ table self.now };
 }
 
 impl Sharing for SharedDevice {
+    ghost table = { λ shared. shared };
+
     fn device(&self) -> &SharedDevice {
         self
     }
 }
 
 impl SharedDevice {
-    /// Shares the device, and gives the first seat. Without memory there is no shared device, and the device is given
-    /// back; today it takes no memory and is never refused.
-    pub fn new(_alloc: Global, device: Device) -> Result<(SharedDevice, Seat), (Device, NoMemory)>
-        ensures shared { IsOk result }
-        ensures seat { IfOk result (λ made. made.1 ≡ fresh) }
+    /// Draws a ticket. There is none where the last number was found.
+    fn draw<R: Wait>(&self, rt: &R, place: &mut Place<Slot, View>) -> Option<u64>
+        requires own { place.old.table_id ≡ self.now }
+        requires idle { place.old.me.0.stage ≡ Idle }
+        ensures own { (place.new.table_id ≡ place.old.table_id) × (place.new.id ≡ place.old.id) }
+        ensures some { IfSome result (λ ticket. (ticket < 2 ^ 64 - 1)
+            × (place.new.me ≡ (waiting place.old.me.0 ticket, place.old.me.1))) }
+        ensures none { IfNone result (place.new.me ≡ (found_at place.old.me.0 (2 ^ 64 - 1), place.old.me.1)) }
     {
-        let shared = SharedDevice {
-            device: Mutex::new(device),
-        };
-        Ok((shared, Seat::new()))
+        let shared = &self.table.shared;
+        for _ in rt.forever() {
+            let found = shared.load::<Find>(place, TICKET);
+            if found == u64::MAX {
+                return None;
+            }
+            if shared.compare_exchange::<Draw>(place, TICKET, found, found + 1) == found {
+                return Some(found);
+            }
+        }
+        unreachable!()
     }
 
-    /// Answers one event, once no other call has the device. It may wait.
-    ///
-    /// The device that is locked answers from its rows, those of its journal, and notes what it answers; its limits are
-    /// in their ranges, and each event of its journal found room. The lists of an answer have at most 251 ids together, which
-    /// one frame takes. What stands apart, a full journal (own) and want of memory, leaves the device as it was. A worn turn
-    /// is no answer today.
-    pub fn call<R: Wait>(&self, rt: &R, seat: &mut Seat, event: Event) -> Result<Answer, Apart>
+    /// Waits until the ticket is served, and then has the device. After a few looks it sleeps between them.
+    fn wait_turn<R: Wait>(&self, rt: &R, place: &mut Place<Slot, View>, ticket: u64)
+        requires own { place.old.table_id ≡ self.now }
+        requires waiting { (place.old.me.0.stage ≡ Waiting) × (place.old.me.0.ticket ≡ ticket) }
+        ensures own { (place.new.table_id ≡ place.old.table_id) × (place.new.id ≡ place.old.id) }
+        ensures served { IsServed place.old.me place.new.me }
+    {
+        let shared = &self.table.shared;
+        let mut looks = 0;
+        for _ in rt.forever() {
+            let now = shared.load::<Look>(place, SERVING);
+            if now == ticket {
+                return;
+            }
+            if looks < LOOKS {
+                looks += 1;
+                hint::spin_loop();
+            } else {
+                shared.park(rt, SERVING, (now % (1 << 32)) as u32);
+            }
+        }
+        unreachable!()
+    }
+
+    /// Adds the entry to the history. The device answered it so in this turn.
+    fn count<E: Noted>(
+        &self,
+        place: &mut Place<Slot, View>,
+        event: &Snapshot<Event>,
+        answer: &Answer,
+    )
+        requires own { place.old.table_id ≡ self.now }
+        requires serving { (place.old.me.0.stage ≡ Serving) × (place.old.me.0.number ≢ 0) × (length place.old.me.0.seen < 2 ^ 32) }
+        requires entry { E.entry ≡ entry place.old.me.0.number event.now.value answer.now }
+        requires legal { (no_room (rows_after place.old.me.0.origin place.old.me.0.seen) event.now.value ≡ false)
+            × (answer.now ≡ reply (rows_after place.old.me.0.origin place.old.me.0.seen) event.now.value) }
+        ensures own { (place.new.table_id ≡ place.old.table_id) × (place.new.id ≡ place.old.id) }
+        ensures counted { place.new.me ≡ (counted place.old.me.0 (entry place.old.me.0.number event.now.value answer.now), place.old.me.1) }
+    {
+        let _ = event;
+        let _ = answer;
+        self.table.shared.fetch_add::<Count<E>>(place, COUNT, 1);
+    }
+
+    /// Takes the device, steps it, counts the step where it was noted, and puts the device back.
+    fn carry_out(&self, place: &mut Place<Slot, View>, event: Event) -> Result<Answer, Apart>
+        requires own { place.old.table_id ≡ self.now }
+        requires serving { (place.old.me.0.stage ≡ Serving) × (place.old.me.0.number ≢ 0) }
+        requires device { place.old.me.1 ≡ (0, Some (device_at place.old.me.0.origin place.old.me.0.seen)) ∷ [] }
+        requires seen { IsOwn place.old.me.0 }
+        ensures own { (place.new.table_id ≡ place.old.table_id) × (place.new.id ≡ place.old.id) }
+        ensures grows { Grows place.old.me.0 place.new.me.0 }
+        ensures ok { IfOk result (λ answer. place.new.me.0 ≡ counted place.old.me.0 (entry place.old.me.0.number event answer)) }
+        ensures err { IfErr result (λ apart. (place.new.me.0 ≡ place.old.me.0)
+            × Step (rows_after place.old.me.0.origin place.old.me.0.seen) event (Err apart) (rows_after place.old.me.0.origin place.old.me.0.seen)) }
+        ensures device { place.new.me.1 ≡ (0, Some (device_at place.new.me.0.origin place.new.me.0.seen)) ∷ [] }
         ensures turn { Turn event result }
         ensures few { IsFew result }
-        ensures not_worn { result ≢ Err Worn }
-        ensures seat { seat.new ≡ seat.old }
     {
-        step_locked(&mut self.device.lock(rt), event)
+        let shared = &self.table.shared;
+        let mut device = shared.exchange(place, 0, None).unwrap();
+        let noted = Snapshot::of(&event);
+        let result = device.step(event);
+        match &result {
+            Ok(answer) => self.count::<Brand>(place, &noted, answer),
+            Err(_) => {}
+        }
+        drop(shared.exchange(place, 0, Some(device)));
+        result
     }
 
-    /// A further seat, which has taken in no other. The seat that it is split off stays as it is.
+    /// Leaves the device at home and lets the next ticket be served. Where no other ticket is out, nobody is woken.
+    fn pass(&self, place: &mut Place<Slot, View>)
+        requires own { place.old.table_id ≡ self.now }
+        requires serving { place.old.me.0.stage ≡ Serving }
+        requires device { place.old.me.1 ≡ (0, Some (device_at place.old.me.0.origin place.old.me.0.seen)) ∷ [] }
+        ensures own { (place.new.table_id ≡ place.old.table_id) × (place.new.id ≡ place.old.id) }
+        ensures passed { place.new.me ≡ (passed place.old.me.0, []) }
+    {
+        let shared = &self.table.shared;
+        let served = shared.fetch_add::<Pass>(place, SERVING, 1);
+        if shared.peek(TICKET) != served.wrapping_add(1) {
+            shared.wake_all(SERVING);
+        }
+    }
+
+    /// Learns the history so far.
+    fn learn(&self, place: &mut Place<Slot, View>)
+        requires own { place.old.table_id ≡ self.now }
+        requires idle { place.old.me.0.stage ≡ Idle }
+        ensures own { (place.new.table_id ≡ place.old.table_id) × (place.new.id ≡ place.old.id) }
+        ensures informed { IsInformed place.old.me place.new.me }
+    {
+        self.table.shared.load::<Learn>(place, COUNT);
+    }
+
+    /// Shares the device, and gives the first seat, which has number 1 and has seen what the device had noted. Without
+    /// memory there is no shared device, and the device is given back.
+    pub fn new(alloc: Global, device: Device) -> Result<(SharedDevice, Seat), (Device, NoMemory)>
+        ensures own { IfOk result (λ made. made.1.table ≡ made.0) }
+        ensures seen { IfOk result (λ made. (made.1.origin ≡ device) × (made.1.seen ≡ noted_before device)) }
+        ensures fresh { IfOk result (λ made. (made.1.mine ≡ []) × (made.1.joined ≡ [])) }
+        ensures number { IfOk result (λ made. made.1.number ≡ 1) }
+        ensures none_out { IfOk result (λ made. made.1.out ≡ 0) }
+        ensures refused { IfErr result (λ refused. refused.0 ≡ device) }
+    {
+        let Ok(mut slots) = Vec::with_capacity(alloc, 1) else {
+            return Err((device, NoMemory));
+        };
+        let noted = device.journal().len() as u64;
+        let about = Snapshot::of(&device);
+        slots.push_reserved(Some(device));
+        match Table::new(alloc, &[noted, 0, 0], slots, &about) {
+            Ok((table, place)) => Ok((SharedDevice { table }, Seat { place })),
+            Err(Refused { mut slots }) => Err((slots.pop().unwrap().unwrap(), NoMemory)),
+        }
+    }
+
+    /// Answers one event, in the seat's turn. It may wait for the turns before it.
+    ///
+    /// The device answers from its rows, those of its journal, and notes what it answers; its limits are in their ranges,
+    /// and each event of its journal found room. What is answered fits one frame, and ends the history that the seat has
+    /// seen then. What stands apart, a full journal (own) and want of memory, leaves the device as it was and adds no
+    /// entry. Without a ticket for the turn the device isn't asked.
+    pub fn call<R: Wait>(&self, rt: &R, seat: &mut Seat, event: Event) -> Result<Answer, Apart>
+        requires own { seat.old.table ≡ self.now }
+        ensures reaches { Reaches seat.old seat.new }
+        ensures joined { seat.new.joined ≡ seat.old.joined }
+        ensures stays { Stays seat.old seat.new }
+        ensures ok { IfOk result (λ answer. Adds seat.old event answer seat.new) }
+        ensures err { IfErr result (λ apart. Excuses seat.old event apart seat.new) }
+        ensures turn { Answered event result }
+        ensures few { IsFew result }
+    {
+        let place = &mut seat.place;
+        let Some(ticket) = self.draw(rt, place) else {
+            return Err(Apart::Worn);
+        };
+        self.wait_turn(rt, place, ticket);
+        let result = self.carry_out(place, event);
+        self.pass(place);
+        result
+    }
+
+    /// A further seat, of a number of its own, which has seen as much. The seat that it is split off counts one more that
+    /// is out, and else stays as it is.
     pub fn split(&self, seat: &mut Seat) -> Seat
-        ensures split { result ≡ fresh }
-        ensures seat { seat.new ≡ seat.old }
+        requires own { seat.old.table ≡ self.now }
+        ensures same { seat.new ≡ with_out seat.old (seat.old.out + 1) }
+        ensures own { (result.table ≡ seat.old.table) × (result.origin ≡ seat.old.origin) }
+        ensures number { result.number ≢ seat.old.number }
+        ensures parent { result.parent ≡ seat.old.number }
+        ensures seen { result.seen ≡ seat.old.seen }
+        ensures fresh { (result.mine ≡ []) × (result.joined ≡ []) }
+        ensures none_out { result.out ≡ 0 }
     {
-        seat.split_off()
+        let shared = &self.table.shared;
+        let mut place = shared.split_seat::<Another>(&mut seat.place);
+        shared.load::<Settle>(&mut place, COUNT);
+        Seat { place }
     }
 
-    /// Takes back a seat, and counts it and those that it has taken in.
+    /// Takes in another seat, which ends: what it had seen, its number, and the numbers that it had taken in. They all
+    /// differ from each other. Where it was split off this seat, and none is out of it any more, one fewer is out.
     pub fn join(&self, seat: &mut Seat, other: Seat)
-        ensures joined { seat.new ≡ record { joined = capped (seat.old.joined + 1 + other.joined) } }
+        requires own { seat.old.table ≡ self.now }
+        requires other { other.table ≡ self.now }
+        ensures reaches { Reaches seat.old seat.new }
+        ensures mine { seat.new.mine ≡ seat.old.mine }
+        ensures seen { StartsWith seat.new.seen other.seen }
+        ensures theirs { calls_by other.number other.seen ≡ other.mine }
+        ensures joined { seat.new.joined ≡ seat.old.joined ++ other.number ∷ other.joined }
+        ensures parent { seat.new.parent ≡ seat.old.parent }
+        ensures out { seat.new.out ≡ out_after seat.old.number seat.old.out other.parent other.out }
+        ensures differ { AllDiffer (seat.new.number ∷ seat.new.joined) }
     {
-        seat.take_in(other);
+        let Seat { place: ended } = other;
+        let place = &mut seat.place;
+        self.table.shared.join_seat::<Told>(place, ended);
+        self.learn(place);
     }
 
-    /// The device, once nobody shares it. A device that is still out with a call is an error, which today never comes.
-    pub fn close(self, _seat: Seat) -> Result<Device, TurnOut>
-        ensures closed { IsOk result }
+    /// What the seat has seen, for another seat. The seat counts one more that is out, and else stays as it is.
+    pub fn note(&self, seat: &mut Seat) -> Note
+        requires own { seat.old.table ≡ self.now }
+        ensures same { seat.new ≡ with_out seat.old (seat.old.out + 1) }
+        ensures own { (result.table ≡ seat.old.table) × (result.origin ≡ seat.old.origin) }
+        ensures parent { result.parent ≡ seat.old.number }
+        ensures seen { result.seen ≡ seat.old.seen }
     {
-        Ok(self.device.into_inner())
+        let place = self.table.shared.split_seat::<Another>(&mut seat.place);
+        Note { place }
+    }
+
+    /// Takes in what a note tells. Where it was the seat's own, one fewer is out.
+    pub fn meet(&self, seat: &mut Seat, note: Note)
+        requires own { seat.old.table ≡ self.now }
+        requires note { note.table ≡ self.now }
+        ensures reaches { Reaches seat.old seat.new }
+        ensures mine { seat.new.mine ≡ seat.old.mine }
+        ensures seen { StartsWith seat.new.seen note.seen }
+        ensures joined { seat.new.joined ≡ seat.old.joined }
+        ensures parent { seat.new.parent ≡ seat.old.parent }
+        ensures out { seat.new.out ≡ out_after seat.old.number seat.old.out note.parent 0 }
+    {
+        let Note { place: ended } = note;
+        let place = &mut seat.place;
+        self.table.shared.join_seat::<Met>(place, ended);
+        self.learn(place);
+    }
+
+    /// The device, once nobody shares it. Where a ticket was drawn that was not passed on, it is out with a call: then it
+    /// is lost with the seat that had it. That isn't so where the seat is the first, and each seat and note that was split
+    /// off it is given back to it with all of its own.
+    pub fn close(self, seat: Seat) -> Result<Device, TurnOut>
+        requires own { seat.table ≡ self }
+        ensures closes { IfOk result (λ device. Closes seat device) }
+        ensures home { seat.number ≡ 1 → seat.out ≡ 0 → IsOk result }
+    {
+        let Seat { place } = seat;
+        let SharedDevice { table } = self;
+        let mut closed = table.close_with(place);
+        let is_quiet = closed.word(TICKET) == closed.word(SERVING);
+        let slot = closed.take(0);
+        closed.free();
+        match slot {
+            Some(device) if is_quiet => Ok(device),
+            _ => Err(TurnOut),
+        }
+    }
+
+    /// The length of the history at some moment. It waits for nobody.
+    pub fn peek_count(&self) -> u64 {
+        self.table.shared.peek(COUNT)
     }
 }

@@ -1,18 +1,34 @@
-use Rattle.std.proofs.Common.{◌≡◌, subst, arith}
-use Rattle.drm_listeners.specs.Connections.{IsSessionOf}
+use Rattle.std.proofs.Common.{◌≡◌, ap, length, subst, ◌∙◌, arith}
+use Rattle.std.proofs.lemmas.List.Elements.{All-weaker}
+use Rattle.drm_turns.specs.Seats.{IsChild, Same, Standing}
+use Rattle.drm_turns.proofs.Taken.{child_before}
+use Rattle.drm_listeners.specs.Connections.{IsSessionBy}
+use Rattle.drm_listeners.proofs.Gathering.{length-sessions}
 use Rattle.drm_listeners.proofs.Matching.{Matched-all, Matched-length}
 use Rattle.drm_listeners.proofs.connections.serve_in_scope.Goals as goal
+
+pub join_connections-sessions-requires-clause-children : goal.join_connections-sessions-requires-clause-children
+join_connections-sessions-requires-clause-children g c =
+    let started = c.in_ok-handles-2.ensures in
+    All-weaker (λ handle. IsChild c.args.seat handle.promise.seat.value) _ (λ handle h. child_before c.args.seat _ handle.promise.seat.value started.own h) _ started.children
 
 pub returns : goal.returns
 returns g c =
     let class = c.args.listener.class in
     let started = c.in_ok-handles-2.ensures in
     let joined = c.join_connections-sessions.ensures in
-    let same = Matched-length (λ handle session. IsSessionOf handle.promise.class session) _ _ joined.sessions in
+    let matched = Matched-length (λ handle sitting. IsSessionBy handle.promise.class sitting.seat sitting.session) _ _ joined.sessions.2 in
+    let sessions = ap (λ l. length l) joined.sessions.1 in
+    let sittings = length-sessions joined.sessions.0 in
     let count = started.count in
-    let own = joined.own in
+    let more = started.out in
+    let fewer = joined.out in
     record {
-      number = omega arith;
-      sessions = Matched-all (λ handle. handle.promise.class ≡ class) (λ handle session. IsSessionOf handle.promise.class session) (IsSessionOf class) (λ handle session is served. subst (λ x. IsSessionOf x session) is served) _ _ started.class joined.sessions;
-      seat = omega arith;
+      number = omega (arith, matched, sessions, sittings, count);
+      same = subst (λ (s : Standing). Same s c.join_connections-sessions.new.own) started.own joined.same;
+      stays = (joined.parent ∙ ap (λ (s : Standing). s.parent) started.own, omega (arith, matched, sessions, sittings, count, more, fewer));
+      sittings = joined.sessions.0;
+      sessions = joined.sessions.1;
+      of_class = Matched-all (λ handle. handle.promise.class ≡ class) (λ handle sitting. IsSessionBy handle.promise.class sitting.seat sitting.session) (λ sitting. IsSessionBy class sitting.seat sitting.session) (λ handle sitting is served. subst (λ x. IsSessionBy x sitting.seat sitting.session) is served) _ _ started.class joined.sessions.2;
+      taken = joined.sessions.3;
     }

@@ -1,12 +1,16 @@
-use Rattle.std.proofs.Common.{◌≡◌, ◌≤◌, All, vec_len}
+use Rattle.std.proofs.Common.{◌≡◌, ◌+◌, ◌≤◌, All, vec_len}
 use Rattle.std.specs.Vec.{vec_capacity}
+use Rattle.drm_turns.specs.Seats.{IsChild, with_out}
 use Rattle.drm_listeners.proofs.connections.start_connections.Given as goal
 
 -- a thread of the class for each connection so far, and room for the others
 abbrev pub invariant-loop : goal.invariant-loop
 invariant-loop g l = record {
-  own : l.own ≡ l.initial.own;
+  own : l.own ≡ with_out l.initial.own l.own.out;
+  out : l.own.out ≡ l.initial.own.out + vec_len l.handles;
   number : vec_len l.handles ≡ l.counter;
   class : All (λ handle. handle.promise.class ≡ l.listener.class) l.handles.items;
+  seats : All (λ handle. handle.promise.seat.value.table ≡ l.initial.own.table) l.handles.items;
+  children : All (λ handle. IsChild l.initial.own handle.promise.seat.value) l.handles.items;
   room : l.listener.count ≤ vec_capacity l.handles;
 }

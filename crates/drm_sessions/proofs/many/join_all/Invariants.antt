@@ -1,7 +1,7 @@
-use Rattle.std.proofs.Common.{◌≡◌, ◌+◌, ◌≤◌, length}
+use Rattle.std.proofs.Common.{◌≡◌, ◌+◌, ◌-◌, ◌≤◌, All, length}
 use Rattle.std.specs.Vec.{vec_capacity}
-use Rattle.drm_turns.specs.Seats.{capped}
-use Rattle.drm_sessions.specs.Jobs.{IsServed}
+use Rattle.drm_turns.specs.Seats.{HasTakenIn, IsChild, IsSplitOff, Same}
+use Rattle.drm_sessions.specs.Jobs.{IsServed, seats_of}
 use Rattle.drm_sessions.specs.Matched.{Matched}
 use Rattle.drm_sessions.proofs.many.join_all.Given as goal
 
@@ -10,7 +10,12 @@ abbrev pub invariant-loop-handle : goal.invariant-loop-handle
 invariant-loop-handle g l = record {
   can : (goal.iterator-loop-handle g).can_next l.handle-iterator;
   ends : (goal.iterator-loop-handle g).is_finite l.handle-iterator;
-  own : l.own.joined ≡ capped (length l.yielded);
-  served : Matched (λ handle finished. IsServed g.S.Source.account g.K.Sink.account handle.promise.0.value finished) l.yielded l.sessions.items;
+  same : Same l.initial.own l.own;
+  parent : l.own.parent ≡ l.initial.own.parent;
+  out : l.own.out ≡ l.initial.own.out - length l.sessions.items;
+  split : All (λ handle. IsSplitOff l.initial.own handle.promise.seat.value) l.handle-iterator.rest.items;
+  children : All (λ handle. IsChild l.initial.own handle.promise.seat.value) l.handle-iterator.rest.items;
+  taken : HasTakenIn l.own (seats_of l.sessions.items);
+  served : Matched (λ handle finished. IsServed g.S.Source.account g.K.Sink.account handle.promise.seat.value handle.promise.job.value finished) l.yielded l.sessions.items;
   room : length l.sessions.items + length l.handle-iterator.rest.items ≤ vec_capacity l.sessions;
 }

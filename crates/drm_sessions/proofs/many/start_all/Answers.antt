@@ -1,8 +1,10 @@
-use Rattle.std.proofs.Common.{◌≡◌, ◌∷◌, [], length, ap, ◌∙◌, length-append, arith}
-use Rattle.std.proofs.lemmas.List.Elements.{All-head, All-tail}
+use Rattle.std.proofs.Common.{◌≡◌, ◌∷◌, [], length, sym, ap, ◌∙◌, subst, length-append, arith}
+use Rattle.std.proofs.lemmas.List.Elements.{All-head, All-push, All-tail}
 use denote.Exit.{no}
 use denote.Param.Send.{arg_sync, param_sync}
+use Rattle.drm_turns.specs.Seats.{IsChild, IsSplitOff, Standing}
 use Rattle.drm_turns.proofs.Crossing.{shared_sync}
+use Rattle.drm_turns.proofs.Taken.{still_but_out}
 use Rattle.drm_sessions.specs.Jobs.{HasTurns}
 use Rattle.drm_sessions.proofs.Matching.{Matched-push}
 use Rattle.drm_sessions.proofs.many.start_all.Goals as goal
@@ -13,12 +15,27 @@ loop-job-preserved g c =
     let taken = ap (λ xs. length xs) c.in-Some.ensures.steps.0 in
     let pushed = ap (λ xs. length xs) c.push_reserved.ensures.items in
     let grown = length-append c.loop-job.handles.items (c.in-Some-start_job.handle ∷ []) in
+    let split : IsSplitOff c.args.own.now c.split-seat.result = record {
+      table = c.split-seat.ensures.own.0 ∙ ap (λ (s : Standing). s.table) before.own;
+      origin = c.split-seat.ensures.own.1 ∙ ap (λ (s : Standing). s.origin) before.own;
+      mine = c.split-seat.ensures.fresh.0;
+      joined = c.split-seat.ensures.fresh.1;
+    } in
+    let child : IsChild c.args.own.now c.split-seat.result = record {
+      parent = c.split-seat.ensures.parent ∙ ap (λ (s : Standing). s.number) before.own;
+      out = c.split-seat.ensures.none_out;
+    } in
     record {
       can = tt;
       ends = tt;
-      own = c.split-seat.ensures.seat ∙ before.own;
+      own = still_but_out c.args.own.now _ _ _ before.own c.split-seat.ensures.same;
+      out = (let more = ap (λ (s : Standing). s.out) c.split-seat.ensures.same in let out = before.out in omega arith);
       turns = All-tail (λ job. HasTurns g.S.Source.account g.K.Sink.account job) _ _ (rw c.in-Some.ensures.steps.0 at before.turns);
-      started = rw c.push_reserved.ensures.items (Matched-push (λ job handle. handle.promise.0.value ≡ job) _ _ _ _ before.started c.in-Some-start_job.ensures);
+      started = rw c.push_reserved.ensures.items (Matched-push (λ job handle. handle.promise.job.value ≡ job) _ _ _ _ before.started c.in-Some-start_job.ensures.job);
+      split = rw c.push_reserved.ensures.items (All-push (λ handle. IsSplitOff c.args.own.now handle.promise.seat.value) _ _ before.split
+          (subst (λ (s : Standing). IsSplitOff c.args.own.now s) (sym c.in-Some-start_job.ensures.seat) split));
+      children = rw c.push_reserved.ensures.items (All-push (λ handle. IsChild c.args.own.now handle.promise.seat.value) _ _ before.children
+          (subst (λ (s : Standing). IsChild c.args.own.now s) (sym c.in-Some-start_job.ensures.seat) child));
       room = (let room = before.room in let capacity = c.push_reserved.ensures.capacity in omega arith);
     }
 

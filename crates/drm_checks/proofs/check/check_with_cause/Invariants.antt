@@ -1,0 +1,19 @@
+use Rattle.std.proofs.Common.{◌≤◌, ◌+◌, ◌*◌}
+use Rattle.drm_checks.specs.Steps.{StandsSoFar, fuel_of}
+use Rattle.drm_checks.proofs.check.check_with_cause.Given as goal
+
+abbrev pub invariant-lines : goal.invariant-lines
+invariant-lines g l =
+    let source = g.S.Source.account in
+    let sink = g.K.Sink.account in
+    record {
+      so_far : StandsSoFar l.fn.name (source l.fn.source) (source l.source) (sink l.fn.sink) (sink l.sink) l.fn.turns l.check;
+      passed : l.check.checker.passed ≤ l.check.checker.number;
+      failed : l.check.checker.failed ≤ l.check.checker.number;
+      source_calls : (source l.source).counts.calls + l.check.checker.turns ≤ (source l.fn.source).counts.calls + l.fn.turns;
+      sink_calls : (sink l.sink).counts.calls + l.check.checker.turns ≤ (sink l.fn.sink).counts.calls + l.fn.turns;
+      fuel : l.check.checker.number + fuel_of l.check ≤ 256 * l.fn.turns;
+    }
+
+abbrev pub decreases-lines : goal.decreases-lines
+decreases-lines g l = fuel_of l.check

@@ -1,0 +1,33 @@
+use Rattle.std.proofs.Common.{◌≡◌, List, [], sym, ap, ◌∙◌, subst, arith}
+use Rattle.drm_turns.specs.Seats.{Standing}
+use Rattle.drm_sessions.specs.declared.end.Session.{Session}
+use Rattle.drm_listeners.specs.Serving.{AreSessionsOf}
+use Rattle.drm_listeners.proofs.Gathering.{are-sessions, have-sat, if_ok, on_ok}
+use Rattle.drm_listeners.proofs.serving.serve_shared.Goals as goal
+
+pub returns-clause-sessions : goal.returns-clause-sessions
+returns-clause-sessions g c =
+    if_ok c.gather.result (λ sessions is. subst (λ (l : List Session). AreSessionsOf c.args.counts l) (sym is) (are-sessions c.args.counts _ _ c.in_ok-served.ensures.served)) c.gather.ensures.sessions
+
+pub returns-clause-seats : goal.returns-clause-seats
+returns-clause-seats g c =
+    let none : c.split-3.new.seat.joined ≡ [] = ap (λ (s : Standing). s.joined) c.split-3.ensures.same ∙ (ap (λ (s : Standing). s.joined) c.split-2.ensures.same ∙ (ap (λ (s : Standing). s.joined) c.split.ensures.same ∙ c.requires.joined)) in
+    if_ok c.gather.result (λ sessions is. have-sat c.args.counts _ _ c.split-3.new.seat c.gather.new.seat sessions.items c.in_ok-served.ensures.served c.gather.ensures.seen none c.gather.ensures.joined c.gather.ensures.differ is) c.gather.ensures.sessions
+
+pub gather-requires-clause-children : goal.gather-requires-clause-children
+gather-requires-clause-children g c =
+    let served = c.in_ok-served.ensures.served in
+    let second = ap (λ (s : Standing). s.number) c.split-2.ensures.same in
+    let third = ap (λ (s : Standing). s.number) c.split-3.ensures.same in
+    let first = ap (λ (s : Standing). s.number) c.split.ensures.same in record {
+      card = record { parent = served.card.stays.0 ∙ c.split.ensures.parent ∙ sym (third ∙ (second ∙ first)); out = served.card.stays.1 ∙ c.split.ensures.none_out };
+      render = record { parent = served.render.stays.0 ∙ c.split-2.ensures.parent ∙ sym (third ∙ second); out = served.render.stays.1 ∙ c.split-2.ensures.none_out };
+      root = record { parent = served.root.stays.0 ∙ c.split-3.ensures.parent ∙ sym third; out = served.root.stays.1 ∙ c.split-3.ensures.none_out };
+    }
+
+pub returns-clause-out : goal.returns-clause-out
+returns-clause-out g c =
+    let first = ap (λ (s : Standing). s.out) c.split.ensures.same in
+    let second = ap (λ (s : Standing). s.out) c.split-2.ensures.same in
+    let third = ap (λ (s : Standing). s.out) c.split-3.ensures.same in
+    on_ok c.gather.result (λ gathered. omega arith) c.gather.ensures.out

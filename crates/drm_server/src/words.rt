@@ -1,0 +1,44 @@
+//! The words of the command line.
+
+use crate::faults::Fault;
+use log::{Log, error};
+use std::alloc::Global;
+use std::env;
+use std::io::ErrorKind;
+use std::rt::Env;
+
+/// How many bytes of a word that isn't text are looked at, and of how many words.
+const MOST_BYTES: usize = 4_096;
+
+const MOST_WORDS: usize = 65_536;
+
+/// The first word that isn't text, with signs in place of what can't be shown.
+fn word_of_no_text<R: Env>(rt: &R, alloc: Global) -> Option<String> {
+    let mut word = [0; MOST_BYTES];
+    for place in 0..MOST_WORDS {
+        let len = rt.arg(place, &mut word).ok()?;
+        let bytes = word.get(..len)?;
+        if str::from_utf8(bytes).is_err() {
+            return String::from_utf8_lossy(alloc, bytes).ok();
+        }
+    }
+    None
+}
+
+/// The words of the command line, the program's name first. Where one isn't text, that is logged.
+pub(crate) fn words_of<R: Env + AllocGlobal + Log>(
+    rt: &R,
+    alloc: Global,
+) -> Result<Vec<String>, Fault> {
+    match env::args(rt) {
+        Ok(words) => words.collect(alloc).map_err(|_| Fault::Memory),
+        Err(reason) if reason.kind() == ErrorKind::OutOfMemory => Err(Fault::Memory),
+        Err(_) => {
+            match word_of_no_text(rt, alloc) {
+                Some(word) => error!(rt; "a word of the command line is not text: {word}"),
+                None => error!(rt; "a word of the command line is not text"),
+            }
+            Err(Fault::CommandLine)
+        }
+    }
+}

@@ -1,0 +1,25 @@
+-- Jobs that were served through seats of a seat that was itself split off.
+use Rattle.std.proofs.Common.{◌≡◌, Result, Ok, Err}
+use Rattle.std.specs.Prelude.{IfOk, OnErr, OnOk}
+use Rattle.drm_turns.specs.Seats.{Standing}
+use Rattle.drm_turns.proofs.Taken.{split-off-again}
+use Rattle.drm_streams.specs.Streams.{SourceAccount, SinkAccount}
+use Rattle.drm_sessions.specs.declared.jobs.Finished.{Finished}
+use Rattle.drm_sessions.specs.declared.jobs.Job.{Job}
+use Rattle.drm_sessions.specs.Jobs.{IsServedBeside}
+
+pub served-beside-again : {G S K : Type 0} (source_account : S → SourceAccount) (sink_account : K → SinkAccount) (seat own : Standing) → own.table ≡ seat.table → own.origin ≡ seat.origin
+    → (job : Job G S K) (finished : Finished S K) → IsServedBeside source_account sink_account own job finished → IsServedBeside source_account sink_account seat job finished
+served-beside-again source_account sink_account seat own table origin job finished h = record { own = h.own; split = split-off-again seat own h.own table origin h.split; served = h.served }
+
+pub if_ok : {D E : Type 0} {P Q : D → Type 0} (r : Result D E) → ((d : D) → P d → Q d) → IfOk r P → IfOk r Q
+if_ok (Ok d) step h = step d h
+if_ok (Err e) step h = tt
+
+pub on_err : {D E : Type 0} {P Q : Type 0} (r : Result D E) → (P → Q) → OnErr r P → OnErr r Q
+on_err (Ok d) step h = tt
+on_err (Err e) step h = step h
+
+pub on_ok : {D E : Type 0} {P Q : Type 0} (r : Result D E) → (P → Q) → OnOk r P → OnOk r Q
+on_ok (Ok d) step h = step h
+on_ok (Err e) step h = tt

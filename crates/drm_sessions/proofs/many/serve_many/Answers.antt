@@ -1,0 +1,48 @@
+use Rattle.std.proofs.Common.{rules, ◌≡◌, [], ◌∷◌, ◌++◌, List, ap, sym, ◌∙◌, ℕ, arith}
+use Rattle.std.specs.Prelude.{IfOk, OnErr, OnOk}
+use Rattle.drm_turns.specs.Seats.{HasTakenIn, Standing}
+use Rattle.drm_turns.proofs.Taken.{all-seen-more, given_back}
+use Rattle.drm_sessions.specs.Jobs.{IsServedBeside, seats_of}
+use Rattle.drm_sessions.specs.Matched.{Matched}
+use Rattle.drm_sessions.proofs.Joining.{if_ok, on_err, on_ok, served-beside-again}
+use Rattle.drm_sessions.proofs.Matching.{Matched-map}
+use Rattle.drm_sessions.proofs.many.serve_many.Goals as goal
+
+pub returns-clause-served : goal.returns-clause-served
+returns-clause-served g c =
+    let own : Standing = c.split-own.result in
+    let served : IfOk c.scoped-own.result.1 (λ sessions. Matched (λ job finished. IsServedBeside g.S.Source.account g.K.Sink.account own job finished) c.args.jobs.items sessions.items) = search rules in
+    if_ok c.scoped-own.result.1 (λ sessions h. Matched-map _ _ (served-beside-again _ _ c.args.seat.now own c.split-own.ensures.own.0 c.split-own.ensures.own.1) _ _ h) served
+
+pub returns-clause-seen : goal.returns-clause-seen
+returns-clause-seen g c =
+    let taken : IfOk c.scoped-own.result.1 (λ sessions. HasTakenIn c.scoped-own.result.0 (seats_of sessions.items)) = search rules in
+    if_ok c.scoped-own.result.1 (λ sessions h. all-seen-more _ _ c.join.ensures.seen _ h.seen) taken
+
+pub returns-clause-joined : goal.returns-clause-joined
+returns-clause-joined g c =
+    let own : Standing = c.scoped-own.result.0 in
+    let taken : IfOk c.scoped-own.result.1 (λ sessions. HasTakenIn own (seats_of sessions.items)) = search rules in
+    let none : OnErr c.scoped-own.result.1 (own.joined ≡ []) = search rules in
+    let joined : c.join.new.seat.joined ≡ c.args.seat.now.joined ++ own.number ∷ own.joined =
+    c.join.ensures.joined ∙ ap (λ (s : Standing). s.joined ++ own.number ∷ own.joined) c.split-own.ensures.same in
+    let with : (l : List ℕ) → own.joined ≡ l → c.join.new.seat.joined ≡ c.args.seat.now.joined ++ own.number ∷ l =
+    λ l is. joined ∙ ap (λ (k : List ℕ). c.args.seat.now.joined ++ own.number ∷ k) is in (
+      own.number,
+      if_ok c.scoped-own.result.1 (λ sessions h. with _ h.joined) taken,
+      on_err c.scoped-own.result.1 (with []) none,
+    )
+
+pub returns-clause-out : goal.returns-clause-out
+returns-clause-out g c =
+    let own : Standing = c.scoped-own.result.0 in
+    let lent : Standing = c.split-own.new.seat in
+    let parent : own.parent ≡ c.split-own.result.parent = search rules in
+    let whole : OnOk c.scoped-own.result.1 (own.out ≡ c.split-own.result.out) = search rules in
+    let number : lent.number ≡ c.args.seat.now.number = ap (λ (s : Standing). s.number) c.split-own.ensures.same in
+    let more = ap (λ (s : Standing). s.out) c.split-own.ensures.same in
+    on_ok c.scoped-own.result.1
+    (λ out.
+    let fewer = given_back lent.number lent.out own.parent own.out (parent ∙ (c.split-own.ensures.parent ∙ sym number)) (out ∙ c.split-own.ensures.none_out) in
+    let now = c.join.ensures.out in omega arith)
+    whole

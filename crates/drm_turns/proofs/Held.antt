@@ -1,0 +1,123 @@
+-- The device while a seat has it.
+use Rattle.std.proofs.Common.{◌≡◌, ℕ, suc, ◌-◌, ◌<◌, ◌^◌, List, [], ◌∷◌, ◌++◌, length, get_or, sym, refl, ap, ◌∙◌, subst, Some, Result, Ok, Err, true, false, append-nil, append_assoc}
+use Rattle.std.specs.Prelude.{IfErr, IfOk, OnErr, OnOk}
+use Rattle.atomic_table.specs.Table.{rest}
+use Rattle.drm_table.specs.declared.answers.Answer.{Answer}
+use Rattle.drm_table.specs.declared.apart.Apart.{Apart}
+use Rattle.drm_table.specs.declared.apart.Apart.TheVariants.{JournalFull, NoMemory, Worn}
+use Rattle.drm_table.specs.declared.events.Event.{Event}
+use Rattle.drm_table.specs.Limits.{are_in_range}
+use Rattle.drm_model.specs.Rows.{Rows}
+use Rattle.drm_model.specs.Reply.{reply}
+use Rattle.drm_model.specs.Run.{FoundRoom, History, Step, no_room, noted_in, rows_of, start_of}
+use Rattle.drm_turns.specs.declared.history.Entry.{Entry}
+use Rattle.drm_turns.specs.declared.history.View.{View}
+use Rattle.drm_turns.specs.History.{StartsWith, device_at, entry, events_of, rows_after}
+use Rattle.drm_turns.specs.Plays.{Reads}
+use Rattle.drm_turns.specs.Rule.{Slot, Sat}
+use Rattle.drm_turns.specs.Views.{Grows, IsOwn, counted, serving, waiting}
+use Rattle.drm_turns.specs.Seats.{Adds, Excuses, Standing}
+use Rattle.drm_turns.specs.Turns.{Answered, Turn}
+use Rattle.drm_turns.proofs.Histories.{calls_own, events-snoc, legal-more}
+
+pub events-length : (log : List Entry) → length (events_of log) ≡ length log
+events-length [] = refl
+events-length (e ∷ es) = ap suc (events-length es)
+
+-- what is taken out of the slot is what the seat's list has
+pub held_is : (c : List (ℕ × Slot)) (found have : Slot) → c ≡ (0, found) ∷ rest c → c ≡ (0, have) ∷ [] → found ≡ have
+held_is c found have e f = ap (λ (l : List (ℕ × Slot)). (get_or l 0 (0, found)).1) (sym e ∙ f)
+
+-- the device is put back
+pub after_put : (me me' : Sat) (d : History) → me' ≡ (me.0, (0, Some d) ∷ rest me.1) → rest me.1 ≡ [] → d ≡ device_at me.0.origin me.0.seen
+    → me'.1 ≡ (0, Some (device_at me'.0.origin me'.0.seen)) ∷ []
+after_put me me' d e none_more is =
+    ap (λ (m : Sat). m.1) e ∙ (ap (λ (l : List (ℕ × Slot)). (0, Some d) ∷ l) none_more ∙ (ap (λ (x : History). (0, Some x) ∷ []) is ∙ ap (λ (m : Sat). (0, Some (device_at m.0.origin m.0.seen)) ∷ []) (sym e)))
+
+-- and after a step the history is one entry longer
+pub noting_at : (origin : History) (log : List Entry) (e : Entry) → noted_in (device_at origin log) e.event ≡ device_at origin (log ++ e ∷ [])
+noting_at origin log e = ap (λ (l : List Event). record origin { journal = l }) (sym (events-snoc log e))
+
+pub grows_by : (v : View) (e : Entry) (w : View) → w ≡ counted v e → IsOwn v → e.by ≡ v.number
+    → no_room (rows_after v.origin v.seen) e.event ≡ false → e.answer ≡ reply (rows_after v.origin v.seen) e.event → Grows v w
+grows_by v e w is own by room answer = (
+  (e ∷ [], is),
+  subst IsOwn (sym is) (legal-more v.origin v.seen e own.0 room answer, calls_own v.number v.seen e by ∙ ap (λ (l : List Entry). l ++ e ∷ []) own.1),
+)
+
+pub grows_not : (v w : View) → w ≡ v → IsOwn v → Grows v w
+grows_not v w is own = (([], is ∙ (λ i. record v { seen = sym (append-nil v.seen) i; mine = sym (append-nil v.mine) i })), subst IsOwn (sym is) own)
+
+-- a whole turn
+pub turned : (v : View) (ticket : ℕ) (seen : List Entry) (w : View) → Reads v seen → Grows (serving (waiting v ticket) seen) w
+    → (w.number ≡ v.number) × (w.origin ≡ v.origin) × (w.told ≡ v.told) × StartsWith w.seen v.seen × IsOwn w × (w.kept ≡ v.kept) × (w.ticket ≡ ticket) × (w.parent ≡ v.parent) × (w.out ≡ v.out)
+turned v ticket seen w reads grows =
+    let more : List Entry = grows.0.0 in
+    let is = grows.0.1 in
+    let r : List Entry = reads.0.0 in (
+      ap (λ (u : View). u.number) is,
+      ap (λ (u : View). u.origin) is,
+      ap (λ (u : View). u.told) is,
+      (r ++ more, ap (λ (u : View). u.seen) is ∙ (ap (λ (l : List Entry). l ++ more) reads.0.1 ∙ append_assoc v.seen r more)),
+      grows.1,
+      ap (λ (u : View). u.kept) is,
+      ap (λ (u : View). u.ticket) is,
+      ap (λ (u : View). u.parent) is,
+      ap (λ (u : View). u.out) is,
+    )
+
+-- ---- what a step of the device shows
+
+pub step_ok : (w : Rows) (event : Event) (answer : Answer) (v : Rows) → Step w event (Ok answer) v → (no_room w event ≡ false) × (answer ≡ reply w event)
+unfolding Step
+step_ok w event answer v s = (s.0, s.1)
+
+pub turn_of : (old new : History) (event : Event) (result : Result Answer Apart) → Step (rows_of old) event result (rows_of new) → OnOk result (new ≡ noted_in old event) → OnErr result (new ≡ old)
+    → are_in_range new.limits ≡ true → FoundRoom (start_of new) new.journal → Turn event result
+turn_of old new event (Ok answer) step ok err in_range found_room = record { before = old; after = new; steps = record { step = step; history = ok }; in_range = in_range; found_room = found_room }
+turn_of old new event (Err apart) step ok err in_range found_room = record { before = old; after = new; steps = record { step = step; history = err }; in_range = in_range; found_room = found_room }
+
+pub refuses : (old new : History) (event : Event) (result : Result Answer Apart) (v w : View) → old ≡ device_at v.origin v.seen → Step (rows_of old) event result (rows_of new) → OnErr result (new ≡ old) → OnErr result (w ≡ v)
+    → IfErr result (λ apart. (w ≡ v) × Step (rows_after v.origin v.seen) event (Err apart) (rows_after v.origin v.seen))
+refuses old new event (Ok answer) v w at step same is = tt
+refuses old new event (Err apart) v w at step same is = (
+  is,
+  subst (λ (d : History). Step (rows_of d) event (Err apart) (rows_of d)) at (subst (λ (d : History). Step (rows_of old) event (Err apart) (rows_of d)) same step),
+)
+
+pub answered : (event : Event) (result : Result Answer Apart) → Turn event result → Answered event result
+answered event (Ok answer) turn = turn
+answered event (Err JournalFull) turn = turn
+answered event (Err NoMemory) turn = turn
+answered event (Err Worn) turn = tt
+
+-- ---- what a call answers, where its seat had the view v, u in its turn, and w after it
+
+excused : (s t : Standing) (event : Event) (apart : Apart) → t.mine ≡ s.mine → t.found < 2 ^ 64 - 1 → Step (rows_after t.origin t.seen) event (Err apart) (rows_after t.origin t.seen) → Excuses s event apart t
+unfolding Step
+excused s t event JournalFull mine few step = (mine, few, step.0)
+excused s t event NoMemory mine few step = (mine, few, step.0, step.1)
+excused s t event Worn mine few step = absurd step
+
+pub excuses : (result : Result Answer Apart) (event : Event) (s t : Standing) (u w : View)
+    → IfErr result (λ apart. (w ≡ u) × Step (rows_after u.origin u.seen) event (Err apart) (rows_after u.origin u.seen))
+    → t.origin ≡ w.origin → t.seen ≡ w.seen → t.mine ≡ w.mine → u.mine ≡ s.mine → t.found < 2 ^ 64 - 1
+    → IfErr result (λ apart. Excuses s event apart t)
+excuses (Ok answer) event s t u w h origin seen mine ours few = tt
+excuses (Err apart) event s t u w h origin seen mine ours few =
+    let from : t.origin ≡ u.origin = origin ∙ ap (λ (x : View). x.origin) h.0 in
+    let saw : t.seen ≡ u.seen = seen ∙ ap (λ (x : View). x.seen) h.0 in
+    excused s t event apart (mine ∙ (ap (λ (x : View). x.mine) h.0 ∙ ours)) few
+    (subst (λ (z : History × List Entry). Step (rows_after z.0 z.1) event (Err apart) (rows_after z.0 z.1)) (λ i. (sym from i, sym saw i)) h.1)
+
+pub adds : (result : Result Answer Apart) (event : Event) (s t : Standing) (u w : View) (between : List Entry)
+    → IfOk result (λ answer. w ≡ counted u (entry u.number event answer))
+    → t.seen ≡ w.seen → t.mine ≡ w.mine → u.number ≡ s.number → u.seen ≡ s.seen ++ between → u.mine ≡ s.mine → t.found < 2 ^ 64 - 1
+    → IfOk result (λ answer. Adds s event answer t)
+adds (Err apart) event s t u w between h seen mine number saw ours few = tt
+adds (Ok answer) event s t u w between h seen mine number saw ours few = (
+  between,
+  seen ∙ (ap (λ (x : View). x.seen) h ∙ (λ i. saw i ++ entry (number i) event answer ∷ [])),
+  mine ∙ (ap (λ (x : View). x.mine) h ∙ (λ i. ours i ++ entry (number i) event answer ∷ [])),
+  few,
+)

@@ -1,0 +1,71 @@
+-- Histories that grow by one entry.
+use Rattle.std.proofs.Common.{◌≡◌, ◌≢◌, ℕ, suc, ◌+◌, ◌<◌, ◌==◌, Bool, true, false, List, [], ◌∷◌, ◌++◌, length, sym, refl, ap, ◌∙◌, arith, append_assoc, append-nil, cond, eq-eqb, ne_eqb}
+use Rattle.drm_table.specs.declared.events.Event.{Event}
+use Rattle.drm_model.specs.Rows.{Rows}
+use Rattle.drm_model.specs.Change.{after}
+use Rattle.drm_model.specs.Reply.{reply}
+use Rattle.drm_model.specs.Run.{FoundRoom, History, no_room, rows_of, run, start_of}
+use Rattle.drm_turns.specs.declared.history.Entry.{Entry}
+use Rattle.drm_turns.specs.History.{IsLegal, Legal, StartsWith, calls_by, entry, events_of, replayed, rows_after}
+
+pub events-snoc : (log : List Entry) (e : Entry) → events_of (log ++ e ∷ []) ≡ events_of log ++ e.event ∷ []
+events-snoc [] e = refl
+events-snoc (x ∷ xs) e = ap (λ l. x.event ∷ l) (events-snoc xs e)
+
+skips : (b : Bool) (x : Entry) (a c d : List Entry) → a ≡ c ++ d → cond b (x ∷ a) a ≡ cond b (x ∷ c) c ++ d
+skips true x a c d is = ap (λ l. x ∷ l) is
+skips false x a c d is = is
+
+pub calls-snoc : (n : ℕ) (log : List Entry) (e : Entry) → calls_by n (log ++ e ∷ []) ≡ calls_by n log ++ calls_by n (e ∷ [])
+calls-snoc n [] e = refl
+calls-snoc n (x ∷ xs) e = skips (x.by == n) x (calls_by n (xs ++ e ∷ [])) (calls_by n xs) (calls_by n (e ∷ [])) (calls-snoc n xs e)
+
+pub calls_other : (n : ℕ) (log : List Entry) (e : Entry) → e.by ≢ n → calls_by n (log ++ e ∷ []) ≡ calls_by n log
+calls_other n log e ne = calls-snoc n log e ∙ (ap (λ (b : Bool). calls_by n log ++ cond b (e ∷ []) []) (ne_eqb e.by n ne) ∙ append-nil (calls_by n log))
+
+pub calls_own : (n : ℕ) (log : List Entry) (e : Entry) → e.by ≡ n → calls_by n (log ++ e ∷ []) ≡ calls_by n log ++ e ∷ []
+calls_own n log e is = calls-snoc n log e ∙ ap (λ (b : Bool). calls_by n log ++ cond b (e ∷ []) []) (eq-eqb e.by n is)
+
+legal-snoc : (w : Rows) (log : List Entry) (e : Entry) → Legal w log → no_room (run w (events_of log)) e.event ≡ false → e.answer ≡ reply (run w (events_of log)) e.event → Legal w (log ++ e ∷ [])
+unfolding run
+legal-snoc w [] e l room answer = (room, answer, tt)
+legal-snoc w (x ∷ xs) e l room answer = (l.0, l.1, legal-snoc (after w x.event) xs e l.2 room answer)
+
+pub legal-more : (origin : History) (log : List Entry) (e : Entry) → IsLegal origin log → no_room (rows_after origin log) e.event ≡ false → e.answer ≡ reply (rows_after origin log) e.event → IsLegal origin (log ++ e ∷ [])
+unfolding rows_of
+legal-more origin log e l room answer = legal-snoc (start_of origin) log e l room answer
+
+pub starts_more : (log seen : List Entry) (e : Entry) → StartsWith log seen → StartsWith (log ++ e ∷ []) seen
+starts_more log seen e s = (s.0 ++ e ∷ [], ap (λ l. l ++ e ∷ []) s.1 ∙ append_assoc seen s.0 (e ∷ []))
+
+pub starts_whole : (log : List Entry) → StartsWith log log
+starts_whole log = ([], sym (append-nil log))
+
+pub starts_with_none : (log : List Entry) → StartsWith log []
+starts_with_none log = (log, refl)
+
+pub replayed-events : (w : Rows) (es : List Event) → events_of (replayed w es) ≡ es
+replayed-events w [] = refl
+replayed-events w (e ∷ es) = ap (λ l. e ∷ l) (replayed-events (after w e) es)
+
+pub replayed-legal : (w : Rows) (es : List Event) → FoundRoom w es → Legal w (replayed w es)
+unfolding FoundRoom
+replayed-legal w [] f = tt
+replayed-legal w (e ∷ es) f = (f.0, refl, replayed-legal (after w e) es f.1)
+
+-- nobody made what the device had noted before
+pub replayed-calls : (n : ℕ) (w : Rows) (es : List Event) → calls_by (suc n) (replayed w es) ≡ []
+replayed-calls n w [] = refl
+replayed-calls n w (e ∷ es) = ap (λ (b : Bool). cond b (entry 0 e (reply w e) ∷ calls_by (suc n) (replayed (after w e) es)) (calls_by (suc n) (replayed (after w e) es))) (ne_eqb 0 (suc n) (λ h. omega arith)) ∙ replayed-calls n (after w e) es
+
+calls-append : (n : ℕ) (xs ys : List Entry) → calls_by n (xs ++ ys) ≡ calls_by n xs ++ calls_by n ys
+calls-append n [] ys = refl
+calls-append n (x ∷ xs) ys = skips (x.by == n) x (calls_by n (xs ++ ys)) (calls_by n xs) (calls_by n ys) (calls-append n xs ys)
+
+left_none : (xs ys : List Entry) → xs ++ ys ≡ [] → xs ≡ []
+left_none [] ys e = refl
+left_none (x ∷ xs) ys e = absurd (cc)
+
+-- who made no entry of the history made none of its beginning
+pub none_before : (n : ℕ) (log seen : List Entry) → StartsWith log seen → calls_by n log ≡ [] → calls_by n seen ≡ []
+none_before n log seen s none = left_none (calls_by n seen) (calls_by n s.0) (sym (calls-append n seen s.0) ∙ (ap (calls_by n) (sym s.1) ∙ none))

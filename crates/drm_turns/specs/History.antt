@@ -1,0 +1,58 @@
+-- Histories of a shared device: what was asked, by the seat of which number, and what was answered.
+use Rattle.std.specs.Prelude.{◌≡◌, ◌⊎◌, ℕ, ◌==◌, false, List, [], ◌∷◌, ◌++◌, cond}
+use Rattle.drm_table.specs.declared.answers.Answer.{Answer}
+use Rattle.drm_table.specs.declared.events.Event.{Event}
+use Rattle.drm_model.specs.Rows.{Rows}
+use Rattle.drm_model.specs.Change.{after}
+use Rattle.drm_model.specs.Reply.{reply}
+use Rattle.drm_model.specs.Run.{History, no_room, rows_of, start_of}
+use Rattle.drm_turns.specs.declared.history.Entry.{Entry}
+
+abbrev pub entry : ℕ → Event → Answer → Entry
+entry by event answer = record { by = by; event = event; answer = answer }
+
+-- Each event found room, and was answered as the device of one thread answers it there.
+abbrev pub Legal : Rows → List Entry → Type 0
+Legal w [] = Unit {0}
+Legal w (e ∷ es) = (no_room w e.event ≡ false) × (e.answer ≡ reply w e.event) × Legal (after w e.event) es
+
+abbrev pub events_of : List Entry → List Event
+events_of [] = []
+events_of (e ∷ es) = e.event ∷ events_of es
+
+-- the events, each with the answer that the device of one thread gives, by nobody
+abbrev pub replayed : Rows → List Event → List Entry
+replayed w [] = []
+replayed w (e ∷ es) = entry 0 e (reply w e) ∷ replayed (after w e) es
+
+-- what the device had noted before it was shared
+abbrev pub noted_before : History → List Entry
+noted_before origin = replayed (start_of origin) origin.journal
+
+-- a legal history of a device with this topology and these limits
+abbrev pub IsLegal : History → List Entry → Type 0
+IsLegal origin log = Legal (start_of origin) log
+
+-- the device with this history
+abbrev pub device_at : History → List Entry → History
+device_at origin log = record origin { journal = events_of log }
+
+abbrev pub rows_after : History → List Entry → Rows
+rows_after origin log = rows_of (device_at origin log)
+
+-- the entries of one seat
+abbrev pub calls_by : ℕ → List Entry → List Entry
+calls_by n [] = []
+calls_by n (e ∷ es) = cond (e.by == n) (e ∷ calls_by n es) (calls_by n es)
+
+abbrev pub StartsWith : List Entry → List Entry → Type 0
+StartsWith log seen = (rest : List Entry) × (log ≡ seen ++ rest)
+
+-- numbers that differ from each other
+abbrev pub Has : ℕ → List ℕ → Type 0
+Has k [] = ⊥
+Has k (x ∷ xs) = (k ≡ x) ⊎ Has k xs
+
+abbrev pub AllDiffer : List ℕ → Type 0
+AllDiffer [] = Unit {0}
+AllDiffer (x ∷ xs) = (Has x xs → ⊥) × AllDiffer xs

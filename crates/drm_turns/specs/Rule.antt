@@ -1,0 +1,113 @@
+-- The rule of the turn. The words are the length of the history, the next ticket, and the ticket that is served. The one
+-- slot has the device.
+use Rattle.std.specs.Prelude.{◌≡◌, ◌≢◌, ◌⊎◌, ℕ, suc, ◌<◌, ◌≤◌, ◌^◌, Bool, true, false, List, [], ◌∷◌, length, Option, Some}
+use mathlib.Core.Option.{Option as maybe, some}
+use lib.ListN.{get_elem?}
+use Rattle.atomic_table.specs.Table.{State, Me}
+use Rattle.drm_model.specs.Run.{History}
+use Rattle.drm_turns.specs.declared.history.Entry.{Entry}
+use Rattle.drm_turns.specs.declared.history.View.{View}
+use Rattle.drm_turns.specs.declared.history.Stage.{Stage}
+use Rattle.drm_turns.specs.declared.history.Stage.TheVariants.{Idle, Waiting, Serving, Spent}
+use Rattle.drm_turns.specs.History.{AllDiffer, Has, IsLegal, StartsWith, calls_by, device_at}
+
+abbrev pub Slot : Type 0
+Slot = Option History
+
+abbrev pub Table : Type 0
+Table = State Slot View
+
+abbrev pub Sat : Type 0
+Sat = Me Slot View
+
+-- the facts behind the words: the whole history, the next ticket, the ticket that is served, and whether the device is out of its slot
+pub record World : Type 0 where
+  pub origin : History
+  pub log : List Entry
+  pub next : ℕ
+  pub serving : ℕ
+  pub out : Bool
+
+-- what holds of each view that is not spent
+pub record Fits (origin : History) (log : List Entry) (id : ℕ) (v : View) : Type 0 where
+  pub origin_is : v.origin ≡ origin
+  pub number : (v.number ≡ 0) ⊎ (v.number ≡ suc id)
+  pub parent : v.parent ≢ suc id
+  pub seen : StartsWith log v.seen
+  pub told : StartsWith log v.told
+  pub mine : calls_by (suc id) log ≡ v.mine
+
+abbrev pub Knows : World → ℕ → View → Stage → Type 0
+Knows x id v Idle = Fits x.origin x.log id v
+Knows x id v Waiting = Fits x.origin x.log id v × (x.serving ≤ v.ticket) × (v.ticket < x.next)
+Knows x id v Serving = Fits x.origin x.log id v × (v.ticket ≡ x.serving) × (x.serving < x.next) × (x.out ≡ true) × (v.seen ≡ x.log)
+Knows x id v Spent = Unit {0}
+
+-- a seat in these stages has a ticket
+abbrev pub has_ticket : Stage → Bool
+has_ticket Idle = false
+has_ticket Waiting = true
+has_ticket Serving = true
+has_ticket Spent = false
+
+-- the device is at home and has the events of the history for its journal, or it is with the seat that is served
+abbrev pub Placed : Bool → World → List (maybe Slot) → List View → Type 0
+Placed false x homes views = get_elem? homes 0 ≡ some (some (Some (device_at x.origin x.log)))
+Placed true x homes views = (id : ℕ) × (v : View) × (get_elem? views id ≡ some v) × (v.stage ≡ Serving)
+
+abbrev pub AllKnow : World → List View → Type 0
+AllKnow x views = (id : ℕ) (v : View) → get_elem? views id ≡ some v → Knows x id v v.stage
+
+-- a seat has this ticket
+abbrev pub IsHeld : List View → ℕ → Type 0
+IsHeld views t = (id : ℕ) × (v : View) × (get_elem? views id ≡ some v) × (has_ticket v.stage ≡ true) × (v.ticket ≡ t)
+
+-- a seat has each ticket that was drawn and not passed on
+abbrev pub AllHeld : World → List View → Type 0
+AllHeld x views = (t : ℕ) → x.serving ≤ t → t < x.next → IsHeld views t
+
+-- no two seats have one ticket
+abbrev pub TicketsDiffer : List View → Type 0
+TicketsDiffer views = (i j : ℕ) (v w : View) → get_elem? views i ≡ some v → get_elem? views j ≡ some w
+    → has_ticket v.stage ≡ true → has_ticket w.stage ≡ true → v.ticket ≡ w.ticket → i ≡ j
+
+abbrev pub Unborn : List Entry → List View → Type 0
+Unborn log views = (id : ℕ) → length views ≤ id → calls_by (suc id) log ≡ []
+
+-- the seat with this number was joined into another
+abbrev pub IsSpent : List View → ℕ → Type 0
+IsSpent views k = (j : ℕ) × (u : View) × (k ≡ suc j) × (get_elem? views j ≡ some u) × (u.stage ≡ Spent)
+
+-- each number that a view keeps is of a spent view, and no number is kept twice
+pub record TakenIn (views : List View) : Type 0 where
+  pub spent : (id : ℕ) (v : View) (k : ℕ) → get_elem? views id ≡ some v → Has k v.kept → IsSpent views k
+  pub apart : (id : ℕ) (v : View) → get_elem? views id ≡ some v → AllDiffer v.kept
+  pub once : (i j : ℕ) (v w : View) (k : ℕ) → get_elem? views i ≡ some v → get_elem? views j ≡ some w → Has k v.kept → Has k w.kept → i ≡ j
+
+-- the view is spent, and all that was split off it is given back
+abbrev pub IsBack : List View → (ℕ → List ℕ) → ℕ → Type 0
+IsBack views away id = IsSpent views (suc id) × (away id ≡ [])
+
+-- What was split off and isn't given back. `away` has for each view those of its children that count: each view but the first
+-- is given back itself or away, and a view that isn't spent counts at least as many as are away.
+pub record Lent (views : List View) : Type 0 where
+  pub away : ℕ → List ℕ
+  pub within : (p c : ℕ) → Has c (away p) → (p < c) × (c < length views)
+  pub back : (c : ℕ) (u : View) → get_elem? views (suc c) ≡ some u → IsBack views away (suc c) ⊎ ((p : ℕ) × Has (suc c) (away p))
+  pub parent : (p c : ℕ) (u : View) → Has c (away p) → get_elem? views c ≡ some u → (u.stage ≡ Spent → ⊥) → u.parent ≡ suc p
+  pub first : (u : View) → get_elem? views 0 ≡ some u → (u.stage ≡ Spent → ⊥) → u.parent ≡ 0
+  pub count : (id : ℕ) (v : View) → get_elem? views id ≡ some v → (v.stage ≡ Spent → ⊥) → length (away id) ≤ v.out
+
+pub record Orderly (s : Table) : Type 0 where
+  pub world : World
+  pub words : s.words ≡ length world.log ∷ world.next ∷ world.serving ∷ []
+  pub few : world.next < 2 ^ 64
+  pub behind : world.serving ≤ world.next
+  pub legal : IsLegal world.origin world.log
+  pub placed : Placed world.out world s.homes s.views
+  pub know : AllKnow world s.views
+  pub held : AllHeld world s.views
+  pub differ : TicketsDiffer s.views
+  pub unborn : Unborn world.log s.views
+  pub taken_in : TakenIn s.views
+  pub lent : Lent s.views

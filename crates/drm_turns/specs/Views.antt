@@ -1,0 +1,107 @@
+-- What a seat knows, from step to step.
+use Rattle.std.specs.Prelude.{◌≡◌, ℕ, ◌+◌, ◌-◌, ◌==◌, ◌&&◌, cond, List, [], ◌∷◌, ◌++◌}
+use Rattle.drm_model.specs.Run.{History}
+use Rattle.drm_turns.specs.declared.history.Entry.{Entry}
+use Rattle.drm_turns.specs.declared.history.View.{View}
+use Rattle.drm_turns.specs.declared.history.Stage.TheVariants.{Idle, Waiting, Serving, Spent}
+use Rattle.drm_turns.specs.History.{IsLegal, calls_by, noted_before}
+
+-- the view of the first seat, of a device that is shared
+abbrev pub opening_view : History → View
+opening_view origin = record {
+  origin = origin;
+  number = 1;
+  parent = 0;
+  out = 0;
+  seen = noted_before origin;
+  mine = [];
+  told = [];
+  kept = [];
+  ticket = 0;
+  stage = Idle;
+}
+
+abbrev pub found_at : View → ℕ → View
+found_at v ticket = record v { ticket = ticket; stage = Idle }
+
+abbrev pub waiting : View → ℕ → View
+waiting v ticket = record v { ticket = ticket; stage = Waiting }
+
+abbrev pub serving : View → List Entry → View
+serving v seen = record v { seen = seen; stage = Serving }
+
+abbrev pub counted : View → Entry → View
+counted v e = record v { seen = v.seen ++ e ∷ []; mine = v.mine ++ e ∷ [] }
+
+abbrev pub passed : View → View
+passed v = record v { stage = Idle }
+
+-- one more is split off it
+abbrev pub lending : View → View
+lending v = record v { out = v.out + 1 }
+
+-- what a seat that is split off begins with
+abbrev pub child : View → View
+child v = record {
+  origin = v.origin;
+  number = 0;
+  parent = v.number;
+  out = 0;
+  seen = v.seen;
+  mine = [];
+  told = [];
+  kept = [];
+  ticket = 0;
+  stage = Idle;
+}
+
+abbrev pub numbered : View → ℕ → View
+numbered v number = record v { number = number }
+
+-- How many are out of a seat of this number, once one with this parent is given back, of which so many are out itself. It
+-- counts where it was split off this seat and all of its own are given back.
+abbrev pub out_after : ℕ → ℕ → ℕ → ℕ → ℕ
+out_after number out parent theirs = cond ((parent == number) && (theirs == 0)) (out - 1) out
+
+abbrev pub told_of : View → View → View
+told_of v w = record v { told = w.seen; kept = v.kept ++ w.number ∷ w.kept; out = out_after v.number v.out w.parent w.out }
+
+-- the same of a note, which has no number
+abbrev pub met_of : View → View → View
+met_of v w = record v { told = w.seen; out = out_after v.number v.out w.parent w.out }
+
+-- some device, where a view knows none
+abbrev pub no_device : History
+no_device = record {
+  topology = record { crtcs = 0; planes = []; encoders = []; connectors = [] };
+  limits = record { clients = 0; handles = 0; names = 0; tokens = 0; objects = 0; framebuffers = 0; lessees = 0; journal = 0 };
+  journal = [];
+}
+
+abbrev pub spent_view : View
+spent_view = record {
+  origin = no_device;
+  number = 0;
+  parent = 0;
+  out = 0;
+  seen = [];
+  mine = [];
+  told = [];
+  kept = [];
+  ticket = 0;
+  stage = Spent;
+}
+
+abbrev pub informed : View → List Entry → View
+informed v seen = record v { seen = seen; told = [] }
+
+-- the view with more entries, which are its own
+abbrev pub grown : View → List Entry → View
+grown v more = record v { seen = v.seen ++ more; mine = v.mine ++ more }
+
+-- What was seen is legal, and has of the seat's entries just its own.
+abbrev pub IsOwn : View → Type 0
+IsOwn v = IsLegal v.origin v.seen × (calls_by v.number v.seen ≡ v.mine)
+
+abbrev pub Grows : View → View → Type 0
+Grows v w = ((more : List Entry) × (w ≡ grown v more)) × IsOwn w

@@ -1,0 +1,52 @@
+//! What happened to a shared device, and what a seat of it knows.
+
+use drm_device::Device;
+use drm_table::{Answer, Event};
+use std::collections::LinkedList;
+
+/// One event of a history, as contracts speak of it.
+#[derive(Drop)]
+pub struct Entry {
+    /// The number of the seat that made it, or 0 where the device had noted it before it was shared (own).
+    pub by: u64,
+    /// What was asked.
+    pub event: Event,
+    /// What was answered.
+    pub answer: Answer,
+}
+
+/// Where a seat stands in its turn, as contracts speak of it.
+pub enum Stage {
+    /// Between two turns.
+    Idle,
+    /// It has a ticket that is not served yet.
+    Waiting,
+    /// Its ticket is served, and it has the device.
+    Serving,
+    /// It was joined into another.
+    Spent,
+}
+
+/// What a seat at the table knows. No value of it is made.
+pub struct View {
+    /// The device as it was when it was shared.
+    pub origin: Device,
+    /// The seat's number, 0 until it is known.
+    pub number: u64,
+    /// The number of the seat that this one was split from.
+    pub parent: u64,
+    /// How many seats and notes that were split off it are not given back to it.
+    pub out: u64,
+    /// The history, as far as it knows it.
+    pub seen: LinkedList<Entry>,
+    /// The entries that it made.
+    pub mine: LinkedList<Entry>,
+    /// What a joined seat or a note had seen.
+    pub told: LinkedList<Entry>,
+    /// The numbers that were joined into it, with those that the joined seats kept.
+    pub kept: LinkedList<u64>,
+    /// The number last found in the word of the next ticket.
+    pub ticket: u64,
+    /// Where it stands in its turn.
+    pub stage: Stage,
+}
