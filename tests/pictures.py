@@ -24,6 +24,11 @@ def drawn(text):
     return float(root.get("width")), float(root.get("height")), boxes, texts, arrows
 
 
+def pieces_of(arrow):
+    """The curves that an arrow is made of, each begun where the one before ends."""
+    return [arrow[start:start + 8] for start in range(0, len(arrow) - 2, 6)]
+
+
 def overlap(one, other):
     return one[0] < other[2] and other[0] < one[2] and one[1] < other[3] and other[1] < one[3]
 
@@ -53,7 +58,7 @@ def expect_picture(text, count_boxes, count_arrows):
     outside = [shown for (shown, *_, kind), (left, top, right, bottom) in zip(texts, frames) if kind != "head" and not any(
         box[0] < left and box[1] < top and right < box[2] and bottom < box[3] for box in boxes)]
     expect("texts outside of boxes", outside, [])
-    points = [point(arrow, step / 50) for arrow in arrows for step in range(51)]
+    points = [point(piece, step / 50) for arrow in arrows for piece in pieces_of(arrow) for step in range(51)]
     expect("points of arrows in boxes", [at for at in points if any(is_inside(box, *at) for box in boxes)], [])
     expect("what is outside of the picture", [at for at in points if not (0 < at[0] < width and 0 < at[1] < height)], [])
     expect("boxes outside of the picture", [box for box in boxes if box[0] < 0 or box[2] > width or box[3] > height], [])

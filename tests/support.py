@@ -2,7 +2,9 @@
 import contextlib
 import os
 import pathlib
+import re
 import resource
+import shutil
 import socket
 import subprocess
 import sys
@@ -35,6 +37,23 @@ def expect_end(ran, status, error, output):
     expect("output", ran.stdout, output)
 
 
+def expect_told(ran, status, told, output):
+    """Compares an ended run's status, what it told on error output, and its output.
+
+    A logged line is told as its level and its text: `ERROR line 1: ..`. Where the program logs it is left out.
+    """
+    lines = [re.sub(r"^\[([A-Z]+) +drm_server::[a-z_:]+\] ", r"\1 ", line) for line in ran.stderr.splitlines()]
+    expect("error output", lines, told)
+    expect("status", ran.returncode, status)
+    expect("output", ran.stdout, output)
+
+
+def run(*command, **options):
+    """Runs a command to its end."""
+    given = {"stdin": subprocess.DEVNULL, "timeout": 4 * SECONDS, **options}
+    return subprocess.run(list(map(str, command)), capture_output=True, text=True, **given)
+
+
 def run_program(*words, script=""):
     """Runs the program to its end over this input."""
     return subprocess.run([PROGRAM, *words], input=script, capture_output=True, text=True, timeout=SECONDS)
@@ -51,15 +70,18 @@ def count_words(cards, renders, roots):
 
 
 @contextlib.contextmanager
-def server(folder, *counts, most_files=None):
-    """A server on the three sockets of a folder, which is killed where the test didn't let it end."""
-    def limit_files():
-        if most_files is not None:
-            resource.setrlimit(resource.RLIMIT_NOFILE, (most_files, most_files))
+def server(folder, *counts, limits=()):
+    """A server on the three sockets of a folder, which is killed where the test didn't let it end.
+
+    A limit is a resource and how much of it the server may have.
+    """
+    def limit():
+        for kind, most in limits:
+            resource.setrlimit(kind, (most, most))
 
     started = subprocess.Popen(
         [PROGRAM, "serve", *path_words(folder), *count_words(*counts)],
-        stdin=subprocess.DEVNULL, stdout=subprocess.PIPE, stderr=subprocess.PIPE, text=True, preexec_fn=limit_files)
+        stdin=subprocess.DEVNULL, stdout=subprocess.PIPE, stderr=subprocess.PIPE, text=True, preexec_fn=limit)
     try:
         yield started
     finally:
@@ -89,6 +111,31 @@ def retry(action):
 def connect(path, lease=None):
     """A client of the socket, once the server has made it: of the node, or by a lease token."""
     return retry(lambda: Client(path, lease, SECONDS))
+
+
+def connect_raw(path):
+    """A connection to the socket, on which nothing was said."""
+    connected = socket.socket(socket.AF_UNIX)
+    connected.settimeout(SECONDS)
+    try:
+        connected.connect(str(path))
+    except OSError:
+        connected.close()
+        raise
+    return connected
+
+
+def expect_refused(path):
+    """A further connection is refused at once. One that was made while the listener still closed has ended by then."""
+    until = time.monotonic() + SECONDS
+    with contextlib.ExitStack() as made:
+        while time.monotonic() < until:
+            try:
+                made.enter_context(connect_raw(path))
+            except ConnectionRefusedError:
+                return
+            time.sleep(0.01)
+    raise AssertionError(f"connections to {path} are not refused")
 
 
 def refusal_of(path, lease=None):
@@ -124,6 +171,12 @@ def build():
 
 class Skipped(Exception):
     """What a test raises that can't be run here, with the reason."""
+
+
+def want_program(name):
+    """Skips the test where this program isn't on the path."""
+    if shutil.which(name) is None:
+        raise Skipped(f"there is no {name}")
 
 
 def passes(test):

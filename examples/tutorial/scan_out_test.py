@@ -1,0 +1,85 @@
+#!/usr/bin/env python3
+"""Tests that a compositor scans out only what it may, each on a server of its own.
+
+    tools/with-server examples/tutorial/scan_out_test.py MODULE TEST
+
+MODULE has the class `Compositor`: compositor or mended, beside this file. TEST is a function below. The status is 1 where the
+test fails. Standard library only.
+"""
+import importlib
+import os
+import pathlib
+import sys
+
+sys.dont_write_bytecode = True
+sys.path.insert(0, str(pathlib.Path(__file__).resolve().parents[2] / "clients/python"))
+from drm_client import Client, Denied  # noqa: E402  (the client stands in clients/python)
+
+CARD = os.environ.get("DRM_SERVER_CARD", "card")
+ROOT = os.environ.get("DRM_SERVER_ROOT", "root")
+SHOWN = 9  # the kind of audit that tells what CRTCs and planes show
+
+
+def shown():
+    """The framebuffer that each CRTC and plane shows, of those that aren't dark."""
+    with Client(ROOT) as auditor:
+        return {row.a: row.b for row in auditor.audit(SHOWN).rows}
+
+
+def expect(what, found, wanted):
+    if found != wanted:
+        raise AssertionError(f"{what} is {found}, and not {wanted}")
+
+
+def shows_its_picture(compositor):
+    compositor.repaint()
+    expect("what is shown", shown(), {1: compositor.picture, 2: compositor.picture})
+
+
+def rests_while_switched_away(compositor):
+    """It asks for nothing that only a current client may."""
+    compositor.repaint()
+    compositor.switch_away()
+    with Client(CARD) as other:  # the device has no master: this client brings one
+        buffer = other.create_dumb(64, 64, 32)
+        other.setcrtc(1, other.addfb(64, 64, buffer.pitch, 32, buffer.handle).value, 7)
+        compositor.repaint()
+    compositor.switch_back()
+    expect("what is shown", shown(), {1: compositor.picture, 2: compositor.picture})
+
+
+def leaves_what_it_lent(compositor):
+    """What a lessee shows stays: no rule keeps the lessor from it, so the test asks what is shown."""
+    compositor.repaint()
+    token = compositor.lend((2, 4, 8))
+    with Client(CARD, token) as lessee:
+        buffer = lessee.create_dumb(64, 64, 32)
+        own = lessee.addfb(64, 64, buffer.pitch, 32, buffer.handle).value
+        lessee.setcrtc(2, own, 8)
+        compositor.repaint()
+        expect("what is shown", shown(), {1: compositor.picture, 2: own})
+
+
+def told(failure):
+    """What is wrong: of a denial its rule and its errno."""
+    if isinstance(failure, Denied):
+        return f"denied by rule {failure.rule}, {failure.name}, with errno {failure.errno} ({os.strerror(failure.errno)})"
+    return str(failure)
+
+
+def main():
+    module, name = sys.argv[1:]
+    compositor = importlib.import_module(module).Compositor(CARD)
+    try:
+        globals()[name](compositor)
+    except (AssertionError, Denied) as failure:
+        print(f"FAILED {name}: {told(failure)}")
+        return 1
+    finally:
+        compositor.close()
+    print(f"passed {name}")
+    return 0
+
+
+if __name__ == "__main__":
+    sys.exit(main())

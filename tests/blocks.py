@@ -1,0 +1,116 @@
+"""The blocks that the documents show, indented or between fences, for tests that what they say is so."""
+import re
+from typing import List, NamedTuple
+
+from support import REPOSITORY
+
+# what a document says of a block that no test runs, in the paragraph before it or behind it
+NOT_RUN = "not run by `./test`"
+# how the commands begin that stand in blocks without a prompt
+COMMANDS = ("./", "tools/", "clients/", "bench/")
+
+
+class Block(NamedTuple):
+    """Some lines of a document, the words behind its fence where it has one, and the paragraphs beside it."""
+    document: str
+    line: int
+    words: List[str]
+    lines: List[str]
+    beside: str
+
+    def place(self):
+        return f"{self.document} line {self.line}"
+
+    def text(self):
+        return "".join(line + "\n" for line in self.lines)
+
+    def language(self):
+        return self.words[0] if self.words else ""
+
+    def is_script(self):
+        return self.language() == "script" or not self.words and any(" -> " in line for line in self.lines)
+
+    def is_terminal(self):
+        return self.language() == "console" or not self.words and self.lines[0].startswith("$ ")
+
+    def is_of_commands(self):
+        return not self.words and self.lines[0].startswith(COMMANDS)
+
+    def is_said_not_to_be_run(self):
+        return NOT_RUN in self.beside
+
+    def pairs(self):
+        """The lines of a script, and the answers to those that have one."""
+        pairs = [re.split(r" *-> ", line) for line in self.lines if not line.startswith("#")]
+        return [pair[0] for pair in pairs], [pair[1] for pair in pairs if len(pair) == 2]
+
+
+def documents():
+    """The paths of all documents."""
+    found = [path for folder in ("", "docs/", "clients/*/", "bench/") for path in REPOSITORY.glob(f"{folder}*.md")]
+    return sorted(str(path.relative_to(REPOSITORY)) for path in found)
+
+
+def parts_of(path):
+    """The parts of a document between empty lines, each with its first line's number; what stands between fences is one."""
+    found, part, is_fenced = [], [], False
+    for number, line in enumerate([*(REPOSITORY / path).read_text().splitlines(), ""], 1):
+        is_fenced ^= line.startswith("```")
+        if line or is_fenced:
+            part.append(line)
+        elif part:
+            found.append((number - len(part), part))
+            part = []
+    return found
+
+
+def blocks_of(path):
+    """The blocks of a document."""
+    found = []
+    parts = parts_of(path)
+    for place, (number, part) in enumerate(parts):
+        beside = " ".join(line for _, near in parts[max(0, place - 1):place + 2] if near is not part for line in near)
+        if part[0].startswith("```"):
+            found.append(Block(path, number, part[0][3:].split(), part[1:-1], beside))
+        elif all(line.startswith("    ") for line in part):
+            found.append(Block(path, number, [], [line[4:] for line in part], beside))
+    return found
+
+
+def commands_of(lines):
+    """The commands among lines of a terminal, each with what it prints; `> ` goes on with a command."""
+    found = []
+    for line in lines:
+        if line.startswith("$ "):
+            found.append(([line[2:]], []))
+        elif line.startswith("> ") and not found[-1][1]:
+            found[-1][0].append(line[2:])
+        elif found:
+            found[-1][1].append(line)
+    return [("\n".join(command), "".join(line + "\n" for line in printed)) for command, printed in found]
+
+
+def tables_of(path):
+    """The tables of a document, each as its rows of cells, without the head."""
+    tables = [part for _, part in parts_of(path) if part[0].startswith("|")]
+    return [[[cell.strip() for cell in row.strip("|").split("|")] for row in part[2:]] for part in tables]
+
+
+def worked_rows():
+    """The lines and the answers of the worked rows, by their names."""
+    found = []
+    for line in (REPOSITORY / "tools/worked_rows.txt").read_text().splitlines():
+        line = line.strip()
+        if line.startswith("row "):
+            found.append((f"row {line[4:]}", [], []))
+        elif line and not line.startswith("#"):
+            asked, *answer = re.split(r" *-> ", line)
+            found[-1][1].append(asked)
+            found[-1][2].extend(answer)
+    return found
+
+
+def is_answer(found, wanted):
+    """Whether a line is the wanted one; `denied N` and `apart N` are short for the whole line."""
+    short = re.fullmatch(r"(denied|apart) \d+", wanted)
+    return found.startswith(wanted + " ") if short else found == wanted

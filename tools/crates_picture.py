@@ -1,0 +1,197 @@
+#!/usr/bin/env python3
+"""The crates of crates.txt as a picture: each stands on those that arrows lead to, and on what these stand on.
+
+    tools/crates_picture.py > docs/crates.svg
+
+An arrow that follows from others is left out, crates with the same arrows share a box, and so do arrows to a row further down a
+way through the rows between. Libraries of the toolchain aren't shown. Standard library only.
+"""
+import pathlib
+import sys
+from typing import Dict, List, NamedTuple, Set, Tuple
+
+CRATES = pathlib.Path(__file__).resolve().parent.parent / "crates.txt"
+
+MARGIN, GAP_X, GAP_Y, PAD, LINE = 24.0, 26.0, 46.0, 10.0, 18.0
+# how wide a letter is at most, on the average of a line
+LETTER = 7.0
+SWEEPS = 40
+
+Box = Tuple[str, ...]
+Arrow = Tuple[Box, Box]
+
+
+class Node(NamedTuple):
+    """A box in a row, or the place where an arrow (its two ends) passes that row."""
+    row: int
+    names: Tuple[Box, ...]
+
+    def is_box(self) -> bool:
+        return len(self.names) == 1
+
+    def width(self) -> float:
+        return 2 * PAD + LETTER * max(map(len, self.names[0])) if self.is_box() else 0.0
+
+    def height(self) -> float:
+        return 2 * PAD + LINE * len(self.names[0]) - 6
+
+
+def read_crates(text: str) -> Dict[str, List[str]]:
+    """Each crate, with those of its libraries that are crates here."""
+    lines = [line.split(":") for line in text.splitlines() if line.strip() and not line.startswith("#")]
+    named = {head.split()[0]: libraries.split() for head, libraries in lines}
+    return {name: [library for library in libraries if library in named] for name, libraries in named.items()}
+
+
+def reduced(crates: Dict[str, List[str]]) -> Dict[str, List[str]]:
+    """Without the libraries that another library stands on."""
+    below: Dict[str, Set[str]] = {}
+
+    def all_below(name: str) -> Set[str]:
+        if name not in below:
+            below[name] = set(crates[name]).union(*map(all_below, crates[name]))
+        return below[name]
+
+    return {name: [library for library in libraries if not any(library in all_below(other) for other in libraries)]
+            for name, libraries in crates.items()}
+
+
+def boxes_of(crates: Dict[str, List[str]]) -> Tuple[List[Box], List[Arrow]]:
+    """The crates in boxes, and the arrows between these."""
+    above = {name: tuple(other for other in crates if name in crates[other]) for name in crates}
+    groups: Dict[Tuple[object, ...], List[str]] = {}
+    for name, libraries in crates.items():
+        # at the top, with nothing above, each has a box of its own
+        key = (tuple(libraries), above[name]) if libraries and above[name] else (name,)
+        groups.setdefault(key, []).append(name)
+    box_of = {name: tuple(group) for group in groups.values() for name in group}
+    arrows = {(box_of[name], box_of[library]): None for name, libraries in crates.items() for library in libraries}
+    return list(dict.fromkeys(box_of.values())), list(arrows)
+
+
+def rows_of(boxes: List[Box], arrows: List[Arrow]) -> Dict[Box, int]:
+    """The row of each box, from the top: one below the lowest of those that stand on it."""
+    rows: Dict[Box, int] = {}
+
+    def row(box: Box) -> int:
+        if box not in rows:
+            rows[box] = max([row(start) + 1 for start, end in arrows if end == box], default=0)
+        return rows[box]
+
+    for box in boxes:
+        row(box)
+    return rows
+
+
+def ways_of(arrows: List[Arrow], rows: Dict[Box, int]) -> List[List[Node]]:
+    """The way of each arrow from row to row."""
+    return [[Node(rows[start], (start,)), *(Node(row, (start, end)) for row in range(rows[start] + 1, rows[end])),
+             Node(rows[end], (end,))] for start, end in arrows]
+
+
+def neighbours_of(ways: List[List[Node]]) -> Dict[Node, List[Node]]:
+    found: Dict[Node, List[Node]] = {}
+    for way in ways:
+        for upper, lower in zip(way, way[1:]):
+            found.setdefault(upper, []).append(lower)
+            found.setdefault(lower, []).append(upper)
+    return found
+
+
+def spread(row: List[Node], wishes: Dict[Node, float]) -> Dict[Node, float]:
+    """The middles of a row's nodes, in the order of their wishes: as near to these as their widths and gaps allow."""
+    order = sorted(row, key=lambda node: wishes[node])
+    middles: List[float] = []
+    for node in order:
+        least = middles[-1] + (order[len(middles) - 1].width() + node.width()) / 2 + GAP_X if middles else wishes[node]
+        middles.append(max(least, wishes[node]))
+    # what was pushed to the right is shared by all
+    shift = sum(wishes[node] - middle for node, middle in zip(order, middles)) / len(order)
+    return {node: middle + shift for node, middle in zip(order, middles)}
+
+
+def middles_of(ways: List[List[Node]]) -> Dict[Node, float]:
+    """Where the middle of each node stands: again and again beside its neighbours."""
+    near = neighbours_of(ways)
+    count = max(node.row for node in near) + 1
+    rows = [sorted((node for node in near if node.row == row), key=lambda node: node.names) for row in range(count)]
+    middles = {node: 100.0 * place for row in rows for place, node in enumerate(row)}
+    for sweep in range(SWEEPS):
+        for row in rows if sweep % 2 == 0 else reversed(rows):
+            wishes = {node: sum(middles[other] for other in near[node]) / len(near[node]) for node in row}
+            middles.update(spread(row, wishes))
+    left = min(middle - node.width() / 2 for node, middle in middles.items())
+    return {node: middle - left + MARGIN for node, middle in middles.items()}
+
+
+def tops_of(nodes: List[Node]) -> List[float]:
+    """The upper end of each row, and of one below the last."""
+    tops = [MARGIN]
+    for row in range(max(node.row for node in nodes) + 1):
+        tops.append(tops[-1] + GAP_Y + max(node.height() for node in nodes if node.is_box() and node.row == row))
+    return tops
+
+
+def curve(x: float, y: float, to_x: float, to_y: float) -> str:
+    middle = (y + to_y) / 2
+    return f"C {x:.1f} {middle:.1f} {to_x:.1f} {middle:.1f} {to_x:.1f} {to_y:.1f}"
+
+
+def end_x(way: List[Node], place: int, ways: List[List[Node]], middles: Dict[Node, float]) -> float:
+    """Where an arrow meets the node at this place of its way: of several at one side of a box, side by side."""
+    node = way[place]
+    if not node.is_box():
+        return middles[node]
+    step = 1 if place == 0 else -2
+    side = sorted((other[step] for other in ways if other[0 if place == 0 else -1] == node), key=lambda other: middles[other])
+    part = (side.index(way[step]) + 1) / (len(side) + 1)
+    return middles[node] + node.width() * (part - 0.5)
+
+
+def drawn_arrow(way: List[Node], ways: List[List[Node]], middles: Dict[Node, float], tops: List[float]) -> str:
+    xs = [end_x(way, place, ways, middles) for place in range(len(way))]
+    y = tops[way[0].row] + way[0].height()
+    parts = [f"M {xs[0]:.1f} {y:.1f}"]
+    for x, node, to_x, below in zip(xs, way, xs[1:], way[1:]):
+        bottom = tops[node.row + 1] - GAP_Y
+        if bottom > y:
+            parts.append(curve(x, y, x, bottom))
+        y = tops[below.row]
+        parts.append(curve(x, bottom, to_x, y))
+    return f'<path class="arrow" d="{" ".join(parts)}"/>'
+
+
+def drawn_box(node: Node, middle: float, top: float) -> List[str]:
+    left = middle - node.width() / 2
+    parts = [f'<rect class="box" x="{left:.1f}" y="{top:.1f}" width="{node.width():.1f}" height="{node.height():.1f}" rx="6"/>']
+    return parts + [f'<text class="line" x="{left + PAD:.1f}" y="{top + PAD + 9 + LINE * place:.1f}">{name}</text>'
+                    for place, name in enumerate(node.names[0])]
+
+
+STYLE = """<style>
+text { font-family: sans-serif; font-size: 12px; fill: #1f2937; }
+.box { fill: #dbeafe; stroke: #3b6fb6; stroke-width: 1.5; }
+.arrow { fill: none; stroke: #4b5563; stroke-width: 1.2; marker-end: url(#head); }
+</style>
+<defs><marker id="head" viewBox="0 0 10 10" refX="10" refY="5" markerWidth="7" markerHeight="7" orient="auto">\
+<path d="M 0 0 L 10 5 L 0 10 z" fill="#4b5563"/></marker></defs>"""
+
+
+def picture(text: str) -> str:
+    boxes, arrows = boxes_of(reduced(read_crates(text)))
+    ways = ways_of(arrows, rows_of(boxes, arrows))
+    middles = middles_of(ways)
+    tops = tops_of(list(middles))
+    width = max(middle + node.width() / 2 for node, middle in middles.items()) + MARGIN
+    height = tops[-1] - GAP_Y + MARGIN
+    lines = [f'<svg xmlns="http://www.w3.org/2000/svg" width="{width:.0f}" height="{height:.0f}">', STYLE,
+             f'<rect width="{width:.0f}" height="{height:.0f}" fill="#ffffff"/>']
+    lines += [drawn_arrow(way, ways, middles, tops) for way in ways]
+    for node, middle in middles.items():
+        lines += drawn_box(node, middle, tops[node.row]) if node.is_box() else []
+    return "\n".join([*lines, "</svg>"])
+
+
+if __name__ == "__main__":
+    print(picture(CRATES.read_text()))
+    sys.exit(0)
