@@ -13,33 +13,46 @@ use thiserror::Error;
 /// Why a line of a script can't be used (own).
 #[derive(Clone, Copy, Debug, PartialEq, Eq, Error)]
 pub enum Malformation {
+    /// More than 255 bytes, without the line end.
     #[error("it has more than 255 bytes")]
     TooLong,
+    /// A byte above 127, in a comment too.
     #[error("it has a byte above 127")]
     NotAscii,
+    /// A carriage return, as of a file with line ends of two bytes.
     #[error("it has a carriage return")]
     CarriageReturn,
+    /// A tab, which separates no words.
     #[error("it has a tab, and spaces alone separate words")]
     Tab,
+    /// The first word is neither a label nor a word that begins a line.
     #[error("its first word is no label from a to z, and none of limits, open and close")]
     FirstWord,
+    /// A line of `open` or `close` names no label.
     #[error("its second word is no label from a to z")]
     Label,
+    /// There is no such way to open a client.
     #[error("its third word is none of card, root, render, lease and rootlease")]
     Opening,
+    /// Behind the label stands no word of a call.
     #[error("its second word is no call")]
     Call,
+    /// A word or a field is wanting.
     #[error("it has too few fields")]
     TooFewFields,
+    /// More words than the line takes.
     #[error("it has too many fields")]
     TooManyFields,
     /// A field has another letter than a digit, or is above this number.
     #[error("a field is no number from 0 to {0}")]
     Number(u64),
+    /// The number names no kind of an audit.
     #[error("there is no audit of this kind")]
     AuditKind,
+    /// A limit is a number, but out of its range.
     #[error("a limit is out of its range")]
     LimitRange,
+    /// The line is well formed, and sets limits where the device is made already.
     #[error("it sets limits behind the first line that isn't skipped")]
     LateLimits,
 }
