@@ -1,8 +1,9 @@
 -- Jobs that were served through seats of a seat that was itself split off.
-use Rattle.std.proofs.Common.{◌≡◌, Result, Ok, Err}
+use Rattle.std.proofs.Common.{◌≡◌, ◌+◌, ℕ, Result, Ok, Err, ap, sym, ◌∙◌, arith}
 use Rattle.std.specs.Prelude.{IfOk, OnErr, OnOk}
-use Rattle.drm_turns.specs.Seats.{Standing}
-use Rattle.drm_turns.proofs.Taken.{split-off-again}
+use Rattle.drm_turns.specs.Seats.{Standing, with_out}
+use Rattle.drm_turns.specs.Views.{out_after}
+use Rattle.drm_turns.proofs.Taken.{given_back, split-off-again}
 use Rattle.drm_streams.specs.Streams.{SourceAccount, SinkAccount}
 use Rattle.drm_sessions.specs.declared.jobs.Finished.{Finished}
 use Rattle.drm_sessions.specs.declared.jobs.Job.{Job}
@@ -23,3 +24,12 @@ on_err (Err e) step h = step h
 pub on_ok : {D E : Type 0} {P Q : Type 0} (r : Result D E) → (P → Q) → OnOk r P → OnOk r Q
 on_ok (Ok d) step h = step h
 on_ok (Err e) step h = tt
+
+-- as many are out of a seat that one was split off, where that is given back with all of its own
+pub as_many_out : (seat lent child own : Standing) (out : ℕ) → lent ≡ with_out seat (seat.out + 1) → child.parent ≡ seat.number → child.out ≡ 0 → own.parent ≡ child.parent
+    → out ≡ out_after lent.number lent.out own.parent own.out → own.out ≡ child.out → out ≡ seat.out
+as_many_out seat lent child own out same parent none kept now whole =
+    let number = ap (λ (s : Standing). s.number) same in
+    let more = ap (λ (s : Standing). s.out) same in
+    let fewer = given_back lent.number lent.out own.parent own.out (kept ∙ (parent ∙ sym number)) (whole ∙ none) in
+    omega arith

@@ -1,10 +1,11 @@
 //! Many sessions at once.
 
-ghost use Rattle.std.specs.Prelude.{◌≡◌, ℕ, ◌+◌, ◌-◌, ◌≤◌, [], ◌∷◌, ◌++◌, All, IfOk, OnErr, OnOk, vec_len};
+ghost use Rattle.std.specs.Prelude.{◌≡◌, ◌≢◌, ℕ, ◌+◌, ◌-◌, ◌≤◌, [], ◌∷◌, ◌++◌, All, Err, IfOk, OnErr, OnOk, vec_len};
 ghost use Rattle.std.specs.List.{AllByRecursion};
 ghost use Rattle.std.specs.Vec.{vec_capacity};
 ghost use Rattle.drm_turns.specs.History.{AllDiffer};
 ghost use Rattle.drm_turns.specs.Seats.{HasSeen, HasTakenIn, IsChild, IsSplitOff, Reaches, Same, numbers_of, with_out};
+ghost use Rattle.drm_sessions.specs.declared.many.ManyFault.TheVariants.{NoMemory};
 ghost use Rattle.drm_sessions.specs.Jobs.{HasTurns, IsServed, IsServedBeside, seats_of};
 ghost use Rattle.drm_sessions.specs.Matched.{Matched};
 
@@ -54,6 +55,7 @@ fn start_all<
         All (λ handle. IsChild own.old handle.promise.seat.value) handles.items) }
     ensures own { own.new ≡ with_out own.old own.new.out }
     ensures out { IfOk result (λ handles. own.new.out ≡ own.old.out + vec_len handles) }
+    ensures memory { result ≢ Err NoMemory }
 {
     let mut handles = handles;
     for job in jobs {
@@ -122,6 +124,7 @@ fn serve_in_scope<
     ensures same { Same own.old own.new }
     ensures parent { own.new.parent ≡ own.old.parent }
     ensures out { OnOk result (own.new.out ≡ own.old.out) }
+    ensures unstarted { result ≡ Err NoMemory → own.new.out ≡ own.old.out }
     ensures fault { OnErr result (own.new.joined ≡ []) }
 {
     let count = jobs.len();
@@ -136,7 +139,8 @@ fn serve_in_scope<
 /// Each job is served as `serve_through` says, through a seat that is split off and joined again: what that seat had seen is
 /// told, and the entries of its number there are those of its session. The numbers of the jobs' seats differ, and stand
 /// behind the number of one that took them in. On a fault the threads that were started are waited for, and their steps of
-/// the device stand. What the lent seat made itself is as it was, and without a fault no more are out of it.
+/// the device stand. What the lent seat made itself is as it was, and without a fault no more are out of it. Where memory was
+/// wanting no job was started: no job's seat was taken in, and none is out.
 pub fn serve_many<
     R: Wait + Threads + Sync,
     G: Gate + Send + Drop,
@@ -162,6 +166,7 @@ pub fn serve_many<
     ensures mine { seat.new.mine ≡ seat.old.mine }
     ensures parent { seat.new.parent ≡ seat.old.parent }
     ensures out { OnOk result (seat.new.out ≡ seat.old.out) }
+    ensures unstarted { result ≡ Err NoMemory → seat.new.out ≡ seat.old.out }
 {
     let own = shared.split(seat);
     let (own, sessions) = thread::scope(
@@ -177,6 +182,7 @@ pub fn serve_many<
                 × Same own result.0
                 × (result.0.parent ≡ own.parent)
                 × OnOk result.1 (result.0.out ≡ own.out)
+                × (result.1 ≡ Err NoMemory → result.0.out ≡ own.out)
                 × OnErr result.1 (result.0.joined ≡ []) }
         {
             let mut own = own;

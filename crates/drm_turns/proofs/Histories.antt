@@ -1,5 +1,5 @@
 -- Histories that grow by one entry.
-use Rattle.std.proofs.Common.{◌≡◌, ◌≢◌, ℕ, suc, ◌+◌, ◌<◌, ◌==◌, Bool, true, false, List, [], ◌∷◌, ◌++◌, length, sym, refl, ap, ◌∙◌, arith, append_assoc, append-nil, cond, eq-eqb, ne_eqb}
+use Rattle.std.proofs.Common.{◌≡◌, ◌≢◌, ℕ, suc, ◌==◌, Bool, true, false, List, [], ◌∷◌, ◌++◌, sym, refl, ap, ◌∙◌, arith, append_assoc, append-nil, cond, eq-eqb, ne_eqb}
 use Rattle.drm_table.specs.declared.events.Event.{Event}
 use Rattle.drm_model.specs.Rows.{Rows}
 use Rattle.drm_model.specs.Change.{after}

@@ -231,9 +231,9 @@ impl SharedDevice {
     /// Answers one event, in the seat's turn. It may wait for the turns before it.
     ///
     /// The device answers from its rows, those of its journal, and notes what it answers; its limits are in their ranges,
-    /// and each event of its journal found room. What is answered fits one frame, and ends the history that the seat has
-    /// seen then. What stands apart, a full journal (own) and want of memory, leaves the device as it was and adds no
-    /// entry. Without a ticket for the turn the device isn't asked.
+    /// and each event of its journal found room. What is answered ends the history that the seat has seen then; resources
+    /// have 251 ids at most together. What stands apart, a full journal (own) and want of memory, leaves the device as it was
+    /// and adds no entry. Without a ticket for the turn the device isn't asked.
     pub fn call<R: Wait>(&self, rt: &R, seat: &mut Seat, event: Event) -> Result<Answer, Apart>
         requires own { seat.old.table ≡ self.now }
         ensures reaches { Reaches seat.old seat.new }

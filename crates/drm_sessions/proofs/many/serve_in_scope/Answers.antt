@@ -1,8 +1,7 @@
-use Rattle.std.proofs.Common.{rules, ◌≡◌, ◌≤◌, List, length, subst, sym, ap, ◌∙◌, arith, vec_len}
-use Rattle.std.specs.Prelude.{All}
+use Rattle.std.proofs.Common.{rules, ◌≡◌, ◌≤◌, subst, arith, vec_len}
 use Rattle.std.specs.Vec.{vec_capacity}
 use Rattle.std.proofs.lemmas.List.Elements.{All-weaker}
-use Rattle.drm_turns.specs.Seats.{IsChild, IsSplitOff, Same, Standing, with_out}
+use Rattle.drm_turns.specs.Seats.{IsChild, IsSplitOff}
 use Rattle.drm_turns.proofs.Taken.{child_before, split_off_before}
 use Rattle.drm_sessions.specs.Jobs.{IsServed, IsServedBeside}
 use Rattle.drm_sessions.proofs.Matching.{Matched-beside, Matched-length}

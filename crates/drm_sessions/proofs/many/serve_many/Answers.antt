@@ -1,10 +1,11 @@
-use Rattle.std.proofs.Common.{rules, ◌≡◌, [], ◌∷◌, ◌++◌, List, ap, sym, ◌∙◌, ℕ, arith}
-use Rattle.std.specs.Prelude.{IfOk, OnErr, OnOk}
+use Rattle.std.proofs.Common.{rules, ◌≡◌, [], ◌∷◌, ◌++◌, List, ap, ◌∙◌, ℕ}
+use Rattle.std.specs.Prelude.{Err, IfOk, OnErr, OnOk}
 use Rattle.drm_turns.specs.Seats.{HasTakenIn, Standing}
-use Rattle.drm_turns.proofs.Taken.{all-seen-more, given_back}
+use Rattle.drm_turns.proofs.Taken.{all-seen-more}
+use Rattle.drm_sessions.specs.declared.many.ManyFault.TheVariants.{NoMemory}
 use Rattle.drm_sessions.specs.Jobs.{IsServedBeside, seats_of}
 use Rattle.drm_sessions.specs.Matched.{Matched}
-use Rattle.drm_sessions.proofs.Joining.{if_ok, on_err, on_ok, served-beside-again}
+use Rattle.drm_sessions.proofs.Joining.{as_many_out, if_ok, on_err, on_ok, served-beside-again}
 use Rattle.drm_sessions.proofs.Matching.{Matched-map}
 use Rattle.drm_sessions.proofs.many.serve_many.Goals as goal
 
@@ -36,13 +37,15 @@ returns-clause-joined g c =
 pub returns-clause-out : goal.returns-clause-out
 returns-clause-out g c =
     let own : Standing = c.scoped-own.result.0 in
-    let lent : Standing = c.split-own.new.seat in
+    let split = c.split-own.ensures in
     let parent : own.parent ≡ c.split-own.result.parent = search rules in
     let whole : OnOk c.scoped-own.result.1 (own.out ≡ c.split-own.result.out) = search rules in
-    let number : lent.number ≡ c.args.seat.now.number = ap (λ (s : Standing). s.number) c.split-own.ensures.same in
-    let more = ap (λ (s : Standing). s.out) c.split-own.ensures.same in
-    on_ok c.scoped-own.result.1
-    (λ out.
-    let fewer = given_back lent.number lent.out own.parent own.out (parent ∙ (c.split-own.ensures.parent ∙ sym number)) (out ∙ c.split-own.ensures.none_out) in
-    let now = c.join.ensures.out in omega arith)
-    whole
+    on_ok c.scoped-own.result.1 (as_many_out c.args.seat.now c.split-own.new.seat c.split-own.result own _ split.same split.parent split.none_out parent c.join.ensures.out) whole
+
+pub returns-clause-unstarted : goal.returns-clause-unstarted
+returns-clause-unstarted g c none =
+    let own : Standing = c.scoped-own.result.0 in
+    let split = c.split-own.ensures in
+    let parent : own.parent ≡ c.split-own.result.parent = search rules in
+    let whole : c.scoped-own.result.1 ≡ Err NoMemory → own.out ≡ c.split-own.result.out = search rules in
+    as_many_out c.args.seat.now c.split-own.new.seat c.split-own.result own _ split.same split.parent split.none_out parent c.join.ensures.out (whole none)

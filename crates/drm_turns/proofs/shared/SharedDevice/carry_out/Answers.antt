@@ -1,4 +1,4 @@
-use Rattle.std.proofs.Common.{◌≡◌, ◌≢◌, ◌<◌, ℕ, ◌+◌, List, ap, sym, ◌∙◌, arith, subst, Some, [], ◌∷◌, ◌++◌, length, length-append, false, refl, None}
+use Rattle.std.proofs.Common.{◌≡◌, ℕ, ◌+◌, List, ap, sym, ◌∙◌, arith, subst, Some, [], ◌∷◌, length, length-append, false, refl, None}
 use Rattle.atomic_table.specs.Table.{rest}
 use Rattle.atomic_table.specs.declared.shared.Seat.{Seat}
 use Rattle.drm_turns.specs.declared.history.View.{View}

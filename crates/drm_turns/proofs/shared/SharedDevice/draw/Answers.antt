@@ -1,6 +1,5 @@
-use Rattle.std.proofs.Common.{◌≡◌, ◌<◌, ap, sym, ◌∙◌, arith}
+use Rattle.std.proofs.Common.{ap, sym, ◌∙◌, arith}
 use Rattle.drm_turns.specs.Rule.{Sat}
-use Rattle.drm_turns.specs.declared.history.Stage.TheVariants.{Idle}
 use Rattle.drm_turns.proofs.Moves.{finds_moves, draws_moves}
 use Rattle.drm_turns.proofs.shared.SharedDevice.draw.Goals as goal
 

@@ -1,6 +1,5 @@
 use Rattle.std.proofs.Common.{◌≡◌}
 use Rattle.drm_turns.specs.Views.{found_at}
-use Rattle.drm_turns.specs.declared.history.Stage.TheVariants.{Idle}
 use Rattle.drm_turns.proofs.shared.SharedDevice.draw.Given as goal
 
 abbrev pub invariant-loop : goal.invariant-loop

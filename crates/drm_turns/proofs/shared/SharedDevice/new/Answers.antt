@@ -1,4 +1,4 @@
-use Rattle.std.proofs.Common.{◌≡◌, ◌≢◌, ◌<◌, ℕ, List, [], ◌∷◌, ◌++◌, length, Some, sym, ◌∙◌, arith, ap, rules, subst}
+use Rattle.std.proofs.Common.{◌≡◌, List, [], ◌∷◌, ◌++◌, length, Some, sym, ◌∙◌, arith, ap, subst}
 use Rattle.atomic_table.specs.Table.{opening}
 use Rattle.drm_model.specs.Run.{History}
 use Rattle.drm_turns.specs.History.{AllDiffer, Has, IsLegal, calls_by}

@@ -1,4 +1,4 @@
-use Rattle.std.proofs.Common.{◌<◌, sym, ◌∙◌, arith, []}
+use Rattle.std.proofs.Common.{sym, ◌∙◌, arith, []}
 use Rattle.drm_turns.proofs.Moves.{passes_moves}
 use Rattle.drm_turns.proofs.shared.SharedDevice.pass.Goals as goal
 

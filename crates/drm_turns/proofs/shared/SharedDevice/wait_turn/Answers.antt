@@ -1,6 +1,5 @@
-use Rattle.std.proofs.Common.{◌≡◌, ◌<◌, ap, sym, ◌∙◌, arith}
+use Rattle.std.proofs.Common.{ap, sym, ◌∙◌, arith}
 use Rattle.drm_turns.specs.Rule.{Sat}
-use Rattle.drm_turns.specs.declared.history.Stage.TheVariants.{Waiting}
 use Rattle.drm_turns.proofs.Moves.{looks_moves}
 use Rattle.drm_turns.proofs.shared.SharedDevice.wait_turn.Goals as goal
 
