@@ -40,10 +40,13 @@ def expect_end(ran, status, error, output):
 def expect_told(ran, status, told, output):
     """Compares an ended run's status, what it told on error output, and its output.
 
-    A logged line is told as its level and its text: `ERROR line 1: ..`. Where the program logs it is left out.
+    A logged line is told as its level and its text: `ERROR line 1: ..`. Where the program logs it is left out. Warnings stand
+    first, in any order: each comes as its session ends.
     """
-    lines = [re.sub(r"^\[([A-Z]+) +drm_server::[a-z_:]+\] ", r"\1 ", line) for line in ran.stderr.splitlines()]
-    expect("error output", lines, told)
+    lines = [re.sub(r"^\[([A-Z]+) +drm_[a-z_:]+\] ", r"\1 ", line) for line in ran.stderr.splitlines()]
+    warned = sorted(line for line in lines if line.startswith("WARN "))
+    lines = warned + [line for line in lines if not line.startswith("WARN ")]
+    expect("error output", lines, sorted(told[:len(warned)]) + told[len(warned):])
     expect("status", ran.returncode, status)
     expect("output", ran.stdout, output)
 

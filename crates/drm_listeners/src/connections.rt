@@ -9,10 +9,13 @@ ghost use Rattle.drm_sessions.specs.Serving.{Costs};
 ghost use Rattle.drm_sessions.specs.Shared.{ServesShared};
 ghost use Rattle.drm_listeners.specs.Connections.{IsFaultOf, IsFresh, IsSessionBy, Serves, Sitting, connection_turns, seats_in, sessions_in};
 
+use crate::classes::class_word;
+use crate::notes::note_session;
 use crate::serve_faults::ServeFault;
 use drm_sessions::{Class, NoGate, Served, Session, serve_through};
 use drm_streams::{FromRead, Sink, Source, ToWrite};
 use drm_turns::{Seat, SharedDevice, Sharing};
+use log::{Log, error};
 use std::alloc::Global;
 use std::os::unix::net::{UnixListener, UnixStream};
 use std::snapshot::Snapshot;
@@ -83,8 +86,8 @@ fn serve_sides<R: Wait, D: Sharing, S: Source, K: Sink>(
     )
 }
 
-// Serves a connection, which is closed as the session ends.
-fn serve_connection<R: Wait, D: Sharing>(
+// Serves a connection, which is closed as the session ends. A session that doesn't end plainly is logged before.
+fn serve_connection<R: Wait + Log, D: Sharing>(
     rt: &R,
     shared: &D,
     seat: Seat,
@@ -99,11 +102,14 @@ fn serve_connection<R: Wait, D: Sharing>(
 {
     let mut source = FromRead::new(&stream);
     let mut sink = ToWrite::new(&stream);
-    serve_sides(rt, shared, seat, class, &mut source, &mut sink)
+    let served = serve_sides(rt, shared, seat, class, &mut source, &mut sink);
+    note_session(rt, class, &served.session);
+    served
 }
 
-// Accepts a connection, and starts the thread that serves it. Where none can be started, the connection is closed.
-fn start_connection<'s, E: 's, R: Wait + Threads + Sync, D: Sharing + Sync>(
+// Accepts a connection, and starts the thread that serves it. Where none can be accepted, the system's reason is logged; where
+// no thread can be started, the connection is closed.
+fn start_connection<'s, E: 's, R: Wait + Threads + Log + Sync, D: Sharing + Sync>(
     scope: &Scope<'s, E>,
     rt: &'s R,
     shared: &'s D,
@@ -116,8 +122,12 @@ fn start_connection<'s, E: 's, R: Wait + Threads + Sync, D: Sharing + Sync>(
     ensures fault { IfErr result (λ fault. IsFaultOf listener.now.class fault) }
 {
     let class = listener.class;
-    let Ok((stream, _)) = listener.socket.accept() else {
-        return Err(ServeFault::Accept(class));
+    let stream = match listener.socket.accept() {
+        Ok((stream, _)) => stream,
+        Err(reason) => {
+            error!(rt; "{}: {reason}", class_word(class));
+            return Err(ServeFault::Accept(class));
+        }
     };
     let promise = ConnectionServed {
         class,
@@ -134,7 +144,7 @@ fn start_connection<'s, E: 's, R: Wait + Threads + Sync, D: Sharing + Sync>(
 
 // Starts a thread for each connection, with a seat of its own. The listener is closed once the last connection was accepted, or
 // one couldn't be served.
-fn start_connections<'s, E: 's, R: Wait + Threads + Sync>(
+fn start_connections<'s, E: 's, R: Wait + Threads + Log + Sync>(
     scope: &Scope<'s, E>,
     rt: &'s R,
     shared: &'s SharedDevice,
@@ -192,7 +202,7 @@ fn join_connections<R: Threads>(
 }
 
 // Serves the connections in threads of the scope. All memory is reserved before the first is accepted.
-fn serve_in_scope<'s, E: 's, R: Wait + Threads + Sync>(
+fn serve_in_scope<'s, E: 's, R: Wait + Threads + Log + Sync>(
     scope: &Scope<'s, E>,
     rt: &'s R,
     alloc: Global,
@@ -215,7 +225,7 @@ fn serve_in_scope<'s, E: 's, R: Wait + Threads + Sync>(
 /// Accepts the connections of a listener and serves each in a thread of its own, until all have ended. It may wait.
 ///
 /// The listener is closed before the sessions are waited for. On a fault the threads that were started are waited for.
-pub(crate) fn serve_listener<R: Wait + Threads + Sync>(
+pub(crate) fn serve_listener<R: Wait + Threads + Log + Sync>(
     rt: &R,
     alloc: Global,
     shared: &SharedDevice,

@@ -5,6 +5,7 @@ mod classes;
 mod connections;
 mod counts;
 mod listeners;
+mod notes;
 mod serve_faults;
 mod serving;
 

@@ -10,6 +10,7 @@ use crate::counts::Counts;
 use crate::serve_faults::ServeFault;
 use drm_sessions::Class;
 use drm_turns::{Seat, SharedDevice, Sharing};
+use log::Log;
 use std::alloc::Global;
 use std::os::unix::net::UnixListener;
 use std::snapshot::Snapshot;
@@ -41,7 +42,7 @@ impl Promise<Result<ServedListener, ServeFault>> for ListenerServed {
 type ListenerHandle = PromisedHandle<Result<ServedListener, ServeFault>, ListenerServed>;
 
 // Starts the thread that serves a listener.
-fn start_listener<'s, E: 's, R: Wait + Threads + Sync, D: Sharing + Sync>(
+fn start_listener<'s, E: 's, R: Wait + Threads + Log + Sync, D: Sharing + Sync>(
     scope: &Scope<'s, E>,
     rt: &'s R,
     alloc: Global,
@@ -74,7 +75,7 @@ fn start_listener<'s, E: 's, R: Wait + Threads + Sync, D: Sharing + Sync>(
 }
 
 // Serves the listeners in threads of the scope.
-fn serve_in_scope<'s, E: 's, R: Wait + Threads + Sync>(
+fn serve_in_scope<'s, E: 's, R: Wait + Threads + Log + Sync>(
     scope: &Scope<'s, E>,
     rt: &'s R,
     alloc: Global,
@@ -116,7 +117,7 @@ fn serve_in_scope<'s, E: 's, R: Wait + Threads + Sync>(
 /// Serves so many connections of three listeners at once, until all have ended. It may wait.
 ///
 /// On a fault the threads that were started are waited for.
-pub(crate) fn serve_listeners<R: Wait + Threads + Sync>(
+pub(crate) fn serve_listeners<R: Wait + Threads + Log + Sync>(
     rt: &R,
     alloc: Global,
     shared: &SharedDevice,

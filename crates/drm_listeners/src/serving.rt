@@ -16,6 +16,7 @@ use crate::serve_faults::ServeFault;
 use drm_device::Device;
 use drm_sessions::Session;
 use drm_turns::{Seat, SharedDevice};
+use log::Log;
 use std::alloc::Global;
 use std::os::unix::net::UnixListener;
 use std::sync::Wait;
@@ -60,7 +61,7 @@ fn gather(
 }
 
 // Serves the listeners through seats that are split off and joined again.
-fn serve_shared<R: Wait + Threads + Sync>(
+fn serve_shared<R: Wait + Threads + Log + Sync>(
     rt: &R,
     alloc: Global,
     shared: &SharedDevice,
@@ -100,7 +101,10 @@ fn serve_shared<R: Wait + Threads + Sync>(
 ///
 /// On a fault the threads that were started are waited for, and then the device is dropped. `NoThread` comes where a thread
 /// can't be started, for whatever cause.
-pub fn serve_all<R: Wait + Threads + Sync>(
+///
+/// A session that ends in another way than `Ended` is logged as it ends, with its listener and its client; so is the system's
+/// reason where a connection can't be accepted.
+pub fn serve_all<R: Wait + Threads + Log + Sync>(
     rt: &R,
     alloc: Global,
     device: Device,

@@ -4,6 +4,7 @@ use drm_device::{Device, Limits, Topology};
 use drm_server::{Counts, ListEnd, ServeFault, list_audit, serve_all};
 use drm_sessions::{Class, Session, SessionEnd};
 use drm_test_streams::CutSink;
+use log::Log;
 use std::alloc::Global;
 use std::io::{ErrorKind, Read, Write};
 use std::net::{Net, Shutdown};
@@ -183,7 +184,7 @@ struct Outcome {
 }
 
 /// Serves the connections on a new device. The device stays in the thread that made it.
-fn serve<R: Wait + Threads + Sync>(
+fn serve<R: Wait + Threads + Log + Sync>(
     rt: &R,
     alloc: Global,
     sockets: Sockets,

@@ -4,7 +4,6 @@ use crate::checking::check;
 use crate::command_line::{Asked, Serving, is_memory, read_words};
 use crate::faults::{Fault, FaultLine};
 use crate::listing::list_audit;
-use crate::notes::note_sessions;
 use crate::outcomes::{Outcome, outcome_of, outcome_of_fault, outcome_of_listing};
 use crate::sockets::{Sockets, bind_all};
 use crate::words::words_of;
@@ -42,7 +41,7 @@ fn list<R: Print>(rt: &R, device: &Device) -> Outcome {
     outcome_of_listing(&list_audit(device, &mut sink, MOST_TURNS))
 }
 
-/// Serves a device on three sockets, whose files are removed at the end. Sessions that don't end plainly are logged.
+/// Serves a device on three sockets, whose files are removed at the end.
 fn serve_device<R: Files + Net + Log + Wait + Threads + Sync>(
     rt: &R,
     alloc: Global,
@@ -53,10 +52,7 @@ fn serve_device<R: Files + Net + Log + Wait + Threads + Sync>(
     let _files = (card.file, render.file, root.file);
     let (card, render, root) = (card.listener, render.listener, root.listener);
     match serve_all(rt, alloc, device, card, render, root, serving.counts) {
-        Ok((device, sessions)) => {
-            note_sessions(rt, serving.counts, sessions.as_slice());
-            Ok(device)
-        }
+        Ok((device, _sessions)) => Ok(device),
         Err(fault) => {
             error!(rt; "{fault}");
             Err(Fault::from(fault))

@@ -6,7 +6,6 @@ mod command_line;
 mod entry;
 mod faults;
 mod listing;
-mod notes;
 mod outcomes;
 mod sockets;
 mod words;
@@ -24,5 +23,3 @@ mod command_tests;
 mod fault_tests;
 #[cfg(test)]
 mod listing_tests;
-#[cfg(test)]
-mod note_tests;

@@ -1,6 +1,8 @@
 //! How a session ended.
 
 use drm_table::{Apart, Rule};
+use std::fmt;
+use std::fmt::{Display, Formatter};
 
 /// Why a session ended (own).
 #[derive(Clone, Copy, Debug, PartialEq, Eq)]
@@ -24,6 +26,34 @@ pub enum SessionEnd {
     /// The opening was answered by what stands apart from the rules, or the closing found the
     /// turn worn.
     Apart(Apart),
+}
+
+/// In words, for who runs a server (own).
+impl Display for SessionEnd {
+    fn fmt<W: fmt::Write>(&self, f: &mut Formatter<W>) -> fmt::Result {
+        match self {
+            SessionEnd::Ended => f.write_str("the input ended between frames"),
+            SessionEnd::Truncated => f.write_str("the input ended inside a frame"),
+            SessionEnd::TooLong => f.write_str("a frame's length is out of range"),
+            SessionEnd::BadHello => {
+                f.write_str("the first frame is no hello that this listener allows")
+            }
+            SessionEnd::OpenRefused(rule) => {
+                let (number, name) = (rule.number(), rule.name());
+                write!(f, "the opening was denied: {number} {name}")
+            }
+            SessionEnd::ReadFault => f.write_str("the connection could not be read"),
+            SessionEnd::WriteFault => f.write_str("the connection could not be written"),
+            SessionEnd::TurnsUsed => f.write_str("all reads and writes were used up"),
+            SessionEnd::Apart(apart) => {
+                let (number, name) = (apart.number(), apart.name());
+                write!(
+                    f,
+                    "the opening or the closing was answered: {number} {name}"
+                )
+            }
+        }
+    }
 }
 
 /// A session that has ended.

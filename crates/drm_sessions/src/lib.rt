@@ -28,4 +28,6 @@ pub use serving::serve;
 pub use through::{Served, Through, serve_through};
 
 #[cfg(test)]
+mod end_tests;
+#[cfg(test)]
 mod tests;
