@@ -4,6 +4,7 @@ import os
 import pathlib
 import re
 import resource
+import select
 import shutil
 import socket
 import subprocess
@@ -37,13 +38,23 @@ def expect_end(ran, status, error, output):
     expect("output", ran.stdout, output)
 
 
+def told_by(line):
+    """A logged line as its level and its text, as `ERROR line 1: ..`. Where the program logs it is left out."""
+    return re.sub(r"^\[([A-Z]+) +drm_[a-z_:]+\] ", r"\1 ", line.rstrip("\n"))
+
+
+def next_told(started):
+    """The next line that a running server logs."""
+    ready, _, _ = select.select([started.stderr], [], [], SECONDS)
+    return told_by(started.stderr.readline()) if ready else None
+
+
 def expect_told(ran, status, told, output):
     """Compares an ended run's status, what it told on error output, and its output.
 
-    A logged line is told as its level and its text: `ERROR line 1: ..`. Where the program logs it is left out. Warnings stand
-    first, in any order: each comes as its session ends.
+    Warnings stand first, in any order: each comes as its session ends.
     """
-    lines = [re.sub(r"^\[([A-Z]+) +drm_[a-z_:]+\] ", r"\1 ", line) for line in ran.stderr.splitlines()]
+    lines = [told_by(line) for line in ran.stderr.splitlines()]
     warned = sorted(line for line in lines if line.startswith("WARN "))
     lines = warned + [line for line in lines if not line.startswith("WARN ")]
     expect("error output", lines, sorted(told[:len(warned)]) + told[len(warned):])
