@@ -1,6 +1,5 @@
 -- Making, splitting, joining and closing.
 use Rattle.std.proofs.Common.{◌≡◌, ◌≢◌, ◌⊎◌, ⊎_elim, inl, inr, ℕ, zero, suc, ◌-◌, ◌<◌, Bool, true, false, List, [], ◌∷◌, ◌++◌, length, set, sym, refl, ap, ◌∙◌, subst, arith, length-set, length-append, Some}
-use Rattle.std.specs.Prelude.{slice_index}
 use mathlib.Core.Option.{Option as maybe, some, none, some-injective, some-ne-none}
 use mathlib.Core.Logic.{dite}
 use native.Mathlib.Decide.{ℕ_discrete}
@@ -19,7 +18,7 @@ use Rattle.drm_turns.specs.Rule.{Slot, Table, Sat, World, Fits, Knows, has_ticke
 use Rattle.drm_turns.specs.Views.{IsOwn, child, informed, lending, met_of, numbered, opening_view, out_after, spent_view, told_of}
 use Rattle.drm_turns.specs.Plays.{Reads, settles, learns}
 use Rattle.drm_turns.proofs.Histories.{starts_whole, starts_with_none, none_before, replayed-events, replayed-legal, replayed-calls}
-use Rattle.drm_turns.proofs.Rule.{at_below, no_ticket, stays_put, ticketless, word_same, word_is}
+use Rattle.drm_turns.proofs.Rule.{at_below, no_ticket, stays_put, ticketless, word_same}
 use Rattle.drm_turns.proofs.Rule.{know_set, differ_set, all_held_set, lent_set, placed_set, taken_set}
 use Rattle.drm_turns.proofs.Kept.{at_end, taken_snoc, taken_one, kept_apart, not_kept, differ_append, has_append, taken_join}
 use Rattle.drm_turns.proofs.Lent.{lent_join, lent_one, lent_split, no_ticket_out, out_cases}
@@ -210,15 +209,18 @@ quiet_home false x homes views quiet know p = p
 quiet_home true x homes views quiet know p = let k : Knows x p.0 p.1 Serving = subst (Knows x p.0 p.1) p.3 (know p.0 p.1 p.2) in let b = k.2 in absurd (omega arith)
 
 -- what is found in the slot in the end, where all tickets were served
-pub closes : (id : ℕ) (v : View) (words : List ℕ) (xs : List Slot) (slot : Slot) → v.stage ≡ Idle → Final (Seen Orderly id v) words xs → slice_index words 1 ≡ slice_index words 2 → get_elem? xs 0 ≡ some slot
+pub closes : (id : ℕ) (v : View) (words : List ℕ) (xs : List Slot) (next serving : ℕ) (slot : Slot) → v.stage ≡ Idle → Final (Seen Orderly id v) words xs
+    → get_elem? words 1 ≡ some next → get_elem? words 2 ≡ some serving → next ≡ serving → get_elem? xs 0 ≡ some slot
     → (log : List Entry) × (slot ≡ Some (device_at v.origin log)) × Reads v log
-closes id v words xs slot idle final quiet at =
+closes id v words xs next serving slot idle final at_next at_serving quiet at =
     let s : Table = final.0 in
     let r : Orderly s = final.1.0 in
     let x = r.world in
     let fits : Fits x.origin x.log id v = subst (Knows x id v) idle (r.know id v final.1.1) in
-    let next_is : x.next ≡ x.serving = sym (word_is s r).1 ∙ (ap (λ (l : List ℕ). slice_index l 1) final.2 ∙ (quiet ∙ (ap (λ (l : List ℕ). slice_index l 2) (sym final.2) ∙ (word_is s r).2))) in
-    let home = quiet_home x.out x s.homes s.views next_is r.know r.placed in
+    let words_are : words ≡ length x.log ∷ x.next ∷ x.serving ∷ [] = sym final.2 ∙ r.words in
+    let next_is : x.next ≡ next = some-injective x.next next (ap (λ (l : List ℕ). get_elem? l 1) (sym words_are) ∙ at_next) in
+    let serving_is : x.serving ≡ serving = some-injective x.serving serving (ap (λ (l : List ℕ). get_elem? l 2) (sym words_are) ∙ at_serving) in
+    let home = quiet_home x.out x s.homes s.views (next_is ∙ (quiet ∙ sym serving_is)) r.know r.placed in
     let found = final.4 0 (Some (device_at x.origin x.log)) home in
     (x.log, some-injective slot (Some (device_at x.origin x.log)) (sym at ∙ found) ∙ ap (λ (d : History). Some (device_at d x.log)) (sym fits.origin_is), reads x id v fits r.legal)
 

@@ -25,6 +25,7 @@ use std::hint;
 use std::marker::{Brand, Model};
 use std::snapshot::Snapshot;
 use std::sync::Wait;
+use std::sync::atomic::{AtomicU64, Ordering};
 
 /// The word of the length of the history.
 const COUNT: usize = 0;
@@ -35,8 +36,11 @@ const TICKET: usize = 1;
 /// The word of the ticket that is served.
 const SERVING: usize = 2;
 
-/// How often a call looks whether it is served, before it sleeps until it is woken (own).
-const LOOKS: u32 = 64;
+/// How often a call looks whether it is served, or whether the device is free, before it sleeps until it is woken (own).
+const LOOKS: u32 = 200;
+
+/// How many turns of others a call waits for at most, before it draws a ticket though the device isn't free (own).
+const PATIENCE: u32 = 64;
 
 /// No memory for a shared device.
 #[derive(Clone, Copy, Debug, PartialEq, Eq)]
@@ -51,6 +55,8 @@ pub struct TurnOut;
 #[derive(Drop)]
 pub struct SharedDevice {
     table: Table<Slot, View, Snapshot<Device>, InTurn, Global>,
+    /// How many calls sleep, or are about to.
+    sleepers: AtomicU64,
 }
 
 impl Model for SharedDevice {
@@ -88,7 +94,27 @@ impl Sharing for SharedDevice {
 }
 
 impl SharedDevice {
-    /// Draws a ticket. There is none where the last number was found.
+    /// Sleeps until a turn is passed on, unless one was since this ticket was seen to be served. It may end for no reason.
+    fn sleep<R: Wait>(&self, rt: &R, served: u64) {
+        self.sleepers.fetch_add(1, Ordering::SeqCst);
+        let low = (served % (1 << 32)) as u32;
+        self.table.shared.park(rt, SERVING, low);
+        self.sleepers.fetch_sub(1, Ordering::SeqCst);
+    }
+
+    /// Waits until a turn is passed on, where this ticket is served. After a few looks it sleeps.
+    fn await_pass<R: Wait>(&self, rt: &R, served: u64) {
+        for _ in 0..LOOKS {
+            if self.table.shared.peek(SERVING) != served {
+                return;
+            }
+            hint::spin_loop();
+        }
+        self.sleep(rt, served);
+    }
+
+    /// Draws a ticket: once the device is free, so that it is served at once, or after so many turns of others, so that it is
+    /// served next. There is none where the last number was found; who sleeps is woken, and finds the same.
     fn draw<R: Wait>(&self, rt: &R, place: &mut Place<Slot, View>) -> Option<u64>
         requires own { place.old.table_id ≡ self.now }
         requires idle { place.old.me.0.stage ≡ Idle }
@@ -98,12 +124,18 @@ impl SharedDevice {
         ensures none { IfNone result (place.new.me ≡ (found_at place.old.me.0 (2 ^ 64 - 1), place.old.me.1)) }
     {
         let shared = &self.table.shared;
+        let mut waits = 0;
         for _ in rt.forever() {
+            let served = shared.peek(SERVING);
             let found = shared.load::<Find>(place, TICKET);
             if found == u64::MAX {
+                shared.wake_all(SERVING);
                 return None;
             }
-            if shared.compare_exchange::<Draw>(place, TICKET, found, found + 1) == found {
+            if found != served && waits < PATIENCE {
+                waits += 1;
+                self.await_pass(rt, served);
+            } else if shared.compare_exchange::<Draw>(place, TICKET, found, found + 1) == found {
                 return Some(found);
             }
         }
@@ -128,7 +160,7 @@ impl SharedDevice {
                 looks += 1;
                 hint::spin_loop();
             } else {
-                shared.park(rt, SERVING, (now % (1 << 32)) as u32);
+                self.sleep(rt, now);
             }
         }
         unreachable!()
@@ -181,7 +213,8 @@ impl SharedDevice {
         result
     }
 
-    /// Leaves the device at home and lets the next ticket be served. Where no other ticket is out, nobody is woken.
+    /// Leaves the device at home and lets the next ticket be served. Of the calls that sleep one is woken, or all where a ticket
+    /// is out, since one of them has it; where none sleeps, nothing is done.
     fn pass(&self, place: &mut Place<Slot, View>)
         requires own { place.old.table_id ≡ self.now }
         requires serving { place.old.me.0.stage ≡ Serving }
@@ -191,8 +224,12 @@ impl SharedDevice {
     {
         let shared = &self.table.shared;
         let served = shared.fetch_add::<Pass>(place, SERVING, 1);
-        if shared.peek(TICKET) != served.wrapping_add(1) {
-            shared.wake_all(SERVING);
+        if self.sleepers.load(Ordering::SeqCst) > 0 {
+            if shared.peek(TICKET) == served.wrapping_add(1) {
+                shared.wake_one(SERVING);
+            } else {
+                shared.wake_all(SERVING);
+            }
         }
     }
 
@@ -223,7 +260,10 @@ impl SharedDevice {
         let about = Snapshot::of(&device);
         slots.push_reserved(Some(device));
         match Table::new(alloc, &[noted, 0, 0], slots, &about) {
-            Ok((table, place)) => Ok((SharedDevice { table }, Seat { place })),
+            Ok((table, place)) => {
+                let sleepers = AtomicU64::new(0);
+                Ok((SharedDevice { table, sleepers }, Seat { place }))
+            }
             Err(Refused { mut slots }) => Err((slots.pop().unwrap().unwrap(), NoMemory)),
         }
     }
@@ -330,11 +370,12 @@ impl SharedDevice {
         ensures home { seat.number ≡ 1 → seat.out ≡ 0 → IsOk result }
     {
         let Seat { place } = seat;
-        let SharedDevice { table } = self;
+        let SharedDevice { table, sleepers } = self;
         let mut closed = table.close_with(place);
         let is_quiet = closed.word(TICKET) == closed.word(SERVING);
         let slot = closed.take(0);
         closed.free();
+        drop(sleepers);
         match slot {
             Some(device) if is_quiet => Ok(device),
             _ => Err(TurnOut),

@@ -1,6 +1,7 @@
-use Rattle.std.proofs.Common.{ap, ◌∙◌}
-use Rattle.drm_turns.specs.Seats.{Standing}
-use Rattle.drm_turns.proofs.Ends.{comes_home}
+use Rattle.std.proofs.Common.{rules, ◌≡◌, ap, ◌∙◌, subst}
+use Rattle.drm_turns.specs.History.{device_at}
+use Rattle.drm_turns.specs.Seats.{Closes, Standing}
+use Rattle.drm_turns.proofs.Ends.{closes, comes_home}
 use Rattle.drm_turns.proofs.shared.SharedDevice.close.Goals as goal
 use Rattle.drm_turns.proofs.shared.SharedDevice.close.Goals.{in_default-via-in-Some+else-is_quiet, in_default-via-in_default}
 
@@ -13,3 +14,13 @@ returns-in_default-clause-home c first none_out =
       | in_default-via-in-Some+else-is_quiet w ↦ absurd (w.if-is_quiet.false home.0)
       | in_default-via-in_default w ↦ let there = home.2 in let none = w.in_default.is in absurd (cc)
     ]
+
+pub returns-in-Some-clause-closes : goal.returns-in-Some-clause-closes
+returns-in-Some-clause-closes c =
+    let v = c.seat.inside.place.me.0 in
+    let quiet : c.word.result ≡ c.word-2.result = search rules in
+    let found = closes c.seat.inside.place.id v _ _ c.word.result c.word-2.result c.take-slot.result c.seat.invariant.idle c.close_with-closed.ensures.values.2 c.word.ensures c.word-2.ensures quiet c.take-slot.ensures.value in
+    let there = found.1 in
+    let is = c.in-Some.is in
+    let device : c.in-Some.device ≡ device_at v.origin found.0 = cc in
+    subst (λ (s : Standing). Closes s c.in-Some.device) c.seat.view_is (found.0, device, found.2.2, found.2.0, found.2.3 c.seat.invariant.numbered)
