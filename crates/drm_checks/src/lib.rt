@@ -10,6 +10,3 @@ mod totals;
 pub use check::{Report, check_script, check_with_cause};
 pub use laws::checked_files_are_scripts;
 pub use totals::{Totals, write_malformed, write_totals};
-
-#[cfg(test)]
-mod tests;

@@ -13,16 +13,3 @@ pub use device::{Device, NewFault};
 pub use drm_modes::Topology;
 pub use drm_table::Limits;
 pub use replays::{ReplayFault, replay};
-
-#[cfg(test)]
-mod buffer_tests;
-#[cfg(test)]
-mod lease_tests;
-#[cfg(test)]
-mod master_tests;
-#[cfg(test)]
-mod mode_tests;
-#[cfg(test)]
-mod share_tests;
-#[cfg(test)]
-mod tests;

@@ -12,6 +12,3 @@ pub use faults::FileFault;
 pub use files::Files;
 pub use rest::FileRest;
 pub use rows::{FileClient, FileFlags, FileHold};
-
-#[cfg(test)]
-mod tests;

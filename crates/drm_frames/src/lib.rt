@@ -28,8 +28,3 @@ pub use laws::{
 pub use requests::{call_of, encode_call};
 pub use results::answer_of;
 pub use text::FrameBytes;
-
-#[cfg(test)]
-mod frame_tests;
-#[cfg(test)]
-mod row_tests;

@@ -8,6 +8,3 @@ mod objects;
 pub use keys::ObjectKey;
 pub use object::{Dead, Object};
 pub use objects::{CreateFault, Objects};
-
-#[cfg(test)]
-mod tests;

@@ -6,6 +6,3 @@ mod table;
 
 pub use faults::AddFault;
 pub use table::IdTable;
-
-#[cfg(test)]
-mod tests;

@@ -11,6 +11,3 @@ mod words;
 pub use array::IndexArray;
 pub use faults::InsertFault;
 pub use marks::Mark;
-
-#[cfg(test)]
-mod tests;

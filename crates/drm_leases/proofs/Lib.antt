@@ -2,6 +2,5 @@ mod Told
 mod Denied
 mod Sound
 pub mod Crossing
-mod Tested
 pub mod Keyed
 pub mod Listed

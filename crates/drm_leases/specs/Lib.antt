@@ -2,4 +2,3 @@ pub mod Leases
 pub mod Rules
 pub mod Calls
 pub mod Fields
-pub mod Tested

@@ -11,6 +11,3 @@ mod writes;
 pub use faults::LeaseFault;
 pub use leases::Leases;
 pub use rows::{Grant, LeaseToken, Leased};
-
-#[cfg(test)]
-mod tests;

@@ -7,4 +7,3 @@ mod Swept
 mod Numbered
 mod Sound
 pub mod Crossing
-pub mod Tested

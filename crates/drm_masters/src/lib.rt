@@ -11,6 +11,3 @@ mod writes;
 pub use faults::{LesseeFault, NoMemory, SetDone, SetFault};
 pub use masters::Masters;
 pub use rows::{Magic, Master, MasterKey, Member};
-
-#[cfg(test)]
-mod tests;

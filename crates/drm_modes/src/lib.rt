@@ -14,6 +14,3 @@ pub use kinds::Kind;
 pub use modes::Modes;
 pub use rows::{Framebuffer, Shape, Shown};
 pub use topologies::Topology;
-
-#[cfg(test)]
-mod tests;

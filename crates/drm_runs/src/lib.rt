@@ -15,10 +15,3 @@ pub use interpreter::{Interpreter, LineResult};
 pub use laws::scripts_are_answered;
 pub use reader::{LineReader, NextLine};
 pub use run::{ScriptEnd, run_script, run_with_cause};
-
-#[cfg(test)]
-mod cause_tests;
-#[cfg(test)]
-mod row_tests;
-#[cfg(test)]
-mod tests;

@@ -28,10 +28,3 @@ pub use lines::line_of;
 pub use malformations::{Malformation, malformation_of};
 pub use reading::{Reading, read_line};
 pub use texts::{LINE, LineText, push_number};
-
-#[cfg(test)]
-mod malformation_tests;
-#[cfg(test)]
-mod row_tests;
-#[cfg(test)]
-mod tests;

@@ -16,10 +16,3 @@ pub use entry::program;
 pub use faults::{Fault, FaultLine};
 pub use listing::{ListEnd, list_audit};
 pub use outcomes::{Outcome, outcome_of, outcome_of_checks, outcome_of_fault, outcome_of_listing};
-
-#[cfg(test)]
-mod command_tests;
-#[cfg(test)]
-mod fault_tests;
-#[cfg(test)]
-mod listing_tests;

@@ -26,8 +26,3 @@ pub use laws::{bytes_written_follow_from_bytes_read, results_follow_from_the_fra
 pub use many::{ManyFault, serve_many};
 pub use serving::serve;
 pub use through::{Served, Through, serve_through};
-
-#[cfg(test)]
-mod end_tests;
-#[cfg(test)]
-mod tests;

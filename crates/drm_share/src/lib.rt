@@ -11,6 +11,3 @@ pub use faults::ShareFault;
 pub use names::Names;
 pub use rows::{SharedName, SharedToken};
 pub use tokens::Tokens;
-
-#[cfg(test)]
-mod tests;

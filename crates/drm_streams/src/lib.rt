@@ -11,6 +11,3 @@ pub use sink::{Put, Sink, ToWrite};
 pub use source::{FromRead, Source, Taken};
 pub use texts::put_each;
 pub use turns::{Refill, Written, put_all, take_some};
-
-#[cfg(test)]
-mod tests;

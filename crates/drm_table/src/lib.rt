@@ -45,6 +45,3 @@ pub use lookup::row;
 pub use permits::{Standing, permit};
 pub use rows::Row;
 pub use rules::Rule;
-
-#[cfg(test)]
-mod tests;

@@ -8,6 +8,3 @@ mod source;
 
 pub use sink::CutSink;
 pub use source::CutSource;
-
-#[cfg(test)]
-mod tests;

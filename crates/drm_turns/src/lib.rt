@@ -11,6 +11,3 @@ pub use history::{Entry, Stage, View};
 pub use laws::{device_is_placed, tickets_differ};
 pub use seat::{Note, Seat};
 pub use shared::{NoMemory, SharedDevice, Sharing, TurnOut};
-
-#[cfg(test)]
-mod tests;

@@ -1,0 +1,125 @@
+//! Two sessions at once, each of which waits for the other.
+
+ghost use Rattle.std.specs.Prelude.{◌≡◌};
+ghost use Rattle.drm_streams.specs.Streams.{no_calls};
+
+use crate::devices::new_device;
+use drm_sessions::{Class, Finished, Gate, Job, SessionEnd, serve_many};
+use drm_streams::{FromRead, ToWrite};
+use drm_table::{Event, Limits};
+use drm_turns::SharedDevice;
+use std::alloc::Global;
+use std::process::Abort;
+use std::sync::atomic::{AtomicBool, Ordering};
+use std::test::Fail;
+use std::thread;
+use std::time::{Clock, Duration};
+
+/// A hello for a node, VERSION, and VERSION again.
+const HELLO_VERSION_TWICE: [u8; 30] = [
+    0x0e, 0, 0, 0, 0, 1, 1, 0, 0, 0, 0, 0, 0, 0, 0, 0, 0, 0, 2, 0, 0, 0, 0, 0, 2, 0, 0, 0, 0, 0,
+];
+
+/// How often a gate looks for a flag before it gives up.
+const MOST_LOOKS: u32 = 10_000;
+
+const MANY_TURNS: u64 = 1_000_000;
+
+/// At one of its calls a gate sets its flag, and waits for another's.
+#[derive(Drop)]
+struct FlagGate<'a, R: Clock> {
+    rt: &'a R,
+    sets: &'a AtomicBool,
+    awaits: &'a AtomicBool,
+    failed: &'a AtomicBool,
+    calls_left: u32,
+}
+
+impl<R: Clock> FlagGate<'_, R> {
+    fn meet(&self) {
+        self.sets.store(true, Ordering::SeqCst);
+        for _ in 0..MOST_LOOKS {
+            if self.awaits.load(Ordering::SeqCst) {
+                return;
+            }
+            thread::sleep(self.rt, Duration::from_millis(1));
+        }
+        self.failed.store(true, Ordering::SeqCst);
+    }
+}
+
+impl<R: Clock> Gate for FlagGate<'_, R> {
+    fn before(&mut self, _client: u32) {
+        if self.calls_left == 1 {
+            self.meet();
+        }
+        self.calls_left = self.calls_left.saturating_sub(1);
+    }
+}
+
+/// A card's session over these bytes.
+fn job<'a, G>(
+    alloc: Global,
+    gate: G,
+    input: &'a [u8],
+) -> Job<G, FromRead<&'a [u8]>, ToWrite<Vec<u8>>>
+    ensures source { result.source.counts ≡ no_calls }
+    ensures sink { result.sink.counts ≡ no_calls }
+    ensures turns { result.turns ≡ 1000000 }
+{
+    Job {
+        gate,
+        class: Class::Card,
+        source: FromRead::new(input),
+        sink: ToWrite::new(Vec::new(alloc)),
+        turns: MANY_TURNS,
+    }
+}
+
+/// Compares how a session ended, and how many steps it made.
+fn ended<S, K>(rt: &impl Abort, finished: Option<&Finished<S, K>>, steps: u64) {
+    match finished {
+        Some(finished) => {
+            assert_eq!(rt; finished.session.end, SessionEnd::Ended);
+            assert_eq!(rt; finished.session.steps, steps);
+        }
+        None => assert!(rt; false, "a session is missing"),
+    }
+}
+
+#[test]
+fn jobs_wait_for_each_other(rt: HostRuntime) -> Result<(), Fail> {
+    let alloc: Global = rt.alloc();
+    let device = new_device(alloc, Limits::PROGRAM)?;
+    let Ok((shared, mut seat)) = SharedDevice::new(alloc, device) else {
+        return Err("no memory".into());
+    };
+    let first = AtomicBool::new(false);
+    let second = AtomicBool::new(false);
+    let failed = AtomicBool::new(false);
+    let gate = |sets, awaits, calls_left| FlagGate {
+        rt: &rt,
+        sets,
+        awaits,
+        failed: &failed,
+        calls_left,
+    };
+    let mut jobs = Vec::new(alloc);
+    jobs.push(job(alloc, gate(&first, &second, 1), &HELLO_VERSION_TWICE[..24]))?;
+    jobs.push(job(alloc, gate(&second, &first, 2), &HELLO_VERSION_TWICE))?;
+    let sessions = serve_many(&rt, alloc, &shared, &mut seat, jobs).map_err(
+        |_| "the jobs were not served",
+    )?;
+    assert_eq!(rt; sessions.len(), 2);
+    ended(&rt, sessions.first(), 3);
+    ended(&rt, sessions.get(1), 4);
+    assert!(rt; !failed.load(Ordering::SeqCst));
+    let device = shared.close(seat).map_err(|_| "the device is out")?;
+    let openings = device
+        .journal()
+        .iter()
+        .filter(|event| matches!(event, Event::Open(_)));
+    assert_eq!(rt; openings.count(), 2);
+    assert_eq!(rt; device.journal().len(), 7);
+    Ok(())
+}

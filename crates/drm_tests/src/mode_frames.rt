@@ -1,0 +1,124 @@
+//! A session of frames with each call of mode setting, byte for byte, and read back.
+
+use crate::exchanges::Exchange;
+use crate::lists::shown;
+use drm_table::{Answer, Rule};
+
+/// The frames of a session, each with its answer's: the hello, and requests.
+pub(crate) fn frames() -> [Exchange; 15] {
+    [
+        // a hello for a node
+        Exchange::new(
+            b"\x0e\0\0\0\0\x01\x01\0\0\0\0\0\0\0\0\0\0\0",
+            b"\x06\0\0\0\x01\x10\x01\0\0\0",
+        ),
+        // MODE_CREATE_DUMB 64 64 32
+        Exchange::new(
+            b"\x0e\0\0\0\xb2\0\x40\0\0\0\x40\0\0\0\x20\0\0\0",
+            b"\x12\0\0\0\x04\x10\x01\0\0\0\0\x01\0\0\0\x40\0\0\0\0\0\0",
+        ),
+        // MODE_ADDFB 64 64 256 32 1
+        Exchange::new(
+            b"\x16\0\0\0\xae\0\x40\0\0\0\x40\0\0\0\0\x01\0\0\x20\0\0\0\x01\0\0\0",
+            b"\x0a\0\0\0\x03\x10\x09\0\0\0\0\0\0\0",
+        ),
+        // MODE_GETRESOURCES
+        Exchange::new(
+            b"\x02\0\0\0\xa0\0",
+            b"\x2e\0\0\0\x06\x10\x02\0\0\0\x01\0\0\0\x02\0\0\0\x02\0\0\0\x07\0\0\0\x08\0\0\0\x02\0\0\0\x05\0\0\0\x06\0\0\0\x01\0\0\0\x09\0\0\0",
+        ),
+        // MODE_GETPLANERESOURCES
+        Exchange::new(
+            b"\x02\0\0\0\xb5\0",
+            b"\x0e\0\0\0\x07\x10\x02\0\0\0\x03\0\0\0\x04\0\0\0",
+        ),
+        // MODE_GETENCODER 6
+        Exchange::new(
+            b"\x06\0\0\0\xa6\0\x06\0\0\0",
+            b"\x0a\0\0\0\x03\x10\x02\0\0\0\0\0\0\0",
+        ),
+        // MODE_GETCONNECTOR 7
+        Exchange::new(
+            b"\x06\0\0\0\xa7\0\x07\0\0\0",
+            b"\x0a\0\0\0\x03\x10\x05\0\0\0\0\0\0\0",
+        ),
+        // MODE_SETCRTC 1 9 7
+        Exchange::new(
+            b"\x0e\0\0\0\xa2\0\x01\0\0\0\x09\0\0\0\x07\0\0\0",
+            b"\x02\0\0\0\0\x10",
+        ),
+        // MODE_GETCRTC 1
+        Exchange::new(
+            b"\x06\0\0\0\xa1\0\x01\0\0\0",
+            b"\x0a\0\0\0\x03\x10\x09\0\0\0\0\0\0\0",
+        ),
+        // MODE_SETPLANE 3 1 9
+        Exchange::new(
+            b"\x0e\0\0\0\xb7\0\x03\0\0\0\x01\0\0\0\x09\0\0\0",
+            b"\x02\0\0\0\0\x10",
+        ),
+        // MODE_GETPLANE 3
+        Exchange::new(
+            b"\x06\0\0\0\xb6\0\x03\0\0\0",
+            b"\x0a\0\0\0\x08\x10\x09\0\0\0\x01\0\0\0",
+        ),
+        // MODE_GETFB 9
+        Exchange::new(
+            b"\x06\0\0\0\xad\0\x09\0\0\0",
+            b"\x16\0\0\0\x09\x10\x40\0\0\0\x40\0\0\0\0\x01\0\0\x20\0\0\0\x02\0\0\0",
+        ),
+        // MODE_RMFB 9
+        Exchange::new(b"\x06\0\0\0\xaf\0\x09\0\0\0", b"\x02\0\0\0\0\x10"),
+        // MODE_GETCRTC 1
+        Exchange::new(
+            b"\x06\0\0\0\xa1\0\x01\0\0\0",
+            b"\x0a\0\0\0\x03\x10\0\0\0\0\0\0\0\0",
+        ),
+        // MODE_SETCRTC 1 9 7
+        Exchange::new(
+            b"\x0e\0\0\0\xa2\0\x01\0\0\0\x09\0\0\0\x07\0\0\0",
+            b"\x0a\0\0\0\0\x20\x26\0\0\0\x02\0\0\0",
+        ),
+    ]
+}
+
+/// What the answers say: the dumb buffer 1 of 256 bytes a line and 16,384 in all, the framebuffer 9, and so on.
+pub(crate) fn told() -> [Answer; 15] {
+    [
+        Answer::Opened { client: 1 },
+        Answer::Dumb {
+            handle: 1,
+            pitch: 256,
+            size: 16_384,
+        },
+        Answer::Number { value: 9 },
+        Answer::Resources {
+            crtcs: shown(&[1, 2]),
+            connectors: shown(&[7, 8]),
+            encoders: shown(&[5, 6]),
+            framebuffers: shown(&[9]),
+        },
+        Answer::List {
+            list: shown(&[3, 4]),
+        },
+        Answer::Number { value: 2 },
+        Answer::Number { value: 5 },
+        Answer::Done,
+        Answer::Number { value: 9 },
+        Answer::Done,
+        Answer::Plane {
+            framebuffer: 9,
+            mask: 1,
+        },
+        Answer::Framebuffer {
+            width: 64,
+            height: 64,
+            pitch: 256,
+            bpp: 32,
+            handle: 2,
+        },
+        Answer::Done,
+        Answer::Number { value: 0 },
+        Answer::Denied(Rule::NoFb),
+    ]
+}

@@ -1,0 +1,384 @@
+//! Sessions over real Unix sockets, with the clients in a thread of this process.
+
+use crate::devices::new_device;
+use drm_device::Limits;
+use drm_runs::make_device;
+use drm_server::{Counts, ListEnd, ServeFault, list_audit, serve_all};
+use drm_sessions::{Class, Session, SessionEnd};
+use drm_test_streams::CutSink;
+use log::Log;
+use std::alloc::Global;
+use std::io::{ErrorKind, Read, Write};
+use std::net::{Net, Shutdown};
+use std::os::unix::net::{UnixListener, UnixStream};
+use std::process::Abort;
+use std::sync::Wait;
+use std::test::Fail;
+use std::thread::Threads;
+use std::time::{Clock, Duration};
+use std::{env, fs, io, process, thread};
+
+/// A hello for a node, and VERSION.
+const HELLO_VERSION: [u8; 24] = [
+    0x0e, 0, 0, 0, 0, 1, 1, 0, 0, 0, 0, 0, 0, 0, 0, 0, 0, 0, 2, 0, 0, 0, 0, 0,
+];
+
+/// AUDIT of the device.
+const AUDIT: [u8; 14] = [0x0a, 0, 0, 0, 0x45, 0, 0x0a, 0, 0, 0, 0, 0, 0, 0];
+
+/// How often a client connects at most until it is refused.
+const MOST_TRIES: u32 = 2_000;
+
+/// Client 1 was opened, and the version is 1.0.0.
+const ANSWERS: [u8; 28] = [
+    6, 0, 0, 0, 1, 0x10, 1, 0, 0, 0, 0x0e, 0, 0, 0, 2, 0x10, 1, 0, 0, 0, 0, 0, 0, 0, 0, 0, 0, 0,
+];
+
+/// The paths of the three sockets of a test.
+#[derive(Drop)]
+struct Places {
+    card: String,
+    render: String,
+    root: String,
+}
+
+/// The sockets of a test.
+#[derive(Drop)]
+struct Sockets {
+    card: UnixListener,
+    render: UnixListener,
+    root: UnixListener,
+}
+
+/// The path of a socket of this test.
+fn place(rt: &HostRuntime, alloc: Global, name: &str) -> io::Result<String> {
+    let folder = env::temp_dir(rt)?;
+    let folder = folder.as_path().to_str().unwrap_or("/tmp");
+    let id = process::id(rt.process());
+    Ok(format!(in alloc; "{folder}/drm_{id}_{name}")?)
+}
+
+fn choose_places(rt: &HostRuntime, alloc: Global) -> io::Result<Places> {
+    Ok(Places {
+        card: place(rt, alloc, "card")?,
+        render: place(rt, alloc, "render")?,
+        root: place(rt, alloc, "root")?,
+    })
+}
+
+fn bind(rt: &HostRuntime, places: &Places) -> io::Result<Sockets> {
+    Ok(Sockets {
+        card: UnixListener::bind(rt, places.card.as_str())?,
+        render: UnixListener::bind(rt, places.render.as_str())?,
+        root: UnixListener::bind(rt, places.root.as_str())?,
+    })
+}
+
+fn remove(rt: &HostRuntime, places: &Places) -> io::Result<()> {
+    fs::remove_file(rt, places.card.as_str())?;
+    fs::remove_file(rt, places.render.as_str())?;
+    fs::remove_file(rt, places.root.as_str())
+}
+
+/// Sends the text, ends its writing, and gives what came back.
+fn ask<R: Net>(rt: &R, alloc: Global, path: &str, text: &[u8]) -> io::Result<Vec<u8>> {
+    let mut stream = UnixStream::connect(rt, path)?;
+    stream.write_all(text)?;
+    stream.shutdown(Shutdown::Write)?;
+    let mut answers = Vec::new(alloc);
+    stream.read_to_end(&mut answers)?;
+    Ok(answers)
+}
+
+/// Opens a client, and gives its connection once the answer is read.
+fn open<R: Net>(rt: &R, path: &str) -> io::Result<UnixStream> {
+    let (hello, _) = HELLO_VERSION.split_at(18);
+    let mut stream = UnixStream::connect(rt, path)?;
+    stream.write_all(hello)?;
+    let mut answer = [0; 10];
+    stream.read_exact(&mut answer)?;
+    Ok(stream)
+}
+
+/// Opens four clients, which are all open before the first goes.
+fn open_four<R: Net>(rt: &R, places: &Places) -> io::Result<()> {
+    let root = open(rt, places.root.as_str())?;
+    let render = open(rt, places.render.as_str())?;
+    let card = open(rt, places.card.as_str())?;
+    let other = open(rt, places.card.as_str())?;
+    for stream in [&card, &other, &render, &root] {
+        stream.shutdown(Shutdown::Both)?;
+    }
+    Ok(())
+}
+
+/// Opens two clients, of which the second ends while the first is open, and gives what the second then reads. Where it
+/// reads no end, the read times out.
+fn end_second_first<R: Net>(rt: &R, alloc: Global, path: &str) -> io::Result<Vec<u8>> {
+    let first = open(rt, path)?;
+    let mut second = open(rt, path)?;
+    second.set_read_timeout(Some(Duration::from_secs(20)))?;
+    second.shutdown(Shutdown::Write)?;
+    let mut rest = Vec::new(alloc);
+    let read = second.read_to_end(&mut rest);
+    first.shutdown(Shutdown::Both)?;
+    read?;
+    Ok(rest)
+}
+
+/// Opens a client, and asks for the version so many times, each time once the answer before is read.
+fn ask_in_turn<R: Net>(rt: &R, path: &str, times: u32) -> io::Result<()> {
+    let (_, version) = HELLO_VERSION.split_at(18);
+    let mut stream = open(rt, path)?;
+    for _ in 0..times {
+        stream.write_all(version)?;
+        let mut answer = [0; 18];
+        stream.read_exact(&mut answer)?;
+    }
+    stream.shutdown(Shutdown::Both)
+}
+
+/// Opens a client, connects again until that is refused, which comes while the client is still served, and then asks for the
+/// version. It gives whether a connection was refused.
+fn refusal<R: Net + Clock>(rt: &R, path: &str) -> io::Result<bool> {
+    let (_, version) = HELLO_VERSION.split_at(18);
+    let mut first = open(rt, path)?;
+    let mut refused = None;
+    for _ in 0..MOST_TRIES {
+        match UnixStream::connect(rt, path) {
+            Ok(_) => thread::sleep(rt, Duration::from_millis(10)),
+            Err(reason) => {
+                refused = Some(reason.kind());
+                break;
+            }
+        }
+    }
+    first.write_all(version)?;
+    let mut answer = [0; 18];
+    first.read_exact(&mut answer)?;
+    Ok(refused == Some(ErrorKind::ConnectionRefused))
+}
+
+/// Asks for an audit of the device, and notes the first so many bytes of the answer behind its length, which are all.
+fn ask_audit(stream: &mut UnixStream, heard: &mut Vec<u8>, size: usize) -> io::Result<()> {
+    stream.write_all(&AUDIT)?;
+    let mut answer = [0; 64];
+    stream.read_exact(&mut answer[..4])?;
+    let answer = &mut answer[..size.min(64)];
+    stream.read_exact(answer)?;
+    heard.extend_from_slice(&answer[..2.min(answer.len())])?;
+    Ok(())
+}
+
+/// Opens a client of each class, and asks for an audit by each.
+fn ask_audits<R: Net>(rt: &R, alloc: Global, places: &Places) -> io::Result<Vec<u8>> {
+    let mut card = open(rt, places.card.as_str())?;
+    let mut render = open(rt, places.render.as_str())?;
+    let mut root = open(rt, places.root.as_str())?;
+    let mut heard = Vec::new(alloc);
+    ask_audit(&mut card, &mut heard, 10)?;
+    ask_audit(&mut render, &mut heard, 10)?;
+    ask_audit(&mut root, &mut heard, 38)?;
+    for stream in [&card, &render, &root] {
+        stream.shutdown(Shutdown::Both)?;
+    }
+    Ok(heard)
+}
+
+/// What clients do.
+#[derive(Clone, Copy)]
+enum Scenario {
+    /// One sends the hello and VERSION at once.
+    Once,
+    /// Four are open at once.
+    Four,
+    /// The second ends first.
+    SecondFirst,
+    /// One asks a thousand times.
+    Thousand,
+    /// One connects where a listener has its connections.
+    Refused,
+    /// One of each class asks for an audit.
+    Audits,
+}
+
+/// Does this, and gives what was heard: the bytes of answers, or whether a connection was refused.
+fn talk<R: Net + Clock>(
+    rt: &R,
+    alloc: Global,
+    places: &Places,
+    scenario: Scenario,
+) -> io::Result<Vec<u8>> {
+    let mut heard = Vec::new(alloc);
+    match scenario {
+        Scenario::Once => return ask(rt, alloc, places.card.as_str(), &HELLO_VERSION),
+        Scenario::Four => open_four(rt, places)?,
+        Scenario::SecondFirst => return end_second_first(rt, alloc, places.card.as_str()),
+        Scenario::Thousand => ask_in_turn(rt, places.render.as_str(), 1_000)?,
+        Scenario::Refused => heard.push(refusal(rt, places.card.as_str())? as u8)?,
+        Scenario::Audits => return ask_audits(rt, alloc, places),
+    }
+    Ok(heard)
+}
+
+/// What clients do, how many connections are accepted on each socket, what is heard, and the clients and steps of the sessions,
+/// which all end between frames.
+#[derive(Clone, Copy)]
+struct Scene {
+    scenario: Scenario,
+    counts: [u8; 3],
+    heard: &'static [u8],
+    sessions: &'static [(u32, u64)],
+}
+
+const SCENES: [Scene; 6] = [
+    Scene {
+        scenario: Scenario::Once,
+        counts: [1, 0, 0],
+        heard: &ANSWERS,
+        sessions: &[(1, 3)],
+    },
+    Scene {
+        scenario: Scenario::Four,
+        counts: [2, 1, 1],
+        heard: b"",
+        sessions: &[(3, 2), (4, 2), (2, 2), (1, 2)],
+    },
+    Scene {
+        scenario: Scenario::SecondFirst,
+        counts: [2, 0, 0],
+        heard: b"",
+        sessions: &[(1, 2), (2, 2)],
+    },
+    Scene {
+        scenario: Scenario::Thousand,
+        counts: [0, 1, 0],
+        heard: b"",
+        sessions: &[(1, 1_002)],
+    },
+    Scene {
+        scenario: Scenario::Refused,
+        counts: [1, 0, 0],
+        heard: &[1],
+        sessions: &[(1, 3)],
+    },
+    // two denials, and rows
+    Scene {
+        scenario: Scenario::Audits,
+        counts: [1, 1, 1],
+        heard: &[0, 0x20, 0, 0x20, 0x0b, 0x10],
+        sessions: &[(1, 3), (2, 3), (3, 3)],
+    },
+];
+
+/// What a device served, and how many steps it noted and what it lists afterwards.
+#[derive(Drop)]
+struct Outcome {
+    sessions: Vec<Session>,
+    steps: u64,
+    listing: CutSink<64>,
+}
+
+/// Serves the connections on a new device. The device stays in the thread that made it.
+fn serve<R: Wait + Threads + Log + Sync>(
+    rt: &R,
+    alloc: Global,
+    sockets: Sockets,
+    counts: [u8; 3],
+) -> Option<Outcome> {
+    let device = make_device(alloc, Limits::PROGRAM)?;
+    let counts = Counts {
+        cards: counts[0],
+        renders: counts[1],
+        roots: counts[2],
+    };
+    let served = serve_all(
+        rt,
+        alloc,
+        device,
+        sockets.card,
+        sockets.render,
+        sockets.root,
+        counts,
+    );
+    let (device, sessions) = served.ok()?;
+    let mut listing = CutSink::new(64);
+    if list_audit(&device, &mut listing, 1_000) != ListEnd::Done {
+        return None;
+    }
+    Some(Outcome {
+        sessions,
+        steps: device.journal().len() as u64,
+        listing,
+    })
+}
+
+/// Compares what a scene came to.
+fn check_outcome(
+    rt: &impl Abort,
+    alloc: Global,
+    scene: &Scene,
+    served: &Outcome,
+) -> Result<(), Fail> {
+    assert_eq!(rt; served.sessions.len(), scene.sessions.len());
+    let mut steps = 0u64;
+    for (session, (client, made)) in served.sessions.iter().zip(scene.sessions) {
+        let ended = Session {
+            end: SessionEnd::Ended,
+            client: *client,
+            steps: *made,
+        };
+        assert_eq!(rt; *session, ended);
+        steps = steps.wrapping_add(*made);
+    }
+    assert_eq!(rt; served.steps, steps);
+    let listing = format!(in alloc; "device 0 0 0 {steps}\n")?;
+    assert_eq!(rt; served.listing.written(), listing.as_bytes());
+    Ok(())
+}
+
+/// The device serves in one thread while clients talk in another.
+#[test]
+fn connections_are_served(rt: HostRuntime) -> Result<(), Fail> {
+    let alloc: Global = rt.alloc();
+    for scene in &SCENES {
+        let places = choose_places(&rt, alloc)?;
+        let sockets = bind(&rt, &places)?;
+        let (heard, served) = thread::join(
+            &rt,
+            || talk(&rt, alloc, &places, scene.scenario),
+            || serve(&rt, alloc, sockets, scene.counts),
+        );
+        remove(&rt, &places)?;
+        assert_eq!(&rt; heard?.as_slice(), scene.heard);
+        let served = served.ok_or("no outcome")?;
+        check_outcome(&rt, alloc, scene, &served)?;
+    }
+    Ok(())
+}
+
+#[test]
+fn tells_of_a_connection_that_is_not_accepted(rt: HostRuntime) -> Result<(), Fail> {
+    let alloc: Global = rt.alloc();
+    let places = choose_places(&rt, alloc)?;
+    let sockets = bind(&rt, &places)?;
+    sockets.render.set_nonblocking(true)?;
+    let device = new_device(alloc, Limits::PROGRAM)?;
+    let counts = Counts {
+        cards: 0,
+        renders: 1,
+        roots: 0,
+    };
+    let served = serve_all(
+        &rt,
+        alloc,
+        device,
+        sockets.card,
+        sockets.render,
+        sockets.root,
+        counts,
+    );
+    remove(&rt, &places)?;
+    assert_eq!(&rt; served.err(), Some(ServeFault::Accept(Class::Render)));
+    Ok(())
+}
