@@ -1,22 +1,20 @@
 -- What CREATE_LEASE asks of a caller, and the numbers of a new lessee, by rows and by what the device keeps.
-use Rattle.std.proofs.Common.{◌≡◌, ℕ, ◌+◌, ◌==◌, Bool, true, false, not, ◌&&◌, ◌||◌, List, [], ◌∷◌, find, Option, None, Some, refl, sym, ap, ◌∙◌}
-use Rattle.std.specs.Prelude.{unwrap_or}
+use Rattle.std.proofs.Common.{◌≡◌, ℕ, ◌+◌, ◌==◌, true, false, not, ◌&&◌, ◌||◌, List, [], ◌∷◌, find, Option, None, Some, refl, sym, ap, ◌∙◌}
+use Rattle.std.specs.Prelude.{nat_lt, unwrap_or}
 use Rattle.std.specs.Cmp.{both_ways}
 use Rattle.std.specs.List.{list_any, list_all, AllByRecursion}
 use Rattle.std.specs.Option.{is_some, option_map, option_map_or, option_and_then, option_or}
 use Rattle.std.proofs.lemmas.Bool.{eqb-true}
 use Rattle.drm_index_array.specs.Least.{least}
-use Rattle.drm_lists.specs.Chains.{top_of}
-use Rattle.drm_lists.proofs.Chains.{top_none}
+use Rattle.drm_lists.specs.Chains.{top_of, depth_of}
 use Rattle.drm_lists.proofs.Lists.{all_each, all_both, list_any-map, list_any_gives, some_passing}
 use Rattle.drm_lists.proofs.Orders.{same-any}
 use Rattle.drm_lists.proofs.Rising.{found, any_found, all_found}
 use Rattle.drm_files.specs.Files.{is_present}
 use Rattle.drm_table.specs.declared.calls.Call.TheVariants.{CreateLease}
 use Rattle.drm_table.specs.declared.events.Event.TheVariants.{Ask}
-use Rattle.drm_table.specs.declared.rules.Rule.{Rule}
 use Rattle.drm_table.specs.declared.rules.Rule.TheVariants.{SubLease, NoModeObject, NotLeasable, Repeated, LeaseShape, LeasedOut, Full}
-use Rattle.drm_table.specs.Permit.{Check, check, first_failing}
+use Rattle.drm_table.specs.Permit.{check, first_failing}
 use Rattle.drm_modes.specs.Topology.{is_encoder, kind_of}
 use Rattle.drm_modes.specs.Modes.{has_framebuffer}
 use Rattle.drm_masters.specs.declared.rows.Master.{Master}
@@ -30,7 +28,7 @@ use Rattle.drm_leases.specs.Leases.{is_token, is_token_of, token_of}
 use Rattle.drm_leases.specs.Rules as rules
 use Rattle.drm_leases.specs.Rules.{lease_checks}
 use Rattle.drm_model.specs.Rows.{Rows, MasterRow, GrantRow}
-use Rattle.drm_model.specs.Masters.{lessor_of, is_lessee, owner_of}
+use Rattle.drm_model.specs.Masters.{lessor_of, owner_of}
 use Rattle.drm_model.specs.Magics.{own_master}
 use Rattle.drm_model.specs.Leases as model
 use Rattle.drm_model.specs.Calls.{meaning}
@@ -45,7 +43,6 @@ use Rattle.drm_state.proofs.Framing.{framebuffer_is}
 use Rattle.drm_state.proofs.Outcomes.{call_verdict}
 use Rattle.drm_state.proofs.Seeing.{topology_is, seen_is}
 use Rattle.drm_state.proofs.SharedLookups.{or_else_is}
-use Rattle.drm_state.proofs.Callers.{each_holds}
 
 -- ---- open tokens
 
@@ -74,15 +71,6 @@ token_open tokens ms of found_all t = both_ways (list_any (λ (x : Master). is_o
         (all_both (λ (row : LeaseToken). masters.is_lessee ms row.master ≡ true) (λ (row : LeaseToken). find (is_token_of row.master) tokens ≡ Some row) (λ (row : LeaseToken). (masters.is_lessee ms row.master ≡ true) × (find (is_token_of row.master) tokens ≡ Some row)) (λ row a b. (a, b)) tokens of found_all) e in
         by_master it.0 it.2.1 it.1 (find (is_birth it.0.master) ms) refl it.2.0
 
--- checks that agree where the first holds
-by_first : (rule : Rule) (b : Bool) (xs ys : List Check) → (b ≡ true → xs ≡ ys) → first_failing (check rule b ∷ xs) ≡ first_failing (check rule b ∷ ys)
-by_first rule true xs ys h = ap first_failing (h refl)
-by_first rule false xs ys h = refl
-
-top_is : (o : Option ℕ) → not (is_some o) ≡ true → o ≡ None
-top_is None h = refl
-top_is (Some n) h = absurd (let e : false ≡ true = h in cc)
-
 module _ (s : State) (w : Rows) (t : IsTied s) (h : Represents s w) where
   abbrev ms : List Master
   ms = s.masters.masters
@@ -108,19 +96,23 @@ module _ (s : State) (w : Rows) (t : IsTied s) (h : Represents s w) where
       ∙ list_any-map (model.is_lessee_of (masters_of s) owner id) (master_row_of s.leases.tokens) ms
       ∙ (λ i. list_any (λ (x : Master). is_some x.lessor && (x.lessee_id == id) && (top_of (above_is s.leases.tokens ms i) x.birth == owner)) ms)
 
-  -- of a master without a lessor
-  owner_is : (m : ℕ) → masters.lessor_of ms m ≡ None → owner_of w.masters m ≡ m
-  owner_is m top = (λ i. owner_of (masters_are s w h i) m) ∙ (λ i. top_of (above_is s.leases.tokens ms i) m) ∙ sym (top_none (masters.lessor_of ms) m top)
+  owner_is : (m : ℕ) → owner_of w.masters m ≡ masters.owner_of ms m
+  owner_is m = (λ i. owner_of (masters_are s w h i) m) ∙ (λ i. top_of (above_is s.leases.tokens ms i) m)
 
-  pub free_lessee_is : (m : ℕ) → masters.lessor_of ms m ≡ None → model.free_lessee w m ≡ masters.free_lessee s.masters m
-  free_lessee_is m top =
-      (λ i. least (λ id. not (list_any (model.is_lessee_of w.masters (owner_is m top i) id) w.masters)) 1 (sym (bounds_are s w h).8 i))
-      ∙ (λ i. least (λ id. not (lessee_of_is m id i)) 1 s.masters.last_lessee)
+  pub free_lessee_is : (m : ℕ) → model.free_lessee w m ≡ masters.free_lessee s.masters m
+  free_lessee_is m =
+      (λ i. least (λ id. not (list_any (model.is_lessee_of w.masters (owner_is m i) id) w.masters)) 1 (sym (bounds_are s w h).8 i))
+      ∙ (λ i. least (λ id. not (lessee_of_is (masters.owner_of ms m) id i)) 1 s.masters.last_lessee)
+
+  -- ---- how deep a master is
+
+  may_lease_is : (m : ℕ) → model.may_lease w.masters m ≡ rules.may_lease ms m
+  may_lease_is m = (λ i. model.may_lease (masters_are s w h i) m) ∙ (λ i. nat_lt (depth_of (above_is s.leases.tokens ms i) m) rules.last_depth)
 
   -- ---- the ids
 
   module _ (c : ℕ) (x : Member) (present : is_present s.files c ≡ true) (look : member_of s.masters.members c ≡ Some x) where
-    seen_here : (k : ℕ) → model.is_seen w c k ≡ rules.is_seen s.leases s.masters s.modes x.master k
+    seen_here : (k : ℕ) → model.is_seen w c k ≡ rules.is_seen s.leases.grants ms s.modes x.master k
     seen_here k =
         (λ i. (is_some (kind_of (topology_is s w h i) k) && seen_is s w c present h k i) || framebuffer_is s w t h k i)
         ∙ ap (λ o. (is_some (kind_of s.modes.topology k) && (is_encoder s.modes.topology k || option_map_or (λ (y : Member). leases.controls s.leases.grants ms y.master k) o false)) || has_framebuffer s.modes k) look
@@ -135,42 +127,19 @@ module _ (s : State) (w : Rows) (t : IsTied s) (h : Represents s w) where
         ∙ list_any-map (λ (row : GrantRow). (row.mode_object == k) && is_option m (lessor_of (masters_of s) row.master)) grant_row_of s.leases.grants
         ∙ (λ i. list_any (λ (g : Grant). (g.mode_object == k) && is_option m (above_is s.leases.tokens ms i g.master)) s.leases.grants)
 
-    -- what is asked first is asked of the master, and what is asked then agrees where it has no lessor
-    pub create_verdict : (ids : List ℕ) → is_lessee w c ≡ masters.is_lessee ms x.master → own_master w c ≡ x.master → first_failing (admission_checks w c (CreateLease ids)) ≡ None →
+    -- what is asked of the caller and of the ids
+    pub create_verdict : (ids : List ℕ) → own_master w c ≡ x.master → first_failing (admission_checks w c (CreateLease ids)) ≡ None →
         verdict w (Ask c (CreateLease ids)) ≡ first_failing (lease_checks s.leases s.masters s.modes x.master ids)
     unfolding meaning lease_checks
-    create_verdict ids lessee own admitted =
+    create_verdict ids own admitted =
         call_verdict w c (CreateLease ids) admitted
         ∙ (λ i. first_failing (model.create_lease_of w c (own i) ids).checks)
-        ∙ (λ i. first_failing (check SubLease (not (lessee i)) ∷ asked))
-        ∙ by_first SubLease (not (masters.is_lessee ms x.master)) asked
-        (check NoModeObject (list_all (rules.is_seen s.leases s.masters s.modes x.master) ids)
-        ∷ check NotLeasable (list_all (rules.is_leasable s.modes) ids)
-        ∷ check Repeated (list_all (rules.stands_once ids) ids)
-        ∷ check LeaseShape (rules.is_lease s.modes.topology ids)
-        ∷ check LeasedOut (not (list_any (leases.is_leased_out s.leases.grants ms x.master) ids))
-        ∷ check Full (is_some (masters.free_lessee s.masters x.master) && is_some (leases.next_token s.leases))
-        ∷ [])
-        (λ top i.
-        check NoModeObject (list_all (λ k. seen_here k i) ids)
+        ∙ (λ i. first_failing (
+        check SubLease (may_lease_is x.master i)
+        ∷ check NoModeObject (list_all (λ k. seen_here k i) ids)
         ∷ check NotLeasable (list_all (λ k. leasable_is k i) ids)
         ∷ check Repeated (list_all (rules.stands_once ids) ids)
         ∷ check LeaseShape (rules.is_lease (topology_is s w h i) ids)
         ∷ check LeasedOut (not (list_any (λ k. leased_out_is x.master k i) ids))
-        ∷ check Full (is_some (free_lessee_is x.master (top_is (masters.lessor_of ms x.master) top) i) && is_some (next_is i))
-        ∷ [])
-      where
-        asked : List Check
-        asked =
-            check NoModeObject (list_all (model.is_seen w c) ids)
-            ∷ check NotLeasable (list_all (model.is_leasable w) ids)
-            ∷ check Repeated (list_all (model.stands_once ids) ids)
-            ∷ check LeaseShape (model.is_lease w.topology ids)
-            ∷ check LeasedOut (not (list_any (model.is_leased_out w x.master) ids))
-            ∷ check Full (is_some (model.free_lessee w x.master) && is_some (model.next_lease_token w))
-            ∷ []
-
-    -- whom nothing denies a lease has no lessor
-    pub has_no_lessor : (ids : List ℕ) → first_failing (lease_checks s.leases s.masters s.modes x.master ids) ≡ None → masters.lessor_of ms x.master ≡ None
-    unfolding lease_checks
-    has_no_lessor ids none = top_is (masters.lessor_of ms x.master) (each_holds (lease_checks s.leases s.masters s.modes x.master ids) none).0
+        ∷ check Full (is_some (free_lessee_is x.master i) && is_some (next_is i))
+        ∷ []))

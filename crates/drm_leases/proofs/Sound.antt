@@ -1,5 +1,5 @@
 -- What is so of the leases at all times is so after each change.
-use Rattle.std.proofs.Common.{◌≡◌, ℕ, zero, suc, ◌+◌, ◌<◌, ◌≤◌, ◌==◌, inl, inr, Bool, true, false, cond, not, ◌||◌, List, [], ◌∷◌, ◌++◌, map, filter, find, length, Option, None, Some, refl, sym, ap, subst, ◌∙◌, arith, eq-eqb}
+use Rattle.std.proofs.Common.{◌≡◌, ℕ, ◌+◌, ◌<◌, ◌≤◌, ◌==◌, inl, inr, Bool, true, false, cond, not, ◌||◌, List, [], ◌∷◌, ◌++◌, map, filter, length, Option, None, Some, refl, sym, ap, subst, ◌∙◌, arith, eq-eqb}
 use Rattle.std.specs.Prelude.{unwrap_or}
 use Rattle.std.specs.List.{list_any, AllByRecursion}
 use Rattle.std.proofs.lemmas.List.{length-map}
@@ -8,18 +8,15 @@ use Rattle.drm_index_array.specs.Least.{least}
 use Rattle.drm_index_array.proofs.Least.{least_some}
 use Rattle.drm_id_alloc.specs.Table.{or_else}
 use Rattle.drm_lists.specs.Orders.{InOrder}
-use Rattle.drm_lists.specs.Numbers.{is_among}
 use Rattle.drm_lists.proofs.Lists.{all_weaker, all_each, all_append, all_filter, all_mapped, filter-shorter, length-filter_append}
 use Rattle.drm_lists.proofs.Numbers.{less-differ}
 use Rattle.drm_lists.proofs.Orders.{in_order_filter, in_order_append, in_order_map, in_order_weaker}
-use Rattle.drm_modes.specs.Numbers.{numbers_from}
-use Rattle.drm_modes.specs.Topology.{Topology, object_count}
 use Rattle.drm_leases.specs.declared.rows.Grant.{Grant}
 use Rattle.drm_leases.specs.declared.rows.LeaseToken.{LeaseToken}
 use Rattle.drm_leases.specs.declared.leases.Leases.TheInside.{Inside}
 use Rattle.drm_leases.specs.Fields.{set_of, IsSound}
 use Rattle.drm_leases.specs.Leases.{LeaseSet, AreLeases, is_token, is_free, is_grant_of, grant_before, next_token}
-use Rattle.drm_leases.specs.Calls.{IsNewLessee, grant, lease_token, with_lease, listed_objects}
+use Rattle.drm_leases.specs.Calls.{IsNewLessee, grant, lease_token, with_lease}
 
 -- the fields stand for a set of which all of it is so
 pub sound : (a : Inside) (l : LeaseSet) → set_of a ≡ l → AreLeases l → IsSound a

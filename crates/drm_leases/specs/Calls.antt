@@ -1,5 +1,5 @@
 -- What each call does.
-use Rattle.std.specs.Prelude.{◌≡◌, ℕ, ◌<◌, Bool, not, List, [], ◌∷◌, ◌++◌, Option, None, Some, Result, Ok, Err, map, filter}
+use Rattle.std.specs.Prelude.{◌≡◌, ℕ, ◌<◌, not, List, [], ◌∷◌, ◌++◌, None, Some, Result, Ok, Err, map, filter}
 use Rattle.std.specs.List.{AllByRecursion}
 use Rattle.drm_lists.specs.Chains.{is_under}
 use Rattle.drm_lists.specs.Numbers.{is_among}

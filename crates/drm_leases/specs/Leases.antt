@@ -1,13 +1,11 @@
 -- What lessees control, and open lease tokens (drm-uapi, leases; lease tokens are own), as flat lists.
-use Rattle.std.specs.Prelude.{◌≡◌, ℕ, ◌+◌, ◌==◌, ◌<◌, ◌≤◌, ◌⊎◌, Bool, false, not, ◌&&◌, ◌||◌, List, [], length, Option, None, Some, unwrap_or, find, map, filter, IfSome}
+use Rattle.std.specs.Prelude.{◌≡◌, ℕ, ◌+◌, ◌==◌, ◌<◌, ◌≤◌, ◌⊎◌, Bool, false, not, ◌&&◌, ◌||◌, List, [], length, Option, None, unwrap_or, find, map, filter, IfSome}
 use Rattle.std.specs.List.{list_any, AllByRecursion}
-use Rattle.std.specs.Option.{is_some, option_map, option_map_or}
+use Rattle.std.specs.Option.{option_map, option_map_or}
 use Rattle.drm_index_array.specs.Least.{least}
 use Rattle.drm_id_alloc.specs.Table.{or_else}
 use Rattle.drm_lists.specs.Orders.{InOrder}
-use Rattle.drm_lists.specs.Numbers.{is_among}
 use Rattle.drm_modes.specs.Numbers.{numbers_from}
-use Rattle.drm_modes.specs.Topology.{Topology, is_encoder, object_count}
 use Rattle.drm_masters.specs.declared.rows.Master.{Master}
 use Rattle.drm_masters.specs.Masters.{is_option, master_at, lessor_of, is_lessee}
 use Rattle.drm_leases.specs.declared.rows.Grant.{Grant}

@@ -11,10 +11,9 @@ ghost use Rattle.drm_table.specs.Permit.{first_failing};
 
 use crate::faults::LeaseFault;
 use crate::rows::{Grant, LeaseToken, Leased};
-use crate::rules::{are_leasable, are_mode_objects, is_lease, stand_once};
+use crate::rules::{are_leasable, are_seen, is_lease, may_lease, stand_once};
 use crate::searches::{
-    any_leased_out, find_token, find_token_of, has_lease, is_granted, is_leased_out, lessor_of,
-    next_token,
+    any_leased_out, find_token, find_token_of, has_lease, is_granted, is_leased_out, next_token,
 };
 use crate::writes::{
     listed_objects, push_grants, remove_grants_under, remove_token, remove_tokens_under,
@@ -211,10 +210,10 @@ impl Leases {
     fn denied(&self, masters: &Masters, modes: &Modes, master: u32, ids: &[u32]) -> Option<Rule>
         ensures { result ≡ first_failing (rules.lease_checks self.now masters.now modes.now master ids.now) }
     {
-        if lessor_of(masters, master).is_some() {
+        if !may_lease(masters, master) {
             return Some(Rule::SubLease);
         }
-        if !are_mode_objects(modes, ids) {
+        if !are_seen(&self.grants, masters, modes, master, ids) {
             return Some(Rule::NoModeObject);
         }
         if !are_leasable(modes, ids) {

@@ -6,24 +6,45 @@ ghost use Rattle.drm_lists.specs.Numbers as numbers;
 ghost use Rattle.drm_modes.specs.Topology as topology;
 ghost use Rattle.drm_leases.specs.Rules as rules;
 
+use crate::rows::Grant;
+use crate::searches::controls;
+use drm_masters::Masters;
 use drm_modes::{Kind, Modes};
 
-/// Whether each id is that of a mode object, as a master without a lessor sees them all.
-pub fn are_mode_objects(modes: &Modes, ids: &[u32]) -> bool
-    ensures { result ≡ list_all (rules.is_mode_object modes.now) ids.now }
+/// A lessee of this depth makes no lease (own).
+const LAST_DEPTH: u32 = 8;
+
+/// Whether a master may lease: an owner, or a lessee that isn't at the last depth (own).
+pub fn may_lease(masters: &Masters, master: u32) -> bool
+    ensures { result ≡ rules.may_lease masters.now.masters master }
+{
+    masters.depth(master) < LAST_DEPTH
+}
+
+/// Whether each id is that of a fixed mode object that the clients of a master see, or of a framebuffer, whosever it is.
+pub fn are_seen(
+    grants: &[Grant],
+    masters: &Masters,
+    modes: &Modes,
+    master: u32,
+    ids: &[u32],
+) -> bool
+    ensures { result ≡ list_all (rules.is_seen grants.now masters.now.masters modes.now master) ids.now }
 {
     for id in ids {
-        if !is_mode_object(modes, *id) {
+        if !is_seen(grants, masters, modes, master, *id) {
             return false;
         }
     }
     true
 }
 
-fn is_mode_object(modes: &Modes, id: u32) -> bool
-    ensures { result ≡ rules.is_mode_object modes.now id }
+fn is_seen(grants: &[Grant], masters: &Masters, modes: &Modes, master: u32, id: u32) -> bool
+    ensures { result ≡ rules.is_seen grants.now masters.now.masters modes.now master id }
 {
-    modes.kind(id).is_some() || modes.fb(id).is_some()
+    (modes.kind(id).is_some()
+        && (modes.is_of_kind(Kind::Encoder, id) || controls(grants, masters, master, id)))
+        || modes.fb(id).is_some()
 }
 
 /// Whether each may be leased: an encoder and a framebuffer may not.

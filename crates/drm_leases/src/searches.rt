@@ -69,6 +69,13 @@ pub fn is_granted(grants: &[Grant], master: u32, mode_object: u32) -> bool
     false
 }
 
+/// Whether a master controls a mode object: one without a lessor all, a lessee what its lease has.
+pub fn controls(grants: &[Grant], masters: &Masters, master: u32, mode_object: u32) -> bool
+    ensures { result ≡ sets.controls grants.now masters.now.masters master mode_object }
+{
+    lessor_of(masters, master).is_none() || is_granted(grants, master, mode_object)
+}
+
 /// Whether one of the mode objects is in the lease of a direct lessee of the master.
 pub fn any_leased_out(grants: &[Grant], masters: &Masters, master: u32, ids: &[u32]) -> bool
     ensures { result ≡ list_any (sets.is_leased_out grants.now masters.now.masters master) ids.now }

@@ -1,8 +1,8 @@
 -- What stands in a chain.
-use Rattle.std.proofs.Common.{◌≡◌, ℕ, zero, suc, ◌<◌, ◌≤◌, ◌==◌, Bool, true, false, ◌||◌, ◌⊎◌, inl, inr, List, [], ◌∷◌, Option, None, Some, refl, sym, ap, ◌∙◌, arith, eq-eqb}
+use Rattle.std.proofs.Common.{◌≡◌, ℕ, zero, suc, ◌<◌, ◌≤◌, ◌==◌, Bool, true, false, ◌||◌, ◌⊎◌, inl, inr, List, [], ◌∷◌, ◌+◌, length, drop, Option, None, Some, refl, sym, ap, ◌∙◌, arith}
 use Rattle.std.proofs.lemmas.Bool.{eqb-true}
 use Rattle.drm_lists.specs.Numbers.{is_among}
-use Rattle.drm_lists.specs.Chains.{chain_within, chain_of, last_of, top_of, is_under}
+use Rattle.drm_lists.specs.Chains.{chain_within, last_of, top_of, is_under, depth_of}
 use Rattle.drm_lists.proofs.Numbers.{among-first, among-more}
 
 -- what stands above a number is less
@@ -125,3 +125,58 @@ under_some above falls top zero m e = let lt = falls 0 m e in absurd (omega (ari
 under_some above falls top (suc n) m e =
     let lt = falls (suc n) m e in
     ap (λ o. (suc n == top) || is_among (rest n above o) top) e ∙ ap (λ l. (suc n == top) || is_among l top) (enough above falls n m m (omega (arith, lt)) (omega arith))
+
+-- nothing stands above what has nothing above
+pub depth_none : (above : ℕ → Option ℕ) (n : ℕ) → above n ≡ None → depth_of above n ≡ 0
+unfolding chain_within
+depth_none above zero e = refl
+depth_none above (suc n) e = ap (λ o. length (rest n above o)) e
+
+all_of_chain : (above : ℕ → Option ℕ) (s n : ℕ) → length (chain_within s above n) ≡ length (drop 1 (chain_within s above n)) + 1
+unfolding chain_within
+all_of_chain above zero n = refl
+all_of_chain above (suc s) n = let l = length (rest s above (above n)) in omega arith
+
+-- one more stands above anything else than above what is above it
+pub depth_some : (above : ℕ → Option ℕ) → IsFalling above → (n m : ℕ) → above n ≡ Some m → depth_of above n ≡ depth_of above m + 1
+unfolding chain_within
+depth_some above falls zero m e = let lt = falls 0 m e in absurd (omega (arith, lt))
+depth_some above falls (suc n) m e =
+    let lt = falls (suc n) m e in
+    ap (λ o. length (rest n above o)) e ∙ ap length (enough above falls n m m (omega (arith, lt)) (omega arith)) ∙ all_of_chain above m m
+
+few_in_chain : (above : ℕ → Option ℕ) (s n : ℕ) → length (chain_within s above n) ≤ s + 1
+unfolding chain_within
+few_in_chain above zero n = omega arith
+few_in_chain above (suc s) n = of_rest (λ m. few_in_chain above s m) (above n)
+  where
+    of_rest : ((m : ℕ) → length (chain_within s above m) ≤ s + 1) → (o : Option ℕ) → length (n ∷ rest s above o) ≤ suc s + 1
+    of_rest few None = omega arith
+    of_rest few (Some m) = let fewer = few m in omega (arith, fewer)
+
+-- no more stand above a number than it comes to
+pub depth_low : (above : ℕ → Option ℕ) (n : ℕ) → depth_of above n ≤ n
+depth_low above n =
+    let all = all_of_chain above n n in
+    let few = few_in_chain above n n in
+    omega (arith, all, few)
+
+shorter : (above other : ℕ → Option ℕ) → ((n m : ℕ) → other n ≡ Some m → above n ≡ Some m) → (s n : ℕ) → length (chain_within s other n) ≤ length (chain_within s above n)
+unfolding chain_within
+shorter above other f zero n = omega arith
+shorter above other f (suc s) n = of_rest (λ m. shorter above other f s m) (other n) refl
+  where
+    of_rest : ((m : ℕ) → length (chain_within s other m) ≤ length (chain_within s above m)) → (o : Option ℕ) → other n ≡ o → length (n ∷ rest s other o) ≤ length (n ∷ rest s above (above n))
+    of_rest from None e = let l = length (rest s above (above n)) in omega arith
+    of_rest from (Some m) e =
+        let fewer = from m in
+        let same : length (rest s above (above n)) ≡ length (chain_within s above m) = ap (λ o. length (rest s above o)) (f n m e) in
+        omega (arith, fewer, same)
+
+-- no more stand above a number where nothing new does
+pub depth_fewer : (above other : ℕ → Option ℕ) → ((n m : ℕ) → other n ≡ Some m → above n ≡ Some m) → (n : ℕ) → depth_of other n ≤ depth_of above n
+depth_fewer above other f n =
+    let fewer = shorter above other f n n in
+    let some = all_of_chain other n n in
+    let all = all_of_chain above n n in
+    omega (arith, fewer, some, all)

@@ -1,5 +1,5 @@
 -- Chains of numbers, where each may have one above it.
-use Rattle.std.specs.Prelude.{ℕ, zero, suc, Bool, List, [], ◌∷◌, Option, None, Some}
+use Rattle.std.specs.Prelude.{ℕ, zero, suc, Bool, List, [], ◌∷◌, length, drop, Option, None, Some}
 use Rattle.drm_lists.specs.Numbers.{is_among}
 
 -- a number, the one above it, the one above that and so on, in so many steps at most
@@ -22,3 +22,7 @@ top_of above n = last_of n (chain_of above n)
 -- whether n is the number named top, or below it
 abbrev pub is_under : (ℕ → Option ℕ) → ℕ → ℕ → Bool
 is_under above top n = is_among (chain_of above n) top
+
+-- how many stand above it in the chain
+abbrev pub depth_of : (ℕ → Option ℕ) → ℕ → ℕ
+depth_of above n = length (drop 1 (chain_of above n))

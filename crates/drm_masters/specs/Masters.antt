@@ -4,6 +4,7 @@ use Rattle.std.specs.List.{list_any, AllByRecursion}
 use Rattle.std.specs.Option.{is_some, option_map, option_map_or, option_and_then}
 use Rattle.drm_index_array.specs.Least.{least}
 use Rattle.drm_lists.specs.Orders.{InOrder}
+use Rattle.drm_lists.specs.Chains as chains
 use Rattle.drm_lists.specs.Chains.{is_under, top_of}
 use Rattle.drm_masters.specs.declared.rows.Magic.{Magic}
 use Rattle.drm_masters.specs.declared.rows.Master.{Master}
@@ -67,6 +68,10 @@ is_lessee masters m = is_some (lessor_of masters m)
 abbrev pub owner_of : List Master → ℕ → ℕ
 owner_of masters m = top_of (lessor_of masters) m
 
+-- how many lessors stand above a master: 0 where it has none, else one more than above its lessor (own)
+abbrev pub depth_of : List Master → ℕ → ℕ
+depth_of masters m = chains.depth_of (lessor_of masters) m
+
 -- current: a client that is a master, whose master's owner is the device's
 abbrev pub is_current_member : MasterSet → Member → Bool
 is_current_member v x = x.is_master && is_option (owner_of v.masters x.master) v.device_master
@@ -108,9 +113,9 @@ free_magic v m = least (λ n. not (list_any (has_magic m n) v.members)) 1 v.last
 abbrev pub is_lessee_of : List Master → ℕ → ℕ → Master → Bool
 is_lessee_of masters owner id x = is_some x.lessor && (x.lessee_id == id) && (owner_of masters x.birth == owner)
 
--- the least id that no lessee has under the owner (drm-uapi, leases; ids own)
+-- the least id that no lessee has under the owner of the master (drm-uapi, leases; ids own)
 abbrev pub free_lessee : MasterSet → ℕ → Option ℕ
-free_lessee v owner = least (λ id. not (list_any (is_lessee_of v.masters owner id) v.masters)) 1 v.last_lessee
+free_lessee v m = least (λ id. not (list_any (is_lessee_of v.masters (owner_of v.masters m) id) v.masters)) 1 v.last_lessee
 
 -- what is so at all times
 

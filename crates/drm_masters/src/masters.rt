@@ -9,8 +9,8 @@ ghost use Rattle.drm_masters.specs.Calls as calls;
 use crate::faults::{LesseeFault, NoMemory, SetDone, SetFault};
 use crate::rows::{Master, MasterKey, Member};
 use crate::searches::{
-    find_lessee, find_open_magic, free_lessee, free_magic, is_option, is_under, lessor_of,
-    master_at, master_of_key, member_of, owner_of,
+    depth_of, find_lessee, find_open_magic, free_lessee, free_magic, is_option, is_under,
+    lessor_of, master_at, master_of_key, member_of, owner_of,
 };
 use crate::sweeps::{release_all_under, sweep};
 use crate::writes::{
@@ -97,6 +97,14 @@ impl Masters {
         ensures { result ≡ chains.is_under (sets.lessor_of self.now.masters) top master }
     {
         is_under(&self.masters, top, master)
+    }
+
+    /// How deep a master lies below its owner: 0 where it has no lessor, else one more than its lessor (own). Masters are named
+    /// by the numbers of the steps that made them. It takes no memory.
+    pub fn depth(&self, master: u32) -> u32
+        ensures { result ≡ sets.depth_of self.now.masters master }
+    {
+        depth_of(&self.masters, master)
     }
 
     /// The key of a master's lessor, if it is a lessee.
@@ -306,23 +314,22 @@ impl Masters {
         Some(master.key)
     }
 
-    /// Makes a lessee of a master that is none itself, by the step of this number, with the least id that is free below
-    /// it (drm-uapi, leases; ids own). It stays until it is redeemed or released. A refusal changes nothing: `Full`
-    /// exactly where no id is free, `NoMemory` where memory was refused.
+    /// Makes a lessee of a master, by the step of this number, with the least id that is free below the master's owner
+    /// (drm-uapi, leases; ids own). It stays until it is redeemed or released. A refusal changes nothing: `Full` exactly
+    /// where no id is free, `NoMemory` where memory was refused.
     pub fn make_lessee(
         &mut self,
         master: MasterKey,
         birth: u32,
     ) -> Result<(MasterKey, u32), LesseeFault>
         requires present { sets.is_there self.old.masters master ≡ true }
-        requires top { sets.lessor_of self.old.masters (sets.birth_at self.old.masters master) ≡ None }
         requires new_birth { calls.IsNewBirth self.old birth }
         ensures { calls.MadeLessee self.old (sets.birth_at self.old.masters master) birth result self.new }
     {
         let Some(lessor) = master_of_key(&self.masters, master) else {
             unreachable!()
         };
-        let Some(id) = free_lessee(&self.masters, lessor.birth, self.last_lessee) else {
+        let Some(id) = self.free_lessee(lessor.birth) else {
             return Err(LesseeFault::Full);
         };
         if self.masters.reserve(1).is_err() {
@@ -350,10 +357,11 @@ impl Masters {
         self.last_lessee
     }
 
-    /// The least id that no lessee of the owner has; none where each is taken. It takes no memory.
-    pub fn free_lessee(&self, owner: u32) -> Option<u32>
-        ensures { result ≡ sets.free_lessee self.now owner }
+    /// The least id that no lessee of the master's owner has; none where each is taken. It takes no memory.
+    pub fn free_lessee(&self, master: u32) -> Option<u32>
+        ensures { result ≡ sets.free_lessee self.now master }
     {
+        let owner = owner_of(&self.masters, master);
         free_lessee(&self.masters, owner, self.last_lessee)
     }
 

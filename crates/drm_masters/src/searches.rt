@@ -65,6 +65,17 @@ pub fn owner_of(masters: &[Master], birth: u32) -> u32
     }
 }
 
+/// How many lessors stand above a master. There are no more than its birth comes to, since each is older.
+pub fn depth_of(masters: &[Master], birth: u32) -> u32
+    requires older { AllByRecursion (sets.HasOlderLessor masters.now) masters.now }
+    ensures { result ≡ sets.depth_of masters.now birth }
+{
+    match lessor_of(masters, birth) {
+        Some(lessor) => depth_of(masters, lessor) + 1,
+        None => 0,
+    }
+}
+
 /// Whether a master is the one named top, or below it.
 pub fn is_under(masters: &[Master], top: u32, birth: u32) -> bool
     requires older { AllByRecursion (sets.HasOlderLessor masters.now) masters.now }

@@ -16,7 +16,7 @@ use Rattle.drm_model.specs.Leases.{ended, grant, lessee_master}
 use Rattle.drm_model.specs.Clients.{opened, opened_primary, closed, ended_own, ended_if}
 use Rattle.drm_model.specs.Calls.{meaning}
 use Rattle.drm_model.specs.Verdict.{verdict}
-use Rattle.drm_model.specs.Change.{after, after_verdict, changed, swept, noted}
+use Rattle.drm_model.specs.Change.{after, after_verdict, changed, swept}
 use Rattle.drm_model.specs.Run.{run, rows_of, History}
 use Rattle.drm_model.proofs.Journals.{after-steps}
 
@@ -81,7 +81,7 @@ in_after : (w : Rows) (event : Event) → GrantsMade w.steps w → GrantsMade (b
 unfolding after
 in_after w event h = verdict-made w event (verdict w event) h
 
-after-made : (w : Rows) (event : Event) → GrantsMade w.steps w → GrantsMade (after w event).steps (after w event)
+pub after-made : (w : Rows) (event : Event) → GrantsMade w.steps w → GrantsMade (after w event).steps (after w event)
 after-made w event h = subst (λ n. GrantsMade n (after w event)) (sym (after-steps w event)) (in_after w event h)
 
 run-made : (w : Rows) (events : List Event) → GrantsMade w.steps w → GrantsMade (run w events).steps (run w events)

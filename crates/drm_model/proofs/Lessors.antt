@@ -53,6 +53,9 @@ none_is_zero : (last : ℕ) (o : Option ℕ) → IfSome o (λ m. m ≤ last) →
 none_is_zero last None h = omega arith
 none_is_zero last (Some m) h = h
 
+pub own_master_made : (w : Rows) (c : ℕ) → WereMade w.steps w → own_master w c ≤ w.steps
+own_master_made w c h = none_is_zero w.steps (master_of w c) (master_up_to w.steps w c h.0)
+
 redeemed : (last : ℕ) (o : Option MasterRow) → IfSome o (IsMadeMaster last) → IfSome (option_map (λ (row : MasterRow). row.master) o) (λ m. m ≤ last)
 redeemed last None h = tt
 redeemed last (Some row) h = h.1
@@ -138,7 +141,7 @@ asked-made w c SetMaster h = mastered-made w c (is_current w c) (is_master w c) 
 asked-made w c DropMaster h = let k = later w h in (k.0, k.1, k.2, tt)
 asked-made w c (CreateLease ids) h =
     let k = later w h in
-    let older = not_later w.steps (own_master w c) (none_is_zero w.steps (master_of w c) (master_up_to w.steps w c h.0)) in
+    let older = not_later w.steps (own_master w c) (own_master_made w c h) in
     (k.0, all_push (IsMadeMaster (birth w)) w.masters _ k.1 (omega arith, omega arith, older), k.2, k.3)
 asked-made w c (RevokeLease lessee) h = ended-made w (birth w) (lessee_master w (own_master w c) lessee) (later w h)
 asked-made w c call h = later w h
@@ -173,10 +176,13 @@ in_after : (w : Rows) (event : Event) → WereMade w.steps w → WereMade (birth
 unfolding after
 in_after w event h = verdict-made w event (verdict w event) h
 
+pub after-made : (w : Rows) (event : Event) → WereMade w.steps w → WereMade (after w event).steps (after w event)
+after-made w event h = subst (λ n. WereMade n (after w event)) (sym (after-steps w event)) (in_after w event h)
+
 run-made : (w : Rows) (events : List Event) → WereMade w.steps w → WereMade (run w events).steps (run w events)
 unfolding run
 run-made w [] h = h
-run-made w (e ∷ es) h = run-made (after w e) es (subst (λ n. WereMade n (after w e)) (sym (after-steps w e)) (in_after w e h))
+run-made w (e ∷ es) h = run-made (after w e) es (after-made w e h)
 
 -- the rows of a history
 pub were_made : (h : History) → WereMade (rows_of h).steps (rows_of h)
@@ -189,8 +195,10 @@ lessor_there : (last n m : ℕ) (o : Option MasterRow) → IfSome o (IsMadeMaste
 lessor_there last n m None h is e = absurd (let no : None ≡ Some m = e in cc)
 lessor_there last n m (Some row) h is e = subst (λ k. m < k) (eqb-true row.master n is) (subst (λ (o : Option ℕ). IfSome o (λ lessor. lessor < row.master)) e h.2)
 
+-- in rows of which steps made the masters
+pub lessor_older : (last : ℕ) (rows : List MasterRow) → AllByRecursion (IsMadeMaster last) rows → (n m : ℕ) → lessor_of rows n ≡ Some m → m < n
+lessor_older last rows made n m e = lessor_there last n m (master_row rows n) (all_found (IsMadeMaster last) (λ row. row.master == n) rows made) (found_passes (λ row. row.master == n) rows) e
+
 -- what is above a master is less, so that its chain of lessors ends
 pub lessors_are_older : (h : History) (n m : ℕ) → lessor_of (rows_of h).masters n ≡ Some m → m < n
-lessors_are_older h n m e =
-    let rows = (rows_of h).masters in
-    lessor_there (rows_of h).steps n m (master_row rows n) (all_found (IsMadeMaster (rows_of h).steps) (λ row. row.master == n) rows (were_made h).1) (found_passes (λ row. row.master == n) rows) e
+lessors_are_older h n m e = lessor_older (rows_of h).steps (rows_of h).masters (were_made h).1 n m e

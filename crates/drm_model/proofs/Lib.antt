@@ -6,6 +6,7 @@ pub mod Births
 pub mod Leased
 pub mod Lessors
 pub mod Grants
+pub mod Nested
 pub mod Lasting
 pub mod Counts
 pub mod Runs
@@ -55,6 +56,8 @@ pub mod WorkedFramebuffersGiveHandlesToCurrentAndRootClients
 pub mod WorkedAuditsOfFramebuffersAndWhatIsShown
 pub mod WorkedLesseesBehindTheirOwner
 pub mod WorkedLeasesAreRefusedInOrder
+pub mod WorkedLesseesLeaseInTheirTurn
+pub mod WorkedChainsOfLesseesHaveAnEnd
 pub mod WorkedLeaseTokensAndRevocations
 pub mod WorkedLeasesAreTestedRuleByRule
 pub mod WorkedLeasesAreLimited

@@ -3,7 +3,7 @@ use Rattle.std.proofs.Common.{◌≡◌, false, List, ◌∷◌, Result, Ok, ref
 use Rattle.drm_table.specs.declared.answers.Answer.{Answer}
 use Rattle.drm_table.specs.declared.answers.Answer.TheVariants.{Done, Opened, Lease as LeaseIs, List as ListIs, Denied}
 use Rattle.drm_table.specs.declared.apart.Apart.{Apart}
-use Rattle.drm_table.specs.declared.rules.Rule.TheVariants.{LeaseShape as DeniedLeaseShape, LeasedOut as DeniedLeasedOut, NoLessee as DeniedNoLessee, NoModeObject as DeniedNoModeObject, NotLeasable as DeniedNotLeasable, NotYourLessee as DeniedNotYourLessee, Repeated as DeniedRepeated, SubLease as DeniedSubLease}
+use Rattle.drm_table.specs.declared.rules.Rule.TheVariants.{LeaseShape as DeniedLeaseShape, LeasedOut as DeniedLeasedOut, NoLessee as DeniedNoLessee, NoModeObject as DeniedNoModeObject, NotLeasable as DeniedNotLeasable, NotYourLessee as DeniedNotYourLessee, Repeated as DeniedRepeated}
 use Rattle.drm_table.specs.declared.calls.Call.TheVariants.{GetCrtc, CreateLease, ListLessees, GetLease, RevokeLease}
 use Rattle.drm_table.specs.declared.events.Event.{Event}
 use Rattle.drm_table.specs.declared.events.Event.TheVariants.{Open, Ask}
@@ -76,7 +76,7 @@ answers =
     Ok (Denied DeniedLeasedOut) ∷
     Ok (Denied DeniedLeasedOut) ∷
     Ok (Opened 10) ∷
-    Ok (Denied DeniedSubLease) ∷
+    Ok (LeaseIs 2 2) ∷
     Ok (Denied DeniedNotYourLessee) ∷
     Ok (Denied DeniedNoLessee) ∷
     Ok (ListIs (2 ∷ 4 ∷ 8 ∷ [])) ∷
@@ -84,7 +84,7 @@ answers =
     Ok Done ∷
     Ok (ListIs ([])) ∷
     Ok (Denied DeniedNoModeObject) ∷
-    Ok (LeaseIs 2 2) ∷
+    Ok (LeaseIs 2 3) ∷
     []
 
 pub leases_are_refused_in_order : results (empty_rows test_topology limits) events ≡ answers

@@ -1,6 +1,7 @@
--- MODE_CREATE_LEASE, MODE_LIST_LESSEES, MODE_GET_LEASE and MODE_REVOKE_LEASE (drm-uapi, leases). Lease tokens, the limits, that
--- each rule is tested of all ids before the next, and that an owner has a lease of all, are this project's own.
-use Rattle.std.specs.Prelude.{ℕ, ◌==◌, Bool, false, not, ◌&&◌, ◌||◌, List, [], ◌∷◌, ◌++◌, Option, None, Some, unwrap_or, find, map, filter, if◌then◌else◌}
+-- MODE_CREATE_LEASE, MODE_LIST_LESSEES, MODE_GET_LEASE and MODE_REVOKE_LEASE (drm-uapi, leases). Lease tokens, the limits, how
+-- deep lessees may lease, that each rule is tested of all ids before the next, and that an owner has a lease of all, are this
+-- project's own.
+use Rattle.std.specs.Prelude.{ℕ, ◌==◌, nat_lt, Bool, false, not, ◌&&◌, ◌||◌, List, [], ◌∷◌, ◌++◌, Option, None, Some, unwrap_or, find, map, filter, if◌then◌else◌}
 use Rattle.std.specs.List.{list_any, list_all}
 use Rattle.std.specs.Option.{is_some, option_map, option_map_or}
 use Rattle.drm_lists.specs.Numbers.{count}
@@ -12,7 +13,7 @@ use Rattle.drm_modes.specs.Numbers.{numbers_from}
 use Rattle.drm_modes.specs.Topology.{Topology, crtc_ids, plane_ids, connector_ids, is_crtc, is_plane, is_encoder, is_connector, kind_of}
 use Rattle.drm_model.specs.Numbers.{rising, next_in_turn}
 use Rattle.drm_model.specs.Rows.{Rows, MasterRow, GrantRow, birth, without, is_option, is_framebuffer}
-use Rattle.drm_model.specs.Masters.{master_row, lessor_of, is_lessee, owner_of, is_under}
+use Rattle.drm_model.specs.Masters.{master_row, lessor_of, is_lessee, owner_of, depth_of, is_under}
 use Rattle.drm_model.specs.Sees.{sees}
 use Rattle.drm_model.specs.Magics.{own_master}
 use Rattle.drm_model.specs.Meaning.{Meaning, nothing}
@@ -30,7 +31,15 @@ ended w top = record w {
   masters = map (λ (row : MasterRow). if is_under w.masters top row.master then record row { lease_token = None } else row) w.masters;
 }
 
--- ---- what is asked of the ids of a lease
+-- ---- what is asked of who leases, and of the ids
+
+-- the depth at which a lessee makes no lease any more (own)
+abbrev pub last_depth : ℕ
+last_depth = 8
+
+-- whether the master may lease: an owner, or a lessee that isn't so deep
+abbrev pub may_lease : List MasterRow → ℕ → Bool
+may_lease rows m = nat_lt (depth_of rows m) last_depth
 
 -- a fixed object that the client sees, or a framebuffer of any client
 abbrev pub is_seen : Rows → ℕ → ℕ → Bool
@@ -88,7 +97,7 @@ grant m x = record { master = m; mode_object = x }
 abbrev pub create_lease_of : Rows → ℕ → ℕ → List ℕ → Meaning
 create_lease_of w c m ids = record {
   checks =
-      check SubLease (not (is_lessee w c))
+      check SubLease (may_lease w.masters m)
       ∷ check NoModeObject (list_all (is_seen w c) ids)
       ∷ check NotLeasable (list_all (is_leasable w) ids)
       ∷ check Repeated (list_all (stands_once ids) ids)

@@ -17,6 +17,7 @@ pub mod Clients
 pub mod Verdict
 pub mod Change
 pub mod Endings
+pub mod Nesting
 pub mod Reply
 pub mod Run
 pub mod Results

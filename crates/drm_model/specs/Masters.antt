@@ -28,6 +28,10 @@ is_lessee w c = is_some (option_and_then (lessor_of w.masters) (master_of w c))
 abbrev pub owner_of : List MasterRow → ℕ → ℕ
 owner_of rows m = top_of (lessor_of rows) m
 
+-- how many lessors stand above a master: 0 where it has none, else one more than above its lessor (own)
+abbrev pub depth_of : List MasterRow → ℕ → ℕ
+depth_of rows m = chains.depth_of (lessor_of rows) m
+
 -- whether m is the master named top, or below it: its chain of lessors leads there
 abbrev pub is_under : List MasterRow → ℕ → ℕ → Bool
 is_under rows top m = chains.is_under (lessor_of rows) top m

@@ -16,6 +16,7 @@ ghost use Rattle.drm_model.specs.Masters.{lessor_of, master_of, is_under};
 ghost use Rattle.drm_model.specs.Magics.{own_master, is_master};
 ghost use Rattle.drm_model.specs.Leases.{lessee_master};
 ghost use Rattle.drm_model.specs.Endings.{IsForgotten, HasEnded};
+ghost use Rattle.drm_model.specs.Nesting.{LeasesNest};
 ghost use Rattle.drm_model.specs.Run.{Step, Answers, History, run, noted_events, noted_in, rows_of};
 
 /// A denial changes no row: it is noted, and that is all.
@@ -71,4 +72,10 @@ pub fn closings_leave_no_right()
 pub fn leases_end_for_good()
     ensures revoked { (w : Rows) (c lessee m : ℕ) → verdict w (Ask c (RevokeLease lessee)) ≡ None → is_under w.masters (lessee_master w (own_master w c) lessee) m ≡ true → HasEnded (after w (Ask c (RevokeLease lessee))) m }
     ensures stays { (w : Rows) (events : List Event) (m : ℕ) → m ≤ w.steps → HasEnded w m → HasEnded (run w events) m }
+{}
+
+/// Leases nest: after any events no master is deeper than the last depth, and what the lease of a lessee has, that of its
+/// lessor has too, where that is a lessee.
+pub fn leases_nest()
+    ensures { (h : History) → LeasesNest (rows_of h) }
 {}

@@ -97,7 +97,7 @@ pub(crate) fn lessee() -> [Exchange; 8] {
         // MODE_CREATE_LEASE 2 4 8
         Exchange::new(
             b"\x12\0\0\0\xc6\0\x03\0\0\0\x02\0\0\0\x04\0\0\0\x08\0\0\0",
-            b"\x0a\0\0\0\0\x20\x23\0\0\0\x16\0\0\0",
+            b"\x0a\0\0\0\x0a\x10\x02\0\0\0\x02\0\0\0",
         ),
         // MODE_REVOKE_LEASE 1
         Exchange::new(
@@ -129,7 +129,7 @@ pub(crate) fn lessee_is_told() -> [Answer; 8] {
         },
         list_of(&[2, 4, 8]),
         list_of(&[]),
-        Answer::Denied(Rule::SubLease),
+        Answer::Lease { id: 2, token: 2 },
         Answer::Denied(Rule::NotYourLessee),
         Answer::Done,
         Answer::Denied(Rule::NoModeObject),

@@ -292,7 +292,7 @@ pub(crate) const MODES: [Row; 14] = [
 ];
 
 /// Leases, their tokens and what ends them.
-pub(crate) const LEASES: [Row; 13] = [
+pub(crate) const LEASES: [Row; 16] = [
     Row {
         name: "lessees_behind_their_owner",
         answers: 13,
@@ -325,7 +325,7 @@ pub(crate) const LEASES: [Row; 13] = [
             a create_lease 2 4 8 -> denied 34 LeasedOut 16\n\
             a create_lease 1 3 8 -> denied 34 LeasedOut 16\n\
             open l lease 1 -> client 10\n\
-            l create_lease 2 4 8 -> denied 35 SubLease 22\n\
+            l create_lease 2 4 8 -> lease 2 2\n\
             l revoke_lease 1 -> denied 37 NotYourLessee 13\n\
             l revoke_lease 7 -> denied 36 NoLessee 2\n\
             l get_lease -> list 2,4,8\n\
@@ -333,7 +333,68 @@ pub(crate) const LEASES: [Row; 13] = [
             a revoke_lease 1 -> done\n\
             a list_lessees -> list -\n\
             l getcrtc 2 -> denied 30 NoModeObject 2\n\
-            a create_lease 2 4 8 -> lease 2 2",
+            a create_lease 2 4 8 -> lease 2 3",
+    },
+    Row {
+        name: "lessees_lease_in_their_turn",
+        answers: 15,
+        script: b"\
+            open a card -> client 1\n\
+            a create_lease 1 2 3 4 7 8 -> lease 1 1\n\
+            open l lease 1 -> client 3\n\
+            l create_lease 2 4 8 -> lease 2 2\n\
+            l create_lease 2 3 7 -> denied 34 LeasedOut 16\n\
+            open m lease 2 -> client 6\n\
+            m getresources -> crtcs 2 connectors 8 encoders 5,6 framebuffers -\n\
+            a revoke_lease 2 -> denied 37 NotYourLessee 13\n\
+            a list_lessees -> list 1\n\
+            l list_lessees -> list 2\n\
+            m create_lease 1 3 7 -> denied 30 NoModeObject 2\n\
+            a revoke_lease 1 -> done\n\
+            m getcrtc 2 -> denied 30 NoModeObject 2\n\
+            l get_lease -> list -\n\
+            a create_lease 2 4 8 -> lease 3 3",
+    },
+    Row {
+        name: "chains_of_lessees_have_an_end",
+        answers: 18,
+        script: b"\
+            open a card -> client 1\n\
+            a create_lease 1 3 7 -> lease 1 1\n\
+            open l lease 1 -> client 3\n\
+            l create_lease 1 3 7 -> lease 2 2\n\
+            open m lease 2 -> client 5\n\
+            m create_lease 1 3 7 -> lease 3 3\n\
+            open n lease 3 -> client 7\n\
+            n create_lease 1 3 7 -> lease 4 4\n\
+            open o lease 4 -> client 9\n\
+            o create_lease 1 3 7 -> lease 5 5\n\
+            open p lease 5 -> client 11\n\
+            p create_lease 1 3 7 -> lease 6 6\n\
+            open q lease 6 -> client 13\n\
+            q create_lease 1 3 7 -> lease 7 7\n\
+            open r lease 7 -> client 15\n\
+            r create_lease 1 3 7 -> lease 8 8\n\
+            open s lease 8 -> client 17\n\
+            s create_lease 1 3 7 -> denied 35 SubLease 22",
+    },
+    Row {
+        name: "a_closed_lessor_stays_under_its_lessee",
+        answers: 13,
+        script: b"\
+            open q root -> client 1\n\
+            q create_lease 2 4 8 -> lease 1 1\n\
+            open l lease 1 -> client 3\n\
+            l create_lease 2 4 8 -> lease 2 2\n\
+            open m lease 2 -> client 5\n\
+            m getcrtc 2 -> number 0\n\
+            close l -> closed\n\
+            m getcrtc 2 -> denied 30 NoModeObject 2\n\
+            m get_lease -> list -\n\
+            q create_lease 2 4 8 -> lease 3 3\n\
+            q audit 2 0 -> rows 4 | 1 0 0 0 | 2 1 1 0 | 4 2 2 0 | 10 1 3 3\n\
+            close m -> closed\n\
+            q audit 2 0 -> rows 2 | 1 0 0 0 | 10 1 3 3",
     },
     Row {
         name: "lease_tokens_and_revocations",
@@ -418,7 +479,7 @@ pub(crate) const LEASES: [Row; 13] = [
             a revoke_lease 0 -> denied 36 NoLessee 2\n\
             a create_lease 2 4 8 -> lease 1 1\n\
             open l lease 1 -> client 12\n\
-            l create_lease 99 -> denied 35 SubLease 22\n\
+            l create_lease 99 -> denied 30 NoModeObject 2\n\
             b create_lease 99 -> denied 13 Master 13\n\
             b list_lessees -> denied 13 Master 13\n\
             b get_lease -> denied 13 Master 13\n\

@@ -21,9 +21,9 @@ use Rattle.drm_state.specs.Ties.{IsTied}
 use Rattle.drm_state.specs.Refinement.{OwesCall, Represents}
 use Rattle.drm_state.proofs.Outcomes.{denied, refused, carried_on}
 use Rattle.drm_state.proofs.Seeing.{topology_is}
-use Rattle.drm_state.proofs.Callers.{file_of, never_admitted, lessee_is, own_master_is}
+use Rattle.drm_state.proofs.Callers.{file_of, never_admitted, own_master_is}
 use Rattle.drm_lease_calls.proofs.Flags.{create_lease_flags}
-use Rattle.drm_lease_calls.proofs.Asked.{create_verdict, has_no_lessor, free_lessee_is, next_is}
+use Rattle.drm_lease_calls.proofs.Asked.{create_verdict, free_lessee_is, next_is}
 use Rattle.drm_lease_calls.proofs.Listed.{same_listed}
 use Rattle.drm_lease_calls.proofs.Leased.{leased_rows, leased_tied, leased_represents}
 use Rattle.drm_lease_calls.proofs.leases.create_lease.Goals as goal
@@ -70,9 +70,8 @@ returns-in-Ok-clause-owes c = λ w r admitted.
     let by = came s x step c.create.new.self c.create.new.masters look c.in-Ok.is c.ids.ensures.ids c.create.ensures in
     let file = file_of s client c.requires.present in
     let own = own_master_is s w client file.0 x h file.1 look in
-    let none = create_verdict s w t h client x c.requires.present look ids (lessee_is s w client file.0 x h file.1 look) own admitted ∙ by.0 in
-    let top = has_no_lessor s w t h client x c.requires.present look ids by.0 in
-    let id_is : new_lessee_id w (own_master w client) ≡ made.id = ap (new_lessee_id w) own ∙ ap (λ o. unwrap_or o 0) (free_lessee_is s w t h x.master top ∙ by.1) in
+    let none = create_verdict s w t h client x c.requires.present look ids own admitted ∙ by.0 in
+    let id_is : new_lessee_id w (own_master w client) ≡ made.id = ap (new_lessee_id w) own ∙ ap (λ o. unwrap_or o 0) (free_lessee_is s w t h x.master ∙ by.1) in
     let token_is : new_lease_token w ≡ made.token = ap (λ o. unwrap_or o 0) (next_is s w t h ∙ by.2) in
     let same = same_listed s.modes.topology ids (leased_once w client ids none) (λ k e. subst (λ topology. (1 ≤ k) × (k ≤ object_count topology)) (topology_is s w h) (leased_within w client ids none k e)) in
     let new = record s { masters = c.create.new.masters; leases = c.create.new.self } in
@@ -94,7 +93,7 @@ returns-in-Err-Denied-clause-owes c = λ w r admitted.
     let file = file_of s client c.requires.present in
     let own = own_master_is s w client file.0 x r.rows file.1 look in
     denied (record s { masters = c.create.new.masters; leases = c.create.new.self }) w (Ask client (CreateLease ids)) c.in-Err-Denied.rule
-    (create_verdict s w c.requires.ready.tied r.rows client x c.requires.present look ids (lessee_is s w client file.0 x r.rows file.1 look) own admitted ∙ by.0)
+    (create_verdict s w c.requires.ready.tied r.rows client x c.requires.present look ids own admitted ∙ by.0)
     (subst (λ (l : LeaseSet). Represents (record s { masters = c.create.new.masters; leases = l }) w) (sym by.1) (subst (λ (v : MasterSet). Represents (record s { masters = v }) w) (sym by.2) r.rows))
 
 pub returns-in-Err-NoMemory-clause-owes : goal.returns-in-Err-NoMemory-clause-owes
@@ -109,6 +108,6 @@ returns-in-Err-NoMemory-clause-owes c = λ w r admitted.
     let file = file_of s client c.requires.present in
     let own = own_master_is s w client file.0 x r.rows file.1 look in
     refused (record s { masters = c.create.new.masters; leases = c.create.new.self }) w (Ask client (CreateLease ids)) _
-    (create_verdict s w c.requires.ready.tied r.rows client x c.requires.present look ids (lessee_is s w client file.0 x r.rows file.1 look) own admitted ∙ by.0)
+    (create_verdict s w c.requires.ready.tied r.rows client x c.requires.present look ids own admitted ∙ by.0)
     (inr (inl (omega (arith, length-append w.masters (new_lessee w (own_master w client) ∷ [])))))
     (subst (λ (l : LeaseSet). Represents (record s { masters = c.create.new.masters; leases = l }) w) (sym by.1) (subst (λ (v : MasterSet). Represents (record s { masters = v }) w) (sym by.2) r.rows))

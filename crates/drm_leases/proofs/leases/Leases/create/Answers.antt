@@ -1,14 +1,12 @@
 use Rattle.std.proofs.Common.{◌≡◌, ◌≤◌, [], ◌∷◌, ◌++◌, map, length, None, Some, sym, ap, subst, ◌∙◌}
 use Rattle.drm_table.specs.Permit.{first_failing}
-use Rattle.drm_masters.specs.Masters.{lessor_of}
 use Rattle.drm_leases.specs.Fields.{set_of}
 use Rattle.drm_leases.specs.Leases.{AreLeases, next_token}
 use Rattle.drm_leases.specs.Rules.{lease_checks}
 use Rattle.drm_leases.specs.Calls.{grant, lease_token, with_lease, listed_objects}
-use Rattle.drm_leases.proofs.Denied.{passed, some_none, is_none, master_there}
+use Rattle.drm_leases.proofs.Denied.{passed, some_none, master_there}
 use Rattle.drm_leases.proofs.Sound.{sound, lease_are}
 use Rattle.drm_leases.proofs.Listed.{objects_rise}
-use Rattle.drm_leases.proofs.Keyed.{keyed_birth}
 use Rattle.drm_leases.proofs.leases.Leases.create.Goals as goal
 
 pub unreachable-requires-in_default-next_token : goal.unreachable-requires-in_default-next_token
@@ -16,18 +14,10 @@ unreachable-requires-in_default-next_token c =
     let v = c.args.self.now in
     let none : first_failing (lease_checks v c.args.masters.now c.args.modes.now c.in-Some.member.master c.args.ids.now) ≡ None = sym c.denied.ensures ∙ c.in_default-denied.is in
     let next : c.next_token.result ≡ next_token v = c.next_token.ensures ∙ ap (λ l. next_token (record (set_of c.self.inside) { tokens = l })) c.deref.ensures.value ∙ ap next_token c.self.view_is in
-    some_none (next_token v) (passed v c.args.masters.now c.args.modes.now c.in-Some.member.master c.args.ids.now none).2 (sym next ∙ c.in_default-next_token.is)
+    some_none (next_token v) (passed v c.args.masters.now c.args.modes.now c.in-Some.member.master c.args.ids.now none).1 (sym next ∙ c.in_default-next_token.is)
 
 pub unreachable-requires-in_default-master : goal.unreachable-requires-in_default-master
 unreachable-requires-in_default-master c = some_none _ (master_there c.args.masters.now c.member.ensures.are c.args.client c.in-Some.member (sym c.member.ensures.member ∙ c.in-Some.is)) (sym c.master.ensures.master ∙ c.in_default-master.is)
-
-pub make_lessee-requires-clause-top : goal.make_lessee-requires-clause-top
-make_lessee-requires-clause-top c =
-    let m = c.in-Some.member.master in
-    let masters = c.args.masters.now.masters in
-    let none : first_failing (lease_checks c.args.self.now c.args.masters.now c.args.modes.now m c.args.ids.now) ≡ None = sym c.denied.ensures ∙ c.in_default-denied.is in
-    let birth = keyed_birth masters m c.in-Some-master.master.key c.in-Some-master.ensures.keyed in
-    ap (lessor_of masters) birth ∙ is_none (lessor_of masters m) (passed c.args.self.now c.args.masters.now c.args.modes.now m c.args.ids.now none).0
 
 pub invariant_of-self-2 : goal.invariant_of-self-2
 invariant_of-self-2 c =

@@ -1,4 +1,4 @@
-use Rattle.std.proofs.Common.{◌≡◌, not, ap, subst, ◌∙◌}
+use Rattle.std.proofs.Common.{not, ap, subst, ◌∙◌}
 use Rattle.drm_leases.specs.declared.rows.LeaseToken.{LeaseToken}
 use Rattle.drm_leases.specs.Fields.{set_of}
 use Rattle.drm_leases.specs.Leases.{AreLeases, is_token}

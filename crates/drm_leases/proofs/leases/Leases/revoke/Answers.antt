@@ -1,4 +1,4 @@
-use Rattle.std.proofs.Common.{◌≡◌, not, filter, ap, subst, ◌∙◌}
+use Rattle.std.proofs.Common.{not, filter, ap, subst, ◌∙◌}
 use Rattle.drm_lists.specs.Chains.{is_under}
 use Rattle.drm_masters.specs.Masters.{lessor_of}
 use Rattle.drm_leases.specs.declared.rows.Grant.{Grant}

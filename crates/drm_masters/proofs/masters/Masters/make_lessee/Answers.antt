@@ -1,17 +1,12 @@
-use Rattle.std.proofs.Common.{◌≡◌, ℕ, true, not, [], ◌∷◌, ◌++◌, Option, None, Some, find, refl, sym, ap, subst, ◌∙◌}
-use Rattle.std.specs.List.{list_any}
+use Rattle.std.proofs.Common.{◌≡◌, ℕ, true, [], ◌∷◌, ◌++◌, Option, None, Some, find, refl, sym, ap, subst, ◌∙◌}
 use Rattle.std.specs.Option.{is_some}
-use Rattle.drm_index_array.specs.Least.{least}
 use Rattle.drm_lists.proofs.Lists.{all_append}
 use Rattle.drm_masters.specs.declared.rows.Master.{Master}
 use Rattle.drm_masters.specs.Fields.{set_of}
-use Rattle.drm_masters.specs.Masters.{MasterSet, AreMasters, master_at, birth_at, is_key, is_lessee_of, free_lessee}
+use Rattle.drm_masters.specs.Masters.{MasterSet, AreMasters, master_at, birth_at, is_key, free_lessee}
 use Rattle.drm_masters.specs.Calls as calls
 use Rattle.drm_masters.proofs.Sound.{Keyed, sound, lessee_are, free_key, of_key}
 use Rattle.drm_masters.proofs.masters.Masters.make_lessee.Goals as goal
-
-lessor_none : (o : Option ℕ) → o ≡ None → (l : ℕ) → o ≡ Some l → ⊥
-lessor_none o e l k = let n : None ≡ Some l = sym e ∙ k in cc
 
 pub invariant_of-self-2 : goal.invariant_of-self-2
 invariant_of-self-2 c =
@@ -36,7 +31,7 @@ returns c =
     let at : birth_at c.args.self.now.masters c.args.master ≡ m = (of_key c.args.self.now.masters c.args.master c.in-Some.lessor keyed found).1 in
     let z = calls.lessee c.args.birth c.args.birth m id in
     let masters : c.push_reserved.new.self.items ≡ c.self.inside.masters.items ++ z ∷ [] = c.push_reserved.ensures.items ∙ (λ i. c.reserve.ensures.items i ++ c.lessee.ensures i ∷ []) in
-    let free : free_lessee c.args.self.now m ≡ Some id = sym (ap (λ (w : MasterSet). free_lessee w m) c.self.view_is) ∙ ap (λ l. least (λ n. not (list_any (is_lessee_of l m n) l)) 1 c.self.inside.last_lessee) (sym c.deref-2.ensures.value) ∙ sym c.free_lessee.ensures ∙ c.in-Some-free_lessee.is in (
+    let free : free_lessee c.args.self.now m ≡ Some id = sym c.free_lessee.ensures ∙ c.in-Some-free_lessee.is in (
       ap (λ k. find (is_key k) c.args.self.now.masters) c.from_number.ensures ∙ free_key c.args.self.now.masters c.args.birth keyed c.requires.new_birth,
       ap (free_lessee c.args.self.now) at ∙ free,
       (λ i. record (set_of c.self.inside) { masters = masters i }) ∙ ap (calls.with_master z) c.self.view_is ∙ (λ i. calls.with_master (calls.lessee (sym c.from_number.ensures i) c.args.birth (sym at i) id) c.args.self.now),
