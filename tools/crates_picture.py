@@ -70,17 +70,25 @@ def boxes_of(crates: Dict[str, List[str]]) -> Tuple[List[Box], List[Arrow]]:
 
 
 def rows_of(boxes: List[Box], arrows: List[Arrow]) -> Dict[Box, int]:
-    """The row of each box, from the top: one below the lowest of those that stand on it."""
-    rows: Dict[Box, int] = {}
+    """The row of each box, from the top: one below the lowest of those that stand on it. What no box of the longest ways down
+    stands on is no higher than one above its own libraries."""
+    highest: Dict[Box, int] = {}
+    lowest: Dict[Box, int] = {}
 
     def row(box: Box) -> int:
-        if box not in rows:
-            rows[box] = max([row(start) + 1 for start, end in arrows if end == box], default=0)
-        return rows[box]
+        if box not in highest:
+            highest[box] = max([row(start) + 1 for start, end in arrows if end == box], default=0)
+        return highest[box]
 
-    for box in boxes:
-        row(box)
-    return rows
+    def low_row(box: Box) -> int:
+        if box not in lowest:
+            lowest[box] = min([low_row(end) - 1 for start, end in arrows if start == box], default=row(box))
+        return lowest[box]
+
+    wanted = [box for box in boxes if low_row(box) == 0]
+    for box in wanted:
+        wanted += [end for start, end in arrows if start == box and end not in wanted]
+    return {box: row(box) if box in wanted else low_row(box) for box in boxes}
 
 
 def ways_of(arrows: List[Arrow], rows: Dict[Box, int]) -> List[List[Node]]:

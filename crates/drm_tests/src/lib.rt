@@ -19,6 +19,8 @@ mod faults;
 #[cfg(test)]
 mod frames;
 #[cfg(test)]
+mod histories;
+#[cfg(test)]
 mod interruptions;
 #[cfg(test)]
 mod jobs;

@@ -1,0 +1,9 @@
+pub mod Histories
+pub mod Told
+pub mod Chained
+pub mod HoldSteps
+pub mod NumberSteps
+pub mod Facts
+pub mod Numbers
+pub mod Calls
+pub mod Runs

@@ -1,0 +1,5 @@
+use Rattle.drm_history.proofs.Runs.{holds_have_chains}
+use Rattle.drm_history.proofs.laws.each_hold_has_a_chain.Goals as goal
+
+pub returns : goal.returns
+returns c = holds_have_chains

@@ -1,0 +1,40 @@
+-- The history of a device: each step that was noted, with what it was of and what it was answered (own). The newest step comes
+-- first, so that what stands behind a step is all that came before it, and the number of a step is how many stand there and one.
+use Rattle.std.specs.Prelude.{ℕ, ◌+◌, List, [], ◌∷◌, ◌++◌, length, Result, Ok, Err}
+use Rattle.drm_table.specs.declared.answers.Answer.{Answer}
+use Rattle.drm_table.specs.declared.apart.Apart.{Apart}
+use Rattle.drm_table.specs.declared.events.Event.{Event}
+use Rattle.drm_model.specs.Rows.{Rows}
+use Rattle.drm_model.specs.Change.{after}
+use Rattle.drm_model.specs.Reply.{reply}
+use Rattle.drm_model.specs.Run.{History, start_of}
+
+-- a step
+pub record Entry : Type 0 where
+  pub event : Event
+  pub answer : Answer
+
+-- the number of the step that comes after these
+abbrev pub next_number : List Entry → ℕ
+next_number past = length past + 1
+
+-- what came before, with the steps of these events, from these rows on
+unfoldable pub recorded : Rows → List Entry → List Event → List Entry
+recorded w past [] = past
+recorded w past (event ∷ events) = recorded (after w event) (record { event = event; answer = reply w event } ∷ past) events
+
+-- the history of a device: its journal, and what running it answers
+unfoldable pub history_of : History → List Entry
+history_of h = recorded (start_of h) [] h.journal
+
+-- the events of a history, in the order in which they came
+unfoldable pub events_of : List Entry → List Event
+events_of [] = []
+events_of (step ∷ past) = events_of past ++ step.event ∷ []
+
+-- what came before, with the steps of these events and results: those that nothing apart was answered to
+unfoldable pub with_noted : List Entry → List Event → List (Result Answer Apart) → List Entry
+with_noted past [] results = past
+with_noted past (event ∷ events) [] = past
+with_noted past (event ∷ events) (Ok answer ∷ results) = with_noted (record { event = event; answer = answer } ∷ past) events results
+with_noted past (event ∷ events) (Err apart ∷ results) = with_noted past events results

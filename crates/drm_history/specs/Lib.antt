@@ -1,0 +1,5 @@
+pub mod History
+pub mod Steps
+pub mod Holds
+pub mod Chains
+pub mod Laws
