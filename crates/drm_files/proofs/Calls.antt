@@ -44,6 +44,12 @@ module _ (limit last : ℕ) (m : fin.FinMap nat_cmp FileRecord) (c : ℕ) where
       by_rows (fin.insert m c s) (with_authenticated (lists_of limit last m) c) (clients_authenticated m c r s found flags)
       (holds_kept m c s (λ b. ap (λ t. fin.get t b) slots ∙ sym (held_here m c r found c b refl)))
 
+  -- a client's record that has the same flags and the same behind each handle
+  pub rewritten : (r s : FileRecord) → fin.get m c ≡ Some r → s.flags ≡ r.flags → s.handles.slots ≡ r.handles.slots → lists_of limit last (fin.insert m c s) ≡ lists_of limit last m
+  rewritten r s found flags slots =
+      by_rows (fin.insert m c s) (lists_of limit last m) (clients_kept m c r s found flags)
+      (holds_kept m c s (λ b. ap (λ t. fin.get t b) slots ∙ sym (held_here m c r found c b refl)))
+
   composed : {X Y Z : Type 0} (f : Y → Z) (g : X → Y) (x : Option X) → option_map f (option_map g x) ≡ option_map (λ y. f (g y)) x
   composed f g None = refl
   composed f g (Some x) = refl

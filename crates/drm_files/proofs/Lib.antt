@@ -4,5 +4,7 @@ mod RecordFacts
 mod Calls
 mod Walks
 mod Rests
+mod Removal
+mod Filed
 mod PrimeFacts
 pub mod Crossing

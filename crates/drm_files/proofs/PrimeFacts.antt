@@ -1,152 +1,229 @@
--- The least PRIME place of one client's handles, and how a walk over its table finds it.
-use Rattle.std.proofs.Common.{◌≡◌, ℕ, ◌+◌, ◌<◌, ◌≤◌, ◌&&◌, ◌==◌, nat_lt, nat_le, Bool, true, false, cond, if◌then◌else◌, T, List, [], ◌∷◌, map, filter, IfSome, Option, Some, None, option_map, option_and_then, refl, sym, ap, ◌∙◌, arith, nat_cmp, is_lt}
-use Rattle.std.specs.List.{filter_map, cons_option}
+-- The least PRIME place of one client's handles, and how a walk over those for an object finds it.
+use Rattle.std.proofs.Common.{◌≡◌, ℕ, ◌≤◌, ◌&&◌, ◌||◌, ◌==◌, Bool, true, false, cond, if◌then◌else◌, List, [], ◌∷◌, ◌++◌, map, filter, IfSome, Option, Some, None, option_map, option_and_then, refl, sym, ap, subst, ◌∙◌, arith, eq-eqb, nat_cmp}
+use Rattle.std.specs.List.{filter_map, cons_option, list_any, AllByRecursion}
 use Rattle.std.specs.Option.{option_map_or}
+use Rattle.std.specs.Ordering.{eq_by_cmp}
+use Rattle.std.specs.Cmp.{nat_cmp_total}
 use Rattle.std.specs.FinMap as fin
-use Rattle.std.specs.FinMap.Entries.{is_sorted, below_all}
+use Rattle.std.specs.FinMap.Entries.{find}
+use Rattle.std.proofs.lemmas.Bool.{false≢true, eqb-true}
 use Rattle.std.proofs.lemmas.Bool.Decides.{nat_tests}
-use Rattle.drm_index_array.specs.Least.{lesser, least_of}
-use Rattle.drm_index_array.proofs.Keyed.{left, right, T_true}
+use Rattle.std.proofs.lemmas.Option.{same_Some}
+use Rattle.drm_lists.proofs.Lists.{some_passing, all_weaker, all_append, all_of_map}
+use Rattle.drm_index_array.specs.Least.{least_of}
+use Rattle.drm_index_array.proofs.Least.{least_of_is}
+use Rattle.drm_index_array.proofs.Keyed.{none_some, all_rows}
 use Rattle.drm_files.specs.declared.files.FileRecord.{FileRecord}
 use Rattle.drm_files.specs.declared.files.Held.{Held}
 use Rattle.drm_files.specs.declared.primes.Prime.{Prime}
 use Rattle.drm_files.specs.declared.rows.FileHold.{FileHold}
 use Rattle.drm_files.specs.Files.{hold, of_client, is_hold_of, has_place, places_of, handles_at, prime_handle}
 use Rattle.drm_files.specs.Records.{rows_in, holds_in, lists_of}
-use Rattle.drm_files.specs.Primes.{is_for, is_at, places_in, handles_in, least_prime, prime_of, lesser_place}
+use Rattle.drm_files.specs.Primes.{is_for, is_at, places_in, handles_in, least_prime, prime_of, prime_at, is_before, lesser_prime, IsFirst, IsLeastIn}
 use Rattle.drm_files.proofs.Changes.{rows_of_client}
-use Rattle.drm_files.proofs.Walks.{entries_from}
 
--- what a walk keeps
+-- what a walk over handles keeps
 
-first_alone : (x : Option Prime) → lesser_place x None ≡ x
-first_alone None = refl
-first_alone (Some x) = refl
-
--- the middle one may be joined with either
-three : (x y z : Prime) (a b : Bool) → nat_lt y.place x.place ≡ a → nat_lt z.place y.place ≡ b →
-    lesser_place (if a then Some y else Some x) (Some z) ≡ lesser_place (Some x) (if b then Some z else Some y)
-three x y z true true yx zy =
-    let zx : nat_lt z.place x.place ≡ true = grind (arith, nat_tests) in
-    ap (λ t. if t then Some z else Some y) zy ∙ ap (λ t. if t then Some z else Some x) (sym zx)
-three x y z true false yx zy = ap (λ t. if t then Some z else Some y) zy ∙ ap (λ t. if t then Some y else Some x) (sym yx)
-three x y z false true yx zy = refl
-three x y z false false yx zy =
-    let zx : nat_lt z.place x.place ≡ false = grind (arith, nat_tests) in
-    ap (λ t. if t then Some z else Some x) zx ∙ ap (λ t. if t then Some y else Some x) (sym yx)
-
-lesser_place-assoc : (x y z : Option Prime) → lesser_place (lesser_place x y) z ≡ lesser_place x (lesser_place y z)
-lesser_place-assoc None y z = refl
-lesser_place-assoc (Some x) None z = refl
-lesser_place-assoc (Some x) (Some y) None = first_alone _
-lesser_place-assoc (Some x) (Some y) (Some z) = three x y z (nat_lt y.place x.place) (nat_lt z.place y.place) refl refl
-
--- the first of the least place
-abbrev pub first_in : ℕ → List (ℕ × Held) → Option Prime
-first_in object [] = None
-first_in object (e ∷ es) = lesser_place (prime_of object e) (first_in object es)
-
--- a handle before all others is the least
-
-lesser_is : (h m : ℕ) → h ≤ m → lesser h (Some m) ≡ h
-lesser_is h m le = ap (λ t. if t then h else m) (yes h m le)
+handle_is : (object h : ℕ) (o : Option Held) (y : Prime) → option_and_then (λ held. prime_of object (h, held)) o ≡ Some y → y.handle ≡ h
+handle_is object h None y e = absurd (none_some y e)
+handle_is object h (Some held) y e = by_test (held.object == object) held.place e
   where
-    yes : (h m : ℕ) → h ≤ m → nat_le h m ≡ true
-    yes h m le = grind (arith, nat_tests)
+    by_test : (t : Bool) (p : Option ℕ) → (if t then option_map (λ place. record { place = place; handle = h }) p else None) ≡ Some y → y.handle ≡ h
+    by_test true None e = absurd (none_some y e)
+    by_test true (Some place) e = sym (ap (λ o. handle_or o) e)
+      where
+        handle_or : Option Prime → ℕ
+        handle_or None = 0
+        handle_or (Some z) = z.handle
+    by_test false p e = absurd (none_some y e)
 
-closer : (h k : ℕ) (r : Option ℕ) → h < k → lesser h r ≡ h → lesser h (Some (lesser k r)) ≡ h
-closer h k None lt is = lesser_is h k (omega (arith, lt))
-closer h k (Some m) lt is = by_test (nat_le k m)
-  where
-    by_test : (t : Bool) → lesser h (Some (if t then k else m)) ≡ h
-    by_test true = lesser_is h k (omega (arith, lt))
-    by_test false = is
+not_after : (y x : Prime) → is_before y x ≡ true → IsFirst y x
+not_after y x is = ((grind (arith, nat_tests)), λ same. grind (arith, nat_tests))
 
-before : (h k : ℕ) → is_lt (nat_cmp h k) ≡ true → h < k
-before h k is = grind (arith, nat_tests)
+not_before : (y x : Prime) → is_before y x ≡ false → IsFirst x y
+not_before y x is = ((grind (arith, nat_tests)), λ same. grind (arith, nat_tests))
 
-first_least : (object place h : ℕ) (es : List (ℕ × Held)) → T (below_all nat_cmp h es) → lesser h (least_of (handles_in object place es)) ≡ h
-first_least object place h [] below = refl
-first_least object place h (e ∷ es) below =
-    let others = filter (is_for object) es in
-    let later = first_least object place h es (right _ _ below) in
-    elim (is_for object e) as (λ t. lesser h (least_of (map (λ x. x.0) (filter (is_at place) (cond t (e ∷ others) others)))) ≡ h) [
-      | true ↦ elim (is_at place e) as (λ t. lesser h (least_of (map (λ x. x.0) (cond t (e ∷ filter (is_at place) others) (filter (is_at place) others)))) ≡ h) [
-        | true ↦ closer h e.0 (least_of (handles_in object place es)) (before h e.0 (T_true _ (left _ _ below))) later
-        | false ↦ later
-      ]
-      | false ↦ later
-    ]
+first_trans : (x y z : Prime) → IsFirst x y → IsFirst y z → IsFirst x z
+first_trans x y z a b = (
+  omega (arith, a.0, b.0),
+  λ same.
+      let xy : x.place ≡ y.place = omega (arith, a.0, b.0, same) in
+      let yz : y.place ≡ z.place = omega (arith, a.0, b.0, same) in
+      omega (arith, a.1 xy, b.1 yz),
+)
 
--- what the walk finds
-
-abbrev IsFirstOf : List ℕ → (ℕ → List ℕ) → Option Prime → Type 0
-IsFirstOf places handles r = (option_map (λ prime. prime.place) r ≡ least_of places) × IfSome r (λ prime. least_of (handles prime.place) ≡ Some prime.handle)
-
-abbrev with_least : ℕ → ℕ → List (ℕ × Held) → Option Prime
-with_least object place es = option_map (λ handle. record { place = place; handle = handle }) (least_of (handles_in object place es))
-
-abbrev IsFirst : ℕ → List (ℕ × Held) → Option Prime → Type 0
-IsFirst object es r = IsFirstOf (places_in object es) (λ place. handles_in object place es) r
-
--- an entry with a place, before others
-module _ (e : ℕ × Held) (place : ℕ) (places : List ℕ) (entries : ℕ → List (ℕ × Held)) (least : (p : ℕ) → lesser e.0 (least_of (map (λ x. x.0) (entries p))) ≡ e.0) where
-  abbrev handles : ℕ → List ℕ
-  handles p = map (λ x. x.0) (cond (place == p) (e ∷ entries p) (entries p))
-
-  abbrev mine : Prime
-  mine = record { place = place; handle = e.0 }
-
-  same_place : (p : ℕ) → (p == p) ≡ true
-  same_place p = grind (arith, nat_tests)
-
-  mine_first : least_of (handles place) ≡ Some e.0
-  mine_first = ap (λ t. least_of (map (λ x. x.0) (cond t (e ∷ entries place) (entries place)))) (same_place place) ∙ ap Some (least place)
-
-  with_other : (y : Prime) → Some y.place ≡ least_of places → least_of (map (λ x. x.0) (entries y.place)) ≡ Some y.handle → (t : Bool) → nat_lt y.place place ≡ t → IsFirstOf (place ∷ places) handles (if t then Some y else Some mine)
-  with_other y least_is handle true lt = (
-    (let no : nat_le place y.place ≡ false = grind (arith, nat_tests) in ap (λ t. Some (if t then place else y.place)) (sym no)) ∙ ap (λ r. Some (lesser place r)) least_is,
-    (let apart : (place == y.place) ≡ false = grind (arith, nat_tests) in ap (λ t. least_of (map (λ x. x.0) (cond t (e ∷ entries y.place) (entries y.place)))) apart) ∙ handle,
-  )
-  with_other y least_is handle false lt = (
-    (let yes : nat_le place y.place ≡ true = grind (arith, nat_tests) in ap (λ t. Some (if t then place else y.place)) (sym yes)) ∙ ap (λ r. Some (lesser place r)) least_is,
-    mine_first,
-  )
-
-  with_others : (r : Option Prime) → IsFirstOf places (λ p. map (λ x. x.0) (entries p)) r → IsFirstOf (place ∷ places) handles (lesser_place (Some mine) r)
-  with_others None is = (ap (λ r. Some (lesser place r)) is.0, mine_first)
-  with_others (Some y) is = with_other y is.0 is.1 (nat_lt y.place place) refl
-
--- handles rise, so the first at a place is the least
-first_is : (object : ℕ) (es : List (ℕ × Held)) → T (is_sorted nat_cmp es) → IsFirst object es (first_in object es)
-first_is object [] sorted = (refl, tt)
-first_is object (e ∷ es) sorted =
-    let others = filter (is_for object) es in
-    let r = first_in object es in
-    let later = first_is object es (right _ _ sorted) in
-    elim (is_for object e) as (λ t. IsFirstOf (filter_map (λ x. x.1.place) (cond t (e ∷ others) others)) (λ p. map (λ x. x.0) (filter (is_at p) (cond t (e ∷ others) others))) (lesser_place (if t then option_map (λ p. record { place = p; handle = e.0 }) e.1.place else None) r)) [
-      | true ↦ elim e.1.place as (λ q. IsFirstOf (cons_option q (filter_map (λ x. x.1.place) others)) (λ p. map (λ x. x.0) (cond (option_map_or (λ x. x == p) q false) (e ∷ filter (is_at p) others) (filter (is_at p) others))) (lesser_place (option_map (λ p. record { place = p; handle = e.0 }) q) r)) [
-        | None ↦ later
-        | Some place ↦ with_others e place (places_in object es) (λ p. filter (is_at p) others) (λ p. first_least object p e.0 es (left _ _ sorted)) r later
-      ]
-      | false ↦ later
-    ]
-
-first_is_least : (object : ℕ) (es : List (ℕ × Held)) (r : Option Prime) → IsFirst object es r → r ≡ least_prime object es
-first_is_least object es None is = ap (option_and_then (λ place. with_least object place es)) is.0
-first_is_least object es (Some prime) is = ap (option_map (λ handle. record { place = prime.place; handle = handle })) (sym is.1) ∙ ap (option_and_then (λ place. with_least object place es)) is.0
-
--- the walk from the least handle on
-module _ (object : ℕ) (m : fin.FinMap nat_cmp Held) (at : ℕ) (first : Option Prime) (told : lesser_place first (first_in object (entries_from m at)) ≡ first_in object (fin.entries m)) where
-  -- nothing is left
-  pub walk_ends : entries_from m at ≡ [] → first ≡ least_prime object (fin.entries m)
-  walk_ends none =
-      let all : first ≡ first_in object (fin.entries m) = sym (first_alone first) ∙ ap (λ es. lesser_place first (first_in object es)) (sym none) ∙ told in
-      all ∙ first_is_least object (fin.entries m) _ (first_is object (fin.entries m) (fin.entries_sorted m))
+module _ (slots : fin.FinMap nat_cmp Held) (object : ℕ) where
+  IfFirst : Prime → Option Prime → Type 0
+  IfFirst x o = IfSome o (λ y. IsFirst x y)
 
   -- one more handle
-  pub walk_goes_on : (h : ℕ) (x : Held) → entries_from m at ≡ (h, x) ∷ entries_from m (h + 1) → lesser_place (lesser_place first (prime_of object (h, x))) (first_in object (entries_from m (h + 1))) ≡ first_in object (fin.entries m)
-  walk_goes_on h x next = lesser_place-assoc first (prime_of object (h, x)) (first_in object (entries_from m (h + 1))) ∙ ap (λ es. lesser_place first (first_in object es)) (sym next) ∙ told
+  pub one_more : (handles : List ℕ) (r : Option Prime) (h : ℕ) → IsLeastIn slots object handles r → IsLeastIn slots object (handles ++ h ∷ []) (lesser_prime r (prime_at slots object h))
+  one_more handles r h is = by r (prime_at slots object h) refl is
+    where
+      last : (P : ℕ → Type 0) → AllByRecursion P handles → P h → AllByRecursion P (handles ++ h ∷ [])
+      last P all p = all_append P handles (h ∷ []) all (p, tt)
+
+      by : (r o : Option Prime) → prime_at slots object h ≡ o → IsLeastIn slots object handles r → IsLeastIn slots object (handles ++ h ∷ []) (lesser_prime r o)
+      by None None at is = last (λ k. prime_at slots object k ≡ None) is at
+      by None (Some y) at is = (
+        ap (prime_at slots object) (handle_is object h (fin.get slots h) y at) ∙ at,
+        last (λ k. IfSome (prime_at slots object k) (λ z. IsFirst y z))
+            (all_weaker (λ k. prime_at slots object k ≡ None) (λ k. IfSome (prime_at slots object k) (λ z. IsFirst y z)) (λ k none. subst (λ o. IfSome o (λ z. IsFirst y z)) (sym none) tt) handles is)
+            (subst (λ o. IfSome o (λ z. IsFirst y z)) (sym at) (omega arith, λ e. omega arith)),
+      )
+      by (Some x) None at is = (is.0, last (λ k. IfSome (prime_at slots object k) (λ z. IsFirst x z)) is.1 (subst (λ o. IfSome o (λ z. IsFirst x z)) (sym at) tt))
+      by (Some x) (Some y) at is =
+          elim (is_before y x) as (λ t. is_before y x ≡ t → IsLeastIn slots object (handles ++ h ∷ []) (if t then Some y else Some x)) [
+            | true ↦ λ before. (
+              ap (prime_at slots object) (handle_is object h (fin.get slots h) y at) ∙ at,
+              last (λ k. IfSome (prime_at slots object k) (λ z. IsFirst y z))
+                  (all_weaker (λ k. IfSome (prime_at slots object k) (λ z. IsFirst x z)) (λ k. IfSome (prime_at slots object k) (λ z. IsFirst y z)) (λ k first. further (prime_at slots object k) first (not_after y x before)) handles is.1)
+                  (subst (λ o. IfSome o (λ z. IsFirst y z)) (sym at) (omega arith, λ e. omega arith)),
+            )
+            | false ↦ λ behind. (is.0, last (λ k. IfSome (prime_at slots object k) (λ z. IsFirst x z)) is.1 (subst (λ o. IfSome o (λ z. IsFirst x z)) (sym at) (not_before y x behind)))
+          ] refl
+        where
+          further : (o : Option Prime) → IfSome o (λ z. IsFirst x z) → IsFirst y x → IfSome o (λ z. IsFirst y z)
+          further None first is = tt
+          further (Some z) first is = first_trans y x z is first
+
+-- what the entries of a table have
+
+any_place : (object k : ℕ) (es : List (ℕ × Held)) → list_any (λ x. x == k) (places_in object es) ≡ list_any (λ e. is_for object e && is_at k e) es
+any_place object k [] = refl
+any_place object k (e ∷ es) =
+    let others = filter (is_for object) es in
+    let rest = list_any (λ e. is_for object e && is_at k e) es in
+    elim (is_for object e) as (λ t. list_any (λ x. x == k) (filter_map (λ x. x.1.place) (cond t (e ∷ others) others)) ≡ ((t && is_at k e) || rest)) [
+      | true ↦ elim e.1.place as (λ p. list_any (λ x. x == k) (cons_option p (filter_map (λ x. x.1.place) others)) ≡ (option_map_or (λ x. x == k) p false || rest)) [
+        | None ↦ any_place object k es
+        | Some place ↦ ap (λ b. (place == k) || b) (any_place object k es)
+      ]
+      | false ↦ any_place object k es
+    ]
+
+any_handle : (object place h : ℕ) (es : List (ℕ × Held)) → list_any (λ x. x == h) (handles_in object place es) ≡ list_any (λ e. (is_for object e && is_at place e) && (e.0 == h)) es
+any_handle object place h [] = refl
+any_handle object place h (e ∷ es) =
+    let others = filter (is_for object) es in
+    let rest = list_any (λ e. (is_for object e && is_at place e) && (e.0 == h)) es in
+    elim (is_for object e) as (λ t. list_any (λ x. x == h) (map (λ x. x.0) (filter (is_at place) (cond t (e ∷ others) others))) ≡ (((t && is_at place e) && (e.0 == h)) || rest)) [
+      | true ↦ elim (is_at place e) as (λ t. list_any (λ x. x == h) (map (λ x. x.0) (cond t (e ∷ filter (is_at place) others) (filter (is_at place) others))) ≡ ((t && (e.0 == h)) || rest)) [
+        | true ↦ ap (λ b. (e.0 == h) || b) (any_handle object place h es)
+        | false ↦ any_handle object place h es
+      ]
+      | false ↦ any_handle object place h es
+    ]
+
+any_entry : (p : ℕ × Held → Bool) (h : ℕ) (x : Held) (es : List (ℕ × Held)) → find nat_cmp h es ≡ Some x → p (h, x) ≡ true → list_any p es ≡ true
+any_entry p h x [] found passes = absurd (none_some x found)
+any_entry p h x (e ∷ es) found passes =
+    elim (eq_by_cmp nat_cmp h e.0) as (λ t. eq_by_cmp nat_cmp h e.0 ≡ t → cond t (Some e.1) (find nat_cmp h es) ≡ Some x → (p e || list_any p es) ≡ true) [
+      | true ↦ λ same is.
+          let here : (h, x) ≡ e = λ i. (tied_is h e.0 same i, sym (same_Some e.1 x is) i) in
+          ap (λ b. b || list_any p es) (ap p (sym here) ∙ passes)
+      | false ↦ λ apart is. ap (λ b. p e || b) (any_entry p h x es is passes) ∙ or_true (p e)
+    ] refl found
+  where
+    tied_is : (a b : ℕ) → eq_by_cmp nat_cmp a b ≡ true → a ≡ b
+    tied_is a b e = grind (arith, nat_tests)
+
+    or_true : (b : Bool) → (b || true) ≡ true
+    or_true true = refl
+    or_true false = refl
+
+both_of : (a b : Bool) → (a && b) ≡ true → (a ≡ true) × (b ≡ true)
+both_of true b e = (refl, e)
+both_of false b e = absurd (false≢true e)
+
+both_are : (a b : Bool) → a ≡ true → b ≡ true → (a && b) ≡ true
+both_are a b p q = (λ i. p i && q i)
+
+placed_at : (k : ℕ) (p : Option ℕ) → option_map_or (λ x. x == k) p false ≡ true → p ≡ Some k
+placed_at k None e = absurd (false≢true e)
+placed_at k (Some x) e = ap Some (eqb-true x k e)
+
+module _ (m : fin.FinMap nat_cmp Held) (object : ℕ) (handles : List ℕ) (filed : (h : ℕ) → list_any (λ x. x == h) handles ≡ option_map_or (λ (x : Held). x.object == object) (fin.get m h) false) where
+  abbrev es : List (ℕ × Held)
+  es = fin.entries m
+
+  there : AllByRecursion (λ e. fin.get m e.0 ≡ Some e.1) es
+  there = all_of_map (λ (e : ℕ × Held). fin.get m e.0 ≡ Some e.1) (λ e. e) es (all_rows nat_cmp nat_cmp_total (λ e. e) (λ (e : ℕ × Held). fin.get m e.0 ≡ Some e.1) es (fin.entries_sorted m) (λ h x found. fin.get-entries m h ∙ found))
+
+  -- what holds of each handle holds of that of an entry for the object
+  of_entry : (P : ℕ → Type 0) → AllByRecursion P handles → (h : ℕ) (x : Held) → fin.get m h ≡ Some x → (x.object == object) ≡ true → P h
+  of_entry P all h x at mine =
+      let some = some_passing (λ n. n == h) P handles all (filed h ∙ ap (λ o. option_map_or (λ (y : Held). y.object == object) o false) at ∙ mine) in
+      subst P (eqb-true some.0 h some.1) some.2
+
+  prime_is_at : (h k : ℕ) (x : Held) → fin.get m h ≡ Some x → (x.object == object) ≡ true → x.place ≡ Some k → prime_at m object h ≡ Some (record { place = k; handle = h })
+  prime_is_at h k x at mine place =
+      ap (option_and_then (λ held. prime_of object (h, held))) at
+      ∙ ap (λ t. if t then option_map (λ place. record { place = place; handle = h }) x.place else None) mine
+      ∙ ap (option_map (λ place. record { place = place; handle = h })) place
+
+  placed : (x : Prime) (o : Option Held) → option_and_then (λ held. prime_of object (x.handle, held)) o ≡ Some x → (y : Held) × (o ≡ Some y) × ((y.object == object) ≡ true) × (y.place ≡ Some x.place)
+  placed x None e = absurd (none_some x e)
+  placed x (Some y) e = let tests = by_test (y.object == object) e in (y, refl, tests.0, tests.1)
+    where
+      by_place : (p : Option ℕ) → option_map (λ place. record { place = place; handle = x.handle }) p ≡ Some x → p ≡ Some x.place
+      by_place None e = absurd (none_some x e)
+      by_place (Some k) e = ap (λ o. option_map (λ (z : Prime). z.place) o) e
+
+      by_test : (t : Bool) → (if t then option_map (λ place. record { place = place; handle = x.handle }) y.place else None) ≡ Some x → (t ≡ true) × (y.place ≡ Some x.place)
+      by_test true e = (refl, by_place y.place e)
+      by_test false e = absurd (none_some x e)
+
+  no_places : AllByRecursion (λ h. prime_at m object h ≡ None) handles → (fs : List (ℕ × Held)) → AllByRecursion (λ e. fin.get m e.0 ≡ Some e.1) fs → places_in object fs ≡ []
+  no_places none [] at = refl
+  no_places none (e ∷ fs) at =
+      let others = filter (is_for object) fs in
+      elim (is_for object e) as (λ t. is_for object e ≡ t → filter_map (λ (x : ℕ × Held). x.1.place) (cond t (e ∷ others) others) ≡ []) [
+        | true ↦ λ mine.
+            let nowhere : e.1.place ≡ None = without e.1.place refl mine in
+            ap (λ p. cons_option p (filter_map (λ (x : ℕ × Held). x.1.place) others)) nowhere ∙ no_places none fs at.1
+        | false ↦ λ other. no_places none fs at.1
+      ] refl
+    where
+      without : (p : Option ℕ) → e.1.place ≡ p → is_for object e ≡ true → e.1.place ≡ None
+      without None is mine = is
+      without (Some k) is mine =
+          absurd (none_some (record { place = k; handle = e.0 }) (sym (of_entry (λ h. prime_at m object h ≡ None) none e.0 e.1 at.0 mine) ∙ prime_is_at e.0 k e.1 at.0 mine is))
+
+  pub least_is : (r : Option Prime) → IsLeastIn m object handles r → r ≡ least_prime object es
+  least_is None none = ap (λ places. option_and_then (λ place. option_map (λ handle. record { place = place; handle = handle }) (least_of (handles_in object place es))) (least_of places)) (sym (no_places none es there))
+  least_is (Some x) is =
+      let held = placed x (fin.get m x.handle) is.0 in
+      let entry = sym (fin.get-entries m x.handle) ∙ held.1 in
+      let mine = held.2 in
+      let here : is_at x.place (x.handle, held.0) ≡ true = ap (λ p. option_map_or (λ q. q == x.place) p false) held.3 ∙ eq-eqb x.place x.place refl in
+      let place = least_of_is (places_in object es) x.place (record {
+        among = any_place object x.place es ∙ any_entry (λ e. is_for object e && is_at x.place e) x.handle held.0 es entry (both_are _ _ mine here);
+        at_most = λ k among.
+            let e = some_passing (λ e. is_for object e && is_at k e) (λ e. fin.get m e.0 ≡ Some e.1) es there (sym (any_place object k es) ∙ among) in
+            let tests = both_of _ _ e.1 in
+            let prime = prime_is_at e.0.0 k e.0.1 e.2 tests.0 (placed_at k e.0.1.place tests.1) in
+            (subst (λ o. IfSome o (λ z. IsFirst x z)) prime (of_entry (λ h. IfSome (prime_at m object h) (λ z. IsFirst x z)) is.1 e.0.0 e.0.1 e.2 tests.0)).0;
+      }) in
+      let handle = least_of_is (handles_in object x.place es) x.handle (record {
+        among = any_handle object x.place x.handle es ∙ any_entry (λ e. (is_for object e && is_at x.place e) && (e.0 == x.handle)) x.handle held.0 es entry (both_are _ _ (both_are _ _ mine here) (eq-eqb x.handle x.handle refl));
+        at_most = λ k among.
+            let e = some_passing (λ e. (is_for object e && is_at x.place e) && (e.0 == k)) (λ e. fin.get m e.0 ≡ Some e.1) es there (sym (any_handle object x.place k es) ∙ among) in
+            let last = both_of _ _ e.1 in
+            let tests = both_of _ _ last.0 in
+            let prime = prime_is_at e.0.0 x.place e.0.1 e.2 tests.0 (placed_at x.place e.0.1.place tests.1) in
+            let least = (subst (λ o. IfSome o (λ z. IsFirst x z)) prime (of_entry (λ h. IfSome (prime_at m object h) (λ z. IsFirst x z)) is.1 e.0.0 e.0.1 e.2 tests.0)).1 refl in
+            subst (λ n. x.handle ≤ n) (eqb-true e.0.0 k last.1) least;
+      }) in
+      ap (option_map (λ h. record { place = x.place; handle = h })) (sym handle) ∙ ap (option_and_then (λ place. option_map (λ handle. record { place = place; handle = handle }) (least_of (handles_in object place es)))) (sym place)
+
+  -- no handle is for the object
+  pub least_none : ((h : ℕ) → list_any (λ x. x == h) handles ≡ false) → None ≡ least_prime object es
+  least_none none = least_is None (every handles none)
+    where
+      every : (hs : List ℕ) → ((h : ℕ) → list_any (λ x. x == h) hs ≡ false) → AllByRecursion (λ h. prime_at m object h ≡ None) hs
+      every [] none = tt
+      every (h ∷ hs) none = absurd (false≢true (sym (none h) ∙ ap (λ b. b || list_any (λ x. x == h) hs) (eq-eqb h h refl)))
 
 -- the lists of a client's handles are those of its table
 
@@ -193,13 +270,13 @@ module _ (limit last : ℕ) (m : fin.FinMap nat_cmp FileRecord) (c : ℕ) (r : F
   handles_at_are place = ap (λ rows. map (λ row. row.handle) (filter (has_place place) rows)) rows_are ∙ handles_by_row c place (filter (is_for object) (fin.entries r.handles.slots))
 
   -- the least in the client's table is its PRIME handle
-  pub prime_is : option_map (λ prime. prime.handle) (least_prime object (fin.entries r.handles.slots)) ≡ prime_handle (lists_of limit last m) c object
+  pub prime_is : option_map (λ (prime : Prime). prime.handle) (least_prime object (fin.entries r.handles.slots)) ≡ prime_handle (lists_of limit last m) c object
   prime_is = handle_of (least_of (places_in object (fin.entries r.handles.slots))) ∙ (λ i. option_and_then (λ place. least_of (sym (handles_at_are place) i)) (least_of (sym places_are i)))
     where
       of_place : (place : ℕ) (x : Option ℕ) → option_map (λ (prime : Prime). prime.handle) (option_map (λ handle. record { place = place; handle = handle }) x) ≡ x
       of_place place None = refl
       of_place place (Some handle) = refl
 
-      handle_of : (x : Option ℕ) → option_map (λ prime. prime.handle) (option_and_then (λ place. with_least object place (fin.entries r.handles.slots)) x) ≡ option_and_then (λ place. least_of (handles_in object place (fin.entries r.handles.slots))) x
+      handle_of : (x : Option ℕ) → option_map (λ (prime : Prime). prime.handle) (option_and_then (λ place. option_map (λ handle. record { place = place; handle = handle }) (least_of (handles_in object place (fin.entries r.handles.slots)))) x) ≡ option_and_then (λ place. least_of (handles_in object place (fin.entries r.handles.slots))) x
       handle_of None = refl
       handle_of (Some place) = of_place place (least_of (handles_in object place (fin.entries r.handles.slots)))

@@ -11,11 +11,14 @@ use Rattle.drm_index_array.specs.Least.{least}
 use Rattle.drm_index_array.proofs.Least.{least-same}
 use Rattle.drm_index_array.proofs.MarkedLemmas.{get-insert, get-remove, insert_same}
 use Rattle.drm_id_alloc.specs.Table.{Table, is_free, least_free, with_entry, without_entry}
+use Rattle.drm_id_alloc.specs.Groups.{Groups, AreSame, IsAdded, IsTaken, AreGroupsOf}
+use Rattle.drm_id_alloc.proofs.GroupLemmas.{grouped_same, grouped_more, grouped_fewer, grouped_kept}
+use Rattle.drm_files.specs.declared.by_object.ByObject.{ByObject}
 use Rattle.drm_files.specs.declared.files.FileRecord.{FileRecord}
 use Rattle.drm_files.specs.declared.files.Held.{Held}
 use Rattle.drm_files.specs.declared.rows.FileHold.{FileHold}
 use Rattle.drm_files.specs.Files.{client, hold, hold_before, client_before, is_present, is_hold, is_among, handles_of, free_handle, left_by, empty_files, AreFiles, IsHoldOf, InOrder}
-use Rattle.drm_files.specs.Records.{rows_in, holds_in, clients_in, lists_of, pairs_of, IsTable, AreRecords}
+use Rattle.drm_files.specs.Records.{rows_in, holds_in, clients_in, lists_of, pairs_of, handles_by, IsTable, IsFiled, AreRecords}
 use Rattle.drm_index_array.proofs.Keyed.{all_rows, rows_in_order, none_some}
 use Rattle.drm_files.proofs.Flat.{place_cmp, place_total, row_of, flat, rows_flat, sorted_flat, held, find_held, eqb_other}
 use Rattle.drm_files.proofs.Changes.{client_of, before_test, hold_order, find_client, find_hold, held_here, rows_of_client}
@@ -135,22 +138,38 @@ IsTable-drop last t s k is f l slots = record {
     before h there = inside (eqb h k) (fin.get t.slots h) (sym (ap is_some (get-remove t.slots k h)) ∙ there)
 
 module _ (limit last : ℕ) (m : fin.FinMap nat_cmp FileRecord) (are : AreRecords limit last m) (c : ℕ) where
-  pub AreRecords-insert : (s : FileRecord) → IsTable last s.handles → AreRecords limit last (fin.insert m c s)
-  AreRecords-insert s is = record { limit_high = are.limit_high; last_low = are.last_low; last_high = are.last_high; tables = λ k r found. each k r (eqb k c) refl (sym (get-insert m c s k) ∙ found) }
+  pub AreRecords-insert : (s : FileRecord) → IsTable last s.handles → IsFiled s → AreRecords limit last (fin.insert m c s)
+  AreRecords-insert s is filed = record {
+    limit_high = are.limit_high;
+    last_low = are.last_low;
+    last_high = are.last_high;
+    tables = λ k r found. (each k r (eqb k c) (sym (get-insert m c s k) ∙ found)).0;
+    filed = λ k r found. (each k r (eqb k c) (sym (get-insert m c s k) ∙ found)).1;
+  }
     where
-      each : (k : ℕ) (r : FileRecord) (b : Bool) → eqb k c ≡ b → cond b (Some s) (fin.get m k) ≡ Some r → IsTable last r.handles
-      each k r true is_c found = subst (λ (t : FileRecord). IsTable last t.handles) (ap (λ x. unwrap_or x s) found) is
-      each k r false other found = are.tables k r found
+      each : (k : ℕ) (r : FileRecord) (b : Bool) → cond b (Some s) (fin.get m k) ≡ Some r → IsTable last r.handles × IsFiled r
+      each k r true found = subst (λ (t : FileRecord). IsTable last t.handles × IsFiled t) (ap (λ x. unwrap_or x s) found) (is, filed)
+      each k r false found = (are.tables k r found, are.filed k r found)
 
   pub AreRecords-remove : AreRecords limit last (fin.remove m c)
-  AreRecords-remove = record { limit_high = are.limit_high; last_low = are.last_low; last_high = are.last_high; tables = λ k r found. each k r (eqb k c) (sym (get-remove m c k) ∙ found) }
+  AreRecords-remove = record {
+    limit_high = are.limit_high;
+    last_low = are.last_low;
+    last_high = are.last_high;
+    tables = λ k r found. are.tables k r (each k r (eqb k c) (sym (get-remove m c k) ∙ found));
+    filed = λ k r found. are.filed k r (each k r (eqb k c) (sym (get-remove m c k) ∙ found));
+  }
     where
-      each : (k : ℕ) (r : FileRecord) (b : Bool) → cond b None (fin.get m k) ≡ Some r → IsTable last r.handles
+      each : (k : ℕ) (r : FileRecord) (b : Bool) → cond b None (fin.get m k) ≡ Some r → fin.get m k ≡ Some r
       each k r true found = absurd (none_some r found)
-      each k r false found = are.tables k r found
+      each k r false found = found
 
 abbrev pub with_table : FileRecord → Table Held → FileRecord
-with_table r t = record { flags = r.flags; handles = t }
+with_table r t = record r { handles = t }
+
+-- the handles by their objects, too
+abbrev pub with_both : FileRecord → Table Held → ByObject → FileRecord
+with_both r t by_object = record { flags = r.flags; handles = t; by_object = by_object }
 
 module _ (limit last : ℕ) (m : fin.FinMap nat_cmp FileRecord) (c : ℕ) (r : FileRecord) (t : Table Held) (found : fin.get m c ≡ Some r) where
   -- a table that is written back as it was
@@ -160,14 +179,37 @@ module _ (limit last : ℕ) (m : fin.FinMap nat_cmp FileRecord) (c : ℕ) (r : F
   pub are-unchanged : AreRecords limit last m → t ≡ r.handles → AreRecords limit last (fin.insert m c (with_table r t))
   are-unchanged are same = subst (AreRecords limit last) (sym (unchanged same)) are
 
-  pub are-added : AreRecords limit last m → (h : ℕ) (x : Held) → r.handles.first ≤ h → h ≤ r.handles.last → t ≡ with_entry r.handles h x → AreRecords limit last (fin.insert m c (with_table r t))
-  are-added are h x low high new =
-      let table = are.tables c r found in
-      AreRecords-insert limit last m are c (with_table r t) (IsTable-add last r.handles t h x table (omega (arith, low, table.first_is)) (omega (arith, high, table.last_is)) (ap (λ u. u.first) new) (ap (λ u. u.last) new) (ap (λ u. u.slots) new))
+  module _ (are : AreRecords limit last m) (new : ByObject) where
+    abbrev old_groups : Groups
+    old_groups = handles_by r.by_object.objects.items
 
-  pub are-dropped : AreRecords limit last m → (h : ℕ) → t ≡ without_entry r.handles h → AreRecords limit last (fin.insert m c (with_table r t))
-  are-dropped are h new =
-      AreRecords-insert limit last m are c (with_table r t) (IsTable-drop last r.handles t h (are.tables c r found) (ap (λ u. u.first) new) (ap (λ u. u.last) new) (ap (λ u. u.slots) new))
+    abbrev new_groups : Groups
+    new_groups = handles_by new.objects.items
+
+    -- the table is as it was, and so is what is filed
+    pub are-kept : t ≡ r.handles → AreSame old_groups new_groups → AreRecords limit last (fin.insert m c (with_both r t new))
+    are-kept same filed =
+        AreRecords-insert limit last m are c (with_both r t new) (subst (IsTable last) (sym same) (are.tables c r found))
+        (grouped_same (λ (x : Held). x.object) t.slots old_groups new_groups (subst (λ (u : Table Held). AreGroupsOf (λ (x : Held). x.object) u.slots old_groups) (sym same) (are.filed c r found)) filed)
+
+    pub are-added : (h : ℕ) (x : Held) → r.handles.first ≤ h → h ≤ r.handles.last → fin.get r.handles.slots h ≡ None → t ≡ with_entry r.handles h x → IsAdded old_groups x.object h new_groups → AreRecords limit last (fin.insert m c (with_both r t new))
+    are-added h x low high fresh is added =
+        let table = are.tables c r found in
+        AreRecords-insert limit last m are c (with_both r t new) (IsTable-add last r.handles t h x table (omega (arith, low, table.first_is)) (omega (arith, high, table.last_is)) (ap (λ u. u.first) is) (ap (λ u. u.last) is) (ap (λ u. u.slots) is))
+        (subst (λ (u : Table Held). AreGroupsOf (λ (x : Held). x.object) u.slots new_groups) (sym is) (grouped_more (λ (x : Held). x.object) r.handles.slots old_groups new_groups (are.filed c r found) h x x.object fresh refl added))
+
+    pub are-dropped : (h : ℕ) (x : Held) → fin.get r.handles.slots h ≡ Some x → t ≡ without_entry r.handles h → IsTaken old_groups x.object h new_groups → AreRecords limit last (fin.insert m c (with_both r t new))
+    are-dropped h x there is taken =
+        AreRecords-insert limit last m are c (with_both r t new) (IsTable-drop last r.handles t h (are.tables c r found) (ap (λ u. u.first) is) (ap (λ u. u.last) is) (ap (λ u. u.slots) is))
+        (subst (λ (u : Table Held). AreGroupsOf (λ (x : Held). x.object) u.slots new_groups) (sym is) (grouped_fewer (λ (x : Held). x.object) r.handles.slots old_groups new_groups (are.filed c r found) h x x.object there refl taken))
+
+  -- another value behind a handle, of the same object
+  pub are-replaced : AreRecords limit last m → (h : ℕ) (x y : Held) → r.handles.first ≤ h → h ≤ r.handles.last → fin.get r.handles.slots h ≡ Some x → y.object ≡ x.object → t ≡ with_entry r.handles h y → AreRecords limit last (fin.insert m c (with_table r t))
+  are-replaced are h x y low high there same is =
+      let table = are.tables c r found in
+      let groups = handles_by r.by_object.objects.items in
+      AreRecords-insert limit last m are c (with_table r t) (IsTable-add last r.handles t h y table (omega (arith, low, table.first_is)) (omega (arith, high, table.last_is)) (ap (λ u. u.first) is) (ap (λ u. u.last) is) (ap (λ u. u.slots) is))
+      (subst (λ (u : Table Held). AreGroupsOf (λ (x : Held). x.object) u.slots groups) (sym is) (grouped_kept (λ (x : Held). x.object) r.handles.slots groups groups (are.filed c r found) h x y there same))
 
 pub AreRecords-empty : (limit last : ℕ) (m : fin.FinMap nat_cmp FileRecord) → m ≡ fin.empty → limit ≤ 4294967295 → 1 ≤ last → last ≤ 4294967295 → AreRecords limit last m
 AreRecords-empty limit last m none limit_high low high = record {
@@ -175,6 +217,7 @@ AreRecords-empty limit last m none limit_high low high = record {
   last_low = low;
   last_high = high;
   tables = λ k r found. absurd (none_some r (sym (ap (λ n. fin.get n k) none ∙ fin.get-empty nat_cmp k) ∙ found));
+  filed = λ k r found. absurd (none_some r (sym (ap (λ n. fin.get n k) none ∙ fin.get-empty nat_cmp k) ∙ found));
 }
 
 no_entries : fin.entries (fin.empty {K = ℕ} {X = FileRecord} {R = nat_cmp}) ≡ []

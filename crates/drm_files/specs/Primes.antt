@@ -1,6 +1,8 @@
 -- The PRIME handles of one client, by the entries of its table.
-use Rattle.std.specs.Prelude.{ℕ, ◌==◌, Bool, false, if◌then◌else◌, nat_lt, List, filter, map as list_map, Option, Some, None, option_map}
-use Rattle.std.specs.List.{filter_map}
+use Rattle.std.specs.Prelude.{◌≡◌, ℕ, ◌==◌, ◌≤◌, ◌&&◌, ◌||◌, Bool, false, if◌then◌else◌, nat_lt, List, filter, map as list_map, Option, Some, None, IfSome, option_map}
+use Rattle.std.specs.List.{filter_map, AllByRecursion}
+use Rattle.std.specs.Ordering.{nat_cmp}
+use Rattle.std.specs.FinMap as map
 use Rattle.std.specs.Option.{option_map_or, option_and_then}
 use Rattle.drm_index_array.specs.Least.{least_of}
 use Rattle.drm_files.specs.declared.files.Held.{Held}
@@ -28,8 +30,25 @@ least_prime object entries = option_and_then (λ place. option_map (λ handle. r
 abbrev pub prime_of : ℕ → ℕ × Held → Option Prime
 prime_of object entry = if is_for object entry then option_map (λ place. record { place = place; handle = entry.0 }) entry.1.place else None
 
--- the one with the lesser place, and the first at a tie
-abbrev pub lesser_place : Option Prime → Option Prime → Option Prime
-lesser_place None second = second
-lesser_place (Some x) None = Some x
-lesser_place (Some x) (Some y) = if nat_lt y.place x.place then Some y else Some x
+-- a handle and its place, if it is for the object and has one
+abbrev pub prime_at : map.FinMap nat_cmp Held → ℕ → ℕ → Option Prime
+prime_at slots object h = option_and_then (λ held. prime_of object (h, held)) (map.get slots h)
+
+abbrev pub is_before : Prime → Prime → Bool
+is_before y x = nat_lt y.place x.place || ((y.place == x.place) && nat_lt y.handle x.handle)
+
+-- the one with the lesser place, and at a tie that with the lesser handle
+abbrev pub lesser_prime : Option Prime → Option Prime → Option Prime
+lesser_prime None second = second
+lesser_prime (Some x) None = Some x
+lesser_prime (Some x) (Some y) = if is_before y x then Some y else Some x
+
+-- no place is lesser, nor a handle at that place
+abbrev pub IsFirst : Prime → Prime → Type 0
+IsFirst x y = (x.place ≤ y.place) × (x.place ≡ y.place → x.handle ≤ y.handle)
+
+-- the least among these handles
+abbrev pub IsLeastIn : map.FinMap nat_cmp Held → ℕ → List ℕ → Option Prime → Type 0
+IsLeastIn slots object handles None = AllByRecursion (λ h. prime_at slots object h ≡ None) handles
+IsLeastIn slots object handles (Some x) =
+    (prime_at slots object x.handle ≡ Some x) × AllByRecursion (λ h. IfSome (prime_at slots object h) (λ y. IsFirst x y)) handles

@@ -4,6 +4,7 @@ ghost use Rattle.std.specs.Prelude.{◌≡◌, ◌≤◌, ◌<◌, ◌↔◌, tr
 ghost use Rattle.drm_files.specs.Files.{AreFiles, empty_files, is_client, is_hold, is_present, free_handle, with_client, without_client, left_by, with_hold, without_hold, with_authenticated, new_flags, hold};
 ghost use Rattle.drm_files.specs.FileFault.{IsFull};
 
+use crate::by_object::ByObject;
 use crate::faults::FileFault;
 use crate::rest::FileRest;
 use crate::rows::FileFlags;
@@ -25,6 +26,7 @@ pub(crate) struct Held {
 pub(crate) struct FileRecord {
     pub(crate) flags: FileFlags,
     pub(crate) handles: IdTable<Held>,
+    pub(crate) by_object: ByObject,
 }
 
 /// The open clients with their flags, and the handles of each. Contracts see flat lists: the
@@ -83,6 +85,7 @@ impl Files {
                 authenticated: root,
             },
             handles: IdTable::new(self.alloc, 1, self.last_handle),
+            by_object: ByObject::new(self.alloc),
         };
         if let Err(_fault) = self.clients.insert(client, record) {
             return Err(FileFault::NoMemory);
@@ -153,6 +156,10 @@ impl Files {
             Err(AddFault::Full(_)) => return Err(FileFault::Full),
             Err(AddFault::NoMemory(_)) => return Err(FileFault::NoMemory),
         };
+        if let Err(_fault) = record.by_object.note(object, handle) {
+            let _held = record.handles.remove(handle);
+            return Err(FileFault::NoMemory);
+        }
         Ok(handle)
     }
 
@@ -179,6 +186,7 @@ impl Files {
             unreachable!();
         };
         let held = record.handles.remove(handle)?;
+        record.by_object.forget(held.object, handle);
         Some(held.object)
     }
 

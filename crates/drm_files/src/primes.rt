@@ -1,9 +1,8 @@
 //! PRIME handles: those that an export or an import gave a place (drm-mm, PRIME; the places are this crate's own).
 
 ghost use Rattle.std.specs.Prelude.{◌≡◌, true, is_some, find};
-ghost use Rattle.std.specs.FinMap as map;
 ghost use Rattle.drm_files.specs.Files.{AreFiles, is_present, is_hold, prime_handle, with_place};
-ghost use Rattle.drm_files.specs.Primes.{least_prime, prime_of, lesser_place};
+ghost use Rattle.drm_files.specs.Primes.{IsLeastIn, prime_at, prime_of, is_before, lesser_prime};
 
 use crate::files::{Files, Held};
 use drm_gem::ObjectKey;
@@ -19,7 +18,7 @@ struct Prime {
 impl Files {
     /// The handle of an open client for an object with the least PRIME place, and at a tie the least handle (drm-mm,
     /// PRIME): the one that a further import of the object gives. There is none where no handle of the client for
-    /// the object has a place. It goes through the client's handles, and takes no memory.
+    /// the object has a place. It passes over no handle for another object, and takes no memory.
     pub fn prime_handle(&self, client: u32, object: ObjectKey) -> Option<u32>
         requires present { is_present self.now client ≡ true }
         ensures handle { result ≡ prime_handle self.now client object }
@@ -28,7 +27,8 @@ impl Files {
         let Some(record) = self.clients.get(client) else {
             unreachable!();
         };
-        let least = least_prime(&record.handles, object)?;
+        let handles = record.by_object.objects.get(object.number())?;
+        let least = least_prime(&record.handles, handles.as_slice(), object)?;
         Some(least.handle)
     }
 
@@ -55,26 +55,23 @@ impl Files {
     }
 }
 
-// The handle for an object with the least place, and at a tie the least handle.
-fn least_prime(table: &IdTable<Held>, object: ObjectKey) -> Option<Prime>
-    ensures { result ≡ least_prime object (map.entries table.now.slots) }
+// Of these handles the one for an object with the least place, and at a tie the least handle.
+fn least_prime(table: &IdTable<Held>, handles: &[u32], object: ObjectKey) -> Option<Prime>
+    ensures { IsLeastIn table.now.slots object handles.now result }
 {
     let mut least = None;
-    let mut at = 0;
-    for _turn in 0..table.len() {
-        let Some(handle) = table.next(at) else {
-            return least;
-        };
-        let Some(held) = table.get(handle) else {
-            unreachable!();
-        };
-        least = lesser_place(least, prime_of(handle, *held, object));
-        let Some(above) = handle.checked_add(1) else {
-            return least;
-        };
-        at = above;
+    for place in 0..handles.len() {
+        least = lesser_prime(least, prime_at(table, handles[place], object));
     }
     least
+}
+
+// The handle and its place, if it is for the object and has one.
+fn prime_at(table: &IdTable<Held>, handle: u32, object: ObjectKey) -> Option<Prime>
+    ensures { result ≡ prime_at table.now.slots object handle }
+{
+    let held = table.get(handle)?;
+    prime_of(handle, *held, object)
 }
 
 // The handle and its place, if it is for the object and has one.
@@ -88,9 +85,9 @@ fn prime_of(handle: u32, held: Held, object: ObjectKey) -> Option<Prime>
     Some(Prime { place, handle })
 }
 
-// The one with the lesser place, and the first at a tie.
-fn lesser_place(first: Option<Prime>, second: Option<Prime>) -> Option<Prime>
-    ensures { result ≡ lesser_place first second }
+// The one with the lesser place, and at a tie that with the lesser handle.
+fn lesser_prime(first: Option<Prime>, second: Option<Prime>) -> Option<Prime>
+    ensures { result ≡ lesser_prime first second }
 {
     let Some(one) = first else {
         return second;
@@ -98,9 +95,11 @@ fn lesser_place(first: Option<Prime>, second: Option<Prime>) -> Option<Prime>
     let Some(other) = second else {
         return first;
     };
-    if other.place < one.place {
-        second
-    } else {
-        first
-    }
+    if is_before(other, one) { second } else { first }
+}
+
+fn is_before(other: Prime, one: Prime) -> bool
+    ensures { result ≡ is_before other one }
+{
+    other.place < one.place || (other.place == one.place && other.handle < one.handle)
 }

@@ -9,12 +9,6 @@ use Rattle.drm_gem.specs.declared.object.Object.{Object}
 use Rattle.drm_gem.specs.Rising.{AreRising}
 use Rattle.drm_gem.specs.Objects.{ObjectSet, is_key, object_at, changed_at, without_key, is_unused, dead_of}
 
-less-other : (a b k : ℕ) → a < b → b ≡ k → (a == k) ≡ false
-less-other a b k h e = grind (arith, nat_tests)
-
-more-other : (a k : ℕ) → k < a → (a == k) ≡ false
-more-other a k h = grind (arith, nat_tests)
-
 -- what is found has the key
 pub found-key : (k : ℕ) → (xs : List Object) (x : Object) → find (is_key k) xs ≡ Some x → x.key ≡ k
 found-key k [] x h = absurd (let n : None ≡ Some x = h in cc)
@@ -24,25 +18,18 @@ found-key k (y ∷ ys) x h =
       | false ↦ λ e j. found-key k ys x j
     ] refl h
 
--- a key that is less than all is none of theirs
-map_above : (k : ℕ) (f : Object → Object) → (xs : List Object) → AllByRecursion (λ (y : Object). k < y.key) xs → map (λ (z : Object). if z.key == k then f z else z) xs ≡ xs
-map_above k f [] h = refl
-map_above k f (x ∷ xs) h = ap (λ b. cond b (f x) x ∷ map (λ (z : Object). if z.key == k then f z else z) xs) (more-other x.key k h.0) ∙ ap (λ zs. x ∷ zs) (map_above k f xs h.1)
+-- a key that none of them has
+map_apart : (k : ℕ) (f : Object → Object) → (xs : List Object) → AllByRecursion (λ (y : Object). (y.key == k) ≡ false) xs → map (λ (z : Object). if z.key == k then f z else z) xs ≡ xs
+map_apart k f [] h = refl
+map_apart k f (x ∷ xs) h = ap (λ b. cond b (f x) x ∷ map (λ (z : Object). if z.key == k then f z else z) xs) h.0 ∙ ap (λ zs. x ∷ zs) (map_apart k f xs h.1)
 
-above : (x : Object) (k : ℕ) (xs : List Object) → x.key ≡ k → AllByRecursion (λ (y : Object). x.key < y.key) xs → AllByRecursion (λ (y : Object). k < y.key) xs
-above x k xs e h = subst (λ n. AllByRecursion (λ (y : Object). n < y.key) xs) e h
-
--- ---- the order stays
-
--- a new birth is no key
-pub new_key : (n : ℕ) → (xs : List Object) → AllByRecursion (λ (x : Object). x.birth < n) xs → AreRising xs → find (is_key n) xs ≡ None
-new_key n [] h k = refl
-new_key n (x ∷ xs) h k = ap (λ b. cond b (Some x) (find (is_key n) xs)) (less-other x.key n n (rw k.0 h.0) refl) ∙ new_key n xs h.1 k.2
+apart : (x : Object) (k : ℕ) (xs : List Object) → x.key ≡ k → AllByRecursion (λ (y : Object). (y.key == x.key) ≡ false) xs → AllByRecursion (λ (y : Object). (y.key == k) ≡ false) xs
+apart x k xs e h = subst (λ n. AllByRecursion (λ (y : Object). (y.key == n) ≡ false) xs) e h
 
 -- ---- one object has the key
 
-changed_alike : (k : ℕ) (y : Object) (f : Object → Object) → (xs : List Object) → AllByRecursion (λ (x : Object). k < x.key) xs → map (λ (z : Object). if z.key == k then y else z) xs ≡ map (λ (z : Object). if z.key == k then f z else z) xs
-changed_alike k y f xs h = map_above k (λ o. y) xs h ∙ sym (map_above k f xs h)
+changed_alike : (k : ℕ) (y : Object) (f : Object → Object) → (xs : List Object) → AllByRecursion (λ (x : Object). (x.key == k) ≡ false) xs → map (λ (z : Object). if z.key == k then y else z) xs ≡ map (λ (z : Object). if z.key == k then f z else z) xs
+changed_alike k y f xs h = map_apart k (λ o. y) xs h ∙ sym (map_apart k f xs h)
 
 -- what its key's object becomes is what each object of the key becomes
 pub changed-same : (k : ℕ) (f : Object → Object) → (xs : List Object) (x : Object) → AreRising xs → find (is_key k) xs ≡ Some x → map (λ (z : Object). if z.key == k then f x else z) xs ≡ map (λ (z : Object). if z.key == k then f z else z) xs
@@ -51,13 +38,13 @@ changed-same k f (z ∷ zs) x h e =
     elim (z.key == k) as (λ b. (z.key == k) ≡ b → cond b (Some z) (find (is_key k) zs) ≡ Some x → cond b (f x) z ∷ map (λ (o : Object). if o.key == k then f x else o) zs ≡ cond b (f z) z ∷ map (λ (o : Object). if o.key == k then f o else o) zs) [
       | true ↦ λ is j.
           let same : z ≡ x = let s : Some z ≡ Some x = j in cc in
-          ap (λ o. f o ∷ map (λ (o : Object). if o.key == k then f x else o) zs) (sym same) ∙ ap (λ os. f z ∷ os) (changed_alike k (f x) f zs (above z k zs (eqb-true z.key k is) h.1))
+          ap (λ o. f o ∷ map (λ (o : Object). if o.key == k then f x else o) zs) (sym same) ∙ ap (λ os. f z ∷ os) (changed_alike k (f x) f zs (apart z k zs (eqb-true z.key k is) h.1))
       | false ↦ λ is j. ap (λ os. z ∷ os) (changed-same k f zs x h.2 j)
     ] refl e
 
-none_above : (k : ℕ) (f : Object → Object) → (xs : List Object) → AllByRecursion (λ (y : Object). k < y.key) xs → find (λ (z : Object). is_key k z && is_unused (f z)) xs ≡ None
-none_above k f [] h = refl
-none_above k f (x ∷ xs) h = ap (λ b. cond (b && is_unused (f x)) (Some x) (find (λ (z : Object). is_key k z && is_unused (f z)) xs)) (more-other x.key k h.0) ∙ none_above k f xs h.1
+none_apart : (k : ℕ) (f : Object → Object) → (xs : List Object) → AllByRecursion (λ (y : Object). (y.key == k) ≡ false) xs → find (λ (z : Object). is_key k z && is_unused (f z)) xs ≡ None
+none_apart k f [] h = refl
+none_apart k f (x ∷ xs) h = ap (λ b. cond (b && is_unused (f x)) (Some x) (find (λ (z : Object). is_key k z && is_unused (f z)) xs)) h.0 ∙ none_apart k f xs h.1
 
 left_or_none : (b : Bool) (x : Object) → option_map dead_of (cond b (Some x) None) ≡ (if b then Some (dead_of x) else None)
 left_or_none true x = refl
@@ -72,7 +59,7 @@ dead-same k f (z ∷ zs) x h e =
     option_map dead_of (cond (b && is_unused (f z)) (Some z) (find (λ (o : Object). is_key k o && is_unused (f o)) zs)) ≡ (if is_unused (f x) then Some (dead_of x) else None)) [
       | true ↦ λ is j.
           let same : z ≡ x = let s : Some z ≡ Some x = j in cc in
-          let rest : find (λ (o : Object). is_key k o && is_unused (f o)) zs ≡ None = none_above k f zs (above z k zs (eqb-true z.key k is) h.1) in
+          let rest : find (λ (o : Object). is_key k o && is_unused (f o)) zs ≡ None = none_apart k f zs (apart z k zs (eqb-true z.key k is) h.1) in
           subst (λ (o : Object). option_map dead_of (cond (is_unused (f z)) (Some z) (find (λ (o : Object). is_key k o && is_unused (f o)) zs)) ≡ (if is_unused (f o) then Some (dead_of o) else None)) same
           (ap (λ r. option_map dead_of (cond (is_unused (f z)) (Some z) r)) rest ∙ left_or_none (is_unused (f z)) z)
       | false ↦ λ is j. dead-same k f zs x h.2 j
@@ -94,5 +81,3 @@ changed_there set k f x h e =
 
 pub without_there : (set : ObjectSet) (k : ℕ) (x : Object) → object_at set k ≡ Some x → without_key x.key set ≡ without_key k set
 without_there set k x e = ap (λ n. without_key n set) (found-key k set.objects x e)
-
--- ---- by a place that a search found

@@ -1,9 +1,9 @@
--- Objects in the order of their births, which are their keys.
-use Rattle.std.specs.Prelude.{◌≡◌, ◌<◌, List, [], ◌∷◌, ⊤}
+-- Objects in the order of their births, no two with one key.
+use Rattle.std.specs.Prelude.{◌≡◌, ◌<◌, ◌==◌, false, List, [], ◌∷◌, ⊤}
 use Rattle.std.specs.List.{AllByRecursion}
 use Rattle.drm_gem.specs.declared.object.Object.{Object}
 
--- each key is less than those that follow, and each object's key is its birth
+-- each is older than those that follow, which have other keys
 abbrev pub AreRising : List Object → Type 0
 AreRising [] = ⊤
-AreRising (x ∷ xs) = (x.key ≡ x.birth) × AllByRecursion (λ (y : Object). x.key < y.key) xs × AreRising xs
+AreRising (x ∷ xs) = AllByRecursion (λ (y : Object). x.birth < y.birth) xs × AllByRecursion (λ (y : Object). (y.key == x.key) ≡ false) xs × AreRising xs

@@ -11,6 +11,7 @@ ghost use Rattle.drm_gem.specs.Objects.{IsNewBirth, with_object, changed_at, wit
 use crate::keys::ObjectKey;
 use crate::object::{Dead, Object};
 use drm_index_array::{IndexArray, InsertFault};
+use slab::Slab;
 use std::alloc::Global;
 use std::marker::Model;
 
@@ -23,9 +24,10 @@ pub enum CreateFault {
     NoMemory,
 }
 
-// What is kept of an object beside its key, which is its birth.
+// What is kept of an object under its key.
 #[derive(Clone, Copy)]
 pub(crate) struct Kept {
+    pub(crate) birth: u32,
     pub(crate) size: u64,
     pub(crate) stamp: u64,
     pub(crate) holds: u32,
@@ -35,8 +37,9 @@ pub(crate) struct Kept {
 /// The objects that are there, in the order of the steps that made them. Contracts see a flat list.
 #[derive(Drop)]
 pub struct Objects {
-    // by their births
-    objects: IndexArray<Kept>,
+    // the keys, by the births of their objects
+    keys: IndexArray<u32>,
+    kept: Slab<Kept>,
     limit: u32,
 }
 
@@ -45,9 +48,11 @@ impl Model for Objects {
 
     ghost Value = { ObjectSet };
 
-    ghost use Rattle.drm_gem.specs.Fields.{objects_of};
+    ghost use Rattle.drm_gem.specs.Fields.{objects_of, IsSound};
 
     ghost view = { objects_of };
+
+    ghost invariant = { IsSound };
 }
 
 impl Objects {
@@ -56,7 +61,8 @@ impl Objects {
         ensures { result ≡ record { limit = limit; objects = [] } }
     {
         Objects {
-            objects: IndexArray::new(alloc),
+            keys: IndexArray::new(alloc),
+            kept: Slab::new(alloc),
             limit,
         }
     }
@@ -72,21 +78,30 @@ impl Objects {
         ensures ok { IfOk result (λ key. self.new ≡ with_object self.old key birth size) }
         ensures err { OnErr result (self.new ≡ self.old) }
     {
-        if self.objects.len() >= self.limit as usize {
+        if self.keys.len() >= self.limit as usize {
             return Err(CreateFault::Full);
         }
-        let kept = Kept {
-            size,
-            stamp: 0,
-            holds: 1,
-            refs: 0,
-        };
-        match self.objects.insert(birth, kept) {
+        // a slab gives low keys, of which its contract says nothing: those of 32 bits end long after the memory
+        let key = self.kept.vacant_key();
+        if key > u32::MAX as usize {
+            return Err(CreateFault::NoMemory);
+        }
+        if let Err(_fault) = self.kept.reserve(1) {
+            return Err(CreateFault::NoMemory);
+        }
+        match self.keys.insert(birth, key as u32) {
             Ok(()) => {}
             Err(InsertFault::NoMemory(_)) => return Err(CreateFault::NoMemory),
             Err(InsertFault::Taken(_)) => unreachable!(),
         }
-        Ok(ObjectKey::from_number(birth))
+        let _key = self.kept.insert_reserved(Kept {
+            birth,
+            size,
+            stamp: 0,
+            holds: 1,
+            refs: 0,
+        });
+        Ok(ObjectKey::from_number(key as u32))
     }
 
     /// The object of a key, if it is there.
@@ -203,9 +218,9 @@ impl Objects {
     pub fn nth(&self, place: usize) -> Option<Object>
         ensures { result ≡ slice_get self.now.objects place }
     {
-        let birth = self.objects.nth(place)?;
-        let kept = self.objects.get(birth)?;
-        Some(object_of(birth, *kept))
+        let birth = self.keys.nth(place)?;
+        let key = *self.keys.get(birth)?;
+        self.find(ObjectKey::from_number(key))
     }
 
     // the object of a key, if it is there
@@ -213,9 +228,8 @@ impl Objects {
         ensures value { result ≡ object_at self.now key }
         ensures rising { AreRising self.now.objects }
     {
-        let birth = key.number();
-        let kept = self.objects.get(birth)?;
-        Some(object_of(birth, *kept))
+        let kept = self.kept.get(key.number() as usize)?;
+        Some(object_of(key, *kept))
     }
 
     // the object of a key that is there
@@ -235,10 +249,11 @@ impl Objects {
         requires { option_map (λ x. x.birth) (object_at self.old object.key) ≡ Some object.birth }
         ensures { self.new ≡ changed_at object.key (λ x. object) self.old }
     {
-        let Some(kept) = self.objects.get_mut(object.key.number()) else {
+        let Some(kept) = self.kept.get_mut(object.key.number() as usize) else {
             unreachable!()
         };
         *kept = Kept {
+            birth: object.birth,
             size: object.size,
             stamp: object.stamp,
             holds: object.holds,
@@ -257,28 +272,30 @@ impl Objects {
             self.set(object);
             return None;
         }
-        self.remove(object.key);
+        self.remove(object.key, object.birth);
         Some(Dead {
             birth: object.birth,
             size: object.size,
         })
     }
 
-    fn remove(&mut self, key: ObjectKey)
-        requires { is_there self.old key ≡ true }
+    // takes the object of a key away, which has this birth
+    fn remove(&mut self, key: ObjectKey, birth: u32)
+        requires { option_map (λ x. x.birth) (object_at self.old key) ≡ Some birth }
         ensures { self.new ≡ without_key key self.old }
     {
-        let _kept = self.objects.remove(key.number());
+        let _key = self.keys.remove(birth);
+        let _kept = self.kept.try_remove(key.number() as usize);
     }
 }
 
-/// The object of a birth, of which this is kept.
-fn object_of(birth: u32, kept: Kept) -> Object
-    ensures { result ≡ object birth kept }
+/// The object of a key, of which this is kept.
+fn object_of(key: ObjectKey, kept: Kept) -> Object
+    ensures { result ≡ object key kept }
 {
     Object {
-        key: ObjectKey::from_number(birth),
-        birth,
+        key,
+        birth: kept.birth,
         size: kept.size,
         stamp: kept.stamp,
         holds: kept.holds,

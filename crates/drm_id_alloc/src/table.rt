@@ -114,8 +114,8 @@ impl<T: Drop> IdTable<T> {
         Some(id)
     }
 
-    /// The number that comes after the last one given.
-    fn next_in_turn(&self) -> Option<u32>
+    /// The number that `add_cyclic` gives next; none where no number is free.
+    pub fn next_in_turn(&self) -> Option<u32>
         ensures next { result ≡ next_cyclic self.now }
         ensures fresh { IfSome result (λ id. map.get self.now.slots id ≡ None) }
         ensures low { IfSome result (λ id. self.now.first ≤ id) }

@@ -1,4 +1,5 @@
 mod Numbered
 mod NameFacts
 mod TokenFacts
+mod Owners
 pub mod Crossing

@@ -1,4 +1,5 @@
 pub mod Names
 pub mod Tokens
+pub mod Owned
 pub mod Tables
 pub mod ShareFault

@@ -4,6 +4,7 @@
 
 mod faults;
 mod names;
+mod owned;
 mod rows;
 mod tokens;
 

@@ -3,12 +3,12 @@
 ghost use Rattle.std.specs.Prelude.{◌≡◌, ◌≤◌, ◌↔◌, Some, None, find, slice_get, OnSome, OnErr, IfOk, IfErr, IfSome, IfNone, IsTrue, option_map};
 ghost use Rattle.drm_share.specs.Tokens.{AreTokens, empty_tokens, is_token, is_token_of, is_exported_by, next_token, with_token, without_token, token};
 ghost use Rattle.drm_share.specs.ShareFault.{IsFull};
-ghost use Rattle.drm_share.specs.Tables.{tokens_in};
 
 use crate::faults::ShareFault;
+use crate::owned::Owned;
 use crate::rows::SharedToken;
 use drm_gem::ObjectKey;
-use drm_id_alloc::{AddFault, IdTable};
+use drm_id_alloc::IdTable;
 use std::alloc::Global;
 use std::marker::Model;
 
@@ -25,17 +25,18 @@ pub(crate) struct Export {
 #[derive(Drop)]
 pub struct Tokens {
     exports: IdTable<Export>,
+    owned: Owned,
 }
 
 impl Model for Tokens {
     ghost use Rattle.drm_share.specs.Tokens.{TokenList};
-    ghost use Rattle.drm_share.specs.Tables.{token_list, IsNumbered};
+    ghost use Rattle.drm_share.specs.Tables.{token_list, HasOwners};
 
     ghost Value = { TokenList };
 
     ghost view = { λ tokens. token_list tokens.exports };
 
-    ghost invariant = { λ tokens. IsNumbered tokens.exports };
+    ghost invariant = { λ tokens. HasOwners tokens.exports tokens.owned.clients.items };
 }
 
 impl Tokens {
@@ -46,6 +47,7 @@ impl Tokens {
     {
         Tokens {
             exports: IdTable::new(alloc, 1, last),
+            owned: Owned::new(alloc),
         }
     }
 
@@ -59,11 +61,16 @@ impl Tokens {
         ensures err { OnErr result (self.new ≡ self.old) }
         ensures full { IfErr result (λ fault. IsFull fault ↔ (next_token self.old ≡ None)) }
     {
-        let token = match self.exports.add_cyclic(Export { client, object }) {
-            Ok(token) => token,
-            Err(AddFault::Full(_)) => return Err(ShareFault::Full),
-            Err(AddFault::NoMemory(_)) => return Err(ShareFault::NoMemory),
+        let Some(token) = self.exports.next_in_turn() else {
+            return Err(ShareFault::Full);
         };
+        if let Err(_fault) = self.owned.note(client, token) {
+            return Err(ShareFault::NoMemory);
+        }
+        if let Err(_fault) = self.exports.add_cyclic(Export { client, object }) {
+            self.owned.forget(client, token);
+            return Err(ShareFault::NoMemory);
+        }
         Ok(token)
     }
 
@@ -96,20 +103,24 @@ impl Tokens {
             return None;
         }
         let _export = self.exports.remove(token);
+        self.owned.forget(client, token);
         Some(export.object)
     }
 
     /// Closes the least open token of a client, and gives it with the object behind it. There is none exactly where the
-    /// client has no open token. It takes no memory, and goes through the tokens.
+    /// client has no open token. It takes no memory, and passes over no token of another client.
     pub fn take_first_of(&mut self, client: u32) -> Option<(u32, ObjectKey)>
         ensures first { result ≡ option_map (λ row. (row.token, row.object)) (find (is_exported_by client) self.old.tokens) }
         ensures closed { IfSome result (λ taken. self.new ≡ without_token self.old taken.0) }
         ensures none { IfNone result (self.new ≡ self.old) }
         ensures tokens { AreTokens self.old }
     {
-        let first = first_of(&self.exports, client)?;
-        let _export = self.exports.remove(first.token);
-        Some((first.token, first.object))
+        let token = self.owned.first(client)?;
+        let Some(export) = self.exports.remove(token) else {
+            unreachable!();
+        };
+        self.owned.forget(client, token);
+        Some((token, export.object))
     }
 
     /// The last token given; none before the first. A token that is closed stays the last one given.
@@ -133,25 +144,4 @@ impl Tokens {
             object: export.object,
         })
     }
-}
-
-// The least token of a client.
-fn first_of(exports: &IdTable<Export>, client: u32) -> Option<SharedToken>
-    ensures { result ≡ find (is_exported_by client) (tokens_in exports.now.slots) }
-{
-    let mut from = 0;
-    while let Some(token) = exports.next(from) {
-        let Some(export) = exports.get(token) else {
-            unreachable!();
-        };
-        if export.client == client {
-            return Some(SharedToken {
-                token,
-                client,
-                object: export.object,
-            });
-        }
-        from = token.checked_add(1)?;
-    }
-    None
 }

@@ -262,7 +262,7 @@ pub(crate) const BUFFERS: [Row; 8] = [
 ];
 
 /// Names and PRIME tokens.
-pub(crate) const SHARING: [Row; 11] = [
+pub(crate) const SHARING: [Row; 13] = [
     Row {
         name: "names_go_with_the_last_handle",
         answers: 12,
@@ -432,6 +432,42 @@ pub(crate) const SHARING: [Row; 11] = [
             a gem_close 2 -> done\n\
             a prime_import 1 -> buffer 2 4096\n\
             a audit 6 0 -> rows 2 | 1 1 2 0 | 1 2 2 15",
+    },
+    Row {
+        name: "objects_stand_in_the_order_of_their_births",
+        answers: 12,
+        script: b"\
+            open q root -> client 1\n\
+            q buf_create 1 -> buffer 1 4096\n\
+            q buf_create 5000 -> buffer 2 8192\n\
+            q stamp_write 1 77 -> done\n\
+            q gem_flink 1 -> number 1\n\
+            q gem_close 1 -> done\n\
+            q buf_create 9000 -> buffer 1 12288\n\
+            q stamp_read 1 -> number 0\n\
+            q gem_open 1 -> denied 23 NoName 2\n\
+            q audit 3 0 -> rows 2 | 3 8192 1 0 | 7 12288 1 0\n\
+            q audit 6 0 -> rows 2 | 1 1 7 0 | 1 2 3 0\n\
+            close q -> closed",
+    },
+    Row {
+        name: "closings_take_no_token_of_another",
+        answers: 14,
+        script: b"\
+            open q root -> client 1\n\
+            open r render -> client 2\n\
+            q buf_create 1 -> buffer 1 4096\n\
+            q prime_export 1 -> number 1\n\
+            r prime_import 1 -> buffer 1 4096\n\
+            r prime_export 1 -> number 2\n\
+            q prime_export 1 -> number 3\n\
+            r prime_export 1 -> number 4\n\
+            r prime_export 1 -> number 5\n\
+            r token_close 4 -> done\n\
+            close r -> closed\n\
+            q audit 5 0 -> rows 2 | 1 1 3 0 | 3 1 3 0\n\
+            q audit 3 0 -> rows 1 | 3 4096 1 2\n\
+            close q -> closed",
     },
     Row {
         name: "audits_of_names_and_tokens",

@@ -18,6 +18,7 @@ enum Ask {
     Get(u32),
     Next(u32),
     Nth(usize),
+    NextInTurn,
     Len,
     LastGiven,
     IsFull,
@@ -59,6 +60,7 @@ fn asked(table: &mut IdTable<u32>, ask: Ask) -> Told {
         Ask::Get(id) => told_of(table.get(id).copied()),
         Ask::Next(from) => told_of(table.next(from)),
         Ask::Nth(place) => told_of(table.nth(place)),
+        Ask::NextInTurn => told_of(table.next_in_turn()),
         Ask::Len => Told::Number(table.len() as u32),
         Ask::LastGiven => told_of(table.last_given()),
         Ask::IsFull => Told::Number(table.is_full() as u32),
@@ -66,16 +68,18 @@ fn asked(table: &mut IdTable<u32>, ask: Ask) -> Told {
 }
 
 /// Calls of a table of the numbers 4 to 6.
-const CALLS: [(Ask, Told); 25] = [
+const CALLS: [(Ask, Told); 27] = [
     (Ask::LastGiven, Told::Nothing),
     (Ask::AddCyclic(1), Told::Number(4)),
     (Ask::AddCyclic(2), Told::Number(5)),
     (Ask::Remove(4), Told::Number(1)),
+    (Ask::NextInTurn, Told::Number(6)),
     (Ask::AddCyclic(3), Told::Number(6)),
     (Ask::LastGiven, Told::Number(6)),
     (Ask::IsFull, Told::Number(0)),
     (Ask::AddCyclic(4), Told::Number(4)),
     (Ask::IsFull, Told::Number(1)),
+    (Ask::NextInTurn, Told::Nothing),
     (Ask::AddCyclic(5), Told::Back(5)),
     (Ask::Remove(5), Told::Number(2)),
     (Ask::Add(6), Told::Number(5)),

@@ -1,9 +1,11 @@
 use Rattle.std.proofs.Common.{refl, ap, sym, ◌∙◌}
+use Rattle.std.proofs.lemmas.Option.{none-some}
 use Rattle.drm_files.specs.declared.files.Held.{Held}
 use Rattle.drm_files.specs.Files.{FileLists, hold, with_hold}
 use Rattle.drm_files.specs.Records.{lists_of}
-use Rattle.drm_files.proofs.Calls.{added}
-use Rattle.drm_files.proofs.RecordFacts.{nobody, free_is, unchanged, are-unchanged, are-added, with_table}
+use Rattle.drm_files.proofs.Calls.{added, rewritten}
+use Rattle.drm_files.proofs.Removal.{taken_back}
+use Rattle.drm_files.proofs.RecordFacts.{nobody, free_is, unchanged, are-unchanged, are-kept, are-added, with_both}
 use Rattle.drm_files.proofs.files.Files.add_handle.Goals as goal
 
 pub unreachable-requires : goal.unreachable-requires
@@ -50,12 +52,6 @@ returns-in-Err-NoMemory-clause-full c =
     let full = rw c.in-Err-NoMemory.field-0-is at c.in-Err-NoMemory.ensures.full in
     rw (← c.self.view_is) ((λ none. absurd none), λ none. full.1 (sym free ∙ none))
 
-pub invariant_of-self-2 : goal.invariant_of-self-2
-invariant_of-self-2 c =
-    let inside = c.self.inside in
-    let made : Held = record { object = c.args.object; place = c.args.place } in
-    are-added inside.open_limit inside.last_handle inside.clients.items c.args.client c.in-Some.record.now c.add.new.self (sym c.in-Some.ensures.value) c.self.invariant c.in-Ok.handle made c.in-Ok.ensures.low c.in-Ok.ensures.high c.in-Ok.ensures.ok
-
 pub returns-clause-given : goal.returns-clause-given
 returns-clause-given c =
     let inside = c.self.inside in
@@ -67,5 +63,33 @@ pub returns-clause-ok : goal.returns-clause-ok
 returns-clause-ok c =
     let inside = c.self.inside in
     let made : Held = record { object = c.args.object; place = c.args.place } in
-    added inside.open_limit inside.last_handle inside.clients.items c.args.client c.in-Some.record.now (with_table c.in-Some.record.now c.add.new.self) c.in-Ok.handle made (sym c.in-Some.ensures.value) c.in-Ok.ensures.fresh refl (ap (λ t. t.slots) c.in-Ok.ensures.ok)
+    added inside.open_limit inside.last_handle inside.clients.items c.args.client c.in-Some.record.now (with_both c.in-Some.record.now c.add.new.self c.note.new.self) c.in-Ok.handle made (sym c.in-Some.ensures.value) c.in-Ok.ensures.fresh refl (ap (λ t. t.slots) c.in-Ok.ensures.ok)
     ∙ ap (λ (l : FileLists). with_hold l (hold c.args.client c.in-Ok.handle c.args.object c.args.place)) c.self.view_is
+
+-- the handle that was given is taken back
+
+pub invariant_of-self-in-Err : goal.invariant_of-self-in-Err
+invariant_of-self-in-Err c =
+    let inside = c.self.inside in
+    let back = taken_back c.in-Some.record.now.handles c.add.new.self c.remove-held.new.self c.in-Ok.handle (record { object = c.args.object; place = c.args.place }) c.in-Ok.ensures.fresh c.in-Ok.ensures.ok c.remove-held.ensures.after in
+    are-kept inside.open_limit inside.last_handle inside.clients.items c.args.client c.in-Some.record.now c.remove-held.new.self (sym c.in-Some.ensures.value) c.self.invariant c.note.new.self back c.in-Err.ensures.err
+
+pub returns-in-Err-clause-err : goal.returns-in-Err-clause-err
+returns-in-Err-clause-err c =
+    let inside = c.self.inside in
+    let back = taken_back c.in-Some.record.now.handles c.add.new.self c.remove-held.new.self c.in-Ok.handle (record { object = c.args.object; place = c.args.place }) c.in-Ok.ensures.fresh c.in-Ok.ensures.ok c.remove-held.ensures.after in
+    rewritten inside.open_limit inside.last_handle inside.clients.items c.args.client c.in-Some.record.now (with_both c.in-Some.record.now c.remove-held.new.self c.note.new.self) (sym c.in-Some.ensures.value) refl (ap (λ t. t.slots) back)
+    ∙ c.self.view_is
+
+pub returns-in-Err-clause-full : goal.returns-in-Err-clause-full
+returns-in-Err-clause-full c =
+    let inside = c.self.inside in
+    let found = sym c.in-Some.ensures.value in
+    let free = free_is inside.open_limit inside.last_handle inside.clients.items c.args.client c.in-Some.record.now found (c.self.invariant.tables c.args.client c.in-Some.record.now found) in
+    rw (← c.self.view_is) ((λ none. absurd none), λ none. none-some c.in-Ok.handle (sym none ∙ free ∙ c.in-Ok.ensures.given))
+
+pub invariant_of-self-2 : goal.invariant_of-self-2
+invariant_of-self-2 c =
+    let inside = c.self.inside in
+    let made : Held = record { object = c.args.object; place = c.args.place } in
+    are-added inside.open_limit inside.last_handle inside.clients.items c.args.client c.in-Some.record.now c.add.new.self (sym c.in-Some.ensures.value) c.self.invariant c.note.new.self c.in-Ok.handle made c.in-Ok.ensures.low c.in-Ok.ensures.high c.in-Ok.ensures.fresh c.in-Ok.ensures.ok c.in_default-note.ensures.ok

@@ -3,7 +3,7 @@ use Rattle.std.specs.FinMap as fin
 use Rattle.drm_files.specs.Files.{FileLists, without_hold}
 use Rattle.drm_files.specs.Records.{lists_of}
 use Rattle.drm_files.proofs.Calls.{dropped, object_is}
-use Rattle.drm_files.proofs.RecordFacts.{nobody, unchanged, are-dropped, with_table}
+use Rattle.drm_files.proofs.RecordFacts.{nobody, unchanged, are-unchanged, are-dropped, with_table, with_both}
 use Rattle.drm_files.proofs.files.Files.drop_handle.Goals as goal
 
 pub unreachable-requires : goal.unreachable-requires
@@ -15,7 +15,7 @@ unreachable-requires c =
 pub invariant_of-self : goal.invariant_of-self
 invariant_of-self c =
     let inside = c.self.inside in
-    are-dropped inside.open_limit inside.last_handle inside.clients.items c.args.client c.in-Some.record.now c.remove.new.self (sym c.in-Some.ensures.value) c.self.invariant c.args.handle c.in_err-held.ensures.after
+    are-unchanged inside.open_limit inside.last_handle inside.clients.items c.args.client c.in-Some.record.now c.remove.new.self (sym c.in-Some.ensures.value) c.self.invariant c.in_err-held.ensures.absent
 
 pub returns-in_err-held-clause-object : goal.returns-in_err-held-clause-object
 returns-in_err-held-clause-object c =
@@ -42,7 +42,7 @@ returns-in_err-held-clause-none c =
 pub invariant_of-self-2 : goal.invariant_of-self-2
 invariant_of-self-2 c =
     let inside = c.self.inside in
-    are-dropped inside.open_limit inside.last_handle inside.clients.items c.args.client c.in-Some.record.now c.remove.new.self (sym c.in-Some.ensures.value) c.self.invariant c.args.handle c.in_ok-held.ensures.after
+    are-dropped inside.open_limit inside.last_handle inside.clients.items c.args.client c.in-Some.record.now c.remove.new.self (sym c.in-Some.ensures.value) c.self.invariant c.forget.new.self c.args.handle c.in_ok-held.held (sym c.in_ok-held.ensures.value) c.in_ok-held.ensures.after c.forget.ensures
 
 pub returns-clause-object : goal.returns-clause-object
 returns-clause-object c =
@@ -54,5 +54,5 @@ returns-clause-object c =
 pub returns-clause-dropped : goal.returns-clause-dropped
 returns-clause-dropped c =
     let inside = c.self.inside in
-    dropped inside.open_limit inside.last_handle inside.clients.items c.args.client c.in-Some.record.now (with_table c.in-Some.record.now c.remove.new.self) c.args.handle (sym c.in-Some.ensures.value) refl (ap (λ t. t.slots) c.in_ok-held.ensures.after)
+    dropped inside.open_limit inside.last_handle inside.clients.items c.args.client c.in-Some.record.now (with_both c.in-Some.record.now c.remove.new.self c.forget.new.self) c.args.handle (sym c.in-Some.ensures.value) refl (ap (λ t. t.slots) c.in_ok-held.ensures.after)
     ∙ ap (λ (l : FileLists). without_hold l c.args.client c.args.handle) c.self.view_is

@@ -4,7 +4,7 @@ use Rattle.std.specs.FinMap.{insert}
 use Rattle.drm_files.specs.declared.files.Held.{Held}
 use Rattle.drm_files.specs.Files.{FileLists, with_place}
 use Rattle.drm_files.proofs.Calls.{given}
-use Rattle.drm_files.proofs.RecordFacts.{nobody, has_none, are-added, with_table}
+use Rattle.drm_files.proofs.RecordFacts.{nobody, has_none, are-replaced, with_table}
 use Rattle.drm_files.proofs.files.Files.set_prime.Goals as goal
 
 pub unreachable-requires : goal.unreachable-requires
@@ -23,7 +23,7 @@ pub invariant_of-self : goal.invariant_of-self
 invariant_of-self c =
     let inside = c.self.inside in
     let made : Held = record { object = c.in-Some-get.held.now.object; place = c.or.result } in
-    are-added inside.open_limit inside.last_handle inside.clients.items c.args.client c.in-Some.record.now c.replace.new.self (sym c.in-Some.ensures.value) c.self.invariant c.args.handle made c.in-Some-get.ensures.low c.in-Some-get.ensures.high c.in-Ok.ensures.ok
+    are-replaced inside.open_limit inside.last_handle inside.clients.items c.args.client c.in-Some.record.now c.replace.new.self (sym c.in-Some.ensures.value) c.self.invariant c.args.handle c.in-Some-get.held.now made c.in-Some-get.ensures.low c.in-Some-get.ensures.high (sym c.in-Some-get.ensures.value) refl c.in-Ok.ensures.ok
 
 pub returns : goal.returns
 returns c =

@@ -1,5 +1,8 @@
 use Rattle.std.proofs.Common.{cond, Some, None, ap, sym, ◌∙◌, find, option_map, eq-eqb}
 use Rattle.std.proofs.lemmas.Bool.{ne_eqb}
+use Rattle.drm_id_alloc.proofs.GroupLemmas.{grouped_fewer}
+use Rattle.drm_share.specs.declared.tokens.Export.{Export}
+use Rattle.drm_share.specs.Owned.{owns}
 use Rattle.drm_share.specs.Tokens.{TokenList, is_token_of, without_token}
 use Rattle.drm_share.specs.Tables.{token_list, token_row}
 use Rattle.drm_share.proofs.TokenFacts.{token_of_is, token_closed, is-closed, closes, tokens_are}
@@ -21,7 +24,12 @@ returns-then-export-client-clause-object c =
     ∙ ap (λ (l : TokenList). option_map (λ row. row.object) (find (is_token_of c.args.client c.args.token) l.tokens)) c.self.view_is
 
 pub invariant_of-self : goal.invariant_of-self
-invariant_of-self c = rw c.remove-export.ensures.after (is-closed c.self.inside.exports c.self.invariant c.args.token)
+invariant_of-self c =
+    let v = c.in_ok-export.field-0.now in
+    rw c.remove-export.ensures.after (record {
+      numbered = is-closed c.self.inside.exports c.self.invariant.numbered c.args.token;
+      owners = grouped_fewer (λ (x : Export). x.client) c.self.inside.exports.slots (owns c.self.inside.owned.clients.items) (owns c.forget.new.self.clients.items) c.self.invariant.owners c.args.token v c.args.client (sym c.in_ok-export.ensures.value) c.if-export-client.false c.forget.ensures;
+    })
 
 pub returns-clause-object : goal.returns-clause-object
 returns-clause-object c =
@@ -38,10 +46,10 @@ returns-clause-closed c =
     ∙ ap (λ (l : TokenList). without_token l c.args.token) c.self.view_is
 
 pub returns-in_err-export-clause-tokens : goal.returns-in_err-export-clause-tokens
-returns-in_err-export-clause-tokens c = rw (← c.self.view_is) (tokens_are c.self.inside.exports c.self.invariant)
+returns-in_err-export-clause-tokens c = rw (← c.self.view_is) (tokens_are c.self.inside.exports c.self.invariant.numbered)
 
 pub returns-then-export-client-clause-tokens : goal.returns-then-export-client-clause-tokens
-returns-then-export-client-clause-tokens c = rw (← c.self.view_is) (tokens_are c.self.inside.exports c.self.invariant)
+returns-then-export-client-clause-tokens c = rw (← c.self.view_is) (tokens_are c.self.inside.exports c.self.invariant.numbered)
 
 pub returns-clause-tokens : goal.returns-clause-tokens
-returns-clause-tokens c = rw (← c.self.view_is) (tokens_are c.self.inside.exports c.self.invariant)
+returns-clause-tokens c = rw (← c.self.view_is) (tokens_are c.self.inside.exports c.self.invariant.numbered)

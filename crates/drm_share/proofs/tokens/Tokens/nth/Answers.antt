@@ -32,10 +32,10 @@ returns-clause-row c =
     ∙ ap (λ (l : TokenList). slice_get l.tokens c.args.place) c.self.view_is
 
 pub returns-in_err-token-clause-tokens : goal.returns-in_err-token-clause-tokens
-returns-in_err-token-clause-tokens c = rw (← c.self.view_is) (tokens_are c.self.inside.exports c.self.invariant)
+returns-in_err-token-clause-tokens c = rw (← c.self.view_is) (tokens_are c.self.inside.exports c.self.invariant.numbered)
 
 pub returns-in_err-export-clause-tokens : goal.returns-in_err-export-clause-tokens
-returns-in_err-export-clause-tokens c = rw (← c.self.view_is) (tokens_are c.self.inside.exports c.self.invariant)
+returns-in_err-export-clause-tokens c = rw (← c.self.view_is) (tokens_are c.self.inside.exports c.self.invariant.numbered)
 
 pub returns-clause-tokens : goal.returns-clause-tokens
-returns-clause-tokens c = rw (← c.self.view_is) (tokens_are c.self.inside.exports c.self.invariant)
+returns-clause-tokens c = rw (← c.self.view_is) (tokens_are c.self.inside.exports c.self.invariant.numbered)

@@ -1,0 +1,28 @@
+-- Which numbers stand in which group.
+use Rattle.std.specs.Prelude.{◌≡◌, ℕ, ◌==◌, ◌&&◌, ◌||◌, Bool, false, not}
+use Rattle.std.specs.Option.{option_map_or}
+use Rattle.std.specs.Ordering.{nat_cmp}
+use Rattle.std.specs.FinMap as map
+
+-- whether a group has a number
+abbrev pub Groups : Type 0
+Groups = ℕ → ℕ → Bool
+
+abbrev pub AreSame : Groups → Groups → Type 0
+AreSame old new = (d u : ℕ) → new d u ≡ old d u
+
+-- the group has the number besides
+abbrev pub IsAdded : Groups → ℕ → ℕ → Groups → Type 0
+IsAdded old g n new = (d u : ℕ) → new d u ≡ (old d u || ((d == g) && (u == n)))
+
+-- the group has the number no more
+abbrev pub IsTaken : Groups → ℕ → ℕ → Groups → Type 0
+IsTaken old g n new = (d u : ℕ) → new d u ≡ (old d u && not ((d == g) && (u == n)))
+
+-- the groups of a map from each group to what has its numbers
+abbrev pub groups_in : {Y : Type 0} → (Y → ℕ → Bool) → map.FinMap nat_cmp Y → Groups
+groups_in has m g n = option_map_or (λ y. has y n) (map.get m g) false
+
+-- each number that the map has stands in the group that its value names, and no other stands in any
+abbrev pub AreGroupsOf : {X : Type 0} → (X → ℕ) → map.FinMap nat_cmp X → Groups → Type 0
+AreGroupsOf group m groups = (g n : ℕ) → groups g n ≡ option_map_or (λ x. group x == g) (map.get m n) false
