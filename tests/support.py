@@ -24,6 +24,9 @@ from drm_client import Client, Refusal, words  # noqa: E402  (the client stands 
 
 CLASSES = ("card", "render", "root")
 
+BUILT = tempfile.TemporaryDirectory(prefix="drm_")
+LIBRARY_COMPILER = ["cc", "-std=gnu99", "-Wall", "-Wextra", "-Wpedantic", "-Werror", "-O2", "-fPIC", "-shared"]
+
 
 def expect(what, found, wanted):
     """Fails the test where a value isn't the one that is wanted."""
@@ -68,9 +71,19 @@ def run(*command, **options):
     return subprocess.run(list(map(str, command)), capture_output=True, text=True, **given)
 
 
-def run_program(*words, script=""):
+def run_program(*words, script="", **options):
     """Runs the program to its end over this input."""
-    return subprocess.run([PROGRAM, *words], input=script, capture_output=True, text=True, timeout=SECONDS)
+    return subprocess.run([PROGRAM, *words], input=script, capture_output=True, text=True, timeout=SECONDS, **options)
+
+
+def loading(source, **variables):
+    """The environment of a program that a file of tests/ in C is loaded into, which is built once, with variables for it."""
+    want_program(LIBRARY_COMPILER[0])
+    library = os.path.join(BUILT.name, source + ".so")
+    if not os.path.exists(library):
+        ran = run(*LIBRARY_COMPILER, "-o", library, REPOSITORY / "tests" / source)
+        expect(f"what {LIBRARY_COMPILER[0]} says", (ran.returncode, ran.stdout + ran.stderr), (0, ""))
+    return {**os.environ, "LD_PRELOAD": library, **variables}
 
 
 def path_words(folder):
@@ -84,7 +97,7 @@ def count_words(cards, renders, roots):
 
 
 @contextlib.contextmanager
-def server(folder, *counts, limits=()):
+def server(folder, *counts, limits=(), **options):
     """A server on the three sockets of a folder, which is killed where the test didn't let it end.
 
     A limit is a resource and how much of it the server may have.
@@ -95,7 +108,8 @@ def server(folder, *counts, limits=()):
 
     started = subprocess.Popen(
         [PROGRAM, "serve", *path_words(folder), *count_words(*counts)],
-        stdin=subprocess.DEVNULL, stdout=subprocess.PIPE, stderr=subprocess.PIPE, text=True, preexec_fn=limit)
+        **{"stdin": subprocess.DEVNULL, "stdout": subprocess.PIPE, "stderr": subprocess.PIPE, "text": True, **options},
+        preexec_fn=limit)
     try:
         yield started
     finally:

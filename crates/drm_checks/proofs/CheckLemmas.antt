@@ -18,7 +18,7 @@ use Rattle.drm_runs.proofs.RunLemmas.{joined-push}
 use Rattle.drm_checks.specs.Expectations.{script_part, expected_part, is_met}
 use Rattle.drm_checks.specs.Differences.{Difference, differences_text, text_of, met, unmet}
 use Rattle.drm_checks.specs.Checker.{results_of}
-use Rattle.drm_checks.specs.Checks.{Checked, Checks, Ends, IsUnusable, IsFront}
+use Rattle.drm_checks.specs.Checks.{Checked, Checks, Ends, IsCutInLast, IsPart, IsUnusable}
 use Rattle.drm_checks.specs.Checks.Checked.{start, line}
 use Rattle.drm_checks.specs.Steps.{SoFar}
 use Rattle.drm_checks.specs.declared.check.Report.{Report}
@@ -32,6 +32,20 @@ few false d = omega arith
 pub one_at_most : (n : ℕ) (expected : Option (List ℕ)) (came : Option (Result Answer Apart)) → met expected came + length (unmet n expected came) ≤ 1
 one_at_most n None came = omega arith
 one_at_most n (Some expected) came = few (is_met expected came) (record { number = n; expected = expected; came = came })
+
+-- ---- telling that stops in the last difference
+
+cut-found : (name : List ℕ) (n : ℕ) (ds : List Difference) (b : Bool) (d : Difference) → d.number ≡ n → (sent unsent : List ℕ) → differences_text name (if b then [] else d ∷ []) ≡ sent ++ unsent → 0 < length unsent
+    → IsCutInLast name n (ds ++ (if b then [] else d ∷ [])) (differences_text name ds ++ sent)
+cut-found name n ds true d is sent unsent e more = absurd (let none = ap (λ (l : List ℕ). length l) e in let all = length-append sent unsent in omega (arith, none, all, more))
+cut-found name n ds false d is sent unsent e more =
+    record { before = ds; last = d; sent = sent; unsent = unsent; whole = refl; number = is; parts = sym (append-nil (text_of name d)) ∙ e; more = more; text = refl }
+
+pub cut-last : (name : List ℕ) (n : ℕ) (ds : List Difference) (expected : Option (List ℕ)) (came : Option (Result Answer Apart)) (sent unsent : List ℕ) → differences_text name (unmet n expected came) ≡ sent ++ unsent → 0 < length unsent
+    → IsCutInLast name n (ds ++ unmet n expected came) (differences_text name ds ++ sent)
+cut-last name n ds None came sent unsent e more = absurd (let none = ap (λ (l : List ℕ). length l) e in let all = length-append sent unsent in omega (arith, none, all, more))
+cut-last name n ds (Some expected) came sent unsent e more =
+    cut-found name n ds (is_met expected came) (record { number = n; expected = expected; came = came }) refl sent unsent e more
 
 -- ---- a check so far
 
@@ -101,27 +115,30 @@ module _ {name : List ℕ} {s0 s : SourceAccount} {k0 k : SinkAccount} {turns ha
     }
 
     -- the line covers what was read, up to what stands behind its end
-    covered : (more : List ℕ) → rest ≡ next ++ more → EndsLine (s0.counts.ends < s.counts.ends) more
-        → (behind : List ℕ) × Covers (s0.counts.ends < s.counts.ends) so.read (so.lines ++ next ∷ []) behind
-    covered more e (inl (none, f)) =
+    covered : (more : List ℕ) → rest ≡ next ++ more → length more ≤ 256 → EndsLine (s0.counts.ends < s.counts.ends) more
+        → (behind : List ℕ) × Covers (s0.counts.ends < s.counts.ends) so.read (so.lines ++ next ∷ []) behind × (length behind ≤ 256)
+    covered more e short (inl (none, f)) =
         let whole : so.read ≡ joined so.lines ++ next = so.whole ∙ ap (λ z. joined so.lines ++ z) (e ∙ ap (λ z. next ++ z) none ∙ append-nil next) in
-        ([], inr (so.lines, next, refl, whole, refl, f))
-    covered more e (inr (behind, f)) =
+        ([], inr (so.lines, next, refl, whole, refl, f), omega arith)
+    covered more e short (inr (behind, f)) =
         let whole : so.read ≡ joined (so.lines ++ next ∷ []) ++ behind =
         so.whole ∙ ap (λ z. joined so.lines ++ z) (e ∙ ap (λ z. next ++ z) f) ∙ sym (joined-push so.lines next behind) in
-        (behind, inl whole)
+        (behind, inl whole, (let long = ap (λ (l : List ℕ). length l) f in omega (arith, long, short)))
 
     -- a front of the difference was told
-    cut_front : (k' : SinkAccount) (has' : ℕ) (p : PaysPart k k' (differences_text name found) has has') → IsFront (differences_text name so.differences ++ p.front) (differences_text name (so.differences ++ found))
+    cut_front : (k' : SinkAccount) (has' : ℕ) (p : PaysPart k k' (differences_text name found) has has')
+        → IsCutInLast name (length (so.lines ++ next ∷ [])) (so.differences ++ found) (differences_text name so.differences ++ p.front)
+    unfolding found
     cut_front k' has' p =
-        (p.rest, grown_text ∙ ap (λ z. differences_text name so.differences ++ z) p.parts ∙ sym (append_assoc (differences_text name so.differences) p.front p.rest))
+        subst (λ (m : ℕ). IsCutInLast name m (so.differences ++ found) (differences_text name so.differences ++ p.front)) (sym grown_number)
+        (cut-last name (n + 1) so.differences (expected_part next) came p.front p.rest p.parts p.more)
 
-    pub cut_by_fault : (more : List ℕ) (k' : SinkAccount) (has' : ℕ) → rest ≡ next ++ more → EndsLine (s0.counts.ends < s.counts.ends) more
+    pub cut_by_fault : (more : List ℕ) (k' : SinkAccount) (has' : ℕ) → rest ≡ next ++ more → length more ≤ 256 → EndsLine (s0.counts.ends < s.counts.ends) more
         → PaysPart k k' (differences_text name (unmet (n + 1) (expected_part next) came)) has has' → k.counts.faults < k'.counts.faults
         → Checks name s0 s k0 k' turns (report_with ends.WriteFault (passed + met (expected_part next) came) (failed + length (unmet (n + 1) (expected_part next) came)))
     unfolding found
-    cut_by_fault more k' has' e until p f =
-        let over = covered more e until in record {
+    cut_by_fault more k' has' e short until p f =
+        let over = covered more e short until in record {
           read = so.read;
           written = differences_text name so.differences ++ p.front;
           lines = so.lines ++ next ∷ [];
@@ -135,15 +152,15 @@ module _ {name : List ℕ} {s0 s : SourceAccount} {k0 k : SinkAccount} {turns ha
           checked = grown;
           failed = grown_count;
           covers = over.1;
-          ends = ((let a = so.took.counts.faults in omega (arith, a, f)), cut_front k' has' p);
+          ends = ((let a = so.took.counts.faults in omega (arith, a, f)), cut_front k' has' p, over.2);
         }
 
-    pub cut_by_turns : (more : List ℕ) (k' : SinkAccount) (has' : ℕ) → rest ≡ next ++ more → EndsLine (s0.counts.ends < s.counts.ends) more
+    pub cut_by_turns : (more : List ℕ) (k' : SinkAccount) (has' : ℕ) → rest ≡ next ++ more → length more ≤ 256 → EndsLine (s0.counts.ends < s.counts.ends) more
         → PaysPart k k' (differences_text name (unmet (n + 1) (expected_part next) came)) has has' → has' ≡ 0
         → Checks name s0 s k0 k' turns (report_with ends.TurnsUsed (passed + met (expected_part next) came) (failed + length (unmet (n + 1) (expected_part next) came)))
     unfolding found
-    cut_by_turns more k' has' e until p none =
-        let over = covered more e until in record {
+    cut_by_turns more k' has' e short until p none =
+        let over = covered more e short until in record {
           read = so.read;
           written = differences_text name so.differences ++ p.front;
           lines = so.lines ++ next ∷ [];
@@ -157,7 +174,7 @@ module _ {name : List ℕ} {s0 s : SourceAccount} {k0 k : SinkAccount} {turns ha
           checked = grown;
           failed = grown_count;
           covers = over.1;
-          ends = ((let a = p.pays.cost in let b = so.cost in omega (arith, a, b, none)), cut_front k' has' p);
+          ends = ((let a = p.pays.cost in let b = so.cost in omega (arith, a, b, none)), inr (cut_front k' has' p, over.2));
         }
 
     -- the last line, behind which the input has ended
@@ -182,7 +199,7 @@ module _ {name : List ℕ} {s0 s : SourceAccount} {k0 k : SinkAccount} {turns ha
     }
 
   -- a check that ends with no further line
-  ended : (end : ScriptEnd) → Ends end (s0.counts.ends < s.counts.ends) s0 s k0 k turns (length so.lines) device rest (differences_text name so.differences) (differences_text name so.differences)
+  ended : (end : ScriptEnd) → Ends end (s0.counts.ends < s.counts.ends) s0 s k0 k turns (length so.lines) device rest (differences_text name so.differences) name so.differences
       → Checks name s0 s k0 k turns (report_with end passed failed)
   ended end h = record {
     read = so.read;
@@ -204,22 +221,22 @@ module _ {name : List ℕ} {s0 s : SourceAccount} {k0 k : SinkAccount} {turns ha
   pub done_empty : rest ≡ [] → s0.counts.ends < s.counts.ends → Checks name s0 s k0 k turns (report_with ends.Done passed failed)
   done_empty e f = ended ends.Done (e, f, refl)
 
-  pub read_fault : IsBare rest → s0.counts.faults < s.counts.faults → Checks name s0 s k0 k turns (report_with ends.ReadFault passed failed)
-  read_fault bare f = ended ends.ReadFault (bare, f, refl)
+  pub read_fault : IsPart rest → s0.counts.faults < s.counts.faults → Checks name s0 s k0 k turns (report_with ends.ReadFault passed failed)
+  read_fault part f = ended ends.ReadFault (part, f, refl)
 
-  pub turns_used : has ≡ 0 → Checks name s0 s k0 k turns (report_with ends.TurnsUsed passed failed)
-  turns_used none = ended ends.TurnsUsed ((let b = so.cost in omega (arith, b, none)), ([], sym (append-nil (differences_text name so.differences))))
+  pub turns_used : IsPart rest → has ≡ 0 → Checks name s0 s k0 k turns (report_with ends.TurnsUsed passed failed)
+  turns_used part none = ended ends.TurnsUsed ((let b = so.cost in omega (arith, b, none)), inl (part, refl))
 
   unusable : IsUnusable (s0.counts.ends < s.counts.ends) device rest → Checks name s0 s k0 k turns (report_with (ends.Malformed (n + 1)) passed failed)
   unusable h = ended (ends.Malformed (n + 1)) (ap (λ m. m + 1) so.number, h, refl)
 
   pub too_long : (front more : List ℕ) → IsTooLong rest front more → Checks name s0 s k0 k turns (report_with (ends.Malformed (n + 1)) passed failed)
-  too_long front more t = unusable (record { bad = front; behind = more; parts = t.whole; bare = t.bare; because = inr t.long })
+  too_long front more t = unusable (record { bad = front; behind = more; parts = t.whole; bare = t.bare; because = inr t.long; short = omega (arith, t.behind) })
 
-  pub malformed : (next more : List ℕ) → rest ≡ next ++ more → EndsLine (s0.counts.ends < s.counts.ends) more → IsBare next → IsMisplaced device (script_part next)
+  pub malformed : (next more : List ℕ) → rest ≡ next ++ more → length more ≤ 256 → EndsLine (s0.counts.ends < s.counts.ends) more → IsBare next → IsMisplaced device (script_part next)
       → Checks name s0 s k0 k turns (report_with (ends.Malformed (n + 1)) passed failed)
-  malformed next more e until bare m = unusable (record { bad = next; behind = more; parts = e; bare = bare; because = inl (m, until) })
+  malformed next more e short until bare m = unusable (record { bad = next; behind = more; parts = e; bare = bare; because = inl (m, until); short = short })
 
-  pub no_memory : (next more : List ℕ) → rest ≡ next ++ more → EndsLine (s0.counts.ends < s.counts.ends) more → IsBare next → device ≡ None → WantsDevice (script_part next)
+  pub no_memory : (next more : List ℕ) → rest ≡ next ++ more → length more ≤ 256 → EndsLine (s0.counts.ends < s.counts.ends) more → IsBare next → device ≡ None → WantsDevice (script_part next)
       → Checks name s0 s k0 k turns (report_with ends.NoMemory passed failed)
-  no_memory next more e until bare none wants = ended ends.NoMemory (record { next = next; behind = more; parts = e; bare = bare; until = until; none = none; wants = wants }, refl)
+  no_memory next more e short until bare none wants = ended ends.NoMemory (record { next = next; behind = more; parts = e; bare = bare; until = until; none = none; wants = wants; short = short }, refl)

@@ -1,5 +1,5 @@
 -- A check goes on by a line, or ends with it.
-use Rattle.std.proofs.Common.{◌≡◌, ℕ, ◌+◌, ◌<◌, List, [], ◌∷◌, ◌++◌, length, refl, sym, ap, subst, arith, Some, None, Option, Result, append-nil, inl, inr, unwrap_or}
+use Rattle.std.proofs.Common.{◌≡◌, ℕ, ◌+◌, ◌<◌, ◌≤◌, List, [], ◌∷◌, ◌++◌, length, refl, sym, ap, subst, arith, Some, None, Option, Result, append-nil, inl, inr, unwrap_or}
 use Rattle.drm_table.specs.declared.answers.Answer.{Answer}
 use Rattle.drm_table.specs.declared.apart.Apart.{Apart}
 use Rattle.drm_model.specs.Rows.{Rows}
@@ -53,17 +53,17 @@ StandsBefore name s0 s k0 k turns old rest = SoFar name s0 s k0 k turns old.turn
 -- ---- a line that ends the check
 
 module _ {name : List ℕ} {s0 s : SourceAccount} {k0 k : SinkAccount} {turns : ℕ} {rest : List ℕ} (old new : Checker) (next more : List ℕ) (k' : SinkAccount) (end : ScriptEnd) (so : StandsBefore name s0 s k0 k turns old rest) (e : rest ≡ next ++ more)
-    (until : EndsLine (s0.counts.ends < s.counts.ends) more) (bare : IsBare next) where
+    (short : length more ≤ 256) (until : EndsLine (s0.counts.ends < s.counts.ends) more) (bare : IsBare next) where
   stopped_used : (came : Option (Result Answer Apart)) → Uses old.interpreter.device old.interpreter.labels (script_part next) (results_of came) new.interpreter.device new.interpreter.labels
       → new.passed ≡ old.passed + met (expected_part next) came → new.failed ≡ old.failed + length (unmet (old.number + 1) (expected_part next) came)
       → (w : Written) → WritesOut w k k' (differences_text name (unmet (old.number + 1) (expected_part next) came)) old.turns new.turns → Some end ≡ end_of_writing w
       → Checks name s0 s k0 k' turns (report_with end new.passed new.failed)
   stopped_used came u p f written.Whole w h = absurd (cc)
   stopped_used came u p f written.Fault w h =
-      let cut = cut_by_fault so next came new.interpreter.device new.interpreter.labels bare u more k' new.turns e until w.0 w.1 in
+      let cut = cut_by_fault so next came new.interpreter.device new.interpreter.labels bare u more k' new.turns e short until w.0 w.1 in
       subst (λ (x : ScriptEnd). Checks name s0 s k0 k' turns (report_with x new.passed new.failed)) (sym (some_end end ends.WriteFault h)) (counted ends.WriteFault _ _ _ _ p f cut)
   stopped_used came u p f written.TurnsUsed w h =
-      let cut = cut_by_turns so next came new.interpreter.device new.interpreter.labels bare u more k' new.turns e until w.0 w.1 in
+      let cut = cut_by_turns so next came new.interpreter.device new.interpreter.labels bare u more k' new.turns e short until w.0 w.1 in
       subst (λ (x : ScriptEnd). Checks name s0 s k0 k' turns (report_with x new.passed new.failed)) (sym (some_end end ends.TurnsUsed h)) (counted ends.TurnsUsed _ _ _ _ p f cut)
 
 unwritten : {name : List ℕ} {s0 s : SourceAccount} {k0 : SinkAccount} {turns : ℕ} (old new : Checker) (k k' : SinkAccount) (end : ScriptEnd) → Stands old new k k'
@@ -72,10 +72,10 @@ unwritten {name} {s0} {s} {k0} {turns} old new k k' end st c =
     subst (λ (x : SinkAccount). Checks name s0 s k0 x turns (report_with end new.passed new.failed)) (sym st.unwritten) (counted end _ _ _ _ st.passed st.failed c)
 
 pub stopped : {name : List ℕ} {s0 s : SourceAccount} {k0 k : SinkAccount} {turns : ℕ} {rest : List ℕ} (old new : Checker) (next more : List ℕ) (k' : SinkAccount) (end : ScriptEnd) → StandsBefore name s0 s k0 k turns old rest
-    → rest ≡ next ++ more → EndsLine (s0.counts.ends < s.counts.ends) more → IsBare next → ChecksLine old new name next k k' (Some end) → Checks name s0 s k0 k' turns (report_with end new.passed new.failed)
-stopped old new next more k' end so e until bare (used u) = stopped_used old new next more k' end so e until bare u.came u.uses u.passed u.failed u.written u.writes u.end_is
-stopped {k} old new next more k' end so e until bare (bad m st) = unwritten old new k k' end st (malformed so next more e until bare m)
-stopped {k} old new next more k' end so e until bare (unmade none wants st) = unwritten old new k k' end st (no_memory so next more e until bare none wants)
+    → rest ≡ next ++ more → length more ≤ 256 → EndsLine (s0.counts.ends < s.counts.ends) more → IsBare next → ChecksLine old new name next k k' (Some end) → Checks name s0 s k0 k' turns (report_with end new.passed new.failed)
+stopped old new next more k' end so e short until bare (used u) = stopped_used old new next more k' end so e short until bare u.came u.uses u.passed u.failed u.written u.writes u.end_is
+stopped {k} old new next more k' end so e short until bare (bad m st) = unwritten old new k k' end st (malformed so next more e short until bare m)
+stopped {k} old new next more k' end so e short until bare (unmade none wants st) = unwritten old new k k' end st (no_memory so next more e short until bare none wants)
 
 -- ---- a line that lets the check go on
 
@@ -115,7 +115,7 @@ module _ (name : List ℕ) (old : Check) (reader : Buffered) (has : ℕ) (source
     advances_line None r c = goes_on r c
     advances_line (Some end) r c = λ (start : SourceAccount) (first : SinkAccount) (turns : ℕ) (so : StandsSoFar name start source first sink turns old).
         let read = so_far_read so source' given has (reader.held ++ 10 ∷ reader.pending) r.spent r.splits.0 in
-        stopped (with_turns old.checker has) new reader.held (10 ∷ reader.pending) sink' end read refl (inr (reader.pending, refl)) r.splits.1 c
+        stopped (with_turns old.checker has) new reader.held (10 ∷ reader.pending) sink' end read refl (let few = r.splits.3 in omega (arith, few)) (inr (reader.pending, refl)) r.splits.1 c
 
   module _ (new : Check) (sink' : SinkAccount) where
     last_line : (end : ScriptEnd) (line_end : Option ScriptEnd) → Reads old.reader reader source source' old.checker.turns has next_line.End given
@@ -130,7 +130,7 @@ module _ (name : List ℕ) (old : Check) (reader : Buffered) (has : ℕ) (source
     last_line end (Some other) r c e start first turns so =
         let read = so_far_read so source' given has reader.held r.spent r.splits.0 in
         let behind : start.counts.ends < source'.counts.ends = omega (arith, so.gave.counts.ends, r.splits.4) in
-        let stop = stopped (with_turns old.checker has) new.checker reader.held [] sink' other read (sym (append-nil reader.held)) (inl (refl, behind)) r.splits.2 c in
+        let stop = stopped (with_turns old.checker has) new.checker reader.held [] sink' other read (sym (append-nil reader.held)) (omega arith) (inl (refl, behind)) r.splits.2 c in
         subst (λ (x : ScriptEnd). Checks name start source' first sink' turns (report_of new x)) (sym e) stop
 
     pub advances_last : (end : ScriptEnd) → Reads old.reader reader source source' old.checker.turns has next_line.End given
@@ -150,8 +150,8 @@ module _ (name : List ℕ) (old : Check) (reader : Buffered) (has : ℕ) (source
   pub advances_read_fault : Reads old.reader reader source source' old.checker.turns has next_line.ReadFault given
       → Advances old (record { reader = reader; checker = with_turns old.checker has }) name source source' sink sink (Some ends.ReadFault)
   advances_read_fault r start first turns so =
-      read_fault (so_far_read so source' given has reader.held r.spent r.splits.0) r.splits.2 (omega (arith, so.gave.counts.faults, r.splits.4))
+      read_fault (so_far_read so source' given has reader.held r.spent r.splits.0) (r.splits.2, r.splits.3) (omega (arith, so.gave.counts.faults, r.splits.4))
 
   pub advances_turns_used : Reads old.reader reader source source' old.checker.turns has next_line.TurnsUsed given
       → Advances old (record { reader = reader; checker = with_turns old.checker has }) name source source' sink sink (Some ends.TurnsUsed)
-  advances_turns_used r start first turns so = turns_used (so_far_read so source' given has reader.held r.spent r.splits.0) r.splits.4
+  advances_turns_used r start first turns so = turns_used (so_far_read so source' given has reader.held r.spent r.splits.0) (r.splits.2, r.splits.3) r.splits.4

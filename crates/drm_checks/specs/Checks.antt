@@ -11,7 +11,7 @@ use Rattle.drm_runs.specs.Runs.{Covers, EndsLine}
 use Rattle.drm_runs.specs.declared.run.ScriptEnd.{ScriptEnd}
 use Rattle.drm_runs.specs.declared.run.ScriptEnd.TheVariants as ends
 use Rattle.drm_checks.specs.Expectations.{script_part, expected_part}
-use Rattle.drm_checks.specs.Differences.{Difference, differences_text, met, unmet}
+use Rattle.drm_checks.specs.Differences.{Difference, differences_text, met, text_of, unmet}
 use Rattle.drm_checks.specs.Checker.{results_of}
 use Rattle.drm_checks.specs.declared.check.Report.{Report}
 
@@ -24,13 +24,14 @@ pub data Checked : List (List ℕ) → ℕ → List Difference → Option Rows �
       → Checked (lines ++ next ∷ []) (passed + met (expected_part next) came) (differences ++ unmet (length lines + 1) (expected_part next) came) device' labels'
 
 -- A line that can't be used: the input or the line ended behind it and its script part can't be used, or it is too long, which
--- its first 256 bytes tell.
+-- its first 256 bytes tell. No more was read behind it than one read gives.
 pub record IsUnusable (ended : Type 0) (device : Option Rows) (rest : List ℕ) : Type 0 where
   pub bad : List ℕ
   pub behind : List ℕ
   pub parts : rest ≡ bad ++ behind
   pub bare : IsBare bad
   pub because : (IsMisplaced device (script_part bad) × EndsLine ended behind) ⊎ (length bad ≡ 256)
+  pub short : length behind ≤ 256
 
 -- A line that wants a device, for which there was no memory.
 pub record IsUnmade (ended : Type 0) (device : Option Rows) (rest : List ℕ) : Type 0 where
@@ -41,20 +42,38 @@ pub record IsUnmade (ended : Type 0) (device : Option Rows) (rest : List ℕ) : 
   pub until : EndsLine ended behind
   pub none : device ≡ None
   pub wants : WantsDevice (script_part next)
+  pub short : length behind ≤ 256
 
--- the whole text was written, or a front of it
-abbrev pub IsFront : List ℕ → List ℕ → Type 0
-IsFront written text = (later : List ℕ) × (text ≡ written ++ later)
+-- Telling stopped in the difference of the last line that was used: those before it were told, and of it a front that lacks a
+-- byte at least. So no line is used after a failed write.
+pub record IsCutInLast (name : List ℕ) (n : ℕ) (differences : List Difference) (written : List ℕ) : Type 0 where
+  pub before : List Difference
+  pub last : Difference
+  pub sent : List ℕ
+  pub unsent : List ℕ
+  pub whole : differences ≡ before ++ last ∷ []
+  pub number : last.number ≡ n
+  pub parts : text_of name last ≡ sent ++ unsent
+  pub more : 0 < length unsent
+  pub text : written ≡ differences_text name before ++ sent
 
--- Each end with its cause, where these lines were checked, this stands behind them in what was read, and this text was owed.
-abbrev pub Ends : ScriptEnd → Type 0 → SourceAccount → SourceAccount → SinkAccount → SinkAccount → ℕ → ℕ → Option Rows → List ℕ → List ℕ → List ℕ → Type 0
-Ends ends.Done ended source source' sink sink' turns n device rest written text = (rest ≡ []) × ended × (written ≡ text)
-Ends (ends.Malformed number) ended source source' sink sink' turns n device rest written text = (number ≡ n + 1) × IsUnusable ended device rest × (written ≡ text)
-Ends ends.ReadFault ended source source' sink sink' turns n device rest written text = IsBare rest × (source.counts.faults < source'.counts.faults) × (written ≡ text)
-Ends ends.WriteFault ended source source' sink sink' turns n device rest written text = (sink.counts.faults < sink'.counts.faults) × IsFront written text
-Ends ends.TurnsUsed ended source source' sink sink' turns n device rest written text =
-    (source'.counts.calls + sink'.counts.calls ≡ source.counts.calls + sink.counts.calls + turns) × IsFront written text
-Ends ends.NoMemory ended source source' sink sink' turns n device rest written text = IsUnmade ended device rest × (written ≡ text)
+-- what is left of a line whose end wasn't read, shorter than a line that is too long
+abbrev pub IsPart : List ℕ → Type 0
+IsPart rest = IsBare rest × (length rest ≤ 255)
+
+-- Each end with its cause, where n lines were checked, this stands behind them in what was read, and these differences were found.
+abbrev pub Ends : ScriptEnd → Type 0 → SourceAccount → SourceAccount → SinkAccount → SinkAccount → ℕ → ℕ → Option Rows → List ℕ → List ℕ → List ℕ → List Difference → Type 0
+Ends ends.Done ended source source' sink sink' turns n device rest written name differences = (rest ≡ []) × ended × (written ≡ differences_text name differences)
+Ends (ends.Malformed number) ended source source' sink sink' turns n device rest written name differences =
+    (number ≡ n + 1) × IsUnusable ended device rest × (written ≡ differences_text name differences)
+Ends ends.ReadFault ended source source' sink sink' turns n device rest written name differences =
+    IsPart rest × (source.counts.faults < source'.counts.faults) × (written ≡ differences_text name differences)
+Ends ends.WriteFault ended source source' sink sink' turns n device rest written name differences =
+    (sink.counts.faults < sink'.counts.faults) × IsCutInLast name n differences written × (length rest ≤ 256)
+Ends ends.TurnsUsed ended source source' sink sink' turns n device rest written name differences =
+    (source'.counts.calls + sink'.counts.calls ≡ source.counts.calls + sink.counts.calls + turns)
+    × ((IsPart rest × (written ≡ differences_text name differences)) ⊎ (IsCutInLast name n differences written × (length rest ≤ 256)))
+Ends ends.NoMemory ended source source' sink sink' turns n device rest written name differences = IsUnmade ended device rest × (written ≡ differences_text name differences)
 
 -- A check: what it read and wrote, at what cost, which lines it used, what they expect, and why it ended.
 pub record Checks (name : List ℕ) (source source' : SourceAccount) (sink sink' : SinkAccount) (turns : ℕ) (report : Report) : Type 0 where
@@ -71,7 +90,7 @@ pub record Checks (name : List ℕ) (source source' : SourceAccount) (sink sink'
   pub checked : Checked lines report.passed differences device labels
   pub failed : report.failed ≡ length differences
   pub covers : Covers (source.counts.ends < source'.counts.ends) read lines rest
-  pub ends : Ends report.end (source.counts.ends < source'.counts.ends) source source' sink sink' turns (length lines) device rest written (differences_text name differences)
+  pub ends : Ends report.end (source.counts.ends < source'.counts.ends) source source' sink sink' turns (length lines) device rest written name differences
 
 -- What the lines get as answers is what the script of their parts without expectations gets.
 abbrev pub CheckedFilesAreScripts : Type 0

@@ -22,45 +22,57 @@ use std::os::unix::net::UnixListener;
 use std::sync::Wait;
 use std::thread::Threads;
 
-// Takes in the seats of the listeners, and gives their sessions one behind another.
+// Moves sessions behind others, for which there is room.
+fn put_behind(sessions: &mut Vec<Session>, more: Vec<Session>)
+    requires reserved { vec_len sessions.old + vec_len more ≤ vec_capacity sessions.old }
+    ensures items { sessions.new.items ≡ sessions.old.items ++ more.items }
+    ensures capacity { vec_capacity sessions.old ≤ vec_capacity sessions.new }
+{
+    let mut more = more;
+    match sessions.append(&mut more) {
+        Ok(()) => {}
+        Err(_) => unreachable!(),
+    }
+}
+
+// Takes in the seats of the listeners, and gives their sessions one behind another. It takes no memory.
 fn gather(
     shared: &SharedDevice,
     seat: &mut Seat,
     served: ByClass<ServedListener>,
-) -> Result<Vec<Session>, ServeFault>
+    sessions: Vec<Session>,
+) -> Vec<Session>
     requires own { seat.old.table ≡ shared.now }
     requires cards { served.card.seat.table ≡ shared.now }
     requires renders { served.render.seat.table ≡ shared.now }
     requires roots { served.root.seat.table ≡ shared.now }
     requires children { AreChildren seat.old served }
-    ensures sessions { IfOk result (λ sessions. sessions.items
-        ≡ served.card.sessions.items ++ (served.render.sessions.items ++ served.root.sessions.items)) }
+    requires empty { sessions.items ≡ [] }
+    requires reserved { vec_len served.card.sessions + vec_len served.render.sessions + vec_len served.root.sessions
+        ≤ vec_capacity sessions }
+    ensures sessions { result.items
+        ≡ served.card.sessions.items ++ (served.render.sessions.items ++ served.root.sessions.items) }
     ensures same { Same seat.old seat.new × StartsWith seat.new.seen seat.old.seen }
     ensures seen { StartsWith seat.new.seen served.card.seat.seen × StartsWith seat.new.seen served.render.seat.seen
         × StartsWith seat.new.seen served.root.seat.seen }
     ensures joined { seat.new.joined ≡ ((seat.old.joined ++ served.card.seat.number ∷ served.card.seat.joined)
         ++ served.render.seat.number ∷ served.render.seat.joined) ++ served.root.seat.number ∷ served.root.seat.joined }
     ensures differ { AllDiffer seat.new.joined }
-    ensures out { OnOk result (seat.new.out ≡ seat.old.out - 3) }
-    ensures turn { result ≢ Err TurnOut }
+    ensures out { seat.new.out ≡ seat.old.out - 3 }
 {
     let ByClass { card, render, root } = served;
     shared.join(seat, card.seat);
     shared.join(seat, render.seat);
     shared.join(seat, root.seat);
-    let mut sessions = card.sessions;
-    let mut renders = render.sessions;
-    let mut roots = root.sessions;
+    let mut sessions = sessions;
+    put_behind(&mut sessions, card.sessions);
+    put_behind(&mut sessions, render.sessions);
+    put_behind(&mut sessions, root.sessions);
     sessions
-        .append(&mut renders)
-        .map_err(|_| ServeFault::NoMemory)?;
-    sessions
-        .append(&mut roots)
-        .map_err(|_| ServeFault::NoMemory)?;
-    Ok(sessions)
 }
 
-// Serves the listeners through seats that are split off and joined again.
+// Serves the listeners through seats that are split off and joined again. Room for all sessions is reserved before the first
+// thread.
 fn serve_shared<R: Wait + Threads + Log + Sync>(
     rt: &R,
     alloc: Global,
@@ -77,13 +89,15 @@ fn serve_shared<R: Wait + Threads + Log + Sync>(
     ensures out { OnOk result (seat.new.out ≡ seat.old.out) }
     ensures turn { result ≢ Err TurnOut }
 {
+    let count = usize::from(counts.cards) + usize::from(counts.renders) + usize::from(counts.roots);
+    let sessions = Vec::with_capacity(alloc, count).map_err(|_| ServeFault::NoMemory)?;
     let seats = ByClass {
         card: shared.split(seat),
         render: shared.split(seat),
         root: shared.split(seat),
     };
     let served = serve_listeners(rt, alloc, shared, seats, sockets, counts)?;
-    gather(shared, seat, served)
+    Ok(gather(shared, seat, served, sessions))
 }
 
 /// Accepts so many connections on the three listeners and serves each in a thread of its own, on one device that they

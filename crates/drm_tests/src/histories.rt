@@ -1,16 +1,10 @@
 //! Which client has which handle of which object, told from the events of a device and their answers alone, and found again in
-//! the audits of all scripts, after each line.
+//! an audit.
 
-use crate::device_rows::{BUFFERS, DEVICES, MASTERS, SHARING};
-use crate::devices::new_device;
-use crate::mode_rows::{LEASES, MODES};
-use crate::scripts::Row;
 use drm_device::Device;
-use drm_script::{Command, Label, Reading, read_line};
-use drm_table::{Answer, AuditKind, Call, Event, Limits};
+use drm_table::{Answer, AuditKind, Call, Event};
 use std::alloc::{AllocError, Global};
 use std::process::Abort;
-use std::test::Fail;
 
 /// Under what an object is published.
 #[derive(Clone, Copy, PartialEq, Eq, Debug)]
@@ -175,10 +169,10 @@ fn holds_of(alloc: Global, steps: &[(Event, Answer)]) -> Result<Vec<Hold>, Alloc
     Ok(holds)
 }
 
-/// Compares handles with the rows of an audit, of which scripts make 64 at most.
+/// Compares handles with the rows of an audit, of which scripts make 96 at most.
 fn are_shown(rt: &impl Abort, holds: &[Hold], device: &Device) {
     let mut count = 0_usize;
-    for from in [0, 16, 32, 48] {
+    for from in [0, 16, 32, 48, 64, 80] {
         let page = device.audit(AuditKind::Hold, from);
         for row in page.rows() {
             assert_eq!(rt; object_of(holds, row.a, row.b), Some(row.c));
@@ -188,86 +182,14 @@ fn are_shown(rt: &impl Abort, holds: &[Hold], device: &Device) {
     assert_eq!(rt; count, holds.len());
 }
 
-/// The lines of a script, without the answers that they expect.
-fn lines_of(alloc: Global, script: &[u8]) -> Result<Vec<Vec<u8>>, AllocError> {
-    let mut lines = Vec::new(alloc);
-    let mut line = Vec::new(alloc);
-    let mut is_answer = false;
-    for byte in script {
-        if *byte == b'\n' {
-            lines.push(line)?;
-            line = Vec::new(alloc);
-            is_answer = false;
-        } else {
-            is_answer = is_answer || *byte == b'-';
-            if !is_answer {
-                line.push(*byte)?;
-            }
-        }
-    }
-    lines.push(line)?;
-    Ok(lines)
-}
-
-/// The limits that a script begins with.
-fn limits_of(lines: &[Vec<u8>]) -> Limits {
-    match lines.first() {
-        Some(line) => match read_line(line) {
-            Reading::Limits(limits) => limits,
-            _ => Limits::PROGRAM,
-        },
-        None => Limits::PROGRAM,
-    }
-}
-
-/// Asks what a line says, and gives the event and its answer where the device notes it.
-fn ask_line(
-    device: &mut Device,
-    labels: &mut [u32; Label::COUNT],
-    line: &[u8],
-) -> Result<Option<(Event, Answer)>, AllocError> {
-    let Reading::Says(command) = read_line(line) else {
-        return Ok(None);
-    };
-    let (label, event) = match command {
-        Command::Open { label, opening } => (Some(label), Event::Open(opening)),
-        Command::Close { label } => (None, Event::Close(labels[label.place()])),
-        Command::Ask { label, call } => (None, Event::Ask(labels[label.place()], call)),
-    };
-    let asked = event.clone()?;
-    let Ok(answer) = device.step(event) else {
-        return Ok(None);
-    };
-    if let (Some(label), Answer::Opened { client }) = (label, &answer) {
-        labels[label.place()] = *client;
-    }
-    Ok(Some((asked, answer)))
-}
-
-/// Compares the handles of a script's device after each line with those that its events and answers give.
-fn check_holds(rt: &impl Abort, alloc: Global, row: &Row) -> Result<(), Fail> {
-    let lines = lines_of(alloc, row.script)?;
-    let mut device = new_device(alloc, limits_of(&lines))?;
-    let mut labels = [0; Label::COUNT];
-    let mut steps = Vec::new(alloc);
-    for line in &lines {
-        if let Some(step) = ask_line(&mut device, &mut labels, line)? {
-            steps.push(step)?;
-        }
-        let holds = holds_of(alloc, &steps)?;
-        are_shown(rt, &holds, &device);
-    }
-    assert_eq!(rt; device.journal().len(), steps.len(), "{}", row.name);
-    Ok(())
-}
-
-#[test]
-fn handles_follow_from_answers(rt: HostRuntime) -> Result<(), Fail> {
-    let parts: [&[Row]; 6] = [&DEVICES, &BUFFERS, &SHARING, &MASTERS, &MODES, &LEASES];
-    for rows in parts {
-        for row in rows {
-            check_holds(&rt, rt.alloc(), row)?;
-        }
-    }
+/// Compares the handles of a device with those that its events and answers give.
+pub(crate) fn check_holds(
+    rt: &impl Abort,
+    alloc: Global,
+    device: &Device,
+    steps: &[(Event, Answer)],
+) -> Result<(), AllocError> {
+    let holds = holds_of(alloc, steps)?;
+    are_shown(rt, &holds, device);
     Ok(())
 }

@@ -55,6 +55,8 @@ mod sessions;
 #[cfg(test)]
 mod sockets;
 #[cfg(test)]
+mod steps;
+#[cfg(test)]
 mod streams;
 #[cfg(test)]
 mod tables;

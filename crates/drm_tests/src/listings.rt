@@ -29,25 +29,34 @@ fn device(alloc: Global) -> Result<Device, Fail> {
 }
 
 /// How a sink is cut, how many turns there are, how the listing ends, and how many bytes it writes.
-const LISTINGS: [(Cut, u64, ListEnd, usize); 4] = [
+type Listing = (Cut, u64, ListEnd, usize);
+
+const LISTINGS: [Listing; 5] = [
     (Cut::Never, 1_000, ListEnd::Done, 80),
     (Cut::Never, 2, ListEnd::TurnsUsed, 31),
     (Cut::Never, 0, ListEnd::TurnsUsed, 0),
     (Cut::Fault(20), 1_000, ListEnd::WriteFault, 20),
+    (Cut::Interruptions(999), 100_000, ListEnd::Done, 80),
 ];
 
-fn check_listings(rt: &impl Abort, device: &Device) {
-    for (cut, turns, end, written) in LISTINGS {
-        let mut sink = sink_of(512, cut);
-        let listed = list_audit(device, &mut sink, turns.min(1_000));
-        assert_eq!(rt; listed, end);
-        assert_eq!(rt; sink.written(), &LINES[..written.min(LINES.len())]);
-    }
+fn check_listing(rt: &impl Abort, device: &Device, piece: usize, listing: Listing) {
+    let (cut, turns, end, written) = listing;
+    let mut sink = sink_of(piece, cut);
+    let listed = list_audit(device, &mut sink, turns.min(100_000));
+    assert_eq!(rt; listed, end);
+    assert_eq!(rt; sink.written(), &LINES[..written.min(LINES.len())]);
 }
 
 #[test]
 fn listings(rt: HostRuntime) -> Result<(), Fail> {
     let device = device(rt.alloc())?;
-    check_listings(&rt, &device);
+    for listing in LISTINGS {
+        check_listing(&rt, &device, 512, listing);
+    }
+    for at in 0..LINES.len() {
+        for cut in [Cut::Fault(at), Cut::End(at), Cut::Interrupted(1_000, at)] {
+            check_listing(&rt, &device, 7, (cut, 10_000, ListEnd::WriteFault, at));
+        }
+    }
     Ok(())
 }

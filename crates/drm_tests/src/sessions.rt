@@ -244,7 +244,7 @@ const CASES: [Case<'static>; 28] = [
 ];
 
 /// What comes behind the hello, how the session ends after so many steps, and what is written behind the hello's answer.
-const AFTER_HELLO: [(&[u8], SessionEnd, u64, &[u8]); 10] = [
+const AFTER_HELLO: [(&[u8], SessionEnd, u64, &[u8]); 12] = [
     (b"\x02\0\0\0\0", SessionEnd::Truncated, 2, b""),
     (b"\0\0\0\0", SessionEnd::TooLong, 2, b""),
     (b"\x01\0\0\0", SessionEnd::TooLong, 2, b""),
@@ -266,6 +266,23 @@ const AFTER_HELLO: [(&[u8], SessionEnd, u64, &[u8]); 10] = [
     // MODE_CREATE_LEASE of more ids than there are
     (
         b"\x06\0\0\0\xc6\0\xff\xff\xff\xff",
+        SessionEnd::Ended,
+        3,
+        b"\x0a\0\0\0\0\x20\x02\0\0\0\x16\0\0\0",
+    ),
+    // MODE_CREATE_LEASE of 33 ids
+    (
+        b"\x8a\0\0\0\xc6\0\x21\0\0\0\
+            \x01\0\0\0\x01\0\0\0\x01\0\0\0\x01\0\0\0\x01\0\0\0\x01\0\0\0\x01\0\0\0\x01\0\0\0\x01\0\0\0\x01\0\0\0\x01\0\0\0\
+            \x01\0\0\0\x01\0\0\0\x01\0\0\0\x01\0\0\0\x01\0\0\0\x01\0\0\0\x01\0\0\0\x01\0\0\0\x01\0\0\0\x01\0\0\0\x01\0\0\0\
+            \x01\0\0\0\x01\0\0\0\x01\0\0\0\x01\0\0\0\x01\0\0\0\x01\0\0\0\x01\0\0\0\x01\0\0\0\x01\0\0\0\x01\0\0\0\x01\0\0\0",
+        SessionEnd::Ended,
+        3,
+        b"\x0a\0\0\0\0\x20\x02\0\0\0\x16\0\0\0",
+    ),
+    // AUDIT of a kind that there is not
+    (
+        b"\x0a\0\0\0\x45\0\x0b\0\0\0\0\0\0\0",
         SessionEnd::Ended,
         3,
         b"\x0a\0\0\0\0\x20\x02\0\0\0\x16\0\0\0",

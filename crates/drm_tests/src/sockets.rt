@@ -126,6 +126,19 @@ fn end_second_first<R: Net>(rt: &R, alloc: Global, path: &str) -> io::Result<Vec
     Ok(rest)
 }
 
+/// Opens two clients. The first breaks off with an answer that it doesn't read, and the second is then answered.
+fn break_first<R: Net>(rt: &R, path: &str) -> io::Result<()> {
+    let (_, version) = HELLO_VERSION.split_at(18);
+    let mut first = open(rt, path)?;
+    let mut second = open(rt, path)?;
+    first.write_all(version)?;
+    drop(first);
+    second.write_all(version)?;
+    let mut answer = [0; 18];
+    second.read_exact(&mut answer)?;
+    second.shutdown(Shutdown::Both)
+}
+
 /// Opens a client, and asks for the version so many times, each time once the answer before is read.
 fn ask_in_turn<R: Net>(rt: &R, path: &str, times: u32) -> io::Result<()> {
     let (_, version) = HELLO_VERSION.split_at(18);
@@ -200,6 +213,8 @@ enum Scenario {
     Refused,
     /// One of each class asks for an audit.
     Audits,
+    /// The first breaks off, and the second goes on.
+    FirstBreaks,
 }
 
 /// Does this, and gives what was heard: the bytes of answers, or whether a connection was refused.
@@ -217,50 +232,57 @@ fn talk<R: Net + Clock>(
         Scenario::Thousand => ask_in_turn(rt, places.render.as_str(), 1_000)?,
         Scenario::Refused => heard.push(refusal(rt, places.card.as_str())? as u8)?,
         Scenario::Audits => return ask_audits(rt, alloc, places),
+        Scenario::FirstBreaks => break_first(rt, places.card.as_str())?,
     }
     Ok(heard)
 }
 
-/// What clients do, how many connections are accepted on each socket, what is heard, and the clients and steps of the sessions,
-/// which all end between frames.
+/// What clients do, how many connections are accepted on each socket, what is heard, and the clients and steps of the sessions.
+/// So many of these, the first ones, end with a broken connection, and the others between frames.
 #[derive(Clone, Copy)]
 struct Scene {
     scenario: Scenario,
     counts: [u8; 3],
     heard: &'static [u8],
     sessions: &'static [(u32, u64)],
+    broken: usize,
 }
 
-const SCENES: [Scene; 6] = [
+const SCENES: [Scene; 7] = [
     Scene {
         scenario: Scenario::Once,
         counts: [1, 0, 0],
         heard: &ANSWERS,
         sessions: &[(1, 3)],
+        broken: 0,
     },
     Scene {
         scenario: Scenario::Four,
         counts: [2, 1, 1],
         heard: b"",
         sessions: &[(3, 2), (4, 2), (2, 2), (1, 2)],
+        broken: 0,
     },
     Scene {
         scenario: Scenario::SecondFirst,
         counts: [2, 0, 0],
         heard: b"",
         sessions: &[(1, 2), (2, 2)],
+        broken: 0,
     },
     Scene {
         scenario: Scenario::Thousand,
         counts: [0, 1, 0],
         heard: b"",
         sessions: &[(1, 1_002)],
+        broken: 0,
     },
     Scene {
         scenario: Scenario::Refused,
         counts: [1, 0, 0],
         heard: &[1],
         sessions: &[(1, 3)],
+        broken: 0,
     },
     // two denials, and rows
     Scene {
@@ -268,6 +290,14 @@ const SCENES: [Scene; 6] = [
         counts: [1, 1, 1],
         heard: &[0, 0x20, 0, 0x20, 0x0b, 0x10],
         sessions: &[(1, 3), (2, 3), (3, 3)],
+        broken: 0,
+    },
+    Scene {
+        scenario: Scenario::FirstBreaks,
+        counts: [2, 0, 0],
+        heard: b"",
+        sessions: &[(1, 3), (2, 3)],
+        broken: 1,
     },
 ];
 
@@ -322,13 +352,14 @@ fn check_outcome(
 ) -> Result<(), Fail> {
     assert_eq!(rt; served.sessions.len(), scene.sessions.len());
     let mut steps = 0u64;
+    let mut place = 0usize;
     for (session, (client, made)) in served.sessions.iter().zip(scene.sessions) {
-        let ended = Session {
-            end: SessionEnd::Ended,
-            client: *client,
-            steps: *made,
-        };
-        assert_eq!(rt; *session, ended);
+        // an answer finds the connection closed already, or is there when it is closed
+        let is_broken = matches!(session.end, SessionEnd::WriteFault | SessionEnd::ReadFault);
+        assert_eq!(rt; is_broken, place < scene.broken);
+        assert!(rt; is_broken || session.end == SessionEnd::Ended);
+        assert_eq!(rt; (session.client, session.steps), (*client, *made));
+        place = place.wrapping_add(1);
         steps = steps.wrapping_add(*made);
     }
     assert_eq!(rt; served.steps, steps);
