@@ -1,5 +1,6 @@
 pub mod Lists
 pub mod Found
+pub mod Each
 pub mod Orders
 pub mod Numbers
 pub mod Pages

@@ -130,7 +130,7 @@ asked-births w c (RevokeLease lessee) h = (
 )
 asked-births w c call h = later w h
 
-changed-births : (w : Rows) (event : Event) → BirthsRise w.steps w → BirthsRise (birth w) (changed w event)
+pub changed-births : (w : Rows) (event : Event) → BirthsRise w.steps w → BirthsRise (birth w) (changed w event)
 unfolding changed opened
 changed-births w (Open (Primary root)) h = opened_primary-births w root w.device_master h
 changed-births w (Open Render) h = (turn-push client_birth w.steps w.clients _ refl h.0, (later w h).1, (later w h).2)
@@ -157,7 +157,7 @@ in_after : (w : Rows) (event : Event) → BirthsRise w.steps w → BirthsRise (b
 unfolding after
 in_after w event h = verdict-births w event (verdict w event) h
 
-after-births : (w : Rows) (event : Event) → BirthsRise w.steps w → BirthsRise (after w event).steps (after w event)
+pub after-births : (w : Rows) (event : Event) → BirthsRise w.steps w → BirthsRise (after w event).steps (after w event)
 after-births w event h = subst (λ n. BirthsRise n (after w event)) (sym (after-steps w event)) (in_after w event h)
 
 run-births : (w : Rows) (events : List Event) → BirthsRise w.steps w → BirthsRise (run w events).steps (run w events)

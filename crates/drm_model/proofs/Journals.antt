@@ -82,7 +82,7 @@ unfolding swept
 after_verdict-topology w event None = (changed-kept w event).topology
 after_verdict-topology w event (Some rule) = refl
 
-after_verdict-limits : (w : Rows) (event : Event) (v : Option Rule) → (after_verdict v w event).limits ≡ w.limits
+pub after_verdict-limits : (w : Rows) (event : Event) (v : Option Rule) → (after_verdict v w event).limits ≡ w.limits
 unfolding swept
 after_verdict-limits w event None = (changed-kept w event).limits
 after_verdict-limits w event (Some rule) = refl
@@ -136,7 +136,7 @@ opened_primary-count : (w : Rows) (root : Bool) (m : Option ℕ) → length (ope
 opened_primary-count w root None = length-append w.clients _
 opened_primary-count w root (Some m) = length-append w.clients _
 
-opened-count : (w : Rows) (opening : Opening) → length (opened w opening).clients ≡ length w.clients + 1
+pub opened-count : (w : Rows) (opening : Opening) → length (opened w opening).clients ≡ length w.clients + 1
 unfolding opened
 opened-count w (Primary root) = opened_primary-count w root w.device_master
 opened-count w Render = length-append w.clients _
@@ -151,7 +151,7 @@ mastered-count w c true master = refl
 mastered-count w c false true = refl
 mastered-count w c false false = map-count _ w.clients
 
-asked-count : (w : Rows) (c : ℕ) (call : Call) → length (meaning w c call).rows.clients ≡ length w.clients
+pub asked-count : (w : Rows) (c : ℕ) (call : Call) → length (meaning w c call).rows.clients ≡ length w.clients
 unfolding meaning with_object with_authenticated ended
 asked-count w c Version = refl
 asked-count w c (AuthMagic magic) = map-count _ w.clients

@@ -26,7 +26,7 @@ own_checks (x ∷ xs) ys h =
     (elim x.holds as (λ b. cond b (first_failing (xs ++ ys)) (Some x.rule) ≡ None → first_failing ys ≡ None)
     [ true ↦ own_checks xs ys | false ↦ λ k. absurd (let no : Some x.rule ≡ None = k in cc) ]) h
 
-all_hold : (xs : List Check) → first_failing xs ≡ None → AllByRecursion (λ (x : Check). x.holds ≡ true) xs
+pub all_hold : (xs : List Check) → first_failing xs ≡ None → AllByRecursion (λ (x : Check). x.holds ≡ true) xs
 all_hold [] h = tt
 all_hold (x ∷ xs) h =
     elim x.holds as (λ b. x.holds ≡ b → cond b (first_failing xs) (Some x.rule) ≡ None → AllByRecursion (λ (x : Check). x.holds ≡ true) (x ∷ xs))

@@ -146,7 +146,7 @@ asked-made w c (CreateLease ids) h =
 asked-made w c (RevokeLease lessee) h = ended-made w (birth w) (lessee_master w (own_master w c) lessee) (later w h)
 asked-made w c call h = later w h
 
-changed-made : (w : Rows) (event : Event) → WereMade w.steps w → WereMade (birth w) (changed w event)
+pub changed-made : (w : Rows) (event : Event) → WereMade w.steps w → WereMade (birth w) (changed w event)
 unfolding changed opened
 changed-made w (Open (Primary root)) h = opened_primary-made w root w.device_master h.3 h
 changed-made w (Open Render) h = let k = later w h in (all_push (IsMadeClient (birth w)) w.clients _ k.0 (omega arith, tt), k.1, k.2, k.3)
@@ -191,7 +191,7 @@ were_made h = run-made (empty_rows h.topology h.limits) h.journal (tt, tt, tt, t
 
 -- ---- a lessor and its lessee
 
-lessor_there : (last n m : ℕ) (o : Option MasterRow) → IfSome o (IsMadeMaster last) → IfSome o (λ (row : MasterRow). (row.master == n) ≡ true) → option_and_then (λ (row : MasterRow). row.lessor) o ≡ Some m → m < n
+pub lessor_there : (last n m : ℕ) (o : Option MasterRow) → IfSome o (IsMadeMaster last) → IfSome o (λ (row : MasterRow). (row.master == n) ≡ true) → option_and_then (λ (row : MasterRow). row.lessor) o ≡ Some m → m < n
 lessor_there last n m None h is e = absurd (let no : None ≡ Some m = e in cc)
 lessor_there last n m (Some row) h is e = subst (λ k. m < k) (eqb-true row.master n is) (subst (λ (o : Option ℕ). IfSome o (λ lessor. lessor < row.master)) e h.2)
 

@@ -153,14 +153,12 @@ fn published(event: &Event, answer: &Answer, holds: &[Hold]) -> Option<Shared> {
 fn holds_of(alloc: Global, steps: &[(Event, Answer)]) -> Result<Vec<Hold>, AllocError> {
     let mut holds = Vec::new(alloc);
     let mut shared = Vec::new(alloc);
-    let mut number = 0;
-    for (event, answer) in steps {
-        number += 1;
+    for (index, (event, answer)) in steps.iter().enumerate() {
         holds.retain(|hold| !takes(event, answer, hold));
         if let Some(one) = published(event, answer, &holds) {
             shared.push(one)?;
         }
-        if let Some(hold) = given(number, event, answer, &shared) {
+        if let Some(hold) = given(index as u64 + 1, event, answer, &shared) {
             if !holds.contains(&hold) {
                 holds.push(hold)?;
             }

@@ -1,0 +1,96 @@
+-- The laws of a device's history and its rows.
+use Rattle.std.proofs.Common.{◌≡◌, ℕ, ◌≤◌, true, false, Bool, List, [], Option, None, Some, refl, ap, ◌∙◌, subst, arith}
+use Rattle.std.specs.Prelude.{IfSome}
+use Rattle.std.specs.List.{AllByRecursion}
+use Rattle.std.specs.Option.{is_some, option_map_or}
+use Rattle.std.proofs.lemmas.Bool.{eqb-true}
+use Rattle.drm_lists.proofs.Lists.{all_weaker, all_both}
+use Rattle.drm_lists.proofs.Rising.{found}
+use Rattle.drm_model.specs.Rows.{Rows, ClientRow, MasterRow, MagicRow, client_row, is_client, is_open}
+use Rattle.drm_model.specs.Masters.{owner_of}
+use Rattle.drm_model.specs.Run.{History, rows_of, start_of}
+use Rattle.drm_history.specs.History.{Entry, history_of}
+use Rattle.drm_authority.specs.Standing.{standing}
+use Rattle.drm_authority.specs.Lessees.{lessee_in, top_in, granted}
+use Rattle.drm_authority.specs.Magics.{magic_in, is_named_in, known}
+use Rattle.drm_authority.specs.Barren.{StaysBarren}
+use Rattle.drm_authority.specs.Laws.{OwnerFollows, ClientsFollow, LeaseTokensFollow, LessorsFollow, LesseesFollow, GrantsFollow, EndedLesseesAreBarren, MagicsFollow, AuthenticationFollows}
+use Rattle.drm_authority.proofs.Runs.{Keeps, by_verdict, at_all_times, at_each_step}
+use Rattle.drm_authority.proofs.Stands.{open_stands}
+use Rattle.drm_authority.proofs.Held.{is_there, row_there, if_some}
+use Rattle.drm_authority.proofs.Lessors.{Descended, IdTold, LessorTold, owner_same}
+use Rattle.drm_authority.proofs.Grants.{Lending, lending_denied, lending_carried}
+use Rattle.drm_authority.proofs.Barren.{stays_barren}
+use Rattle.drm_authority.proofs.Named.{Magical, MagicTold, magical_denied, magical_carried}
+use Rattle.drm_authority.proofs.Known.{AuthTold, AuthsTold, auths_denied, auths_carried}
+
+-- ---- of leases
+
+lending_start : (h : History) → Lending [] (start_of h)
+unfolding standing granted
+lending_start h = ((((tt, record { owner = refl; clients = tt }), (tt, tt, tt, tt)), tt, tt), λ m x. refl)
+
+keeps_lending : Keeps Lending
+keeps_lending = by_verdict Lending lending_denied lending_carried
+
+lending : (h : History) → Lending (history_of h) (rows_of h)
+lending h = at_all_times Lending keeps_lending h (lending_start h)
+
+descended : (h : History) → Descended (history_of h) (rows_of h)
+descended h = (lending h).0
+
+pub owner_follows : (h : History) → OwnerFollows h
+owner_follows h = (descended h).0.0.1.owner
+
+pub clients_follow : (h : History) → ClientsFollow h
+clients_follow h c opened = let it = open_stands (history_of h) (rows_of h) (descended h).0.0.1 c opened in record { is_master = it.0; master = it.1 }
+
+pub lease_tokens_follow : (h : History) → LeaseTokensFollow h
+lease_tokens_follow h = (descended h).0.0.0
+
+pub lessors_follow : (h : History) → LessorsFollow h
+lessors_follow h = (descended h).1
+
+pub lessees_follow : (h : History) → LesseesFollow h
+lessees_follow h =
+    let p = descended h in
+    let w = rows_of h in
+    let past = history_of h in
+    all_both (IdTold past) (λ (row : MasterRow). is_there w.masters row.master ≡ true) (λ (row : MasterRow). IfSome row.lessor (λ _. lessee_in past (owner_of w.masters row.master) row.lessee_id ≡ Some row.master))
+    (λ row told there. if_some (λ _. lessee_in past (top_in past row.master) row.lessee_id ≡ Some row.master) (λ _. lessee_in past (owner_of w.masters row.master) row.lessee_id ≡ Some row.master) (λ _ e. ap (λ top. lessee_in past top row.lessee_id) (owner_same past w p.1 p.0.1 row.master there) ∙ e) row.lessor told)
+    w.masters p.2 (row_there w.masters)
+
+pub grants_follow : (h : History) → GrantsFollow h
+grants_follow h = (lending h).1
+
+pub ended_lessees_are_barren : (h : History) → EndedLesseesAreBarren h
+ended_lessees_are_barren h = at_each_step Lending keeps_lending StaysBarren (λ past w event r p. stays_barren past w event p) h (lending_start h)
+
+-- ---- of magics
+
+abbrev Authentic : List Entry → Rows → Type 0
+Authentic past w = Lending past w × Magical past w × AuthsTold past w
+
+authentic_start : (h : History) → Authentic [] (start_of h)
+unfolding is_named_in
+authentic_start h = (lending_start h, ((tt, tt, omega arith), tt, λ d late. refl), tt)
+
+authentic : (h : History) → Authentic (history_of h) (rows_of h)
+authentic h =
+    at_all_times Authentic
+    (by_verdict Authentic
+    (λ past w event rule r p. (lending_denied past w event rule r p.0, magical_denied past w event rule p.1, auths_denied past w event rule p.2))
+    (λ past w event r v p. let stands = p.0.0.0.0.1 in (lending_carried past w event r v p.0, magical_carried past w event r v stands p.1, auths_carried past w r stands p.1 event v p.2)))
+    h (authentic_start h)
+
+pub magics_follow : (h : History) → MagicsFollow h
+magics_follow h = all_weaker (MagicTold (history_of h)) (λ (row : MagicRow). magic_in (history_of h) row.master row.number ≡ Some row.client) (λ row told. told.0) (rows_of h).magics (authentic h).1.1
+
+pub authentication_follows : (h : History) → AuthenticationFollows h
+authentication_follows h c opened = by (client_row (rows_of h) c) refl opened
+  where
+    by : (o : Option ClientRow) → client_row (rows_of h) c ≡ o → is_some o ≡ true → option_map_or (λ (row : ClientRow). row.authenticated) o false ≡ known (history_of h) c
+    by None e k = absurd (let n : false ≡ true = k in cc)
+    by (Some row) e k =
+        let it = found (is_client c) (AuthTold (history_of h)) row (rows_of h).clients (authentic h).2 e in
+        it.1 ∙ ap (known (history_of h)) (eqb-true row.client c it.0)

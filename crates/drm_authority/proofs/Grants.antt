@@ -1,0 +1,221 @@
+-- The grants are those of the history.
+use Rattle.std.proofs.Common.{◌≡◌, ℕ, ◌+◌, ◌≤◌, ◌==◌, Bool, true, false, cond, not, ◌&&◌, ◌||◌, List, [], ◌∷◌, ◌++◌, length, filter, map, find, Option, None, Some, refl, sym, ap, ◌∙◌, subst, arith, eq-eqb}
+use Rattle.std.specs.Prelude.{if◌then◌else◌, unwrap_or, IfSome}
+use Rattle.std.specs.List.{list_any, AllByRecursion}
+use Rattle.std.specs.Option.{is_some, option_map}
+use Rattle.std.proofs.lemmas.Bool.{eqb-true, and_parts}
+use Rattle.std.proofs.lemmas.List.Folds.{list_any-append}
+use Rattle.drm_lists.specs.Numbers.{is_among}
+use Rattle.drm_lists.proofs.Lists.{all_both, some_passing, list_any-map}
+use Rattle.drm_lists.proofs.Each.{some_found}
+use Rattle.drm_lists.proofs.Numbers.{flipped, less-differ}
+use Rattle.drm_lists.proofs.Rising.{found}
+use Rattle.drm_table.specs.declared.calls.Call.{Call}
+use Rattle.drm_table.specs.declared.calls.Call.TheVariants.{Version, SetMaster, CreateLease, RevokeLease}
+use Rattle.drm_table.specs.declared.events.Event.{Event}
+use Rattle.drm_table.specs.declared.events.Event.TheVariants.{Open, Ask, Close}
+use Rattle.drm_table.specs.declared.events.Opening.TheVariants.{Primary, Render, Lease}
+use Rattle.drm_table.specs.declared.rules.Rule.{Rule}
+use Rattle.drm_model.specs.Rows.{Rows, ClientRow, MasterRow, GrantRow, birth, client_row, is_open}
+use Rattle.drm_model.specs.Buffers.{with_object}
+use Rattle.drm_model.specs.Masters.{owner_of, is_under}
+use Rattle.drm_model.specs.Sees.{is_granted}
+use Rattle.drm_model.specs.Leases.{ended, grant, lessee_master, lessee_row, is_lessee_of}
+use Rattle.drm_model.specs.Magics.{own_master, is_current, is_master, mastered}
+use Rattle.drm_model.specs.Clients.{opened, opened_primary, closed, ended_if, ended_own}
+use Rattle.drm_model.specs.Calls.{meaning}
+use Rattle.drm_model.specs.Verdict.{verdict}
+use Rattle.drm_model.specs.Change.{changed, swept, noted}
+use Rattle.drm_model.specs.Reply.{answer_of}
+use Rattle.drm_model.proofs.Leased.{rules_hold}
+use Rattle.drm_history.specs.History.{Entry, next_number}
+use Rattle.drm_authority.specs.Deeds.{Deed, Nothing, Leases, deed}
+use Rattle.drm_authority.specs.Standing.{standing, own_master_in}
+use Rattle.drm_authority.specs.Lessees.{top_in, is_under_in, lessee_in, ended_by, is_under_any, ends, is_lent, granted}
+use Rattle.drm_authority.proofs.Runs.{IsReached, denied, carried}
+use Rattle.drm_authority.proofs.Rules.{caller_open, closer_open, revoker_current}
+use Rattle.drm_authority.proofs.Deeds.{denied_nothing}
+use Rattle.drm_authority.proofs.Stands.{StandsBy, row_stands, open_stands}
+use Rattle.drm_authority.proofs.Held.{is_there, is_lease_held, LeaseHeld, Held, lease_there, own_there, row_there}
+use Rattle.drm_authority.proofs.Lent.{Rooted}
+use Rattle.drm_authority.proofs.Lessors.{Descended, descended_denied, descended_carried, LessorsTold, IdsTold, IdTold, own_told, under_same, owner_same}
+
+abbrev pub is_grant : ℕ → ℕ → GrantRow → Bool
+is_grant m x row = (row.master == m) && (row.mode_object == x)
+
+abbrev pub GrantsTold : List Entry → Rows → Type 0
+GrantsTold past w = (m x : ℕ) → is_granted w m x ≡ granted past m x
+
+-- ---- what a history says of grants
+
+no_more : (b : Bool) → (b && false) ≡ false
+no_more true = refl
+no_more false = refl
+
+not_yet : (past : List Entry) (m x : ℕ) → length past + 1 ≤ m → granted past m x ≡ false
+unfolding granted
+not_yet [] m x late = refl
+not_yet (step ∷ past) m x late =
+    ap (λ b. if b then is_lent (deed step) x else not (ends step past m) && granted past m x) (flipped (next_number past) m (less-differ (next_number past) m (omega (arith, late))))
+    ∙ ap (λ b. not (ends step past m) && b) (not_yet past m x (omega (arith, late))) ∙ no_more (not (ends step past m))
+
+-- a step that lends nothing
+granted_ends : (step : Entry) (past : List Entry) → ((x : ℕ) → is_lent (deed step) x ≡ false) → (m x : ℕ) → granted (step ∷ past) m x ≡ (not (ends step past m) && granted past m x)
+unfolding granted
+granted_ends step past lends m x =
+    elim (m == next_number past) as (λ b. (m == next_number past) ≡ b → (if b then is_lent (deed step) x else not (ends step past m) && granted past m x) ≡ (not (ends step past m) && granted past m x)) [
+      | true ↦ λ e. lends x ∙ sym (no_more (not (ends step past m))) ∙ ap (λ b. not (ends step past m) && b) (sym (not_yet past m x (let same = eqb-true m (next_number past) e in omega (arith, same))))
+      | false ↦ λ e. refl
+    ] refl
+
+-- and ends nothing
+granted_stays : (step : Entry) (past : List Entry) → ((x : ℕ) → is_lent (deed step) x ≡ false) → ((m : ℕ) → ends step past m ≡ false) → (m x : ℕ) → granted (step ∷ past) m x ≡ granted past m x
+granted_stays step past lends still m x = granted_ends step past lends m x ∙ ap (λ b. not b && granted past m x) (still m)
+
+-- ---- what rows say of grants
+
+-- the master of a grant is there
+granted_there : (w : Rows) → Held w → (m x : ℕ) → is_granted w m x ≡ true → is_there w.masters m ≡ true
+granted_there w h m x e =
+    let it = some_passing (is_grant m x) (LeaseHeld w) w.grants h.3 e in
+    lease_there w h m (subst (λ n. is_lease_held w n ≡ true) (eqb-true it.0.master m (and_parts (it.0.master == m) (it.0.mode_object == x) it.1).0) it.2)
+
+filtered : (p : ℕ → Bool) (m x : ℕ) → (rows : List GrantRow) → list_any (is_grant m x) (filter (λ (row : GrantRow). p row.master) rows) ≡ (p m && list_any (is_grant m x) rows)
+filtered p m x [] = sym (no_more (p m))
+filtered p m x (row ∷ rows) =
+    let rest = filter (λ (row : GrantRow). p row.master) rows in
+    let later = filtered p m x rows in
+    elim (row.master == m) as (λ b. (row.master == m) ≡ b → list_any (is_grant m x) (cond (p row.master) (row ∷ rest) rest) ≡ (p m && ((b && (row.mode_object == x)) || list_any (is_grant m x) rows))) [
+      | true ↦ λ e. ap (λ n. list_any (is_grant m x) (cond (p n) (row ∷ rest) rest)) (eqb-true row.master m e) ∙ here (p m) e later
+      | false ↦ λ e. elsewhere (p row.master) e ∙ later
+    ] refl
+  where
+    here : (b : Bool) → (row.master == m) ≡ true → list_any (is_grant m x) (filter (λ (row : GrantRow). p row.master) rows) ≡ (b && list_any (is_grant m x) rows) →
+        list_any (is_grant m x) (cond b (row ∷ filter (λ (row : GrantRow). p row.master) rows) (filter (λ (row : GrantRow). p row.master) rows)) ≡ (b && ((true && (row.mode_object == x)) || list_any (is_grant m x) rows))
+    here true e k = (λ i. (e i && (row.mode_object == x)) || k i)
+    here false e k = k
+
+    elsewhere : (b : Bool) → (row.master == m) ≡ false → list_any (is_grant m x) (cond b (row ∷ filter (λ (row : GrantRow). p row.master) rows) (filter (λ (row : GrantRow). p row.master) rows)) ≡ list_any (is_grant m x) (filter (λ (row : GrantRow). p row.master) rows)
+    elsewhere true e = ap (λ b. (b && (row.mode_object == x)) || list_any (is_grant m x) (filter (λ (row : GrantRow). p row.master) rows)) e
+    elsewhere false e = refl
+
+-- ---- a master ends with all below it
+
+module _ (past : List Entry) (w : Rows) (p : Descended past w) (told : GrantsTold past w) where
+  ended_told : (top m x : ℕ) → list_any (is_grant m x) (ended w top).grants ≡ (not (is_under_in past top m) && granted past m x)
+  unfolding ended
+  ended_told top m x =
+      filtered (λ n. not (is_under w.masters top n)) m x w.grants
+      ∙ elim (is_granted w m x) as (λ b. is_granted w m x ≡ b → (not (is_under w.masters top m) && b) ≡ (not (is_under_in past top m) && b)) [
+        | true ↦ λ e. ap (λ b. not b && true) (under_same past w p.1 p.0.1 top m (granted_there w p.0.1 m x e))
+        | false ↦ λ e. no_more (not (is_under w.masters top m)) ∙ sym (no_more (not (is_under_in past top m)))
+      ] refl
+      ∙ ap (λ b. not (is_under_in past top m) && b) (told m x)
+
+  -- a closing client that is a master
+  closed_told : (is_master : Bool) (master : Option ℕ) (m x : ℕ) → list_any (is_grant m x) (ended_if w is_master master).grants ≡ (not (is_under_any past (if is_master then master else None) m) && granted past m x)
+  closed_told true (Some own) m x = ended_told own m x
+  closed_told true None m x = told m x
+  closed_told false master m x = told m x
+
+  close_told : (c : ℕ) (o : Option ClientRow) → client_row w c ≡ o → is_some o ≡ true → (m x : ℕ) → list_any (is_grant m x) (ended_own w o).grants ≡ (not (is_under_any past (if (standing past).is_master c then (standing past).master c else None) m) && granted past m x)
+  close_told c None e opened m x = absurd (let n : false ≡ true = opened in cc)
+  close_told c (Some row) e opened m x =
+      let stands = row_stands (standing past) w c row p.0.0.1.clients e in
+      closed_told row.is_master row.master m x ∙ (λ i. not (is_under_any past (if stands.0 i then stands.1 i else None) m) && granted past m x)
+
+  -- the lessee of an id
+  lessee_told : (c id : ℕ) → verdict w (Ask c (RevokeLease id)) ≡ None → lessee_in past (top_in past (own_master_in past c)) id ≡ Some (lessee_master w (own_master w c) id)
+  unfolding meaning
+  lessee_told c id v =
+      let opened = caller_open w c (RevokeLease id) v in
+      let row = some_found (lessee_row w (own_master w c) id) (rules_hold w c (RevokeLease id) v).0 in
+      let all = all_both (IdTold past) (λ (row : MasterRow). is_there w.masters row.master ≡ true) (λ (row : MasterRow). IdTold past row × (is_there w.masters row.master ≡ true)) (λ row a b. (a, b)) w.masters p.2 (row_there w.masters) in
+      let it = found (is_lessee_of w.masters (owner_of w.masters (own_master w c)) id) (λ (row : MasterRow). IdTold past row × (is_there w.masters row.master ≡ true)) row.0 w.masters all row.1 in
+      let passes = and_parts (is_some row.0.lessor && (row.0.lessee_id == id)) (owner_of w.masters row.0.master == owner_of w.masters (own_master w c)) it.0 in
+      let parts = and_parts (is_some row.0.lessor) (row.0.lessee_id == id) passes.0 in
+      let its = own_told past w p.0.0.1 c opened in
+      let owners : top_in past row.0.master ≡ top_in past (own_master_in past c) =
+          sym (owner_same past w p.1 p.0.1 row.0.master it.1.1) ∙ eqb-true (owner_of w.masters row.0.master) (owner_of w.masters (own_master w c)) passes.1 ∙ owner_same past w p.1 p.0.1 (own_master w c) (own_there w c p.0.1 (revoker_current w c id v)) ∙ ap (top_in past) its in
+      ap (λ t. lessee_in past t id) (sym owners) ∙ ap (lessee_in past (top_in past row.0.master)) (sym (eqb-true row.0.lessee_id id parts.1)) ∙ of_lessor row.0.lessor parts.0 it.1.0 ∙ ap (λ (o : Option MasterRow). Some (unwrap_or (option_map (λ (row : MasterRow). row.master) o) 0)) (sym row.1)
+    where
+      of_lessor : {P : Type 0} (lessor : Option ℕ) → is_some lessor ≡ true → IfSome lessor (λ _. P) → P
+      of_lessor None some k = absurd (let n : false ≡ true = some in cc)
+      of_lessor (Some l) some k = k
+
+-- ---- a step
+
+primary_grants : (w : Rows) (root : Bool) (m : Option ℕ) → (opened_primary w root m).grants ≡ w.grants
+primary_grants w root None = refl
+primary_grants w root (Some m) = refl
+
+set_grants : (w : Rows) (c : ℕ) (current master : Bool) → (mastered w c current master).grants ≡ w.grants
+set_grants w c true master = refl
+set_grants w c false true = refl
+set_grants w c false false = refl
+
+one_master : (n m x : ℕ) → (ids : List ℕ) → list_any (λ y. (n == m) && (y == x)) ids ≡ ((n == m) && is_among ids x)
+one_master n m x ids = by (n == m)
+  where
+    each : (b : Bool) (rest : List ℕ) → list_any (λ y. b && (y == x)) rest ≡ (b && is_among rest x)
+    each true rest = refl
+    each false [] = refl
+    each false (y ∷ ys) = each false ys
+
+    by : (b : Bool) → list_any (λ y. b && (y == x)) ids ≡ (b && is_among ids x)
+    by b = each b ids
+
+or_nothing : (b : Bool) → (b || false) ≡ b
+or_nothing true = refl
+or_nothing false = refl
+
+leased_told : (past : List Entry) (w : Rows) (c : ℕ) (ids : List ℕ) → IsReached past w → GrantsTold past w → GrantsTold (carried w (Ask c (CreateLease ids)) ∷ past) (noted (swept (changed w (Ask c (CreateLease ids)))))
+unfolding granted ends swept changed deed answer_of meaning
+leased_told past w c ids r told m x =
+    list_any-append (is_grant m x) w.grants (map (grant (birth w)) ids)
+    ∙ (λ i. told m x i || (list_any-map (is_grant m x) (grant (birth w)) ids ∙ one_master (birth w) m x ids) i)
+    ∙ elim (m == next_number past) as (λ b. (m == next_number past) ≡ b → (granted past m x || ((birth w == m) && is_among ids x)) ≡ (if b then is_among ids x else not false && granted past m x)) [
+        | true ↦ λ e.
+            let same = eqb-true m (next_number past) e in
+            let steps = r.steps in
+            (λ i. not_yet past m x (omega (arith, same)) i || (eq-eqb (birth w) m (omega (arith, same, steps)) i && is_among ids x))
+        | false ↦ λ e.
+            let apart : (birth w == m) ≡ false = ap (λ n. n + 1 == m) r.steps ∙ flipped m (next_number past) e in
+            ap (λ b. granted past m x || (b && is_among ids x)) apart ∙ or_nothing (granted past m x)
+      ] refl
+
+asked_told : (past : List Entry) (w : Rows) (c : ℕ) (call : Call) → IsReached past w → verdict w (Ask c call) ≡ None → Descended past w → GrantsTold past w → GrantsTold (carried w (Ask c call) ∷ past) (noted (swept (changed w (Ask c call))))
+unfolding ends swept changed deed answer_of meaning with_object
+asked_told past w c Version r v p told m x = told m x ∙ sym (granted_stays (carried w (Ask c Version)) past (λ y. refl) (λ k. refl) m x)
+asked_told past w c SetMaster r v p told m x = ap (list_any (is_grant m x)) (set_grants w c (is_current w c) (is_master w c)) ∙ told m x ∙ sym (granted_stays (carried w (Ask c SetMaster)) past (λ y. refl) (λ k. refl) m x)
+asked_told past w c (CreateLease ids) r v p told m x = leased_told past w c ids r told m x
+asked_told past w c (RevokeLease id) r v p told m x =
+    ended_told past w p told (lessee_master w (own_master w c) id) m x
+    ∙ ap (λ o. not (is_under_any past o m) && granted past m x) (sym (lessee_told past w p told c id v))
+    ∙ sym (granted_ends (carried w (Ask c (RevokeLease id))) past (λ y. refl) m x)
+asked_told past w c call r v p told m x = told m x ∙ sym (granted_stays (carried w (Ask c call)) past (λ y. refl) (λ k. refl) m x)
+
+grants_carried : (past : List Entry) (w : Rows) (event : Event) → IsReached past w → verdict w event ≡ None → Descended past w → GrantsTold past w → GrantsTold (carried w event ∷ past) (noted (swept (changed w event)))
+unfolding ends swept changed deed answer_of opened closed
+grants_carried past w (Open (Primary root)) r v p told m x = ap (list_any (is_grant m x)) (primary_grants w root w.device_master) ∙ told m x ∙ sym (granted_stays (carried w (Open (Primary root))) past (λ y. refl) (λ k. refl) m x)
+grants_carried past w (Open Render) r v p told m x = told m x ∙ sym (granted_stays (carried w (Open Render)) past (λ y. refl) (λ k. refl) m x)
+grants_carried past w (Open (Lease token root)) r v p told m x = told m x ∙ sym (granted_stays (carried w (Open (Lease token root))) past (λ y. refl) (λ k. refl) m x)
+grants_carried past w (Ask c call) r v p told m x = asked_told past w c call r v p told m x
+grants_carried past w (Close c) r v p told m x = close_told past w p told c (client_row w c) refl (closer_open w c v) m x ∙ sym (granted_ends (carried w (Close c)) past (λ y. refl) m x)
+
+grants_denied : (past : List Entry) (w : Rows) (event : Event) (rule : Rule) → GrantsTold past w → GrantsTold (denied event rule ∷ past) (noted w)
+unfolding ends
+grants_denied past w event rule told m x =
+    let nothing = denied_nothing event rule in
+    told m x ∙ sym (granted_stays (denied event rule) past (λ y. ap (λ d. is_lent d y) nothing) (λ k. ap (λ d. is_under_any past (ended_by d past) k) nothing) m x)
+
+-- ---- with all before it
+
+abbrev pub Lending : List Entry → Rows → Type 0
+Lending past w = Descended past w × GrantsTold past w
+
+pub lending_denied : (past : List Entry) (w : Rows) (event : Event) (rule : Rule) → IsReached past w → Lending past w → Lending (denied event rule ∷ past) (noted w)
+lending_denied past w event rule r p = (descended_denied past w event rule r p.0, grants_denied past w event rule p.1)
+
+pub lending_carried : (past : List Entry) (w : Rows) (event : Event) → IsReached past w → verdict w event ≡ None → Lending past w → Lending (carried w event ∷ past) (noted (swept (changed w event)))
+lending_carried past w event r v p = (descended_carried past w event r v p.0, grants_carried past w event r v p.0 p.1)

@@ -1,0 +1,62 @@
+-- Who lent to whom, what was lent, and what ended it, by the history alone (drm-uapi, leases). Chains of lessors may be of any
+-- length.
+use Rattle.std.specs.Prelude.{ℕ, ◌==◌, Bool, true, false, not, ◌&&◌, ◌||◌, List, [], ◌∷◌, Option, None, Some, if◌then◌else◌}
+use Rattle.drm_lists.specs.Numbers.{is_among}
+use Rattle.drm_lists.specs.Chains.{top_of, is_under}
+use Rattle.drm_history.specs.History.{Entry, next_number}
+use Rattle.drm_authority.specs.Deeds.{Deed, Leases, Revokes, Closes, deed}
+use Rattle.drm_authority.specs.Standing.{Standing, standing, is_master_in, master_in, own_master_in}
+
+abbrev pub lessor_by : Deed → Standing → Option ℕ
+lessor_by (Leases c ids lessee token) s = s.master c
+lessor_by _ s = None
+
+-- the lessor of a master: the master of the caller of its step, where that is MODE_CREATE_LEASE
+unfoldable pub lessor_in : List Entry → ℕ → Option ℕ
+lessor_in [] m = None
+lessor_in (step ∷ past) m = if m == next_number past then lessor_by (deed step) (standing past) else lessor_in past m
+
+-- the top of a master's chain of lessors
+abbrev pub top_in : List Entry → ℕ → ℕ
+top_in history m = top_of (lessor_in history) m
+
+-- whether m is the master named top, or below it
+abbrev pub is_under_in : List Entry → ℕ → ℕ → Bool
+is_under_in history top m = is_under (lessor_in history) top m
+
+abbrev pub lessee_by : Deed → List Entry → ℕ → ℕ → Option ℕ → Option ℕ
+lessee_by (Leases c ids lessee token) past owner id older = if (lessee == id) && (top_in past (own_master_in past c) == owner) then Some (next_number past) else older
+lessee_by _ past owner id older = older
+
+-- the lessee of an id: the last MODE_CREATE_LEASE that answered it to a client with this owner
+unfoldable pub lessee_in : List Entry → ℕ → ℕ → Option ℕ
+lessee_in [] owner id = None
+lessee_in (step ∷ past) owner id = lessee_by (deed step) past owner id (lessee_in past owner id)
+
+-- the master that a step ends, and all below it: the lessee of MODE_REVOKE_LEASE, and the master of a closed client that is one
+abbrev pub ended_by : Deed → List Entry → Option ℕ
+ended_by (Revokes c lessee) past = lessee_in past (top_in past (own_master_in past c)) lessee
+ended_by (Closes c) past = if is_master_in past c then master_in past c else None
+ended_by _ past = None
+
+abbrev pub is_under_any : List Entry → Option ℕ → ℕ → Bool
+is_under_any past None m = false
+is_under_any past (Some top) m = is_under_in past top m
+
+-- whether the step ends the master
+unfoldable pub ends : Entry → List Entry → ℕ → Bool
+ends step past m = is_under_any past (ended_by (deed step) past) m
+
+-- whether some step ended it
+unfoldable pub has_ended : List Entry → ℕ → Bool
+has_ended [] m = false
+has_ended (step ∷ past) m = ends step past m || has_ended past m
+
+abbrev pub is_lent : Deed → ℕ → Bool
+is_lent (Leases c ids lessee token) x = is_among ids x
+is_lent _ x = false
+
+-- whether a lease has the mode object: its step is MODE_CREATE_LEASE with it among the ids, and no later one ended it
+unfoldable pub granted : List Entry → ℕ → ℕ → Bool
+granted [] m x = false
+granted (step ∷ past) m x = if m == next_number past then is_lent (deed step) x else not (ends step past m) && granted past m x

@@ -1,0 +1,7 @@
+pub mod Deeds
+pub mod Standing
+pub mod Lessees
+pub mod Magics
+pub mod Closings
+pub mod Barren
+pub mod Laws

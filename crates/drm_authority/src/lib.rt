@@ -1,0 +1,10 @@
+//! Which masters, leases and authenticated clients the history of a device tells of, from its events and answers alone, and that
+//! a device's rows are those: definitions in `specs/`, and laws of them.
+#![tactic(auto)]
+
+mod laws;
+
+pub use laws::{
+    authentication_follows_from_history, closings_are_for_good, ended_lessees_are_barren,
+    grants_follow_from_history, lessees_follow_from_history, masters_follow_from_history,
+};
