@@ -136,7 +136,7 @@ module _ (past : List Entry) (w : Rows) (p : Descended past w) (told : GrantsTol
       let parts = and_parts (is_some row.0.lessor) (row.0.lessee_id == id) passes.0 in
       let its = own_told past w p.0.0.1 c opened in
       let owners : top_in past row.0.master ≡ top_in past (own_master_in past c) =
-          sym (owner_same past w p.1 p.0.1 row.0.master it.1.1) ∙ eqb-true (owner_of w.masters row.0.master) (owner_of w.masters (own_master w c)) passes.1 ∙ owner_same past w p.1 p.0.1 (own_master w c) (own_there w c p.0.1 (revoker_current w c id v)) ∙ ap (top_in past) its in
+      sym (owner_same past w p.1 p.0.1 row.0.master it.1.1) ∙ eqb-true (owner_of w.masters row.0.master) (owner_of w.masters (own_master w c)) passes.1 ∙ owner_same past w p.1 p.0.1 (own_master w c) (own_there w c p.0.1 (revoker_current w c id v)) ∙ ap (top_in past) its in
       ap (λ t. lessee_in past t id) (sym owners) ∙ ap (lessee_in past (top_in past row.0.master)) (sym (eqb-true row.0.lessee_id id parts.1)) ∙ of_lessor row.0.lessor parts.0 it.1.0 ∙ ap (λ (o : Option MasterRow). Some (unwrap_or (option_map (λ (row : MasterRow). row.master) o) 0)) (sym row.1)
     where
       of_lessor : {P : Type 0} (lessor : Option ℕ) → is_some lessor ≡ true → IfSome lessor (λ _. P) → P
@@ -175,14 +175,14 @@ leased_told past w c ids r told m x =
     list_any-append (is_grant m x) w.grants (map (grant (birth w)) ids)
     ∙ (λ i. told m x i || (list_any-map (is_grant m x) (grant (birth w)) ids ∙ one_master (birth w) m x ids) i)
     ∙ elim (m == next_number past) as (λ b. (m == next_number past) ≡ b → (granted past m x || ((birth w == m) && is_among ids x)) ≡ (if b then is_among ids x else not false && granted past m x)) [
-        | true ↦ λ e.
-            let same = eqb-true m (next_number past) e in
-            let steps = r.steps in
-            (λ i. not_yet past m x (omega (arith, same)) i || (eq-eqb (birth w) m (omega (arith, same, steps)) i && is_among ids x))
-        | false ↦ λ e.
-            let apart : (birth w == m) ≡ false = ap (λ n. n + 1 == m) r.steps ∙ flipped m (next_number past) e in
-            ap (λ b. granted past m x || (b && is_among ids x)) apart ∙ or_nothing (granted past m x)
-      ] refl
+      | true ↦ λ e.
+          let same = eqb-true m (next_number past) e in
+          let steps = r.steps in
+          (λ i. not_yet past m x (omega (arith, same)) i || (eq-eqb (birth w) m (omega (arith, same, steps)) i && is_among ids x))
+      | false ↦ λ e.
+          let apart : (birth w == m) ≡ false = ap (λ n. n + 1 == m) r.steps ∙ flipped m (next_number past) e in
+          ap (λ b. granted past m x || (b && is_among ids x)) apart ∙ or_nothing (granted past m x)
+    ] refl
 
 asked_told : (past : List Entry) (w : Rows) (c : ℕ) (call : Call) → IsReached past w → verdict w (Ask c call) ≡ None → Descended past w → GrantsTold past w → GrantsTold (carried w (Ask c call) ∷ past) (noted (swept (changed w (Ask c call))))
 unfolding ends swept changed deed answer_of meaning with_object

@@ -262,8 +262,8 @@ unfolding no_holder
 apart past c m none row stands h =
     let parts = and_parts row.is_master (is_option m row.master) h in
     not_equal (is_client c row) (λ e.
-        let same = eqb-true row.client c e in
-        none (ap (standing past).is_master (sym same) ∙ sym stands.0 ∙ parts.0) (ap (standing past).master (sym same) ∙ sym stands.1 ∙ is_option-same m row.master parts.1))
+    let same = eqb-true row.client c e in
+    none (ap (standing past).is_master (sym same) ∙ sym stands.0 ∙ parts.0) (ap (standing past).master (sym same) ∙ sym stands.1 ∙ is_option-same m row.master parts.1))
 
 module _ (past : List Entry) (w : Rows) (a : StandsBy past w) (c m : ℕ) (none : no_holder past c m) where
   -- another client's closing leaves the holder
@@ -310,12 +310,10 @@ abbrev pub DeviceHeld : Rows → Type 0
 DeviceHeld v = IfSome v.device_master (λ m. is_client_held v.clients m ≡ true)
 
 primary_device : (w : Rows) (root : Bool) (m : Option ℕ) → Held w → DeviceHeld (opened_primary w root m)
-
 primary_device w root None h = list_any_right (holds (birth w)) w.clients _ (ap (λ b. b || false) (eq-eqb (birth w) (birth w) refl))
 primary_device w root (Some m) h = if_some (λ m. is_client_held w.clients m ≡ true) (λ k. is_client_held (opened_primary w root (Some m)).clients k ≡ true) (λ k e. list_any_left (holds k) w.clients _ e) w.device_master h.2
 
 set_device : (w : Rows) (c : ℕ) (current master : Bool) → is_master w c ≡ master → is_open w c ≡ true → Held w → DeviceHeld (mastered w c current master)
-
 set_device w c true master is opened h = h.2
 set_device w c false true is opened h = own_held w c is
 set_device w c false false is opened h = held_new w c (birth w) opened

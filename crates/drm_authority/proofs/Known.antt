@@ -126,9 +126,9 @@ module _ (past : List Entry) (w : Rows) (r : IsReached past w) (a : StandsBy pas
       new owner e =
           primary_known w root owner
           ∙ sym (
-            ap (λ n. ((root && (next_number past == n)) || is_root_in past n) || (with_primary (next_number past) (standing past).owner (standing past)).is_master n || is_named_in past n) (primary_number w root owner)
-            ∙ (λ i. (it_root root (next_number past) (birth w) (sym newest) i || no_root i) || primary_is (next_number past) (birth w) (standing past).owner (standing past) (eq-eqb (birth w) (next_number past) newest) i || no_name i)
-            ∙ (λ i. or_nothing root i || not (is_some (sym e i)) || false) ∙ or_nothing (root || not (is_some owner))
+          ap (λ n. ((root && (next_number past == n)) || is_root_in past n) || (with_primary (next_number past) (standing past).owner (standing past)).is_master n || is_named_in past n) (primary_number w root owner)
+          ∙ (λ i. (it_root root (next_number past) (birth w) (sym newest) i || no_root i) || primary_is (next_number past) (birth w) (standing past).owner (standing past) (eq-eqb (birth w) (next_number past) newest) i || no_name i)
+          ∙ (λ i. or_nothing root i || not (is_some (sym e i)) || false) ∙ or_nothing (root || not (is_some owner))
           )
 
   open_render : AuthsTold past w → AuthsTold (carried w (Open Render) ∷ past) (noted (swept (changed w (Open Render))))

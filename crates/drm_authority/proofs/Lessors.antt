@@ -203,12 +203,12 @@ ids_leased past w c ids r v a h told ids_told =
     let lessor : lessor_in (step ∷ past) (birth w) ≡ Some own = sym (lessor_new past w (Ask c (CreateLease ids)) r v a) in
     let top : top_in (step ∷ past) (birth w) ≡ top_in past own = sym (top_some (lessor_in (step ∷ past)) (lessor_falls (step ∷ past)) (birth w) own lessor) ∙ top_still step past own old_own in
     let each = all_both (Aged IdTold past) (λ (row : MasterRow). (is_there w.masters row.master ≡ true) × (is_lessee_of w.masters (owner_of w.masters own) fresh row ≡ false)) (Older past w own fresh)
-        (λ row k f. record { told = k.0; old = k.1; owner = owner_same past w told h row.master f.0; free = f.1 }) w.masters (aged IdTold past w r ids_told)
-        (all_both (λ (row : MasterRow). is_there w.masters row.master ≡ true) (λ (row : MasterRow). is_lessee_of w.masters (owner_of w.masters own) fresh row ≡ false) (λ (row : MasterRow). (is_there w.masters row.master ≡ true) × (is_lessee_of w.masters (owner_of w.masters own) fresh row ≡ false)) (λ row x y. (x, y)) w.masters (row_there w.masters) (id_free w c ids v)) in
+    (λ row k f. record { told = k.0; old = k.1; owner = owner_same past w told h row.master f.0; free = f.1 }) w.masters (aged IdTold past w r ids_told)
+    (all_both (λ (row : MasterRow). is_there w.masters row.master ≡ true) (λ (row : MasterRow). is_lessee_of w.masters (owner_of w.masters own) fresh row ≡ false) (λ (row : MasterRow). (is_there w.masters row.master ≡ true) × (is_lessee_of w.masters (owner_of w.masters own) fresh row ≡ false)) (λ row x y. (x, y)) w.masters (row_there w.masters) (id_free w c ids v)) in
     let stays = λ (row : MasterRow) (k : Older past w own fresh row). subst (λ o. IfSome row.lessor (λ _. (if (fresh == row.lessee_id) && (top_in past o == top_in (step ∷ past) row.master) then Some n else lessee_in past (top_in (step ∷ past) row.master) row.lessee_id) ≡ Some row.master)) its_own (other_id past step w.masters own fresh n row k.old k.owner owns k.free k.told) in
     masters_after w (Older past w own fresh) (IdTold (step ∷ past)) stays stays (Ask c (CreateLease ids)) each
     (ap (λ b. if b then Some n else lessee_in past (top_in (step ∷ past) (birth w)) fresh) (both_hold fresh (top_in past (own_master_in past c)) (top_in (step ∷ past) (birth w)) (ap (top_in past) (sym its_own) ∙ sym top))
-        ∙ ap (λ k. Some (k + 1)) (sym r.steps))
+    ∙ ap (λ k. Some (k + 1)) (sym r.steps))
 
 ids_carried : (past : List Entry) (w : Rows) (event : Event) → IsReached past w → verdict w event ≡ None → StandsBy past w → Held w → LessorsTold past w → IdsTold past w → IdsTold (carried w event ∷ past) (noted (swept (changed w event)))
 unfolding lessee_in deed answer_of meaning

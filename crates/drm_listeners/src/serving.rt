@@ -1,6 +1,7 @@
 //! Serving the connections of three listeners.
 
-ghost use Rattle.std.specs.Prelude.{◌≡◌, ◌≢◌, ◌-◌, ◌∷◌, ◌++◌, [], Err, All, IfOk, OnOk, vec_len};
+ghost use Rattle.std.specs.Prelude.{◌≡◌, ◌≢◌, ◌+◌, ◌-◌, ◌≤◌, ◌∷◌, ◌++◌, [], Err, All, IfOk, OnOk, vec_len};
+ghost use Rattle.std.specs.Vec.{vec_capacity};
 ghost use Rattle.drm_turns.specs.History.{AllDiffer, StartsWith};
 ghost use Rattle.drm_turns.specs.Seats.{Same};
 ghost use Rattle.drm_sessions.specs.declared.class.Class.TheVariants.{Card, Render, Root};

@@ -2,17 +2,17 @@ use Rattle.std.proofs.Common.{◌≡◌, List, [], sym, ap, ◌∙◌, subst, ar
 use Rattle.drm_turns.specs.Seats.{Standing}
 use Rattle.drm_sessions.specs.declared.end.Session.{Session}
 use Rattle.drm_listeners.specs.Serving.{AreSessionsOf}
-use Rattle.drm_listeners.proofs.Gathering.{are-sessions, have-sat, if_ok, on_ok}
+use Rattle.drm_listeners.proofs.Gathering.{are-sessions, have-sat}
 use Rattle.drm_listeners.proofs.serving.serve_shared.Goals as goal
 
 pub returns-clause-sessions : goal.returns-clause-sessions
 returns-clause-sessions g c =
-    if_ok c.gather.result (λ sessions is. subst (λ (l : List Session). AreSessionsOf c.args.counts l) (sym is) (are-sessions c.args.counts _ _ c.in_ok-served.ensures.served)) c.gather.ensures.sessions
+    subst (λ (l : List Session). AreSessionsOf c.args.counts l) (sym c.gather.ensures.sessions) (are-sessions c.args.counts _ _ c.in_ok-served.ensures.served)
 
 pub returns-clause-seats : goal.returns-clause-seats
 returns-clause-seats g c =
     let none : c.split-3.new.seat.joined ≡ [] = ap (λ (s : Standing). s.joined) c.split-3.ensures.same ∙ (ap (λ (s : Standing). s.joined) c.split-2.ensures.same ∙ (ap (λ (s : Standing). s.joined) c.split.ensures.same ∙ c.requires.joined)) in
-    if_ok c.gather.result (λ sessions is. have-sat c.args.counts _ _ c.split-3.new.seat c.gather.new.seat sessions.items c.in_ok-served.ensures.served c.gather.ensures.seen none c.gather.ensures.joined c.gather.ensures.differ is) c.gather.ensures.sessions
+    have-sat c.args.counts _ _ c.split-3.new.seat c.gather.new.seat c.gather.result.items c.in_ok-served.ensures.served c.gather.ensures.seen none c.gather.ensures.joined c.gather.ensures.differ c.gather.ensures.sessions
 
 pub gather-requires-clause-children : goal.gather-requires-clause-children
 gather-requires-clause-children g c =
@@ -30,4 +30,5 @@ returns-clause-out g c =
     let first = ap (λ (s : Standing). s.out) c.split.ensures.same in
     let second = ap (λ (s : Standing). s.out) c.split-2.ensures.same in
     let third = ap (λ (s : Standing). s.out) c.split-3.ensures.same in
-    on_ok c.gather.result (λ gathered. omega arith) c.gather.ensures.out
+    let gathered = c.gather.ensures.out in
+    omega arith
