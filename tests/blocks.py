@@ -3,6 +3,7 @@ import re
 from typing import List, NamedTuple
 
 from support import REPOSITORY
+from worked_rows import read_rows  # the tool, which stands in tools
 
 # what a document says of a block that no test runs, in the paragraph before it or behind it
 NOT_RUN = "not run by `./test`"
@@ -98,16 +99,7 @@ def tables_of(path):
 
 def worked_rows():
     """The lines and the answers of the worked rows, by their names."""
-    found = []
-    for line in (REPOSITORY / "tools/worked_rows.txt").read_text().splitlines():
-        line = line.strip()
-        if line.startswith("row "):
-            found.append((f"row {line[4:]}", [], []))
-        elif line and not line.startswith("#"):
-            asked, *answer = re.split(r" *-> ", line)
-            found[-1][1].append(asked)
-            found[-1][2].extend(answer)
-    return found
+    return [(f"row {row.name}", row.asked(), [line.answer for line in row.lines]) for row in read_rows()]
 
 
 def is_answer(found, wanted):

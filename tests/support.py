@@ -19,7 +19,7 @@ CLIENTS = REPOSITORY / "clients"
 SECONDS = 30
 
 sys.dont_write_bytecode = True
-sys.path.insert(0, str(CLIENTS / "python"))
+sys.path[:0] = [str(CLIENTS / "python"), str(REPOSITORY / "tools")]
 from drm_client import Client, Refusal, words  # noqa: E402  (the client stands in clients/python)
 
 CLASSES = ("card", "render", "root")

@@ -1,19 +1,27 @@
 #!/usr/bin/env python3
-"""Makes of each worked row a lemma of drm_model that the definitions give its answers.
+"""Writes what is made of the worked rows: lemmas of drm_model, files of examples/rows, and tables of drm_tests.
 
-Run it at the top of the repository after an edit of tools/worked_rows.txt, and `rt fmt` in crates/drm_model then.
-It writes crates/drm_model/proofs/Worked*.antt and their lines in proofs/Lib.antt. A row whose answers are not those of
-the definitions is refused by the check. It also writes each row as a file of examples/rows, for `drm_server check`.
+    tools/worked_rows.py [--check]
+
+tools/worked_rows.txt has the rows, and tells how they are written. Of each row this makes a lemma that the definitions give its
+answers, which the check of drm_model refuses where they give others; a file for `drm_server check`; and a row of a table that
+drm_tests runs, with the names and the error numbers of what is denied. With --check nothing is written: each file is told that
+isn't what the rows give, or that none gives, and the status is 1 where there is one. Standard library only.
 """
+import argparse
 import pathlib
 import re
+import sys
+from typing import Dict, Iterable, List, NamedTuple, Tuple
 
-MODEL = pathlib.Path("crates/drm_model")
-TABLE = pathlib.Path("crates/drm_table/specs")
-ARRAYS = pathlib.Path("crates/drm_index_array/specs")
-LISTS = pathlib.Path("crates/drm_lists/specs")
-SCRIPTS = pathlib.Path("examples/rows")
-MODES = pathlib.Path("crates/drm_modes/specs")
+REPOSITORY = pathlib.Path(__file__).resolve().parent.parent
+SOURCE = REPOSITORY / "tools/worked_rows.txt"
+CRATES = REPOSITORY / "crates"
+PROOFS = CRATES / "drm_model/proofs"
+TABLES = CRATES / "drm_tests/src/rows"
+SCRIPTS = REPOSITORY / "examples/rows"
+# all files that are made
+MADE = ((PROOFS, "Worked*.antt"), (TABLES, "*.rt"), (SCRIPTS, "*.script"))
 # the word of each answer that is told by numbers, and the variant that stands for it
 ANSWERS = {
     "done": "Done",
@@ -31,59 +39,153 @@ ANSWERS = {
 KINDS = "Client Master Object Name Token Hold Grant Framebuffer Shown Device".split()
 LIMITS = "clients handles names tokens objects framebuffers lessees journal".split()
 PROGRAM = "64 65535 65535 65535 65535 64 64 100000".split()
-APARTS = {50: "JournalFull"}
+# the files of specs/ whose definitions a computation opens; all of them where none is named
+OPENED = {
+    "drm_index_array": ["Least"],
+    "drm_lists": [],
+    "drm_modes": ["Numbers"],
+    "drm_table": [],
+    "drm_model": [],
+}
+TOPOLOGY = "record { crtcs = 2; planes = 1 ∷ 2 ∷ []; encoders = 3 ∷ 2 ∷ []; connectors = 5 ∷ 6 ∷ [] }"
 
 
-def unfoldables(folder):
-    """The definitions of each module that a computation has to open, in the order of the files."""
-    found = []
-    for path in sorted(folder.glob("*.antt")):
-        names = re.findall(r"^unfoldable pub ([a-z]\w*) :", path.read_text(), re.M)
-        found += [(path.stem, name) for name in names]
-    return found
+class Line(NamedTuple):
+    """A line of a script, and the answer that it must get."""
+    asked: str
+    answer: str
+
+    def text(self) -> str:
+        return f"{self.asked} -> {self.answer}"
 
 
-def rules():
-    text = (TABLE / "Rules.antt").read_text()
-    return {int(number): rule for rule, number in re.findall(r"^rule_row (\w+) = refusal_row (\d+) ", text, re.M)}
+class Row(NamedTuple):
+    """A script on a device of these limits, or of the program's where there are none."""
+    name: str
+    limits: List[str]
+    lines: List[Line]
+
+    def limits_lines(self) -> List[str]:
+        return ["limits " + " ".join(self.limits)] if self.limits else []
+
+    def asked(self) -> List[str]:
+        """The script without its answers."""
+        return [*self.limits_lines(), *(line.asked for line in self.lines)]
+
+    def text(self) -> str:
+        return "".join(f"{line}\n" for line in [*self.limits_lines(), *(line.text() for line in self.lines)])
 
 
-def calls():
+class Group(NamedTuple):
+    """Rows about one thing."""
+    name: str
+    about: str
+    rows: List[Row]
+
+
+class Refusal(NamedTuple):
+    """A rule, or what stands apart from the rules."""
+    name: str
+    number: int
+    error: int
+
+
+class Definitions(NamedTuple):
+    """What a row's lines stand for: each rule and each thing apart by its number, the variant and the number of each call by its
+    word, and the definitions that a computation opens, by crate and file."""
+    rules: Dict[int, Refusal]
+    aparts: Dict[int, Refusal]
+    calls: Dict[str, Tuple[str, int]]
+    opened: Dict[Tuple[str, str], List[str]]
+
+
+# what is read
+
+
+def read_groups(text: str) -> List[Group]:
+    """The rows of the source."""
+    groups: List[Group] = []
+    for line in text.splitlines():
+        if line.startswith("group "):
+            name, about = line[len("group "):].split(": ", 1)
+            groups.append(Group(name, about, []))
+        elif line.startswith("row "):
+            groups[-1].rows.append(Row(line[len("row "):], [], []))
+        elif line.startswith("limits "):
+            groups[-1].rows[-1].limits.extend(line.split()[1:])
+        elif line and not line.startswith("#"):
+            asked, arrow, answer = line.partition(" -> ")
+            if not arrow:
+                raise ValueError(f"no answer is told of: {line}")
+            groups[-1].rows[-1].lines.append(Line(asked, answer))
+    return groups
+
+
+def read_rows() -> List[Row]:
+    """All rows, in the order of the source."""
+    return [row for group in read_groups(SOURCE.read_text()) for row in group.rows]
+
+
+def read_refusals(text: str, table: str) -> Dict[int, Refusal]:
+    """A table of drm_table's rules, by number."""
+    errors = {name: int(number) for name, number in re.findall(r"^(e\w+) = (\d+)$", text, re.M)}
+    rows = re.findall(rf"^{table} (\w+) = refusal_row (\d+) (\w+) ", text, re.M)
+    return {int(number): Refusal(name, int(number), errors[error]) for name, number, error in rows}
+
+
+def read_calls(text: str) -> Dict[str, Tuple[str, int]]:
     """The variant and the number of each call, by its word in a script."""
-    text = (TABLE / "Table.antt").read_text()
     rows = re.findall(r'^kind_row kinds\.(\w+) = table_row (0x\w+) \(codes "\w+"\) \(codes "(\w+)"\)', text, re.M)
     return {word: (kind, int(number, 16)) for kind, number, word in rows}
 
 
-def read(path):
-    rows = {}
-    for line in path.read_text().splitlines():
-        line = line.strip()
-        if line.startswith("row "):
-            rows[line[4:]] = current = []
-        elif line and not line.startswith("#"):
-            current.append(line)
-    return rows
+def read_opened(crate: str, files: List[str]) -> Dict[Tuple[str, str], List[str]]:
+    """The definitions of each file of a crate's specs/ that a computation has to open."""
+    found = {}
+    for path in sorted((CRATES / crate / "specs").glob("*.antt")):
+        names = re.findall(r"^unfoldable pub ([a-z]\w*) :", path.read_text(), re.M)
+        if names and (not files or path.stem in files):
+            found[crate, path.stem] = names
+    return found
 
 
-def term(name, *arguments):
+def read_definitions() -> Definitions:
+    rules = (CRATES / "drm_table/specs/Rules.antt").read_text()
+    calls = (CRATES / "drm_table/specs/Table.antt").read_text()
+    opened: Dict[Tuple[str, str], List[str]] = {}
+    for crate, files in OPENED.items():
+        opened.update(read_opened(crate, files))
+    return Definitions(read_refusals(rules, "rule_row"), read_refusals(rules, "apart_row"), read_calls(calls), opened)
+
+
+# lemmas
+
+
+def term(name: str, *arguments: str) -> str:
     return f"({' '.join([name, *arguments])})" if arguments else name
 
 
-def listed_ids(text):
-    ids = [] if text == "-" else text.split(",")
-    return "(" + "".join(f"{one} ∷ " for one in ids) + "[])"
+def bare(text: str) -> str:
+    return text[1:-1] if text.startswith("(") else text
 
 
-def answer(text, denials):
+def listed(terms: Iterable[str]) -> str:
+    return "(" + "".join(f"{one} ∷ " for one in terms) + "[])"
+
+
+def listed_ids(text: str) -> str:
+    return listed([] if text == "-" else text.split(","))
+
+
+def answer_term(text: str, known: Definitions) -> str:
+    """An answer as the definitions tell it."""
     word, *rest = text.split()
     if word == "apart":
-        return term("Err", APARTS[int(rest[0])])
+        return term("Err", known.aparts[int(rest[0])].name)
     if word == "denied":
-        return term("Ok", term("Denied", "Denied" + denials[int(rest[0])]))
+        return term("Ok", term("Denied", "Denied" + known.rules[int(rest[0])].name))
     if word == "rows":
-        rows = [term("audit_row", *row.split()) for row in text.split(" | ")[1:]]
-        return term("Ok", term("AuditIs", "(" + "".join(f"{row} ∷ " for row in rows) + "[])"))
+        return term("Ok", term("AuditIs", listed(term("audit_row", *row.split()) for row in text.split(" | ")[1:])))
     if word == "list":
         return term("Ok", term("ListIs", listed_ids(rest[0])))
     if word == "crtcs":
@@ -91,114 +193,195 @@ def answer(text, denials):
     return term("Ok", term(ANSWERS[word], *rest))
 
 
-def opening(words):
+def opening_term(words: List[str]) -> str:
     if words[0] in ("lease", "rootlease"):
         return term("Lease", words[1], "true" if words[0] == "rootlease" else "false")
     return {"card": "(Primary false)", "root": "(Primary true)", "render": "Render"}[words[0]]
 
 
-def event(line, labels, rows):
-    first, *rest = line.split()
+def call_term(word: str, fields: List[str], known: Definitions) -> str:
+    if word == "raw":
+        return term("BadLayout" if int(fields[0]) in {number for _, number in known.calls.values()} else "UnknownCall", *fields)
+    name, _ = known.calls[word]
+    if name == "Audit":
+        return term(name, "Of" + KINDS[int(fields[0]) - 1], fields[1])
+    if name == "CreateLease":
+        return term(name, listed(fields))
+    return term(name, *fields)
+
+
+def event_term(asked: str, labels: Dict[str, str], known: Definitions) -> str:
+    """A line of a script as an event; a label that none has stands for client 0."""
+    first, *rest = asked.split()
     if first == "open":
-        return term("Open", opening(rest[1:]))
+        return term("Open", opening_term(rest[1:]))
     if first == "close":
         return term("Close", labels.get(rest[0], "0"))
-    word, *fields = rest
-    numbers = {number for _, number in rows.values()}
-    name = rows[word][0] if word in rows else ("BadLayout" if int(fields[0]) in numbers else "UnknownCall")
-    if name == "Audit":
-        fields = ["Of" + KINDS[int(fields[0]) - 1], fields[1]]
-    if name == "CreateLease":
-        fields = [listed_ids(",".join(fields) or "-")]
-    return term("Ask", labels.get(first, "0"), term(name, *fields))
+    return term("Ask", labels.get(first, "0"), call_term(rest[0], rest[1:], known))
 
 
-def strip(text):
-    return text[1:-1] if text.startswith("(") else text
+def event_terms(row: Row, known: Definitions) -> List[str]:
+    labels: Dict[str, str] = {}
+    events = []
+    for asked, answer in row.lines:
+        events.append(bare(event_term(asked, labels, known)))
+        if asked.startswith("open ") and answer.startswith("client "):
+            labels[asked.split()[1]] = answer.split()[1]
+    return events
 
 
-def used(line, body):
-    """The import with the names alone that the body has."""
-    module, names = line[:-1].split(".{")
-    kept = [one for one in names.split(", ") if one.startswith("◌") or re.search(rf"(?<!\w){re.escape(one.split()[-1])}(?!\w)", body)]
-    if "Common" in module:
-        kept = [one for one in kept if one != "[]"] + ["[]"]
-    return f"{module}.{{{', '.join(kept)}}}\n" if kept else ""
-
-
-def lemma(name, lines):
-    limits = PROGRAM
-    if lines[0].startswith("limits "):
-        limits, lines = lines[0].split()[1:], lines[1:]
-    labels, events, answers = {}, [], []
-    for line in lines:
-        asked, _, got = line.partition(" -> ")
-        events.append(strip(event(asked, labels, calls())))
-        answers.append(strip(answer(got, rules())))
-        if asked.startswith("open ") and got.startswith("client "):
-            labels[asked.split()[1]] = got.split()[1]
-    opened = unfoldables(MODEL / "specs")
-    table = unfoldables(TABLE)
-    lists = unfoldables(LISTS)
-    modes = [(module, word) for module, word in unfoldables(MODES) if module == "Numbers"]
-    least = [(module, word) for module, word in unfoldables(ARRAYS) if module == "Least"]
-    denials = ", ".join(f"{rule} as Denied{rule}" for rule in sorted(set(rules().values())))
-    uses = [
-        "use Rattle.std.proofs.Common.{◌≡◌, true, false, List, [], ◌∷◌, Result, Ok, Err, refl}",
-        "use Rattle.drm_table.specs.declared.answers.Answer.{Answer}",
-        "use Rattle.drm_table.specs.declared.answers.Answer.TheVariants.{Done, Opened, Version as VersionIs, Number, Dumb, Buffer, Resources, Plane, Framebuffer, Lease as LeaseIs, List as ListIs, Audit as AuditIs, Closed, Denied}",
-        "use Rattle.drm_table.specs.declared.apart.Apart.{Apart}",
-        "use Rattle.drm_table.specs.declared.apart.Apart.TheVariants.{JournalFull}",
-        f"use Rattle.drm_table.specs.declared.rules.Rule.TheVariants.{{{denials}}}",
-        "use Rattle.drm_table.specs.declared.calls.Call.TheVariants.{Unknown as UnknownCall, BadLayout, " + ", ".join(kind for kind, _ in calls().values()) + "}",
-        "use Rattle.drm_table.specs.declared.events.Event.{Event}",
-        "use Rattle.drm_table.specs.declared.events.Event.TheVariants.{Open, Ask, Close}",
-        "use Rattle.drm_table.specs.declared.events.Opening.TheVariants.{Primary, Render, Lease}",
-        "use Rattle.drm_table.specs.declared.limits.Limits.{Limits}",
-        "use Rattle.drm_table.specs.declared.audits.AuditKind.TheVariants.{" + ", ".join(f"{kind} as Of{kind}" for kind in KINDS) + "}",
+def imports(known: Definitions) -> List[Tuple[str, List[str]]]:
+    """The modules that a lemma may need, each with the names that it may need of it."""
+    table = "Rattle.drm_table.specs.declared"
+    answers = "Done, Opened, Version as VersionIs, Number, Dumb, Buffer, Resources, Plane, Framebuffer, Lease as LeaseIs, \
+List as ListIs, Audit as AuditIs, Closed, Denied"
+    return [
+        ("Rattle.std.proofs.Common", "◌≡◌, true, false, List, ◌∷◌, Result, Ok, Err, refl, []".split(", ")),
+        (f"{table}.answers.Answer", ["Answer"]),
+        (f"{table}.answers.Answer.TheVariants", answers.split(", ")),
+        (f"{table}.apart.Apart", ["Apart"]),
+        (f"{table}.apart.Apart.TheVariants", [apart.name for apart in known.aparts.values()]),
+        (f"{table}.rules.Rule.TheVariants", sorted(f"{rule.name} as Denied{rule.name}" for rule in known.rules.values())),
+        (f"{table}.calls.Call.TheVariants", ["Unknown as UnknownCall", "BadLayout", *(kind for kind, _ in known.calls.values())]),
+        (f"{table}.events.Event", ["Event"]),
+        (f"{table}.events.Event.TheVariants", ["Open", "Ask", "Close"]),
+        (f"{table}.events.Opening.TheVariants", ["Primary", "Render", "Lease"]),
+        (f"{table}.limits.Limits", ["Limits"]),
+        (f"{table}.audits.AuditKind.TheVariants", [f"{kind} as Of{kind}" for kind in KINDS]),
+        *((f"Rattle.{crate}.specs.{file}", names) for (crate, file), names in known.opened.items()),
+        ("Rattle.drm_model.specs.Audit", ["audit_row"]),
+        ("Rattle.drm_model.specs.Rows", ["empty_rows"]),
+        ("Rattle.drm_modes.specs.Topology", ["Topology"]),
     ]
-    for crate, words in (("drm_index_array", least), ("drm_lists", lists), ("drm_modes", modes), ("drm_table", table), ("drm_model", opened)):
-        for module in sorted({module for module, _ in words}):
-            names = ", ".join(word for where, word in words if where == module)
-            uses.append(f"use Rattle.{crate}.specs.{module}.{{{names}}}")
-    uses += ["use Rattle.drm_model.specs.Audit.{audit_row}", "use Rattle.drm_model.specs.Rows.{empty_rows}", "use Rattle.drm_modes.specs.Topology.{Topology}"]
-    listed = lambda terms: "".join(f"    {one} ∷\n" for one in terms) + "    []\n"
-    fields = "; ".join(f"{field} = {value}" for field, value in zip(LIMITS, limits))
-    body = (
-        "abbrev test_topology : Topology\n"
-        + "test_topology = record { crtcs = 2; planes = 1 ∷ 2 ∷ []; encoders = 3 ∷ 2 ∷ []; connectors = 5 ∷ 6 ∷ [] }\n"
-        + f"\nabbrev limits : Limits\nlimits = record {{ {fields} }}\n"
-        + f"\nabbrev events : List Event\nevents =\n{listed(events)}"
-        + f"\nabbrev answers : List (Result Answer Apart)\nanswers =\n{listed(answers)}"
-        + f"\npub {name} : results (empty_rows test_topology limits) events ≡ answers\n"
-        + f"unfolding {' '.join(word for _, word in least + lists + modes + table + opened)}\n{name} = refl\n"
-    )
-    head = f"-- Made by tools/worked_rows.py: the worked row {name}, as the definitions compute it.\n"
-    return head + "".join(used(line, body) for line in uses) + "\n" + body
 
 
-def write_scripts(rows):
-    for old in SCRIPTS.glob("*.script"):
-        old.unlink()
-    for name, lines in rows.items():
-        (SCRIPTS / f"{name}.script").write_text("".join(f"{line}\n" for line in lines))
+def is_used(name: str, body: str) -> bool:
+    """Whether a lemma needs a name that it may import; those of its operators it always does."""
+    return not name[0].isalpha() or re.search(rf"(?<!\w){name.split()[-1]}(?!\w)", body) is not None
 
 
-def main():
-    rows = read(pathlib.Path("tools/worked_rows.txt"))
-    write_scripts(rows)
-    proofs = MODEL / "proofs"
-    for old in proofs.glob("Worked*.antt"):
-        old.unlink()
-    modules = []
-    for name, lines in rows.items():
-        module = "Worked" + "".join(word.capitalize() for word in name.split("_"))
-        (proofs / f"{module}.antt").write_text(lemma(name, lines))
-        modules.append(module)
-    library = proofs / "Lib.antt"
-    kept = [line for line in library.read_text().splitlines() if not line.startswith("pub mod Worked")]
-    library.write_text("\n".join(kept + [f"pub mod {module}" for module in modules]) + "\n")
+def used_imports(known: Definitions, body: str) -> str:
+    used = [(module, [name for name in names if is_used(name, body)]) for module, names in imports(known)]
+    return "".join(f"use {module}.{{{', '.join(names)}}}\n" for module, names in used if names)
+
+
+def lemma(row: Row, known: Definitions) -> str:
+    """The lemma that the definitions give a row's answers."""
+    limits = "; ".join(f"{field} = {value}" for field, value in zip(LIMITS, row.limits or PROGRAM))
+    events = "".join(f"    {event} ∷\n" for event in event_terms(row, known))
+    answers = "".join(f"    {bare(answer_term(line.answer, known))} ∷\n" for line in row.lines)
+    opened = " ".join(name for names in known.opened.values() for name in names)
+    body = f"""abbrev test_topology : Topology
+test_topology = {TOPOLOGY}
+
+abbrev limits : Limits
+limits = record {{ {limits} }}
+
+abbrev events : List Event
+events =
+{events}    []
+
+abbrev answers : List (Result Answer Apart)
+answers =
+{answers}    []
+
+pub {row.name} : results (empty_rows test_topology limits) events ≡ answers
+unfolding {opened}
+{row.name} = refl
+"""
+    head = f"-- Made by tools/worked_rows.py: the worked row {row.name}, as the definitions compute it.\n"
+    return f"{head}{used_imports(known, body)}\n{body}"
+
+
+def module_of(row: Row) -> str:
+    return "Worked" + "".join(word.capitalize() for word in row.name.split("_"))
+
+
+def library(rows: List[Row], text: str) -> str:
+    """The list of drm_model's proofs, with the lemmas of these rows in place of those that it has."""
+    kept = [line for line in text.splitlines() if not line.startswith("pub mod Worked")]
+    return "".join(f"{line}\n" for line in [*kept, *(f"pub mod {module_of(row)}" for row in rows)])
+
+
+# tables
+
+
+def whole_answer(text: str, known: Definitions) -> str:
+    """The whole line of an answer."""
+    word, *rest = text.split()
+    refusals = {"denied": known.rules, "apart": known.aparts}
+    if word not in refusals:
+        return text
+    refusal = refusals[word][int(rest[0])]
+    return f"{text} {refusal.name} {refusal.error}"
+
+
+def table_row(row: Row, known: Definitions) -> str:
+    whole = row._replace(lines=[Line(asked, whole_answer(answer, known)) for asked, answer in row.lines])
+    script = "\\n\\\n".join(f"            {line}" for line in whole.text().splitlines())
+    return f"""    Row {{
+        name: "{row.name}",
+        answers: {len(row.lines)},
+        script: "\\
+{script}",
+    }},
+"""
+
+
+def table(group: Group, known: Definitions) -> str:
+    """The table of a group's rows for drm_tests."""
+    rows = "".join(table_row(row, known) for row in group.rows)
+    return f"""//! Made by tools/worked_rows.py: worked rows with their answers.
+
+use crate::rows::Row;
+
+/// {group.about}
+pub(crate) const {group.name}: [Row; {len(group.rows)}] = [
+{rows}];
+"""
+
+
+# what is written
+
+
+def made_files(groups: List[Group]) -> Dict[pathlib.Path, str]:
+    """All files that are made of the rows, and what they have."""
+    known = read_definitions()
+    rows = [row for group in groups for row in group.rows]
+    library_path = PROOFS / "Lib.antt"
+    files = {library_path: library(rows, library_path.read_text())}
+    files.update((PROOFS / f"{module_of(row)}.antt", lemma(row, known)) for row in rows)
+    files.update((SCRIPTS / f"{row.name}.script", row.text()) for row in rows)
+    files.update((TABLES / f"{group.name.lower()}.rt", table(group, known)) for group in groups)
+    return files
+
+
+def superfluous_files(files: Dict[pathlib.Path, str]) -> List[pathlib.Path]:
+    """Files among those that are made which no row gives."""
+    return sorted(path for folder, pattern in MADE for path in folder.glob(pattern) if path not in files)
+
+
+def stale_files(files: Dict[pathlib.Path, str]) -> List[pathlib.Path]:
+    """Files that aren't there or that have something else."""
+    return sorted(path for path, text in files.items() if not path.exists() or path.read_text() != text)
+
+
+def main() -> int:
+    parser = argparse.ArgumentParser(description="Writes what is made of the worked rows in tools/worked_rows.txt.")
+    parser.add_argument("--check", action="store_true", help="write nothing, and tell each file that isn't what the rows give")
+    is_check = parser.parse_args().check
+    files = made_files(read_groups(SOURCE.read_text()))
+    stale, superfluous = stale_files(files), superfluous_files(files)
+    if is_check:
+        for kind, paths in (("stale", stale), ("superfluous", superfluous)):
+            print("".join(f"{kind}: {path.relative_to(REPOSITORY)}\n" for path in paths), end="")
+        return 1 if stale or superfluous else 0
+    for path in superfluous:
+        path.unlink()
+    for path in stale:
+        path.write_text(files[path])
+    return 0
 
 
 if __name__ == "__main__":
-    main()
+    sys.exit(main())

@@ -43,8 +43,8 @@ fn arrow_place(line: &[u8]) -> Option<usize>
     }
 }
 
-/// The line of the script, and the answer that it expects.
-pub(crate) fn parts_of(line: &[u8]) -> (&[u8], Option<&[u8]>)
+/// The line of the script, and the answer that it expects behind ` -> `.
+pub fn parts_of(line: &[u8]) -> (&[u8], Option<&[u8]>)
     ensures script { result.0.now ≡ script_part line.now }
     ensures expected { option_map (λ e. e.now) result.1 ≡ expected_part line.now }
 {
@@ -99,7 +99,7 @@ fn is_short(expected: &[u8], answer: &Result<Answer, Apart>) -> bool
 }
 
 /// Whether an answer is what is expected; where nothing is answered, it isn't.
-pub(crate) fn is_met(expected: &[u8], came: &Option<Result<Answer, Apart>>) -> bool
+pub fn is_met(expected: &[u8], came: &Option<Result<Answer, Apart>>) -> bool
     ensures { result ≡ is_met expected.now came.now }
 {
     match came {

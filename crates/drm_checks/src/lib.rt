@@ -8,5 +8,6 @@ mod laws;
 mod totals;
 
 pub use check::{Report, check_script, check_with_cause};
+pub use expectations::{is_met, parts_of};
 pub use laws::checked_files_are_scripts;
 pub use totals::{Totals, write_malformed, write_totals};

@@ -22,13 +22,14 @@ enum Ask {
     Len,
 }
 
-/// What a call answers: done, not done, nothing, or a number. A value that is refused comes back.
+/// What a call answers: done, not done, nothing, a number, or a length. A value that is refused comes back.
 #[derive(Clone, Copy, PartialEq, Eq, Debug)]
 enum Told {
     Yes,
     No,
     Nothing,
     Number(u32),
+    Length(usize),
     Taken(u32),
     NoMemory(u32),
 }
@@ -73,16 +74,16 @@ fn asked(array: &mut IndexArray<u32>, ask: Ask) -> Told {
         Ask::NextMarked(from, mark) => told_of(array.next_marked(from, mark)),
         Ask::NextVacant(from) => told_of(array.next_vacant(from)),
         Ask::Nth(place) => told_of(array.nth(place)),
-        Ask::Len => Told::Number(array.len() as u32),
+        Ask::Len => Told::Length(array.len()),
     }
 }
 
 /// Calls of one array, in order.
 const CALLS: [(Ask, Told); 33] = [
-    (Ask::Len, Told::Number(0)),
+    (Ask::Len, Told::Length(0)),
     (Ask::Insert(5, 1), Told::Yes),
     (Ask::Insert(5, 2), Told::Taken(2)),
-    (Ask::Len, Told::Number(1)),
+    (Ask::Len, Told::Length(1)),
     (Ask::Get(5), Told::Number(1)),
     (Ask::Replace(5, 3), Told::Number(1)),
     (Ask::Get(5), Told::Number(3)),
@@ -115,21 +116,59 @@ const CALLS: [(Ask, Told); 33] = [
     (Ask::NextVacant(63), Told::Number(63)),
 ];
 
+/// Marks go with their entry.
+const MARKS_GO: [(Ask, Told); 11] = [
+    (Ask::Insert(5, 1), Told::Yes),
+    (Ask::Insert(5, 2), Told::Taken(2)),
+    (Ask::SetMark(5, Mark::M1), Told::Yes),
+    (Ask::NextMarked(0, Mark::M1), Told::Number(5)),
+    (Ask::NextMarked(0, Mark::M0), Told::Nothing),
+    (Ask::NextVacant(5), Told::Number(6)),
+    (Ask::Remove(5), Told::Number(1)),
+    (Ask::Insert(5, 2), Told::Yes),
+    (Ask::Marked(5, Mark::M1), Told::No),
+    (Ask::Insert(4_294_967_295, 3), Told::Yes),
+    (Ask::Next(6), Told::Number(4_294_967_295)),
+];
+
+fn check(rt: &impl Abort, array: &mut IndexArray<u32>, cases: &[(Ask, Told)]) {
+    for (ask, told) in cases {
+        assert_eq!(rt; asked(array, *ask), *told, "{ask:?}");
+    }
+}
+
 #[test]
 fn calls_of_an_array(rt: HostRuntime) {
-    let mut array = IndexArray::new(rt.alloc());
-    for (ask, told) in CALLS {
-        assert_eq!(rt; asked(&mut array, ask), told, "{ask:?}");
-    }
+    check(&rt, &mut IndexArray::new(rt.alloc()), &MARKS_GO);
+    check(&rt, &mut IndexArray::new(rt.alloc()), &CALLS);
     assert_eq!(rt; InsertFault::Taken('c').into_value(), 'c');
-    // 64 entries fill a node, and a level grows above it
+}
+
+/// Calls of an array that has 0 to 63, a whole node, at each index that number: a level grows above it, and empties again.
+const LEVELS: [(Ask, Told); 14] = [
+    (Ask::NextVacant(0), Told::Number(64)),
+    (Ask::Insert(1_073_741_824, 0), Told::Yes),
+    (Ask::Next(64), Told::Number(1_073_741_824)),
+    (Ask::SetMark(63, Mark::M2), Told::Yes),
+    (Ask::NextMarked(1, Mark::M2), Told::Number(63)),
+    (Ask::Remove(63), Told::Number(63)),
+    (Ask::NextMarked(0, Mark::M2), Told::Nothing),
+    (Ask::NextVacant(0), Told::Number(63)),
+    (Ask::Insert(4_294_967_295, 1), Told::Yes),
+    (Ask::NextVacant(4_294_967_295), Told::Nothing),
+    (Ask::Nth(62), Told::Number(62)),
+    (Ask::Nth(63), Told::Number(1_073_741_824)),
+    (Ask::Nth(64), Told::Number(4_294_967_295)),
+    (Ask::Nth(65), Told::Nothing),
+];
+
+#[test]
+fn levels_grow_and_empty(rt: HostRuntime) {
     let mut array = IndexArray::new(rt.alloc());
     for index in 0..64u32 {
         assert_eq!(rt; insert(&mut array, index, index), Told::Yes);
     }
-    assert_eq!(rt; array.next_vacant(0), Some(64));
-    assert_eq!(rt; insert(&mut array, 1_073_741_824, 0), Told::Yes);
-    assert_eq!(rt; array.next(64), Some(1_073_741_824));
+    check(&rt, &mut array, &LEVELS);
 }
 
 /// A refused insertion (`rt try --test --fail-alloc N`) leaves what was there, and the same insertion is carried out once there is memory.

@@ -1,10 +1,17 @@
 //! Which client has which handle of which object, told from the events of a device and their answers alone, and found again in
 //! an audit.
 
+use crate::rows::Place;
 use drm_device::Device;
 use drm_table::{Answer, AuditKind, Call, Event};
 use std::alloc::{AllocError, Global};
 use std::process::Abort;
+
+/// How many rows scripts make of each kind at most.
+pub(crate) const MOST_ROWS: u32 = 96;
+
+/// Where the pages of an audit of so many rows begin.
+pub(crate) const PAGES: [u32; 6] = [0, 16, 32, 48, 64, 80];
 
 /// Under what an object is published.
 #[derive(Clone, Copy, PartialEq, Eq, Debug)]
@@ -167,17 +174,17 @@ fn holds_of(alloc: Global, steps: &[(Event, Answer)]) -> Result<Vec<Hold>, Alloc
     Ok(holds)
 }
 
-/// Compares handles with the rows of an audit, of which scripts make 96 at most.
-fn are_shown(rt: &impl Abort, holds: &[Hold], device: &Device) {
+/// Compares handles with the rows of an audit.
+fn are_shown(rt: &impl Abort, holds: &[Hold], device: &Device, place: Place) {
     let mut count = 0_usize;
-    for from in [0, 16, 32, 48, 64, 80] {
+    for from in PAGES {
         let page = device.audit(AuditKind::Hold, from);
         for row in page.rows() {
-            assert_eq!(rt; object_of(holds, row.a, row.b), Some(row.c));
+            assert_eq!(rt; object_of(holds, row.a, row.b), Some(row.c), "{place}");
             count = count.saturating_add(1);
         }
     }
-    assert_eq!(rt; count, holds.len());
+    assert_eq!(rt; count, holds.len(), "{place}");
 }
 
 /// Compares the handles of a device with those that its events and answers give.
@@ -186,8 +193,9 @@ pub(crate) fn check_holds(
     alloc: Global,
     device: &Device,
     steps: &[(Event, Answer)],
+    place: Place,
 ) -> Result<(), AllocError> {
     let holds = holds_of(alloc, steps)?;
-    are_shown(rt, &holds, device);
+    are_shown(rt, &holds, device, place);
     Ok(())
 }

@@ -9,8 +9,6 @@ mod checks;
 #[cfg(test)]
 mod cuts;
 #[cfg(test)]
-mod device_rows;
-#[cfg(test)]
 mod devices;
 #[cfg(test)]
 mod exchanges;
@@ -18,6 +16,8 @@ mod exchanges;
 mod faults;
 #[cfg(test)]
 mod frames;
+#[cfg(test)]
+mod handles;
 #[cfg(test)]
 mod histories;
 #[cfg(test)]
@@ -27,31 +27,37 @@ mod jobs;
 #[cfg(test)]
 mod lease_frames;
 #[cfg(test)]
+mod leases;
+#[cfg(test)]
 mod lines;
 #[cfg(test)]
 mod listings;
 #[cfg(test)]
 mod lists;
 #[cfg(test)]
+mod masters;
+#[cfg(test)]
 mod mode_frames;
 #[cfg(test)]
-mod mode_rows;
+mod modes;
 #[cfg(test)]
 mod number_tables;
 #[cfg(test)]
 mod numbers;
 #[cfg(test)]
-mod parts;
+mod objects;
 #[cfg(test)]
 mod plain_map;
 #[cfg(test)]
 mod plain_table;
 #[cfg(test)]
+mod rows;
+#[cfg(test)]
 mod runs;
 #[cfg(test)]
-mod scripts;
-#[cfg(test)]
 mod sessions;
+#[cfg(test)]
+mod sharing;
 #[cfg(test)]
 mod sockets;
 #[cfg(test)]

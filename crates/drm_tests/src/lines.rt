@@ -570,54 +570,49 @@ fn answers_have_their_lines(rt: HostRuntime) {
     for (outcome, text) in &ANSWERS {
         check_line(&rt, outcome, text);
     }
-    let lists: [(&[u32], &[u8]); 3] = [
-        (&[], b"list -\n"),
-        (&[7], b"list 7\n"),
-        (&[1, 3], b"list 1,3\n"),
-    ];
-    for (ids, text) in lists {
-        check_line(&rt, &list_of(ids), text);
-    }
-    let resources: [([&[u32]; 4], &[u8]); 3] = [
-        (
-            [&[], &[], &[], &[]],
-            b"crtcs - connectors - encoders - framebuffers -\n",
-        ),
-        (
-            [&[1, 2], &[7, 8], &[5, 6], &[]],
-            b"crtcs 1,2 connectors 7,8 encoders 5,6 framebuffers -\n",
-        ),
-        (
-            [&[], &[8], &[], &[9, 4_294_967_295]],
-            b"crtcs - connectors 8 encoders - framebuffers 9,4294967295\n",
-        ),
-    ];
-    for (ids, text) in resources {
-        check_line(&rt, &resources_of(ids), text);
-    }
-    let pages: [(&[AuditRow], &[u8]); 3] = [
-        (&[], b"rows 0\n"),
-        (&[row(1, 0, 0, 0)], b"rows 1 | 1 0 0 0\n"),
-        (
-            &[row(1, 28, 1, 0), row(2, 0, 1, 0), row(7, 6, 1, 0)],
-            b"rows 3 | 1 28 1 0 | 2 0 1 0 | 7 6 1 0\n",
-        ),
-    ];
-    for (rows, text) in pages {
-        check_line(&rt, &page_of(rows), text);
-    }
+}
+
+#[test]
+fn lists_have_their_lines(rt: HostRuntime) {
+    check_line(&rt, &list_of(&[]), b"list -\n");
+    check_line(&rt, &list_of(&[7]), b"list 7\n");
+    check_line(&rt, &list_of(&[1, 3]), b"list 1,3\n");
+    check_line(
+        &rt,
+        &resources_of([&[], &[], &[], &[]]),
+        b"crtcs - connectors - encoders - framebuffers -\n",
+    );
+    check_line(
+        &rt,
+        &resources_of([&[1, 2], &[7, 8], &[5, 6], &[]]),
+        b"crtcs 1,2 connectors 7,8 encoders 5,6 framebuffers -\n",
+    );
+    check_line(
+        &rt,
+        &resources_of([&[], &[8], &[], &[9, 4_294_967_295]]),
+        b"crtcs - connectors 8 encoders - framebuffers 9,4294967295\n",
+    );
+}
+
+#[test]
+fn pages_have_their_lines(rt: HostRuntime) {
+    check_line(&rt, &page_of(&[]), b"rows 0\n");
+    check_line(&rt, &page_of(&[row(1, 0, 0, 0)]), b"rows 1 | 1 0 0 0\n");
+    check_line(
+        &rt,
+        &page_of(&[row(1, 28, 1, 0), row(2, 0, 1, 0), row(7, 6, 1, 0)]),
+        b"rows 3 | 1 28 1 0 | 2 0 1 0 | 7 6 1 0\n",
+    );
+}
+
+#[test]
+fn longest_answers_have_lines_of_their_lengths(rt: HostRuntime) {
     let ids = [u32::MAX; 64];
-    let greatest = [
-        (list_of(&ids), 709),
-        (resources_of([&ids, &ids, &ids, &ids]), 2855),
-        (
-            page_of(&[row(u64::MAX, u64::MAX, u64::MAX, u64::MAX); 16]),
-            1_384,
-        ),
-    ];
-    for (outcome, length) in &greatest {
-        assert_eq!(rt; line_of(outcome).as_bytes().len(), *length);
-    }
+    assert_eq!(rt; line_of(&list_of(&ids)).as_bytes().len(), 709);
+    let resources = resources_of([&ids, &ids, &ids, &ids]);
+    assert_eq!(rt; line_of(&resources).as_bytes().len(), 2855);
+    let page = page_of(&[row(u64::MAX, u64::MAX, u64::MAX, u64::MAX); 16]);
+    assert_eq!(rt; line_of(&page).as_bytes().len(), 1_384);
 }
 
 #[test]
@@ -634,7 +629,7 @@ fn rows_and_numbers_have_their_texts(rt: HostRuntime) {
     for (kind, row, text) in rows {
         assert_eq!(rt; audit_line(kind, &row).as_bytes(), text);
     }
-    let mut text = ArrayString::<32>::new();
+    let mut text = ArrayString::<64>::new();
     text.push_str("turns ");
     push_number(&mut text, 0);
     push_number(&mut text, u64::MAX);

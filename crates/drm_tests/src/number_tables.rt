@@ -24,11 +24,12 @@ enum Ask {
     IsFull,
 }
 
-/// What a call answers: nothing, a number, or the value that comes back where no number is free.
+/// What a call answers: nothing, a number, a length, or the value that comes back where no number is free.
 #[derive(Clone, Copy, PartialEq, Eq, Debug)]
 enum Told {
     Nothing,
     Number(u32),
+    Length(usize),
     Back(u32),
     NoMemory,
 }
@@ -61,7 +62,7 @@ fn asked(table: &mut IdTable<u32>, ask: Ask) -> Told {
         Ask::Next(from) => told_of(table.next(from)),
         Ask::Nth(place) => told_of(table.nth(place)),
         Ask::NextInTurn => told_of(table.next_in_turn()),
-        Ask::Len => Told::Number(table.len() as u32),
+        Ask::Len => Told::Length(table.len()),
         Ask::LastGiven => told_of(table.last_given()),
         Ask::IsFull => Told::Number(table.is_full() as u32),
     }
@@ -91,19 +92,36 @@ const CALLS: [(Ask, Told); 27] = [
     (Ask::Replace(7, 9), Told::Back(9)),
     (Ask::Next(0), Told::Number(4)),
     (Ask::Next(7), Told::Nothing),
-    (Ask::Len, Told::Number(3)),
+    (Ask::Len, Told::Length(3)),
     (Ask::Remove(5), Told::Number(8)),
     (Ask::Remove(5), Told::Nothing),
     (Ask::Nth(1), Told::Number(6)),
     (Ask::Nth(2), Told::Nothing),
 ];
 
+/// Calls of a table of the numbers 1 to 3, given in turn until it is full.
+const FROM_ONE: [(Ask, Told); 9] = [
+    (Ask::AddCyclic(10), Told::Number(1)),
+    (Ask::AddCyclic(11), Told::Number(2)),
+    (Ask::Remove(1), Told::Number(10)),
+    (Ask::AddCyclic(12), Told::Number(3)),
+    (Ask::AddCyclic(13), Told::Number(1)),
+    (Ask::AddCyclic(14), Told::Back(14)),
+    (Ask::Remove(2), Told::Number(11)),
+    (Ask::Add(15), Told::Number(2)),
+    (Ask::Add(16), Told::Back(16)),
+];
+
+fn check(rt: &impl Abort, table: &mut IdTable<u32>, cases: &[(Ask, Told)]) {
+    for (ask, told) in cases {
+        assert_eq!(rt; asked(table, *ask), *told, "{ask:?}");
+    }
+}
+
 #[test]
 fn calls_of_a_table(rt: HostRuntime) {
-    let mut table = IdTable::new(rt.alloc(), 4, 6);
-    for (ask, told) in CALLS {
-        assert_eq!(rt; asked(&mut table, ask), told, "{ask:?}");
-    }
+    check(&rt, &mut IdTable::new(rt.alloc(), 4, 6), &CALLS);
+    check(&rt, &mut IdTable::new(rt.alloc(), 1, 3), &FROM_ONE);
 }
 
 /// Carries out a random edit on both, and compares what each answers. Of `kinds` kinds of edit the last are removals.

@@ -38,12 +38,14 @@ const MANY_TURNS: u64 = 1_000_000;
 
 const PIECES: [usize; 4] = [1, 2, 3, 7];
 
-/// What a client sends in pieces of so many bytes, how its session ends after so many steps, and what is written.
+/// What a client sends in pieces of so many bytes, how its session ends after so many steps, and what is written, of which the
+/// sink takes so many bytes at once.
 #[derive(Clone, Copy)]
 struct Case<'a> {
     class: Class,
     input: &'a [u8],
     piece: usize,
+    taken: usize,
     source: Cut,
     sink: Cut,
     turns: u64,
@@ -59,6 +61,7 @@ const WHOLE: Case<'static> = Case {
     class: Class::Card,
     input: HELLO_VERSION,
     piece: 7,
+    taken: 64,
     source: Cut::Never,
     sink: Cut::Never,
     turns: MANY_TURNS,
@@ -84,7 +87,7 @@ const NOTHING: Case<'static> = Case {
     ..WHOLE
 };
 
-const CASES: [Case<'static>; 28] = [
+const CASES: [Case<'static>; 24] = [
     WHOLE,
     Case {
         class: Class::Render,
@@ -138,6 +141,15 @@ const CASES: [Case<'static>; 28] = [
     },
     Case {
         piece: 1,
+        turns: 19,
+        end: SessionEnd::TurnsUsed,
+        steps: 2,
+        written: OPENED,
+        ..WHOLE
+    },
+    Case {
+        piece: 1,
+        taken: 1,
         turns: 28,
         end: SessionEnd::TurnsUsed,
         steps: 2,
@@ -212,35 +224,19 @@ const CASES: [Case<'static>; 28] = [
         ..NOTHING
     },
     Case {
-        input: b"\x02\0\0\0\0\0",
-        end: SessionEnd::BadHello,
-        ..NOTHING
-    },
-    Case {
-        input: b"\0\0\0\0",
-        end: SessionEnd::TooLong,
-        ..NOTHING
-    },
-    Case {
-        input: b"\x01\x04\0\0",
-        end: SessionEnd::TooLong,
-        ..NOTHING
-    },
-    Case {
-        input: b"\xff\xff\xff\xff",
-        end: SessionEnd::TooLong,
-        ..NOTHING
-    },
-    Case {
-        input: b"\x01\0\0\0",
-        end: SessionEnd::TooLong,
-        ..NOTHING
-    },
-    Case {
         input: b"\xff\x03\0",
         end: SessionEnd::Truncated,
         ..NOTHING
     },
+];
+
+/// What comes in place of the hello, and how the session ends.
+const IN_PLACE_OF_HELLO: [(&[u8], SessionEnd); 5] = [
+    (b"\x02\0\0\0\0\0", SessionEnd::BadHello),
+    (b"\0\0\0\0", SessionEnd::TooLong),
+    (b"\x01\0\0\0", SessionEnd::TooLong),
+    (b"\x01\x04\0\0", SessionEnd::TooLong),
+    (b"\xff\xff\xff\xff", SessionEnd::TooLong),
 ];
 
 /// What comes behind the hello, how the session ends after so many steps, and what is written behind the hello's answer.
@@ -303,7 +299,7 @@ fn serves(rt: &impl Abort, alloc: Global, limits: Limits, cases: &[Case<'_>]) ->
     let mut noted = 0usize;
     for case in cases {
         let mut source = source_of(case.input, case.piece, case.source);
-        let mut sink = sink_of(case.piece, case.sink);
+        let mut sink = sink_of(case.taken, case.sink);
         let turns = case.turns.min(MANY_TURNS);
         let session = serve_alone(
             &mut device,
@@ -327,7 +323,11 @@ fn serves(rt: &impl Abort, alloc: Global, limits: Limits, cases: &[Case<'_>]) ->
 /// Serves this session in pieces of several sizes.
 fn serves_in_pieces(rt: &impl Abort, alloc: Global, case: Case<'_>) -> Result<(), Fail> {
     for piece in PIECES {
-        let case = Case { piece, ..case };
+        let case = Case {
+            piece,
+            taken: piece,
+            ..case
+        };
         serves(rt, alloc, Limits::PROGRAM, &[case])?;
     }
     Ok(())
@@ -363,6 +363,19 @@ fn joined(alloc: Global, front: &[u8], back: &[u8]) -> Result<Vec<u8>, AllocErro
     text.extend_from_slice(front)?;
     text.extend_from_slice(back)?;
     Ok(text)
+}
+
+#[test]
+fn frames_in_place_of_the_hello(rt: HostRuntime) -> Result<(), Fail> {
+    for (input, end) in IN_PLACE_OF_HELLO {
+        let case = Case {
+            input,
+            end,
+            ..NOTHING
+        };
+        serves_in_pieces(&rt, rt.alloc(), case)?;
+    }
+    Ok(())
 }
 
 #[test]

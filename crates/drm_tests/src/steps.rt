@@ -4,62 +4,28 @@
 //! With ample memory nothing is refused. Where it is, as under `rt try --test --fail-alloc N`, it is for a step that may add a row, and
 //! the same step with memory is answered as if nothing had been. `tests/memory` refuses each request of the built program so.
 
-use crate::device_rows::{BUFFERS, DEVICES, MASTERS, SHARING};
 use crate::devices::new_device;
-use crate::histories::check_holds;
-use crate::mode_rows::{LEASES, MODES};
-use crate::scripts::Row;
+use crate::histories::{MOST_ROWS, PAGES, check_holds};
+use crate::rows::buffers::BUFFERS;
+use crate::rows::devices::DEVICES;
+use crate::rows::leases::LEASES;
+use crate::rows::masters::MASTERS;
+use crate::rows::modes::MODES;
+use crate::rows::sharing::SHARING;
+use crate::rows::{Place, Row};
+use drm_checks::{is_met, parts_of};
 use drm_device::Device;
 use drm_script::{Command, Label, Reading, line_of, read_line};
-use drm_table::{Answer, Apart, AuditKind, Call, Event, Limits};
+use drm_table::{Answer, Apart, AuditKind, AuditPage, Call, Event, Limits};
 use std::alloc::{AllocError, Global};
 use std::process::Abort;
+use std::str::from_utf8;
 use std::test::Fail;
 
-/// A line of a script, and the line of the answer that it expects; nothing where it expects none.
-#[derive(Drop)]
-struct Line {
-    asked: Vec<u8>,
-    answer: Vec<u8>,
-}
-
-fn lines_of(alloc: Global, script: &[u8]) -> Result<Vec<Line>, AllocError> {
-    let mut lines = Vec::new(alloc);
-    let mut asked = Vec::new(alloc);
-    let mut answer = Vec::new(alloc);
-    let mut is_answer = false;
-    for byte in script {
-        match *byte {
-            b'\n' => {
-                if is_answer {
-                    answer.push(b'\n')?;
-                }
-                lines.push(Line { asked, answer })?;
-                asked = Vec::new(alloc);
-                answer = Vec::new(alloc);
-                is_answer = false;
-            }
-            // the end of the arrow
-            b'>' => {
-                let _dash = asked.pop();
-                is_answer = true;
-            }
-            b' ' if is_answer && answer.is_empty() => {}
-            byte if is_answer => answer.push(byte)?,
-            byte => asked.push(byte)?,
-        }
-    }
-    if is_answer {
-        answer.push(b'\n')?;
-    }
-    lines.push(Line { asked, answer })?;
-    Ok(lines)
-}
-
 /// The limits that a script begins with.
-fn limits_of(lines: &[Line]) -> Limits {
-    match lines.first() {
-        Some(line) => match read_line(&line.asked) {
+fn limits_of(script: &str) -> Limits {
+    match script.lines().next() {
+        Some(line) => match read_line(line.as_bytes()) {
             Reading::Limits(limits) => limits,
             _ => Limits::PROGRAM,
         },
@@ -88,23 +54,37 @@ fn may_grow(event: &Event) -> bool {
     }
 }
 
+/// All pages of all audits.
+fn audits(device: &Device) -> [[AuditPage; PAGES.len()]; AuditKind::ALL.len()] {
+    AuditKind::ALL.map(|kind| PAGES.map(|from| device.audit(kind, from)))
+}
+
+/// Whether a device has more rows of a kind than the pages have.
+fn has_more(device: &Device) -> bool {
+    AuditKind::ALL
+        .iter()
+        .any(|kind| !device.audit(*kind, MOST_ROWS).rows().is_empty())
+}
+
 /// One step of the device. Where memory for it is refused, nothing has changed, and it is asked for again.
 fn step(
     rt: &impl Abort,
     device: &mut Device,
     event: Event,
+    place: Place,
 ) -> Result<Result<Answer, Apart>, AllocError> {
     let again = event.clone()?;
-    let before = AuditKind::ALL.map(|kind| device.audit(kind, 0));
+    assert!(rt; !has_more(device), "{place}: more rows than are compared");
+    let before = audits(device);
     let answered = device.step(event);
     if answered != Err(Apart::NoMemory) {
         return Ok(answered);
     }
-    assert!(rt; may_grow(&again));
-    let after = AuditKind::ALL.map(|kind| device.audit(kind, 0));
-    assert_eq!(rt; after, before);
+    assert!(rt; may_grow(&again), "{place}: wants memory");
+    assert!(rt; audits(device) == before, "{place}: a refusal changes rows");
     let answered = device.step(again);
-    assert!(rt; !matches!(answered, Ok(Answer::Denied(_))));
+    let is_denied = matches!(answered, Ok(Answer::Denied(_)));
+    assert!(rt; !is_denied, "{place}: denied with memory");
     Ok(answered)
 }
 
@@ -117,23 +97,54 @@ fn asked_by(labels: &[u32; Label::COUNT], command: Command) -> (Option<Label>, E
     }
 }
 
+/// The words of a line.
+fn text_of(line: &[u8]) -> &str {
+    from_utf8(line).unwrap_or("no text")
+}
+
+/// Compares what came of a line with what it expects, if it does.
+fn check_answer(
+    rt: &impl Abort,
+    expected: Option<&[u8]>,
+    came: &Option<Result<Answer, Apart>>,
+    place: Place,
+) {
+    let Some(expected) = expected else {
+        return;
+    };
+    let wanted = text_of(expected);
+    match came {
+        Some(answer) => {
+            let line = line_of(answer);
+            let told = text_of(line.as_bytes()).trim_end();
+            assert!(rt;
+                is_met(expected, came),
+                "{place}: expected {wanted}, came {told}"
+            );
+        }
+        None => assert!(rt; false, "{place}: expected {wanted}, came nothing"),
+    }
+}
+
 /// Asks what a line says, compares its answer, and gives the event and the answer where the device notes it.
 fn ask_line(
     rt: &impl Abort,
     device: &mut Device,
     labels: &mut [u32; Label::COUNT],
-    line: &Line,
+    line: &str,
+    place: Place,
 ) -> Result<Option<(Event, Answer)>, AllocError> {
-    let Reading::Says(command) = read_line(&line.asked) else {
+    let (script, expected) = parts_of(line.as_bytes());
+    let Reading::Says(command) = read_line(script) else {
+        check_answer(rt, expected, &None, place);
         return Ok(None);
     };
     let (label, event) = asked_by(labels, command);
     let asked = event.clone()?;
-    let answered = step(rt, device, event)?;
-    if !line.answer.is_empty() {
-        assert_eq!(rt; line_of(&answered).as_bytes(), line.answer.as_slice());
-    }
-    let Ok(answer) = answered else {
+    let answered = step(rt, device, event, place)?;
+    let came = Some(answered);
+    check_answer(rt, expected, &came, place);
+    let Some(Ok(answer)) = came else {
         return Ok(None);
     };
     if let (Some(label), Answer::Opened { client }) = (label, &answer) {
@@ -142,16 +153,28 @@ fn ask_line(
     Ok(Some((asked, answer)))
 }
 
+/// How many lines of a script expect an answer.
+fn answer_count(script: &str) -> usize {
+    script
+        .lines()
+        .filter(|line| parts_of(line.as_bytes()).1.is_some())
+        .count()
+}
+
 fn check_row(rt: &impl Abort, alloc: Global, row: &Row) -> Result<(), Fail> {
-    let lines = lines_of(alloc, row.script)?;
-    let mut device = new_device(alloc, limits_of(&lines))?;
+    assert_eq!(rt; answer_count(row.script), row.answers, "{}", row.name);
+    let mut device = new_device(alloc, limits_of(row.script))?;
     let mut labels = [0; Label::COUNT];
     let mut steps = Vec::new(alloc);
-    for line in &lines {
-        if let Some(step) = ask_line(rt, &mut device, &mut labels, line)? {
+    for (index, line) in row.script.lines().enumerate() {
+        let place = Place {
+            row: row.name,
+            line: index.saturating_add(1),
+        };
+        if let Some(step) = ask_line(rt, &mut device, &mut labels, line, place)? {
             steps.push(step)?;
         }
-        check_holds(rt, alloc, &device, &steps)?;
+        check_holds(rt, alloc, &device, &steps, place)?;
     }
     assert_eq!(rt; device.journal().len(), steps.len(), "{}", row.name);
     Ok(())

@@ -17,7 +17,15 @@ fn source_reads_to_the_end(rt: HostRuntime) {
     assert_eq!(rt; source.take(&mut buffer), Taken::End);
     assert_eq!(rt; source.take(&mut buffer), Taken::End);
     assert_eq!(rt; source.calls(), 4);
-    assert_eq!(rt; source.into_inner().len(), 0);
+}
+
+#[test]
+fn source_hands_its_reader_back(rt: HostRuntime) {
+    let mut source = FromRead::new(b"frame".as_slice());
+    let mut buffer = [0; 3];
+    assert_eq!(rt; source.take(&mut buffer), Taken::Got(3));
+    let rest = source.into_inner();
+    assert_eq!(rt; rest, b"me".as_slice());
 }
 
 #[test]

@@ -25,6 +25,8 @@ fn shared(alloc: Global, limits: Limits) -> Result<(SharedDevice, Seat), Fail>
 
 const CARD: Event = Event::Open(Opening::Primary { root: false });
 
+const OPENED: Result<Answer, Apart> = Ok(Answer::Opened { client: 1 });
+
 const VERSION: Result<Answer, Apart> = Ok(Answer::Version {
     major: 1,
     minor: 0,
@@ -38,8 +40,30 @@ const fn ask(is_other: bool, call: Call, answer: Answer) -> Turn {
     (is_other, Event::Ask(1, call), Ok(answer))
 }
 
-/// A buffer that one seat makes and writes, and the other reads and closes.
-fn buffer() -> [Turn; 6] {
+/// A buffer that one seat makes and writes, and the other reads: four steps.
+fn buffer() -> [Turn; 4] {
+    let buffer = Answer::Buffer {
+        handle: 1,
+        size: 4096,
+    };
+    let write = Call::StampWrite {
+        handle: 1,
+        stamp: 9,
+    };
+    [
+        (false, CARD, Ok(Answer::Opened { client: 1 })),
+        ask(false, Call::BufCreate { size: 1 }, buffer),
+        ask(false, write, Answer::Done),
+        ask(
+            true,
+            Call::StampRead { handle: 1 },
+            Answer::Number { value: 9 },
+        ),
+    ]
+}
+
+/// One that the other seat closes.
+fn closed_buffer() -> [Turn; 4] {
     let square = Call::CreateDumb {
         width: 64,
         height: 64,
@@ -50,20 +74,10 @@ fn buffer() -> [Turn; 6] {
         pitch: 256,
         size: 16384,
     };
-    let write = Call::StampWrite {
-        handle: 1,
-        stamp: 9,
-    };
     [
         (false, CARD, Ok(Answer::Opened { client: 1 })),
         ask(false, square, dumb),
-        ask(false, write, Answer::Done),
         (true, Event::Ask(1, Call::Version), VERSION),
-        ask(
-            true,
-            Call::StampRead { handle: 1 },
-            Answer::Number { value: 9 },
-        ),
         ask(true, Call::GemClose { handle: 1 }, Answer::Done),
     ]
 }
@@ -136,11 +150,65 @@ fn call_in_turn(
 #[test]
 fn seats_share_one_device(rt: HostRuntime) -> Result<(), Fail> {
     call_in_turn(&rt, rt.alloc(), Limits::PROGRAM, &buffer())?;
+    call_in_turn(&rt, rt.alloc(), Limits::PROGRAM, &closed_buffer())?;
     let short = Limits {
         journal: 2,
         ..Limits::PROGRAM
     };
     call_in_turn(&rt, rt.alloc(), short, &full_journal())
+}
+
+/// A seat that is split off behind a write reads it.
+#[test]
+fn a_seat_split_behind_a_write_reads_it(rt: HostRuntime) -> Result<(), Fail> {
+    let (shared, mut seat) = shared(rt.alloc(), Limits::PROGRAM)?;
+    let make = Event::Ask(1, Call::BufCreate { size: 1 });
+    let made = Ok(Answer::Buffer {
+        handle: 1,
+        size: 4096,
+    });
+    let write = Event::Ask(
+        1,
+        Call::StampWrite {
+            handle: 1,
+            stamp: 9,
+        },
+    );
+    call_by(&rt, &shared, &mut seat, CARD, &OPENED);
+    call_by(&rt, &shared, &mut seat, make, &made);
+    call_by(&rt, &shared, &mut seat, write, &Ok(Answer::Done));
+    let mut other = shared.split(&mut seat);
+    let read = Event::Ask(1, Call::StampRead { handle: 1 });
+    call_by(
+        &rt,
+        &shared,
+        &mut other,
+        read,
+        &Ok(Answer::Number { value: 9 }),
+    );
+    shared.join(&mut seat, other);
+    let device = shared.close(seat).map_err(|_| "the device is out")?;
+    assert_eq!(rt; device.journal().len(), 4);
+    Ok(())
+}
+
+/// A device that is shared again goes on with its count.
+#[test]
+fn a_device_shared_again_goes_on_with_its_count(rt: HostRuntime) -> Result<(), Fail> {
+    let (shared, mut seat) = shared(rt.alloc(), Limits::PROGRAM)?;
+    assert_eq!(rt; shared.peek_count(), 0);
+    call_by(&rt, &shared, &mut seat, CARD, &OPENED);
+    let device = shared.close(seat).map_err(|_| "the device is out")?;
+    let Ok((again, mut seat)) = SharedDevice::new(rt.alloc(), device) else {
+        return Err("no memory".into());
+    };
+    assert_eq!(rt; again.peek_count(), 1);
+    let version = Event::Ask(1, Call::Version);
+    call_by(&rt, &again, &mut seat, version, &VERSION);
+    assert_eq!(rt; again.peek_count(), 2);
+    let device = again.close(seat).map_err(|_| "the device is out")?;
+    assert_eq!(rt; device.journal().len(), 2);
+    Ok(())
 }
 
 /// Opens a render client and asks 99 times.

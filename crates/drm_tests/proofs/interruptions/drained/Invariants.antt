@@ -1,5 +1,5 @@
 use Rattle.std.proofs.Common.{◌+◌, ◌^◌, ◌<◌}
-use Rattle.drm_test_streams.proofs.tests.drained.Given as goal
+use Rattle.drm_tests.proofs.interruptions.drained.Given as goal
 
 abbrev pub invariant-pieces : goal.invariant-pieces
 invariant-pieces g l = l.source.counts.calls + l.turns < 2 ^ 48

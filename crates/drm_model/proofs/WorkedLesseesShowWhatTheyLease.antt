@@ -1,0 +1,104 @@
+-- Made by tools/worked_rows.py: the worked row lessees_show_what_they_lease, as the definitions compute it.
+use Rattle.std.proofs.Common.{◌≡◌, false, List, ◌∷◌, Result, Ok, refl, []}
+use Rattle.drm_table.specs.declared.answers.Answer.{Answer}
+use Rattle.drm_table.specs.declared.answers.Answer.TheVariants.{Done, Opened, Number, Dumb, Plane, Framebuffer, Lease as LeaseIs, Closed, Denied}
+use Rattle.drm_table.specs.declared.apart.Apart.{Apart}
+use Rattle.drm_table.specs.declared.rules.Rule.TheVariants.{NoModeObject as DeniedNoModeObject}
+use Rattle.drm_table.specs.declared.calls.Call.TheVariants.{GetCrtc, SetCrtc, GetEncoder, GetConnector, GetFb, AddFb, CreateDumb, GetPlane, SetPlane, CreateLease, RevokeLease}
+use Rattle.drm_table.specs.declared.events.Event.{Event}
+use Rattle.drm_table.specs.declared.events.Event.TheVariants.{Open, Ask, Close}
+use Rattle.drm_table.specs.declared.events.Opening.TheVariants.{Primary, Lease}
+use Rattle.drm_table.specs.declared.limits.Limits.{Limits}
+use Rattle.drm_index_array.specs.Least.{first_passing, least}
+use Rattle.drm_lists.specs.Chains.{chain_within}
+use Rattle.drm_lists.specs.Orders.{sorted_by}
+use Rattle.drm_modes.specs.Numbers.{numbers_from}
+use Rattle.drm_table.specs.Answers.{answer_kind_row, told, answer_with, answer_kind_of}
+use Rattle.drm_table.specs.Audits.{kind_number, kind_of, kind_name}
+use Rattle.drm_table.specs.Limits.{are_in_range}
+use Rattle.drm_table.specs.Rules.{rule_of_number, apart_of_number}
+use Rattle.drm_table.specs.Table.{kind_row, call_row, call_with, call_kind_of, call_kind_of_word, row_of, call_number, flags_of}
+use Rattle.drm_model.specs.Audit.{audit_rows, audit_page}
+use Rattle.drm_model.specs.Buffers.{dumb_pitch, dumb_size, buffer_size, with_object, with_stamp}
+use Rattle.drm_model.specs.Calls.{meaning}
+use Rattle.drm_model.specs.Change.{changed, swept, after}
+use Rattle.drm_model.specs.Clients.{opening_checks, opened, closed}
+use Rattle.drm_model.specs.Leases.{ended}
+use Rattle.drm_model.specs.Magics.{with_spent, with_authenticated, with_master}
+use Rattle.drm_model.specs.Parts.{count_in}
+use Rattle.drm_model.specs.Reply.{answer_of, reply}
+use Rattle.drm_model.specs.Results.{results}
+use Rattle.drm_model.specs.Run.{no_room, run, rows_of}
+use Rattle.drm_model.specs.Sees.{sees}
+use Rattle.drm_model.specs.Sharing.{with_place, prime_handle}
+use Rattle.drm_model.specs.Verdict.{admission_checks, checks, verdict}
+use Rattle.drm_model.specs.Rows.{empty_rows}
+use Rattle.drm_modes.specs.Topology.{Topology}
+
+abbrev test_topology : Topology
+test_topology = record { crtcs = 2; planes = 1 ∷ 2 ∷ []; encoders = 3 ∷ 2 ∷ []; connectors = 5 ∷ 6 ∷ [] }
+
+abbrev limits : Limits
+limits = record { clients = 64; handles = 65535; names = 65535; tokens = 65535; objects = 65535; framebuffers = 64; lessees = 64; journal = 100000 }
+
+abbrev events : List Event
+events =
+    Open (Primary false) ∷
+    Ask 1 (CreateLease (2 ∷ 4 ∷ 8 ∷ [])) ∷
+    Open (Lease 1 false) ∷
+    Ask 3 (CreateDumb 64 64 32) ∷
+    Ask 3 (AddFb 64 64 256 32 1) ∷
+    Ask 3 (SetCrtc 2 9 8) ∷
+    Ask 3 (SetPlane 4 2 9) ∷
+    Ask 3 (SetCrtc 1 9 7) ∷
+    Ask 3 (SetCrtc 2 9 7) ∷
+    Ask 3 (SetPlane 3 1 0) ∷
+    Ask 3 (SetPlane 4 1 9) ∷
+    Ask 3 (GetPlane 4) ∷
+    Ask 1 (GetPlane 4) ∷
+    Ask 3 (GetEncoder 6) ∷
+    Ask 3 (GetConnector 8) ∷
+    Ask 3 (GetConnector 7) ∷
+    Ask 3 (GetFb 9) ∷
+    Ask 1 (SetCrtc 2 9 8) ∷
+    Ask 1 (RevokeLease 1) ∷
+    Ask 3 (SetCrtc 2 0 0) ∷
+    Ask 3 (GetFb 9) ∷
+    Ask 1 (GetCrtc 2) ∷
+    Close 3 ∷
+    Ask 1 (GetCrtc 2) ∷
+    Ask 1 (GetPlane 4) ∷
+    []
+
+abbrev answers : List (Result Answer Apart)
+answers =
+    Ok (Opened 1) ∷
+    Ok (LeaseIs 1 1) ∷
+    Ok (Opened 3) ∷
+    Ok (Dumb 1 256 16384) ∷
+    Ok (Number 9) ∷
+    Ok Done ∷
+    Ok Done ∷
+    Ok (Denied DeniedNoModeObject) ∷
+    Ok (Denied DeniedNoModeObject) ∷
+    Ok (Denied DeniedNoModeObject) ∷
+    Ok (Denied DeniedNoModeObject) ∷
+    Ok (Plane 9 1) ∷
+    Ok (Plane 9 2) ∷
+    Ok (Number 1) ∷
+    Ok (Number 6) ∷
+    Ok (Denied DeniedNoModeObject) ∷
+    Ok (Framebuffer 64 64 256 32 2) ∷
+    Ok Done ∷
+    Ok Done ∷
+    Ok (Denied DeniedNoModeObject) ∷
+    Ok (Framebuffer 64 64 256 32 3) ∷
+    Ok (Number 9) ∷
+    Ok Closed ∷
+    Ok (Number 0) ∷
+    Ok (Plane 0 2) ∷
+    []
+
+pub lessees_show_what_they_lease : results (empty_rows test_topology limits) events ≡ answers
+unfolding first_passing least chain_within sorted_by numbers_from answer_kind_row told answer_with answer_kind_of kind_number kind_of kind_name are_in_range rule_of_number apart_of_number kind_row call_row call_with call_kind_of call_kind_of_word row_of call_number flags_of audit_rows audit_page dumb_pitch dumb_size buffer_size with_object with_stamp meaning changed swept after opening_checks opened closed ended with_spent with_authenticated with_master count_in answer_of reply results no_room run rows_of sees with_place prime_handle admission_checks checks verdict
+lessees_show_what_they_lease = refl
