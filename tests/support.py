@@ -10,6 +10,7 @@ import socket
 import subprocess
 import sys
 import tempfile
+import threading
 import time
 import traceback
 
@@ -17,6 +18,8 @@ REPOSITORY = pathlib.Path(__file__).resolve().parent.parent
 PROGRAM = REPOSITORY / "crates/drm_server_main/out/drm_server_main"
 CLIENTS = REPOSITORY / "clients"
 SECONDS = 30
+# the flags of a socket that listens, in /proc/net/unix
+LISTENS = "00010000"
 
 sys.dont_write_bytecode = True
 sys.path[:0] = [str(CLIENTS / "python"), str(REPOSITORY / "tools")]
@@ -136,6 +139,32 @@ def retry(action):
             time.sleep(0.01)
 
 
+def wait_until_it_listens(path):
+    """Waits until the server listens on this socket, and uses up none of its connections. (Its file is there a moment before.)"""
+    until = time.monotonic() + SECONDS
+    while not any(len(row) == 8 and row[3] == LISTENS and row[7] == str(path) for row in sockets_of_this_system()):
+        expect(f"whether somebody listens on {path} in time", time.monotonic() < until, True)
+        time.sleep(0.01)
+
+
+def sockets_of_this_system():
+    """The rows of all Unix sockets."""
+    return [line.split(None, 7) for line in pathlib.Path("/proc/net/unix").read_text().splitlines()]
+
+
+@contextlib.contextmanager
+def ended_in_time(started):
+    """Kills a process at the end, and after a time, so that who reads from it doesn't wait for ever."""
+    timer = threading.Timer(4 * SECONDS, started.kill)
+    timer.start()
+    try:
+        yield started
+    finally:
+        timer.cancel()
+        if started.poll() is None:
+            started.kill()
+
+
 def connect(path, lease=None):
     """A client of the socket, once the server has made it: of the node, or by a lease token."""
     return retry(lambda: Client(path, lease, SECONDS))
@@ -205,6 +234,21 @@ def want_program(name):
     """Skips the test where this program isn't on the path."""
     if shutil.which(name) is None:
         raise Skipped(f"there is no {name}")
+
+
+COMPILERS = {
+    "c": ["cc", "-std=c99", "-Wall", "-Wextra", "-Wpedantic", "-Werror", "-pthread", "-I", str(CLIENTS / "c")],
+    "rust": ["rustc", "--edition", "2021", "-D", "warnings"],
+}
+
+
+def compile_client(language, source, folder):
+    """A program of the tests in C or Rust, compiled into this folder."""
+    want_program(COMPILERS[language][0])
+    program = folder / language
+    ran = run(*COMPILERS[language], "-o", program, REPOSITORY / "tests" / source)
+    expect(f"what {COMPILERS[language][0]} says", (ran.returncode, ran.stdout + ran.stderr), (0, ""))
+    return program
 
 
 def passes(test):

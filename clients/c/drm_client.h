@@ -1,18 +1,23 @@
-/* A client of drm_server, in one header: C99, POSIX sockets, no allocation.
+/* A client of drm_server: C99, POSIX sockets and mutexes, no allocation. It wants the two headers beside it.
  *
  * A `struct zirkoshe_client` is one connection to one of the server's sockets. The functions have the names of libdrm's with
  * `zirkoshe_` before; calls that libdrm has no function for are in lower case. Each returns 0 or a negative errno:
  *
- *   a refusal            the errno of the rule, whose number is then in `client->rule` (0 after anything else), and
- *                        `zirkoshe_rule_name` gives its name; numbers from 50 on stand apart from the rules
+ *   a refusal            the errno of the rule, whose number is then in `client->rule` (0 after anything else), as
+ *                        ZIRKOSHE_RULE_LEASED_OUT; `zirkoshe_refused_by` gives its name too; numbers from 50 on stand apart
  *   -ETIMEDOUT           the server didn't answer within `client->timeout` milliseconds
  *   -ECONNRESET, -EPIPE  the server has closed the connection
  *   -EPROTO              the answer is none of the protocol's, or it breaks off
  *   -ENOTCONN            the connection was closed before
  *   -EINVAL              with rule 0: more ids than one frame takes
  *
- * After each of these but a refusal and the last the connection is closed, since what comes late could be taken for the answer to
- * another call. Where a function fails, what its pointers name is unchanged.
+ * After each of these but a refusal and the last (and but where zirkoshe_wait_until_closed waited for as long as it may) the
+ * connection is closed, since what comes late could be taken for the answer to another call. Where a function fails, what its
+ * pointers name is unchanged.
+ *
+ * Threads may share a client: each call has the connection to itself until its answer is there, and its time begins with its
+ * turn. `client->rule` is that of the last call of any of them; a thread that wants that of its own holds the client from the
+ * call on until it has read it, by zirkoshe_lock and zirkoshe_unlock. With glibc before 2.34, compile with -pthread.
  *
  * Include this header before all others, or define _POSIX_C_SOURCE as 200809L. docs/FORMATS.md has the calls and the frames.
  */
@@ -26,6 +31,7 @@
 #include <errno.h>
 #include <fcntl.h>
 #include <poll.h>
+#include <pthread.h>
 #include <stdbool.h>
 #include <stddef.h>
 #include <stdint.h>
@@ -35,18 +41,19 @@
 #include <time.h>
 #include <unistd.h>
 
+#include "drm_frames.h"
+#include "drm_server.h"
+
 #define ZIRKOSHE_TIMEOUT 30000
-#define ZIRKOSHE_MOST_IDS 64
 #define ZIRKOSHE_MOST_RESOURCES 251
-#define ZIRKOSHE_MOST_ROWS 16
-#define ZIRKOSHE_MOST_LENGTH 1024
 #define ZIRKOSHE_MOST_ASKED 254
 
 struct zirkoshe_client {
-    int socket;      /* -1 where the connection is closed */
-    int timeout;     /* how many milliseconds an opening, a call and the closing may each take; it may be set at any time */
-    uint32_t number; /* the number that the server gave this client */
-    uint32_t rule;   /* the number of the rule by which the last call was refused, or 0 */
+    int socket;           /* -1 where the connection is closed */
+    int timeout;          /* how many milliseconds an opening, a call and the closing may each take; it may be set at any time */
+    uint32_t number;      /* the number that the server gave this client */
+    uint32_t rule;        /* the number of the rule by which the last call was refused, or 0 */
+    pthread_mutex_t turn; /* held from a request until its answer is there */
 };
 
 struct zirkoshe_version { uint32_t major_number, minor_number, patch; };
@@ -66,28 +73,6 @@ struct zirkoshe_fb { uint32_t width, height, pitch, bpp, handle; };
 struct zirkoshe_lease { uint32_t lessee_id, token; };
 struct zirkoshe_row { uint64_t a, b, c, d; };
 struct zirkoshe_rows { uint32_t count; struct zirkoshe_row rows[ZIRKOSHE_MOST_ROWS]; };
-struct zirkoshe_rule { uint32_t number; int error; const char *name; };
-
-/* The rule of this number, or what stands apart from them, or NULL. */
-static inline const struct zirkoshe_rule *zirkoshe_find_rule(uint32_t number)
-{
-    static const struct zirkoshe_rule rules[] = {
-        {1, 22, "Unknown"}, {2, 22, "Layout"}, {3, 22, "NoClient"}, {11, 13, "RootOnly"}, {12, 13, "Auth"}, {13, 13, "Master"},
-        {14, 13, "RenderAllow"}, {21, 2, "NoHandle"}, {22, 22, "NoHandleToClose"}, {23, 2, "NoName"}, {24, 2, "NoToken"},
-        {25, 22, "NoMagic"}, {26, 13, "MasterPerm"}, {27, 16, "MasterBusy"}, {28, 22, "NotCurrent"}, {29, 22, "IsLessee"},
-        {30, 2, "NoModeObject"}, {31, 22, "NotLeasable"}, {32, 22, "Repeated"}, {33, 22, "LeaseShape"}, {34, 16, "LeasedOut"},
-        {35, 22, "SubLease"}, {36, 2, "NoLessee"}, {37, 13, "NotYourLessee"}, {38, 2, "NoFb"}, {39, 22, "BadSize"},
-        {40, 22, "BadRoute"}, {41, 22, "BadCap"}, {42, 2, "NoLeaseToken"}, {43, 28, "Full"}, {50, 28, "JournalFull"},
-        {51, 12, "NoMemory"}, {52, 28, "Worn"},
-    };
-    size_t at;
-
-    for (at = 0; at < sizeof rules / sizeof rules[0]; at++) {
-        if (rules[at].number == number)
-            return &rules[at];
-    }
-    return NULL;
-}
 
 /* The name of a rule, or of what stands apart from them; "none" where there is none of this number. */
 static inline const char *zirkoshe_rule_name(uint32_t number)
@@ -97,143 +82,21 @@ static inline const char *zirkoshe_rule_name(uint32_t number)
     return rule == NULL ? "none" : rule->name;
 }
 
-/* The parts below serve the calls. A frame that is written, and one that is read from its front. */
-
-struct zirkoshe_frame {
-    size_t length; /* of number and fields */
-    unsigned char bytes[4 + ZIRKOSHE_MOST_LENGTH];
-};
-
-struct zirkoshe_fields {
-    const unsigned char *next;
-    size_t left;
-    bool is_short; /* more was taken than there was */
-};
-
-static inline void zirkoshe_put_at(unsigned char *bytes, size_t size, uint64_t value)
+/* By what the last call was refused, with number, error and name, or NULL where it wasn't. */
+static inline const struct zirkoshe_rule *zirkoshe_refused_by(const struct zirkoshe_client *client)
 {
-    size_t at;
-
-    for (at = 0; at < size; at++)
-        bytes[at] = (unsigned char)(value >> (8 * at));
+    return zirkoshe_find_rule(client->rule);
 }
 
-static inline void zirkoshe_put(struct zirkoshe_frame *frame, size_t size, uint64_t value)
+/* Waits until no other thread asks, and lets none ask until zirkoshe_unlock; calls of the same thread go on. */
+static inline void zirkoshe_lock(struct zirkoshe_client *client)
 {
-    zirkoshe_put_at(frame->bytes + 4 + frame->length, size, value);
-    frame->length += size;
+    pthread_mutex_lock(&client->turn);
 }
 
-static inline uint64_t zirkoshe_take(struct zirkoshe_fields *fields, size_t size)
+static inline void zirkoshe_unlock(struct zirkoshe_client *client)
 {
-    uint64_t value = 0;
-    size_t at;
-
-    if (fields->left < size) {
-        fields->is_short = true;
-        fields->left = 0;
-        return 0;
-    }
-    for (at = 0; at < size; at++)
-        value |= (uint64_t)fields->next[at] << (8 * at);
-    fields->next += size;
-    fields->left -= size;
-    return value;
-}
-
-static inline uint32_t zirkoshe_take_u32(struct zirkoshe_fields *fields)
-{
-    return (uint32_t)zirkoshe_take(fields, 4);
-}
-
-/* A list of at most so many ids, and how many they are. */
-static inline uint32_t zirkoshe_take_ids(struct zirkoshe_fields *fields, uint32_t *ids, uint32_t most)
-{
-    uint32_t count = zirkoshe_take_u32(fields);
-    uint32_t at;
-
-    if (count > most || fields->left / 4 < count) {
-        fields->is_short = true;
-        return 0;
-    }
-    for (at = 0; at < count; at++)
-        ids[at] = zirkoshe_take_u32(fields);
-    return count;
-}
-
-/* Whether the fields are those that were taken, and no more. */
-static inline bool zirkoshe_is_whole(const struct zirkoshe_fields *fields)
-{
-    return !fields->is_short && fields->left == 0;
-}
-
-static inline int64_t zirkoshe_now(void)
-{
-    struct timespec now;
-
-    clock_gettime(CLOCK_MONOTONIC, &now);
-    return (int64_t)now.tv_sec * 1000 + now.tv_nsec / 1000000;
-}
-
-/* Waits until the socket is ready for these events, until a time. */
-static inline int zirkoshe_wait(int fd, short events, int64_t until)
-{
-    struct pollfd waited = {fd, events, 0};
-    int64_t left = until - zirkoshe_now();
-    int ready;
-
-    if (left <= 0)
-        return -ETIMEDOUT;
-    ready = poll(&waited, 1, left < 1000 ? (int)left : 1000);
-    return ready < 0 && errno != EINTR ? -errno : 0;
-}
-
-/* Whether the operation is to be tried again once the socket is ready. */
-static inline bool zirkoshe_is_not_ready(int error)
-{
-    return error == EAGAIN || error == EWOULDBLOCK || error == EINTR;
-}
-
-static inline int zirkoshe_send_all(int fd, const unsigned char *bytes, size_t size, int64_t until)
-{
-    while (size > 0) {
-        ssize_t sent;
-        int failed = zirkoshe_wait(fd, POLLOUT, until);
-
-        if (failed)
-            return failed;
-        sent = send(fd, bytes, size, MSG_NOSIGNAL);
-        if (sent < 0 && !zirkoshe_is_not_ready(errno))
-            return -errno;
-        if (sent > 0) {
-            bytes += sent;
-            size -= (size_t)sent;
-        }
-    }
-    return 0;
-}
-
-/* So many bytes; `at_end` is what the connection's end gives before the first of them. */
-static inline int zirkoshe_take_all(int fd, unsigned char *bytes, size_t size, int64_t until, int at_end)
-{
-    while (size > 0) {
-        ssize_t taken;
-        int failed = zirkoshe_wait(fd, POLLIN, until);
-
-        if (failed)
-            return failed;
-        taken = recv(fd, bytes, size, 0);
-        if (taken == 0)
-            return at_end;
-        if (taken < 0 && !zirkoshe_is_not_ready(errno))
-            return -errno;
-        if (taken > 0) {
-            bytes += taken;
-            size -= (size_t)taken;
-            at_end = -EPROTO;
-        }
-    }
-    return 0;
+    pthread_mutex_unlock(&client->turn);
 }
 
 /* Closes the connection at once, and gives the error. */
@@ -259,7 +122,7 @@ static inline int zirkoshe_exchange(struct zirkoshe_client *client, struct zirko
     if (failed)
         return failed;
     frame->length = zirkoshe_take_u32(&length);
-    if (frame->length < 2 || frame->length > ZIRKOSHE_MOST_LENGTH)
+    if (frame->length < ZIRKOSHE_LEAST_LENGTH || frame->length > ZIRKOSHE_MOST_LENGTH)
         return -EPROTO;
     return zirkoshe_take_all(client->socket, frame->bytes + 4, frame->length, until, -EPROTO);
 }
@@ -271,15 +134,16 @@ static inline int zirkoshe_refusal(struct zirkoshe_client *client, bool is_apart
     uint32_t error = zirkoshe_take_u32(fields);
     const struct zirkoshe_rule *rule = zirkoshe_find_rule(number);
 
-    if (!zirkoshe_is_whole(fields) || rule == NULL || (uint32_t)rule->error != error || is_apart != (number >= 50))
+    if (!zirkoshe_is_whole(fields) || rule == NULL || (uint32_t)rule->error != error
+        || is_apart != (number >= ZIRKOSHE_APART_JOURNAL_FULL))
         return zirkoshe_abandon(client, -EPROTO);
     client->rule = number;
     return -rule->error;
 }
 
-/* Asks, and gives the fields of the answer, which has this number. */
-static inline int zirkoshe_ask(struct zirkoshe_client *client, struct zirkoshe_frame *frame, uint16_t wanted,
-                               struct zirkoshe_fields *fields)
+/* Asks, and gives the fields of the answer, which has this number. The client is held. */
+static inline int zirkoshe_ask_held(struct zirkoshe_client *client, struct zirkoshe_frame *frame, uint16_t wanted,
+                                    struct zirkoshe_fields *fields)
 {
     uint32_t number;
     int failed;
@@ -292,26 +156,33 @@ static inline int zirkoshe_ask(struct zirkoshe_client *client, struct zirkoshe_f
         return zirkoshe_abandon(client, failed);
     fields->next = frame->bytes + 4;
     fields->left = frame->length;
-    fields->is_short = false;
+    fields->is_wrong = false;
     number = (uint32_t)zirkoshe_take(fields, 2);
-    if (number == 0x2000 || number == 0x2001)
-        return zirkoshe_refusal(client, number == 0x2001, fields);
+    if (number == ZIRKOSHE_ANSWER_DENIED || number == ZIRKOSHE_ANSWER_APART)
+        return zirkoshe_refusal(client, number == ZIRKOSHE_ANSWER_APART, fields);
     return number == wanted ? 0 : zirkoshe_abandon(client, -EPROTO);
 }
 
-/* Gives 0 where the fields of an answer were those that were taken. */
-static inline int zirkoshe_end(struct zirkoshe_client *client, const struct zirkoshe_fields *fields)
+/* Likewise, once it is this thread's turn. Where it gives 0, the turn goes on until zirkoshe_end. */
+static inline int zirkoshe_ask(struct zirkoshe_client *client, struct zirkoshe_frame *frame, uint16_t wanted,
+                               struct zirkoshe_fields *fields)
 {
-    return zirkoshe_is_whole(fields) ? 0 : zirkoshe_abandon(client, -EPROTO);
+    int failed;
+
+    zirkoshe_lock(client);
+    failed = zirkoshe_ask_held(client, frame, wanted, fields);
+    if (failed)
+        zirkoshe_unlock(client);
+    return failed;
 }
 
-/* The frame of a call with these fields: I is a u32, Q a u64. */
-static inline void zirkoshe_write(struct zirkoshe_frame *frame, uint16_t number, const char *layout, const uint64_t *values)
+/* Ends the turn, and gives 0 where the fields of an answer were those that were taken. */
+static inline int zirkoshe_end(struct zirkoshe_client *client, const struct zirkoshe_fields *fields)
 {
-    frame->length = 0;
-    zirkoshe_put(frame, 2, number);
-    for (; *layout != '\0'; layout++)
-        zirkoshe_put(frame, *layout == 'Q' ? 8 : 4, *values++);
+    int failed = zirkoshe_is_whole(fields) ? 0 : zirkoshe_abandon(client, -EPROTO);
+
+    zirkoshe_unlock(client);
+    return failed;
 }
 
 /* A call whose answer, which has the number `wanted`, is such fields too, five at most. */
@@ -329,41 +200,50 @@ static inline int zirkoshe_call(struct zirkoshe_client *client, uint16_t number,
     if (failed)
         return failed;
     for (count = 0; wanted_layout[count] != '\0'; count++)
-        found[count] = zirkoshe_take(&fields, wanted_layout[count] == 'Q' ? 8 : 4);
+        found[count] = zirkoshe_take_field(&fields, wanted_layout[count]);
     failed = zirkoshe_end(client, &fields);
     if (!failed && count > 0)
         memcpy(taken, found, count * sizeof found[0]);
     return failed;
 }
 
-static inline int zirkoshe_done_of(struct zirkoshe_client *client, uint16_t number, const char *layout, uint64_t asked)
+/* A call that is no frame isn't asked. */
+static inline int zirkoshe_refuse_to_ask(struct zirkoshe_client *client)
 {
-    return zirkoshe_call(client, number, layout, &asked, 0x1000, "", NULL);
+    zirkoshe_lock(client);
+    client->rule = 0;
+    zirkoshe_unlock(client);
+    return -EINVAL;
 }
 
-/* A number that is a u32 in each answer of its call. */
-static inline int zirkoshe_narrow(struct zirkoshe_client *client, uint64_t taken, uint32_t *value)
+static inline int zirkoshe_done_of(struct zirkoshe_client *client, uint16_t number, const char *layout, uint64_t asked)
 {
-    if (taken > UINT32_MAX)
-        return zirkoshe_abandon(client, -EPROTO);
-    *value = (uint32_t)taken;
-    return 0;
+    return zirkoshe_call(client, number, layout, &asked, ZIRKOSHE_ANSWER_DONE, "", NULL);
+}
+
+/* A call of up to five fields whose answer is a number that is a u32. */
+static inline int zirkoshe_u32_by(struct zirkoshe_client *client, uint16_t number, const char *layout, const uint64_t *values,
+                                  uint32_t *value)
+{
+    uint64_t taken = 0;
+    int failed = zirkoshe_call(client, number, layout, values, ZIRKOSHE_ANSWER_NUMBER, "N", &taken);
+
+    if (!failed)
+        *value = (uint32_t)taken;
+    return failed;
 }
 
 static inline int zirkoshe_u32_of(struct zirkoshe_client *client, uint16_t number, const char *layout, uint64_t asked,
                                   uint32_t *value)
 {
-    uint64_t taken = 0;
-    int failed = zirkoshe_call(client, number, layout, &asked, 0x1003, "Q", &taken);
-
-    return failed ? failed : zirkoshe_narrow(client, taken, value);
+    return zirkoshe_u32_by(client, number, layout, &asked, value);
 }
 
 static inline int zirkoshe_buffer_of(struct zirkoshe_client *client, uint16_t number, const char *layout, uint64_t asked,
                                      struct zirkoshe_buffer *buffer)
 {
     uint64_t taken[2] = {0, 0};
-    int failed = zirkoshe_call(client, number, layout, &asked, 0x1005, "IQ", taken);
+    int failed = zirkoshe_call(client, number, layout, &asked, ZIRKOSHE_ANSWER_BUFFER, "IQ", taken);
 
     if (!failed) {
         buffer->handle = (uint32_t)taken[0];
@@ -381,7 +261,7 @@ static inline int zirkoshe_ids_of(struct zirkoshe_client *client, uint16_t numbe
     int failed;
 
     zirkoshe_write(&frame, number, layout, &asked);
-    failed = zirkoshe_ask(client, &frame, 0x1007, &fields);
+    failed = zirkoshe_ask(client, &frame, ZIRKOSHE_ANSWER_LIST, &fields);
     if (failed)
         return failed;
     memset(&taken, 0, sizeof taken);
@@ -429,6 +309,21 @@ static inline int zirkoshe_connect(const char *path, int64_t until)
     return failed;
 }
 
+/* A mutex that its own thread may lock again. */
+static inline int zirkoshe_prepare_turn(pthread_mutex_t *turn)
+{
+    pthread_mutexattr_t kind;
+    int failed = pthread_mutexattr_init(&kind);
+
+    if (failed)
+        return -failed;
+    failed = pthread_mutexattr_settype(&kind, PTHREAD_MUTEX_RECURSIVE);
+    if (!failed)
+        failed = pthread_mutex_init(turn, &kind);
+    pthread_mutexattr_destroy(&kind);
+    return -failed;
+}
+
 /* Connects, and sends a hello: what is 0 for the node, 1 for a lease token. */
 static inline int zirkoshe_open_by(struct zirkoshe_client *client, const char *path, uint32_t what, uint32_t token, int timeout)
 {
@@ -436,16 +331,17 @@ static inline int zirkoshe_open_by(struct zirkoshe_client *client, const char *p
     uint64_t number;
     int failed;
 
+    client->socket = -1;
     client->number = 0;
     client->rule = 0;
     client->timeout = timeout;
-    client->socket = zirkoshe_connect(path, zirkoshe_now() + timeout);
-    if (client->socket < 0) {
-        failed = client->socket;
-        client->socket = -1;
+    failed = zirkoshe_prepare_turn(&client->turn);
+    if (failed)
         return failed;
-    }
-    failed = zirkoshe_call(client, 0x0100, "III", values, 0x1001, "I", &number);
+    client->socket = zirkoshe_connect(path, zirkoshe_now() + timeout);
+    if (client->socket < 0)
+        return zirkoshe_abandon(client, client->socket);
+    failed = zirkoshe_call(client, ZIRKOSHE_HELLO, "III", values, ZIRKOSHE_ANSWER_OPENED, "I", &number);
     if (failed)
         return zirkoshe_abandon(client, failed);
     client->number = (uint32_t)number;
@@ -466,18 +362,27 @@ static inline int zirkoshe_open_lease(struct zirkoshe_client *client, const char
     return zirkoshe_open_by(client, path, 1, token, timeout);
 }
 
-/* Ends the connection. After it the server has closed the client, and all that was the client's has gone. */
-static inline int zirkoshe_close(struct zirkoshe_client *client)
+/* Ends the connection, which is open and held. */
+static inline int zirkoshe_close_held(struct zirkoshe_client *client)
 {
     unsigned char more;
     int failed;
 
-    client->rule = 0;
-    if (client->socket < 0)
-        return 0;
     shutdown(client->socket, SHUT_WR);
     failed = zirkoshe_take_all(client->socket, &more, 1, zirkoshe_now() + client->timeout, -ECONNRESET);
     return zirkoshe_abandon(client, failed == 0 ? -EPROTO : failed == -ECONNRESET ? 0 : failed);
+}
+
+/* Ends the connection. After it the server has closed the client, and all that was the client's has gone. */
+static inline int zirkoshe_close(struct zirkoshe_client *client)
+{
+    int failed;
+
+    zirkoshe_lock(client);
+    client->rule = 0;
+    failed = client->socket < 0 ? 0 : zirkoshe_close_held(client);
+    zirkoshe_unlock(client);
+    return failed;
 }
 
 /* The calls of drm(7) and of kernel mode setting */
@@ -485,7 +390,7 @@ static inline int zirkoshe_close(struct zirkoshe_client *client)
 static inline int zirkoshe_drmGetVersion(struct zirkoshe_client *client, struct zirkoshe_version *version)
 {
     uint64_t taken[3];
-    int failed = zirkoshe_call(client, 0x00, "", NULL, 0x1002, "III", taken);
+    int failed = zirkoshe_call(client, ZIRKOSHE_CALL_VERSION, "", NULL, ZIRKOSHE_ANSWER_VERSION, "III", taken);
 
     if (!failed) {
         version->major_number = (uint32_t)taken[0];
@@ -497,50 +402,50 @@ static inline int zirkoshe_drmGetVersion(struct zirkoshe_client *client, struct 
 
 static inline int zirkoshe_drmGetMagic(struct zirkoshe_client *client, uint32_t *magic)
 {
-    return zirkoshe_u32_of(client, 0x02, "", 0, magic);
+    return zirkoshe_u32_of(client, ZIRKOSHE_CALL_GET_MAGIC, "", 0, magic);
 }
 
 static inline int zirkoshe_drmAuthMagic(struct zirkoshe_client *client, uint32_t magic)
 {
-    return zirkoshe_done_of(client, 0x11, "I", magic);
+    return zirkoshe_done_of(client, ZIRKOSHE_CALL_AUTH_MAGIC, "I", magic);
 }
 
 static inline int zirkoshe_drmSetMaster(struct zirkoshe_client *client)
 {
-    return zirkoshe_done_of(client, 0x1E, "", 0);
+    return zirkoshe_done_of(client, ZIRKOSHE_CALL_SET_MASTER, "", 0);
 }
 
 static inline int zirkoshe_drmDropMaster(struct zirkoshe_client *client)
 {
-    return zirkoshe_done_of(client, 0x1F, "", 0);
+    return zirkoshe_done_of(client, ZIRKOSHE_CALL_DROP_MASTER, "", 0);
 }
 
 static inline int zirkoshe_drmGetCap(struct zirkoshe_client *client, uint64_t cap, uint64_t *value)
 {
-    return zirkoshe_call(client, 0x0C, "Q", &cap, 0x1003, "Q", value);
+    return zirkoshe_call(client, ZIRKOSHE_CALL_GET_CAP, "Q", &cap, ZIRKOSHE_ANSWER_NUMBER, "Q", value);
 }
 
 static inline int zirkoshe_drmSetClientCap(struct zirkoshe_client *client, uint64_t cap, uint64_t value)
 {
     const uint64_t values[] = {cap, value};
 
-    return zirkoshe_call(client, 0x0D, "QQ", values, 0x1000, "", NULL);
+    return zirkoshe_call(client, ZIRKOSHE_CALL_SET_CLIENT_CAP, "QQ", values, ZIRKOSHE_ANSWER_DONE, "", NULL);
 }
 
 static inline int zirkoshe_drmCloseBufferHandle(struct zirkoshe_client *client, uint32_t handle)
 {
-    return zirkoshe_done_of(client, 0x09, "I", handle);
+    return zirkoshe_done_of(client, ZIRKOSHE_CALL_GEM_CLOSE, "I", handle);
 }
 
 /* A token stands for the file descriptor. */
 static inline int zirkoshe_drmPrimeHandleToFD(struct zirkoshe_client *client, uint32_t handle, uint32_t *token)
 {
-    return zirkoshe_u32_of(client, 0x2D, "I", handle, token);
+    return zirkoshe_u32_of(client, ZIRKOSHE_CALL_PRIME_HANDLE_TO_FD, "I", handle, token);
 }
 
 static inline int zirkoshe_drmPrimeFDToHandle(struct zirkoshe_client *client, uint32_t token, struct zirkoshe_buffer *buffer)
 {
-    return zirkoshe_buffer_of(client, 0x2E, "I", token, buffer);
+    return zirkoshe_buffer_of(client, ZIRKOSHE_CALL_PRIME_FD_TO_HANDLE, "I", token, buffer);
 }
 
 static inline int zirkoshe_drmModeGetResources(struct zirkoshe_client *client, struct zirkoshe_resources *resources)
@@ -553,8 +458,8 @@ static inline int zirkoshe_drmModeGetResources(struct zirkoshe_client *client, s
     size_t at;
     int failed;
 
-    zirkoshe_write(&frame, 0xA0, "", NULL);
-    failed = zirkoshe_ask(client, &frame, 0x1006, &fields);
+    zirkoshe_write(&frame, ZIRKOSHE_CALL_MODE_GETRESOURCES, "", NULL);
+    failed = zirkoshe_ask(client, &frame, ZIRKOSHE_ANSWER_RESOURCES, &fields);
     if (failed)
         return failed;
     for (at = 0; at < 4; at++) {
@@ -579,38 +484,38 @@ static inline int zirkoshe_drmModeGetResources(struct zirkoshe_client *client, s
 
 static inline int zirkoshe_drmModeGetPlaneResources(struct zirkoshe_client *client, struct zirkoshe_ids *planes)
 {
-    return zirkoshe_ids_of(client, 0xB5, "", 0, planes);
+    return zirkoshe_ids_of(client, ZIRKOSHE_CALL_MODE_GETPLANERESOURCES, "", 0, planes);
 }
 
 /* The framebuffer that the CRTC shows, or 0. */
 static inline int zirkoshe_drmModeGetCrtc(struct zirkoshe_client *client, uint32_t crtc_id, uint32_t *fb_id)
 {
-    return zirkoshe_u32_of(client, 0xA1, "I", crtc_id, fb_id);
+    return zirkoshe_u32_of(client, ZIRKOSHE_CALL_MODE_GETCRTC, "I", crtc_id, fb_id);
 }
 
 static inline int zirkoshe_drmModeSetCrtc(struct zirkoshe_client *client, uint32_t crtc_id, uint32_t fb_id, uint32_t connector_id)
 {
     const uint64_t values[] = {crtc_id, fb_id, connector_id};
 
-    return zirkoshe_call(client, 0xA2, "III", values, 0x1000, "", NULL);
+    return zirkoshe_call(client, ZIRKOSHE_CALL_MODE_SETCRTC, "III", values, ZIRKOSHE_ANSWER_DONE, "", NULL);
 }
 
 /* The mask of the CRTCs that can drive it, over those that the client sees. */
 static inline int zirkoshe_drmModeGetEncoder(struct zirkoshe_client *client, uint32_t encoder_id, uint32_t *possible_crtcs)
 {
-    return zirkoshe_u32_of(client, 0xA6, "I", encoder_id, possible_crtcs);
+    return zirkoshe_u32_of(client, ZIRKOSHE_CALL_MODE_GETENCODER, "I", encoder_id, possible_crtcs);
 }
 
 static inline int zirkoshe_drmModeGetConnector(struct zirkoshe_client *client, uint32_t connector_id, uint32_t *encoder_id)
 {
-    return zirkoshe_u32_of(client, 0xA7, "I", connector_id, encoder_id);
+    return zirkoshe_u32_of(client, ZIRKOSHE_CALL_MODE_GETCONNECTOR, "I", connector_id, encoder_id);
 }
 
 static inline int zirkoshe_drmModeGetPlane(struct zirkoshe_client *client, uint32_t plane_id, struct zirkoshe_plane *plane)
 {
     const uint64_t values[] = {plane_id};
     uint64_t taken[2];
-    int failed = zirkoshe_call(client, 0xB6, "I", values, 0x1008, "II", taken);
+    int failed = zirkoshe_call(client, ZIRKOSHE_CALL_MODE_GETPLANE, "I", values, ZIRKOSHE_ANSWER_PLANE, "II", taken);
 
     if (!failed) {
         plane->fb_id = (uint32_t)taken[0];
@@ -623,14 +528,14 @@ static inline int zirkoshe_drmModeSetPlane(struct zirkoshe_client *client, uint3
 {
     const uint64_t values[] = {plane_id, crtc_id, fb_id};
 
-    return zirkoshe_call(client, 0xB7, "III", values, 0x1000, "", NULL);
+    return zirkoshe_call(client, ZIRKOSHE_CALL_MODE_SETPLANE, "III", values, ZIRKOSHE_ANSWER_DONE, "", NULL);
 }
 
 static inline int zirkoshe_drmModeGetFB(struct zirkoshe_client *client, uint32_t fb_id, struct zirkoshe_fb *fb)
 {
     const uint64_t values[] = {fb_id};
     uint64_t taken[5];
-    int failed = zirkoshe_call(client, 0xAD, "I", values, 0x1009, "IIIII", taken);
+    int failed = zirkoshe_call(client, ZIRKOSHE_CALL_MODE_GETFB, "I", values, ZIRKOSHE_ANSWER_FRAMEBUFFER, "IIIII", taken);
 
     if (!failed) {
         fb->width = (uint32_t)taken[0];
@@ -646,15 +551,13 @@ static inline int zirkoshe_drmModeAddFB(struct zirkoshe_client *client, uint32_t
                                         uint32_t bpp, uint32_t handle, uint32_t *fb_id)
 {
     const uint64_t values[] = {width, height, pitch, bpp, handle};
-    uint64_t taken = 0;
-    int failed = zirkoshe_call(client, 0xAE, "IIIII", values, 0x1003, "Q", &taken);
 
-    return failed ? failed : zirkoshe_narrow(client, taken, fb_id);
+    return zirkoshe_u32_by(client, ZIRKOSHE_CALL_MODE_ADDFB, "IIIII", values, fb_id);
 }
 
 static inline int zirkoshe_drmModeRmFB(struct zirkoshe_client *client, uint32_t fb_id)
 {
-    return zirkoshe_done_of(client, 0xAF, "I", fb_id);
+    return zirkoshe_done_of(client, ZIRKOSHE_CALL_MODE_RMFB, "I", fb_id);
 }
 
 static inline int zirkoshe_drmModeCreateDumbBuffer(struct zirkoshe_client *client, uint32_t width, uint32_t height, uint32_t bpp,
@@ -662,7 +565,7 @@ static inline int zirkoshe_drmModeCreateDumbBuffer(struct zirkoshe_client *clien
 {
     const uint64_t values[] = {width, height, bpp};
     uint64_t taken[3];
-    int failed = zirkoshe_call(client, 0xB2, "III", values, 0x1004, "IIQ", taken);
+    int failed = zirkoshe_call(client, ZIRKOSHE_CALL_MODE_CREATE_DUMB, "III", values, ZIRKOSHE_ANSWER_DUMB, "IIQ", taken);
 
     if (!failed) {
         dumb->handle = (uint32_t)taken[0];
@@ -674,7 +577,7 @@ static inline int zirkoshe_drmModeCreateDumbBuffer(struct zirkoshe_client *clien
 
 static inline int zirkoshe_drmModeDestroyDumbBuffer(struct zirkoshe_client *client, uint32_t handle)
 {
-    return zirkoshe_done_of(client, 0xB4, "I", handle);
+    return zirkoshe_done_of(client, ZIRKOSHE_CALL_MODE_DESTROY_DUMB, "I", handle);
 }
 
 /* A lease of these CRTCs, planes and connectors. More than 254 ids are no frame, and more than 32 are denied by rule 2. */
@@ -688,13 +591,12 @@ static inline int zirkoshe_drmModeCreateLease(struct zirkoshe_client *client, co
     uint32_t at;
     int failed;
 
-    client->rule = 0;
     if (count > ZIRKOSHE_MOST_ASKED)
-        return -EINVAL;
-    zirkoshe_write(&frame, 0xC6, "I", &value);
+        return zirkoshe_refuse_to_ask(client);
+    zirkoshe_write(&frame, ZIRKOSHE_CALL_MODE_CREATE_LEASE, "I", &value);
     for (at = 0; at < count; at++)
         zirkoshe_put(&frame, 4, ids[at]);
-    failed = zirkoshe_ask(client, &frame, 0x100A, &fields);
+    failed = zirkoshe_ask(client, &frame, ZIRKOSHE_ANSWER_LEASE, &fields);
     if (failed)
         return failed;
     taken.lessee_id = zirkoshe_take_u32(&fields);
@@ -707,59 +609,59 @@ static inline int zirkoshe_drmModeCreateLease(struct zirkoshe_client *client, co
 
 static inline int zirkoshe_drmModeListLessees(struct zirkoshe_client *client, struct zirkoshe_ids *lessee_ids)
 {
-    return zirkoshe_ids_of(client, 0xC7, "", 0, lessee_ids);
+    return zirkoshe_ids_of(client, ZIRKOSHE_CALL_MODE_LIST_LESSEES, "", 0, lessee_ids);
 }
 
 static inline int zirkoshe_drmModeGetLease(struct zirkoshe_client *client, struct zirkoshe_ids *ids)
 {
-    return zirkoshe_ids_of(client, 0xC8, "", 0, ids);
+    return zirkoshe_ids_of(client, ZIRKOSHE_CALL_MODE_GET_LEASE, "", 0, ids);
 }
 
 static inline int zirkoshe_drmModeRevokeLease(struct zirkoshe_client *client, uint32_t lessee_id)
 {
-    return zirkoshe_done_of(client, 0xC9, "I", lessee_id);
+    return zirkoshe_done_of(client, ZIRKOSHE_CALL_MODE_REVOKE_LEASE, "I", lessee_id);
 }
 
 /* The calls for which libdrm has no function */
 
 static inline int zirkoshe_gem_flink(struct zirkoshe_client *client, uint32_t handle, uint32_t *name)
 {
-    return zirkoshe_u32_of(client, 0x0A, "I", handle, name);
+    return zirkoshe_u32_of(client, ZIRKOSHE_CALL_GEM_FLINK, "I", handle, name);
 }
 
 static inline int zirkoshe_gem_open(struct zirkoshe_client *client, uint32_t name, struct zirkoshe_buffer *buffer)
 {
-    return zirkoshe_buffer_of(client, 0x0B, "I", name, buffer);
+    return zirkoshe_buffer_of(client, ZIRKOSHE_CALL_GEM_OPEN, "I", name, buffer);
 }
 
 static inline int zirkoshe_buf_create(struct zirkoshe_client *client, uint64_t size, struct zirkoshe_buffer *buffer)
 {
-    return zirkoshe_buffer_of(client, 0x40, "Q", size, buffer);
+    return zirkoshe_buffer_of(client, ZIRKOSHE_CALL_BUF_CREATE, "Q", size, buffer);
 }
 
 static inline int zirkoshe_stamp_write(struct zirkoshe_client *client, uint32_t handle, uint64_t stamp)
 {
     const uint64_t values[] = {handle, stamp};
 
-    return zirkoshe_call(client, 0x41, "IQ", values, 0x1000, "", NULL);
+    return zirkoshe_call(client, ZIRKOSHE_CALL_STAMP_WRITE, "IQ", values, ZIRKOSHE_ANSWER_DONE, "", NULL);
 }
 
 static inline int zirkoshe_stamp_read(struct zirkoshe_client *client, uint32_t handle, uint64_t *stamp)
 {
     const uint64_t asked = handle;
 
-    return zirkoshe_call(client, 0x42, "I", &asked, 0x1003, "Q", stamp);
+    return zirkoshe_call(client, ZIRKOSHE_CALL_STAMP_READ, "I", &asked, ZIRKOSHE_ANSWER_NUMBER, "Q", stamp);
 }
 
 static inline int zirkoshe_token_close(struct zirkoshe_client *client, uint32_t token)
 {
-    return zirkoshe_done_of(client, 0x43, "I", token);
+    return zirkoshe_done_of(client, ZIRKOSHE_CALL_TOKEN_CLOSE, "I", token);
 }
 
 /* The first 64 handles that are not below `least`. */
 static inline int zirkoshe_list_handles(struct zirkoshe_client *client, uint32_t least, struct zirkoshe_ids *handles)
 {
-    return zirkoshe_ids_of(client, 0x44, "I", least, handles);
+    return zirkoshe_ids_of(client, ZIRKOSHE_CALL_LIST_HANDLES, "I", least, handles);
 }
 
 /* Up to 16 rows of this kind, 1 to 10, behind the first `skipped` of them; root clients alone may ask. */
@@ -772,15 +674,15 @@ static inline int zirkoshe_audit(struct zirkoshe_client *client, uint32_t kind, 
     uint32_t at;
     int failed;
 
-    zirkoshe_write(&frame, 0x45, "II", values);
-    failed = zirkoshe_ask(client, &frame, 0x100B, &fields);
+    zirkoshe_write(&frame, ZIRKOSHE_CALL_AUDIT, "II", values);
+    failed = zirkoshe_ask(client, &frame, ZIRKOSHE_ANSWER_AUDIT, &fields);
     if (failed)
         return failed;
     memset(&taken, 0, sizeof taken);
     taken.count = zirkoshe_take_u32(&fields);
     if (taken.count > ZIRKOSHE_MOST_ROWS)
-        return zirkoshe_abandon(client, -EPROTO);
-    for (at = 0; at < taken.count; at++) {
+        fields.is_wrong = true;
+    for (at = 0; at < taken.count && !fields.is_wrong; at++) {
         taken.rows[at].a = zirkoshe_take(&fields, 8);
         taken.rows[at].b = zirkoshe_take(&fields, 8);
         taken.rows[at].c = zirkoshe_take(&fields, 8);
@@ -790,6 +692,53 @@ static inline int zirkoshe_audit(struct zirkoshe_client *client, uint32_t kind, 
     if (!failed)
         *rows = taken;
     return failed;
+}
+
+/* Waiting for the end of others */
+
+/* Whether the client of this number is open, as a root client is told by audits, each of which is a step. */
+static inline int zirkoshe_is_open(struct zirkoshe_client *root, uint32_t number, bool *is_open)
+{
+    uint32_t skipped = 0;
+
+    for (;;) {
+        struct zirkoshe_rows page;
+        bool begins_before;
+        uint32_t at;
+        int failed = zirkoshe_audit(root, ZIRKOSHE_AUDIT_CLIENT, skipped, &page);
+
+        if (failed)
+            return failed;
+        for (at = 0; at < page.count && page.rows[at].a != number; at++)
+            ;
+        *is_open = at < page.count;
+        /* numbers rise, and clients that close meanwhile move those behind them forward */
+        begins_before = skipped == 0 || (page.count > 0 && page.rows[0].a < number);
+        if (*is_open || (begins_before && (page.count < ZIRKOSHE_MOST_ROWS || page.rows[page.count - 1].a > number)))
+            return 0;
+        skipped = begins_before ? skipped + ZIRKOSHE_MOST_ROWS - 1 : 0;
+    }
+}
+
+/* Waits until the server has closed the client of this number, as a root client is told by audits: the end of a client that was
+ * killed is taken in after a moment, and an opening before that finds what it had. Where it is open still when the time is over
+ * this gives -ETIMEDOUT, and the root client's connection goes on. */
+static inline int zirkoshe_wait_until_closed(struct zirkoshe_client *root, uint32_t number)
+{
+    int64_t until = zirkoshe_now() + root->timeout;
+    bool is_open = true;
+    int pause = 1;
+
+    for (;;) {
+        int failed = zirkoshe_is_open(root, number, &is_open);
+
+        if (failed || !is_open)
+            return failed;
+        if (zirkoshe_now() >= until)
+            return -ETIMEDOUT;
+        poll(NULL, 0, pause);
+        pause = pause < 32 ? 2 * pause : 50;
+    }
 }
 
 #endif

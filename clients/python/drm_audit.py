@@ -14,9 +14,8 @@ import sys
 from typing import Any, Dict, List, NamedTuple, Tuple, Type
 from xml.sax.saxutils import escape
 
-from drm_client import DEFAULT_TIMEOUT, Client, ClientError, ProtocolError, Refusal
+from drm_client import DEFAULT_TIMEOUT, MOST_ROWS, Client, ClientError, ClientFlag, ProtocolError, Refusal
 
-PAGE = 16
 # each page is a step, and a journal has no more
 MOST_PAGES = 100_000
 
@@ -88,8 +87,7 @@ KINDS: Tuple[Tuple[str, Type[Any]], ...] = (
     ("clients", ClientRow), ("masters", MasterRow), ("objects", ObjectRow), ("names", NameRow), ("tokens", TokenRow),
     ("holds", HoldRow), ("grants", GrantRow), ("framebuffers", FramebufferRow), ("shown", ShownRow), ("device", DeviceRow))
 
-FLAGS = ((1, "render"), (2, "root"), (4, "authenticated"), (8, "once a master"), (16, "master"), (32, "magic spent"))
-MASTER = 16
+FLAGS = tuple((flag, flag.name.lower().replace("once_", "once a ").replace("_", " ")) for flag in ClientFlag)
 
 
 class Audit(NamedTuple):
@@ -125,8 +123,8 @@ class Audit(NamedTuple):
 
     def may_set(self, client: ClientRow) -> List[int]:
         """The CRTCs and planes that a client may set now: it is current, and sees them."""
-        current = client.flags & MASTER and any(row.master == self.owner_of(client.master) != 0 for row in self.device)
-        if not current:
+        owner = self.owner_of(client.master)
+        if not client.flags & ClientFlag.MASTER or not any(row.master == owner != 0 for row in self.device):
             return []
         if not self.lessor_of(client.master):
             return self.outputs()
@@ -148,20 +146,25 @@ def read_kind(client: Client, number: int, row_type: Type[Any]) -> List[Any]:
     for _ in range(MOST_PAGES):
         page = client.audit(number, len(rows)).rows
         rows += [row_type(*row[:len(row_type._fields)]) for row in page]
-        if len(page) < PAGE:
+        if len(page) < MOST_ROWS:
             return rows
     raise ProtocolError(f"there is no end of the rows of kind {number}")
+
+
+def audit_by(client: Client) -> Audit:
+    """The audit that a root client is given."""
+    kinds = {name: read_kind(client, number, row_type) for number, (name, row_type) in enumerate(KINDS, 1)}
+    resources = client.getresources()
+    planes = client.getplaneresources().ids
+    found = [*((number, "CRTC") for number in resources.crtcs), *((number, "plane") for number in planes),
+             *((number, "connector") for number in resources.connectors)]
+    return Audit(auditor=client.opened.client, mode_objects=dict(sorted(found)), **kinds)
 
 
 def read_audit(path: str, timeout: float) -> Audit:
     """The audit of the server with this root socket."""
     with Client(path, timeout=timeout) as client:
-        kinds = {name: read_kind(client, number, row_type) for number, (name, row_type) in enumerate(KINDS, 1)}
-        resources = client.getresources()
-        planes = client.getplaneresources().ids
-        found = [*((number, "CRTC") for number in resources.crtcs), *((number, "plane") for number in planes),
-                 *((number, "connector") for number in resources.connectors)]
-        return Audit(auditor=client.opened.client, mode_objects=dict(sorted(found)), **kinds)
+        return audit_by(client)
 
 
 # as JSON and as tables

@@ -14,7 +14,8 @@ As a library:
 A `Client` is one connection to one of the server's sockets, and has a method for each call. An answer is a named tuple, a
 denial the exception `Denied`, what stands apart from the rules `Apart`, an answer that is none `ProtocolError`. A server that
 can't be reached, or has gone, is a `ConnectionError` or another `OSError`, and a wait that takes too long a `TimeoutError`.
-After any of these but `Denied` and `Apart` the connection is closed.
+After any of these but `Denied` and `Apart` the connection is closed. Threads may share a client: each call has the connection to
+itself until its answer is there, and others wait for their turn.
 
 As a tool:
 
@@ -25,19 +26,21 @@ The node that PATH is (card, render or root) decides what the client may do; `--
 the node. The answers are printed in a script's words. docs/FORMATS.md has the calls, the answers and the frames.
 """
 import argparse
+import contextlib
+import enum
 import os
 import socket
 import struct
 import sys
+import threading
 import time
 from typing import Any, Dict, List, NamedTuple, NoReturn, Optional, Tuple, Type, Union
 
 DEFAULT_TIMEOUT = 30.0
 MOST_TIMEOUT = 1_000_000.0
 
-HELLO = 0x0100
-DENIED = 0x2000
-APART = 0x2001
+# made by tools/constants from the sources of the server, up to the end mark
+HELLO, DENIED, APART = 0x0100, 0x2000, 0x2001
 
 # what the length of a frame may be, and how many ids and rows one answer has at most
 LEAST_LENGTH, MOST_LENGTH = 2, 1024
@@ -53,7 +56,88 @@ RULES: Dict[int, Tuple[str, int]] = {
     40: ("BadRoute", 22), 41: ("BadCap", 22), 42: ("NoLeaseToken", 2), 43: ("Full", 28),
 }
 # what stands apart from the rules, likewise
-APARTS: Dict[int, Tuple[str, int]] = {50: ("JournalFull", 28), 51: ("NoMemory", 12), 52: ("Worn", 28)}
+APARTS: Dict[int, Tuple[str, int]] = {
+    50: ("JournalFull", 28), 51: ("NoMemory", 12), 52: ("Worn", 28),
+}
+
+
+class Rule(enum.IntEnum):
+    """The rules that deny: `denial.rule == Rule.LEASED_OUT`."""
+    UNKNOWN = 1  # No row has the number.
+    LAYOUT = 2  # The fields aren't those of the row.
+    NO_CLIENT = 3  # The client isn't open.
+    ROOT_ONLY = 11  # The row wants root, and the caller isn't.
+    AUTH = 12  # The row wants an authenticated or a render client.
+    MASTER = 13  # The row wants a current caller.
+    RENDER_ALLOW = 14  # The row isn't for render clients.
+    NO_HANDLE = 21  # The caller doesn't hold the handle.
+    NO_HANDLE_TO_CLOSE = 22  # The caller doesn't hold the handle that it closes.
+    NO_NAME = 23  # No object has the name.
+    NO_TOKEN = 24  # No open PRIME token has the number, or it is another's to close.
+    NO_MAGIC = 25  # The caller's master has no such magic, or it is spent.
+    MASTER_PERM = 26  # The caller was never a master and isn't root.
+    MASTER_BUSY = 27  # The device has a master.
+    NOT_CURRENT = 28  # The caller isn't current.
+    IS_LESSEE = 29  # The caller's master is a lessee.
+    NO_MODE_OBJECT = 30  # There is no such mode object, or the caller doesn't see it.
+    NOT_LEASABLE = 31  # An encoder or a framebuffer can't be leased.
+    REPEATED = 32  # An id stands twice in a lease.
+    LEASE_SHAPE = 33  # A lease lacks a CRTC, a connector or a plane.
+    LEASED_OUT = 34  # A direct lessee has it already.
+    SUB_LEASE = 35  # A lessee of depth 8 makes no lease.
+    NO_LESSEE = 36  # No lessee of the owner has the id.
+    NOT_YOUR_LESSEE = 37  # The lessee is another master's.
+    NO_FB = 38  # There is no such framebuffer, or it isn't the caller's to remove.
+    BAD_SIZE = 39  # The shape or size is out of range.
+    BAD_ROUTE = 40  # The connector or plane can't be driven by the CRTC, or one of framebuffer and connector is missing.
+    BAD_CAP = 41  # There is no such capability.
+    NO_LEASE_TOKEN = 42  # No open lease token has the number.
+    FULL = 43  # The limit of what would be made is reached.
+
+
+class ApartNumber(enum.IntEnum):
+    """What stands apart from the rules."""
+    JOURNAL_FULL = 50  # The journal has no place for the step beside those kept for closings.
+    NO_MEMORY = 51  # Memory for a new row was refused.
+    WORN = 52  # No ticket is left for another turn of threads.
+
+
+class AuditKind(enum.IntEnum):
+    """What an audit shows; behind each stands what a, b, c and d are."""
+    CLIENT = 1  # Open clients: client, flags, master, magic.
+    MASTER = 2  # Masters: master, lessor, lessee id, open lease token.
+    OBJECT = 3  # Objects: object, size in bytes, handles, tokens and framebuffers.
+    NAME = 4  # Flink names: name, object.
+    TOKEN = 5  # PRIME tokens: token, exporter, object.
+    HOLD = 6  # Handles: client, handle, object, PRIME place.
+    GRANT = 7  # What leases hold: master, mode object.
+    FRAMEBUFFER = 8  # Framebuffers: id, client, object.
+    SHOWN = 9  # What is shown: CRTC or plane, framebuffer.
+    DEVICE = 10  # The device: its master, the last PRIME token, the last lease token, the journal's length.
+
+
+class ClientFlag(enum.IntFlag):
+    """The flags of a client, b of its row in an audit."""
+    RENDER = 1
+    ROOT = 2
+    AUTHENTICATED = 4
+    ONCE_MASTER = 8
+    MASTER = 16
+    MAGIC_SPENT = 32
+
+
+class Cap(enum.IntEnum):
+    """The capabilities that `get_cap` knows."""
+    DUMB_BUFFER = 0x1
+    PRIME = 0x5
+
+
+# how much a served device holds at most
+LIMITS: Dict[str, int] = {
+    "clients": 64, "handles": 65535, "names": 65535, "tokens": 65535, "objects": 65535, "framebuffers": 64, "lessees": 64,
+    "journal": 100000,
+}
+# end of what tools/constants made
 
 
 class ClientError(Exception):
@@ -227,6 +311,11 @@ CALLS: Dict[str, Call] = {
 }
 
 
+def kind_of(number: int) -> Optional[Type[Any]]:
+    """The type of the answers to the call of this number; none where there is no such call."""
+    return next((call.answer for call in CALLS.values() if call.number == number), None)
+
+
 def frame(number: int, fields: bytes = b"") -> bytes:
     """A frame: the length of number and fields, the number, the fields."""
     length = LEAST_LENGTH + len(fields)
@@ -341,7 +430,7 @@ def request_of(line: str) -> Tuple[bytes, Optional[Type[Any]]]:
     try:
         values = tuple(map(number_of, rest))
         if word == "raw" and values:
-            return frame(values[0], pack(f"{len(values) - 1}I", *values[1:])), None
+            return frame(values[0], pack(f"{len(values) - 1}I", *values[1:])), kind_of(values[0])
         if word not in CALLS:
             raise ValueError(f"{word!r} is no call's word")
         return request(CALLS[word], values), CALLS[word].answer
@@ -388,11 +477,14 @@ class Client:
     `path` is the server's card, render or root socket. With `lease`, the opening redeems the lease of that token. `timeout` is
     how many seconds an opening, a call and the closing may each take; it may be set at any time. An opening that is refused
     raises `Denied` or `Apart`.
+
+    Threads may share it. A call's time begins with its turn.
     """
 
     def __init__(self, path: Union[str, "os.PathLike[str]"], lease: Optional[int] = None,
                  timeout: float = DEFAULT_TIMEOUT) -> None:
         self.timeout = timeout
+        self._turn = threading.RLock()  # held from a request until its answer is there
         first = hello(lease)
         self.socket: Optional[socket.socket] = connect(os.fspath(path), self._deadline())
         try:
@@ -440,26 +532,31 @@ class Client:
         except socket.timeout:
             raise TimeoutError("the server didn't take the request in time") from None
 
+    def _answer(self, deadline: Deadline, kind: Optional[Type[Any]]) -> Any:
+        """The next answer, which is of this type where one is named."""
+        length, = struct.unpack("<I", self._take(4, deadline, inside=False))
+        if not LEAST_LENGTH <= length <= MOST_LENGTH:
+            raise ProtocolError(f"an answer has the length {length}")
+        body = self._take(length, deadline, inside=True)
+        answer = answer_of(int.from_bytes(body[:2], "little"), body[2:])
+        if kind is not None and not isinstance(answer, kind):
+            raise ProtocolError(f"the answer is {words(answer)!r}, which is not the call's")
+        return answer
+
     def _exchange(self, text: bytes, kind: Optional[Type[Any]]) -> Any:
-        """Sends a frame, and gives its answer, which is of this type where one is named."""
-        if self.socket is None:
-            raise ConnectionError("the connection is closed")
-        try:
-            deadline = self._deadline()
-            self._send(text, deadline)
-            length, = struct.unpack("<I", self._take(4, deadline, inside=False))
-            if not LEAST_LENGTH <= length <= MOST_LENGTH:
-                raise ProtocolError(f"an answer has the length {length}")
-            body = self._take(length, deadline, inside=True)
-            answer = answer_of(int.from_bytes(body[:2], "little"), body[2:])
-            if kind is not None and not isinstance(answer, kind):
-                raise ProtocolError(f"the answer is {words(answer)!r}, which is not the call's")
-            return answer
-        except Refusal:
-            raise
-        except BaseException:  # what comes now could be taken for the answer to another call
-            self.abandon()
-            raise
+        """Sends a frame once it is this call's turn, and gives its answer."""
+        with self._turn:
+            if self.socket is None:
+                raise ConnectionError("the connection is closed")
+            try:
+                deadline = self._deadline()
+                self._send(text, deadline)
+                return self._answer(deadline, kind)
+            except Refusal:
+                raise
+            except BaseException:  # what comes now could be taken for the answer to another call
+                self.abandon()
+                raise
 
     def _call(self, word: str, *values: int) -> Any:
         return self._exchange(request(CALLS[word], values), CALLS[word].answer)
@@ -473,29 +570,73 @@ class Client:
             return str(refusal)
 
     def raw(self, number: int, fields: bytes = b"") -> Answer:
-        """Any frame: a number and the bytes of its fields."""
-        return self._exchange(frame(number, fields), None)
+        """Any frame: a number and the bytes of its fields. Where a call has the number its answer is of that call's kind."""
+        return self._exchange(frame(number, fields), kind_of(number))
 
     def abandon(self) -> None:
-        """Ends the connection at once, and doesn't wait until the server has closed the client."""
-        if self.socket is not None:
-            self.socket.close()
-            self.socket = None
+        """Ends the connection at once, and doesn't wait until the server has closed the client.
+
+        A call of another thread that waits for its answer ends with a `ConnectionError`.
+        """
+        if not self._turn.acquire(blocking=False):
+            self._wake()
+            self._turn.acquire()
+        try:
+            if self.socket is not None:
+                self.socket.close()
+                self.socket = None
+        finally:
+            self._turn.release()
+
+    def _wake(self) -> None:
+        """Ends the wait of the thread whose turn it is."""
+        held = self.socket
+        if held is not None:
+            with contextlib.suppress(OSError):
+                held.shutdown(socket.SHUT_RDWR)
 
     def close(self) -> None:
         """Ends the connection. When this returns the server has closed the client, and all that was the client's has gone."""
-        if self.socket is None:
-            return
-        try:
-            self.socket.shutdown(socket.SHUT_WR)
-            if self._receive(1, self._deadline()):
-                raise ProtocolError("an answer came that nothing asked for")
-        except TimeoutError:
-            raise
-        except OSError:  # the server had gone before
-            pass
-        finally:
-            self.abandon()
+        with self._turn:
+            if self.socket is None:
+                return
+            try:
+                self.socket.shutdown(socket.SHUT_WR)
+                if self._receive(1, self._deadline()):
+                    raise ProtocolError("an answer came that nothing asked for")
+            except TimeoutError:
+                raise
+            except OSError:  # the server had gone before
+                pass
+            finally:
+                self.abandon()
+
+    def is_open(self, client: int) -> bool:
+        """Whether the client of this number is open, as a root client is told by audits, each of which is a step."""
+        skipped = 0
+        while True:
+            numbers = [row.a for row in self.audit(AuditKind.CLIENT, skipped).rows]
+            if client in numbers:
+                return True
+            # numbers rise, and clients that close meanwhile move those behind them forward
+            begins_before = skipped == 0 or numbers[:1] != [] and numbers[0] < client
+            if begins_before and (len(numbers) < MOST_ROWS or numbers[-1] > client):
+                return False
+            skipped = skipped + MOST_ROWS - 1 if begins_before else 0
+
+    def wait_until_closed(self, *clients: int) -> None:
+        """Waits until the server has closed these clients, as a root client is told by audits.
+
+        The end of a client that was killed is taken in after a moment, and an opening before that finds what it had. Where one is
+        open still when `timeout` is over it raises `TimeoutError`, and this connection goes on.
+        """
+        until = time.monotonic() + self.timeout
+        pause = 0.0005
+        while any(map(self.is_open, clients)):
+            if time.monotonic() > until:
+                raise TimeoutError(f"a client is open still after {self.timeout:g} seconds")
+            time.sleep(pause)
+            pause = min(2 * pause, 0.05)
 
     def version(self) -> Version:
         return self._call("version")

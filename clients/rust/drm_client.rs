@@ -4,7 +4,8 @@
 //! `Error::Denied`, what stands apart from the rules `Error::Apart`, an answer that is none `Error::Protocol`, and what the
 //! connection itself fails of `Error::Io`: `TimedOut` where the server doesn't answer in time, `UnexpectedEof` where it has
 //! gone. After `Protocol` and `Io` the connection is closed, since what comes late could be taken for the answer to another
-//! call; `InvalidInput` alone leaves it as it was. docs/FORMATS.md has the calls, the answers and the frames.
+//! call; `InvalidInput`, and `wait_until_closed` whose time is over, leave it as it was. docs/FORMATS.md has the calls, the
+//! answers and the frames.
 //!
 //! Put the file beside your own sources, with `mod drm_client;`.
 #![allow(dead_code)] // a program uses the calls that it needs
@@ -20,9 +21,8 @@ use std::time::{Duration, Instant};
 
 pub const DEFAULT_TIMEOUT: Duration = Duration::from_secs(30);
 
+// made by tools/constants from the sources of the server, up to the end mark
 const HELLO: u16 = 0x0100;
-const DENIED: u16 = 0x2000;
-const APART: u16 = 0x2001;
 const LEAST_LENGTH: usize = 2;
 const MOST_LENGTH: usize = 1024;
 const MOST_IDS: u32 = 64;
@@ -38,6 +38,188 @@ const RULES: [(u32, i32, &str); 33] = [
     (40, 22, "BadRoute"), (41, 22, "BadCap"), (42, 2, "NoLeaseToken"), (43, 28, "Full"), (50, 28, "JournalFull"),
     (51, 12, "NoMemory"), (52, 28, "Worn"),
 ];
+
+/// The rules that deny: `Error::Denied { rule: rule::LEASED_OUT, .. }`.
+pub mod rule {
+    /// No row has the number.
+    pub const UNKNOWN: u32 = 1;
+    /// The fields aren't those of the row.
+    pub const LAYOUT: u32 = 2;
+    /// The client isn't open.
+    pub const NO_CLIENT: u32 = 3;
+    /// The row wants root, and the caller isn't.
+    pub const ROOT_ONLY: u32 = 11;
+    /// The row wants an authenticated or a render client.
+    pub const AUTH: u32 = 12;
+    /// The row wants a current caller.
+    pub const MASTER: u32 = 13;
+    /// The row isn't for render clients.
+    pub const RENDER_ALLOW: u32 = 14;
+    /// The caller doesn't hold the handle.
+    pub const NO_HANDLE: u32 = 21;
+    /// The caller doesn't hold the handle that it closes.
+    pub const NO_HANDLE_TO_CLOSE: u32 = 22;
+    /// No object has the name.
+    pub const NO_NAME: u32 = 23;
+    /// No open PRIME token has the number, or it is another's to close.
+    pub const NO_TOKEN: u32 = 24;
+    /// The caller's master has no such magic, or it is spent.
+    pub const NO_MAGIC: u32 = 25;
+    /// The caller was never a master and isn't root.
+    pub const MASTER_PERM: u32 = 26;
+    /// The device has a master.
+    pub const MASTER_BUSY: u32 = 27;
+    /// The caller isn't current.
+    pub const NOT_CURRENT: u32 = 28;
+    /// The caller's master is a lessee.
+    pub const IS_LESSEE: u32 = 29;
+    /// There is no such mode object, or the caller doesn't see it.
+    pub const NO_MODE_OBJECT: u32 = 30;
+    /// An encoder or a framebuffer can't be leased.
+    pub const NOT_LEASABLE: u32 = 31;
+    /// An id stands twice in a lease.
+    pub const REPEATED: u32 = 32;
+    /// A lease lacks a CRTC, a connector or a plane.
+    pub const LEASE_SHAPE: u32 = 33;
+    /// A direct lessee has it already.
+    pub const LEASED_OUT: u32 = 34;
+    /// A lessee of depth 8 makes no lease.
+    pub const SUB_LEASE: u32 = 35;
+    /// No lessee of the owner has the id.
+    pub const NO_LESSEE: u32 = 36;
+    /// The lessee is another master's.
+    pub const NOT_YOUR_LESSEE: u32 = 37;
+    /// There is no such framebuffer, or it isn't the caller's to remove.
+    pub const NO_FB: u32 = 38;
+    /// The shape or size is out of range.
+    pub const BAD_SIZE: u32 = 39;
+    /// The connector or plane can't be driven by the CRTC, or one of framebuffer and connector is missing.
+    pub const BAD_ROUTE: u32 = 40;
+    /// There is no such capability.
+    pub const BAD_CAP: u32 = 41;
+    /// No open lease token has the number.
+    pub const NO_LEASE_TOKEN: u32 = 42;
+    /// The limit of what would be made is reached.
+    pub const FULL: u32 = 43;
+}
+
+/// What stands apart from the rules.
+pub mod apart {
+    pub const JOURNAL_FULL: u32 = 50; // The journal has no place for the step beside those kept for closings.
+    pub const NO_MEMORY: u32 = 51; // Memory for a new row was refused.
+    pub const WORN: u32 = 52; // No ticket is left for another turn of threads.
+}
+
+/// The error numbers of the rules, which are Linux's.
+pub mod errno {
+    pub const ENOENT: i32 = 2;
+    pub const ENOMEM: i32 = 12;
+    pub const EACCES: i32 = 13;
+    pub const EBUSY: i32 = 16;
+    pub const EINVAL: i32 = 22;
+    pub const ENOSPC: i32 = 28;
+}
+
+/// What an audit shows; with each stands what `a`, `b`, `c` and `d` are.
+pub mod audit_kind {
+    pub const CLIENT: u32 = 1; // Open clients: client, flags, master, magic.
+    pub const MASTER: u32 = 2; // Masters: master, lessor, lessee id, open lease token.
+    pub const OBJECT: u32 = 3; // Objects: object, size in bytes, handles, tokens and framebuffers.
+    pub const NAME: u32 = 4; // Flink names: name, object.
+    pub const TOKEN: u32 = 5; // PRIME tokens: token, exporter, object.
+    pub const HOLD: u32 = 6; // Handles: client, handle, object, PRIME place.
+    pub const GRANT: u32 = 7; // What leases hold: master, mode object.
+    pub const FRAMEBUFFER: u32 = 8; // Framebuffers: id, client, object.
+    pub const SHOWN: u32 = 9; // What is shown: CRTC or plane, framebuffer.
+    pub const DEVICE: u32 = 10; // The device: its master, the last PRIME token, the last lease token, the journal's length.
+}
+
+/// The flags of a client, `b` of its row in an audit.
+pub mod client_flag {
+    pub const RENDER: u64 = 1;
+    pub const ROOT: u64 = 2;
+    pub const AUTHENTICATED: u64 = 4;
+    pub const ONCE_MASTER: u64 = 8;
+    pub const MASTER: u64 = 16;
+    pub const MAGIC_SPENT: u64 = 32;
+}
+
+/// The capabilities that `get_cap` knows.
+pub mod cap {
+    pub const DUMB_BUFFER: u64 = 0x1;
+    pub const PRIME: u64 = 0x5;
+}
+
+/// How much a served device holds at most.
+pub mod limit {
+    pub const CLIENTS: u32 = 64; // Clients open at once, of all classes.
+    pub const HANDLES: u32 = 65535; // Handles of one client.
+    pub const NAMES: u32 = 65535; // The greatest flink name.
+    pub const TOKENS: u32 = 65535; // The greatest PRIME token, and the greatest lease token.
+    pub const OBJECTS: u32 = 65535; // Objects.
+    pub const FRAMEBUFFERS: u32 = 64; // Framebuffers.
+    pub const LESSEES: u32 = 64; // The greatest lessee id of one owner.
+    pub const JOURNAL: u32 = 100000; // Steps that are noted.
+}
+
+/// The numbers of requests.
+mod call {
+    pub const VERSION: u16 = 0x00;
+    pub const GET_MAGIC: u16 = 0x02;
+    pub const GEM_CLOSE: u16 = 0x09;
+    pub const GEM_FLINK: u16 = 0x0A;
+    pub const GEM_OPEN: u16 = 0x0B;
+    pub const GET_CAP: u16 = 0x0C;
+    pub const SET_CLIENT_CAP: u16 = 0x0D;
+    pub const AUTH_MAGIC: u16 = 0x11;
+    pub const SET_MASTER: u16 = 0x1E;
+    pub const DROP_MASTER: u16 = 0x1F;
+    pub const PRIME_HANDLE_TO_FD: u16 = 0x2D;
+    pub const PRIME_FD_TO_HANDLE: u16 = 0x2E;
+    pub const BUF_CREATE: u16 = 0x40;
+    pub const STAMP_WRITE: u16 = 0x41;
+    pub const STAMP_READ: u16 = 0x42;
+    pub const TOKEN_CLOSE: u16 = 0x43;
+    pub const LIST_HANDLES: u16 = 0x44;
+    pub const AUDIT: u16 = 0x45;
+    pub const MODE_GETRESOURCES: u16 = 0xA0;
+    pub const MODE_GETCRTC: u16 = 0xA1;
+    pub const MODE_SETCRTC: u16 = 0xA2;
+    pub const MODE_GETENCODER: u16 = 0xA6;
+    pub const MODE_GETCONNECTOR: u16 = 0xA7;
+    pub const MODE_GETFB: u16 = 0xAD;
+    pub const MODE_ADDFB: u16 = 0xAE;
+    pub const MODE_RMFB: u16 = 0xAF;
+    pub const MODE_CREATE_DUMB: u16 = 0xB2;
+    pub const MODE_DESTROY_DUMB: u16 = 0xB4;
+    pub const MODE_GETPLANERESOURCES: u16 = 0xB5;
+    pub const MODE_GETPLANE: u16 = 0xB6;
+    pub const MODE_SETPLANE: u16 = 0xB7;
+    pub const MODE_CREATE_LEASE: u16 = 0xC6;
+    pub const MODE_LIST_LESSEES: u16 = 0xC7;
+    pub const MODE_GET_LEASE: u16 = 0xC8;
+    pub const MODE_REVOKE_LEASE: u16 = 0xC9;
+}
+
+/// The numbers of answers.
+mod answer {
+    pub const DONE: u16 = 0x1000;
+    pub const OPENED: u16 = 0x1001;
+    pub const VERSION: u16 = 0x1002;
+    pub const NUMBER: u16 = 0x1003;
+    pub const DUMB: u16 = 0x1004;
+    pub const BUFFER: u16 = 0x1005;
+    pub const RESOURCES: u16 = 0x1006;
+    pub const LIST: u16 = 0x1007;
+    pub const PLANE: u16 = 0x1008;
+    pub const FRAMEBUFFER: u16 = 0x1009;
+    pub const LEASE: u16 = 0x100A;
+    pub const AUDIT: u16 = 0x100B;
+    pub const CLOSED: u16 = 0x100C;
+    pub const DENIED: u16 = 0x2000;
+    pub const APART: u16 = 0x2001;
+}
+// end of what tools/constants made
 
 /// Why a call or an opening gave no answer of its own.
 #[derive(Debug)]
@@ -217,7 +399,7 @@ impl Fields<'_> {
 fn refusal(is_apart: bool, fields: &mut Fields<'_>) -> Result<Error, Error> {
     let (number, errno) = (fields.u32()?, fields.u32()?);
     fields.end()?;
-    match RULES.iter().find(|rule| rule.0 == number && rule.1 as u32 == errno && is_apart == (number >= 50)) {
+    match RULES.iter().find(|rule| rule.0 == number && rule.1 as u32 == errno && is_apart == (number >= apart::JOURNAL_FULL)) {
         Some(&(number, errno, name)) if is_apart => Ok(Error::Apart { number, name, errno }),
         Some(&(rule, errno, name)) => Ok(Error::Denied { rule, name, errno }),
         None => protocol(format!("there is no refusal {number} with the errno {errno}")),
@@ -272,7 +454,7 @@ fn connect(path: &Path, deadline: &Deadline) -> io::Result<UnixStream> {
 }
 
 /// One connection, and the client that the server opened for it. Dropping it ends the connection; `close` also waits until the
-/// server has closed the client.
+/// server has closed the client. Each call wants it for itself: threads share it behind a lock, as a `Mutex<Client>`.
 pub struct Client {
     stream: Option<UnixStream>,
     timeout: Duration,
@@ -293,7 +475,7 @@ impl Client {
     fn open_by(path: &Path, what: u32, token: u32, timeout: Duration) -> Result<Client, Error> {
         let stream = connect(path, &Deadline::new(timeout)?)?;
         let mut client = Client { stream: Some(stream), timeout, number: 0 };
-        client.number = client.ask(Frame::new(HELLO).u32(1).u32(what).u32(token), 0x1001, |fields| fields.u32())?;
+        client.number = client.ask(Frame::new(HELLO).u32(1).u32(what).u32(token), answer::OPENED, |fields| fields.u32())?;
         Ok(client)
     }
 
@@ -333,7 +515,7 @@ impl Client {
         let mut fields = Fields { left: &body };
         let number = u16::from_le_bytes(fields.take()?);
         let answer = match number {
-            DENIED | APART => Err(refusal(number == APART, &mut fields)?),
+            answer::DENIED | answer::APART => Err(refusal(number == answer::APART, &mut fields)?),
             number if number == wanted => Ok(read(&mut fields)?),
             number => protocol(format!("the answer has the number {number:#x}, which is not the call's"))?,
         };
@@ -343,109 +525,139 @@ impl Client {
     }
 
     fn done(&mut self, frame: Frame) -> Result<(), Error> {
-        self.ask(frame, 0x1000, |_| Ok(()))
+        self.ask(frame, answer::DONE, |_| Ok(()))
     }
 
     fn number_of(&mut self, frame: Frame) -> Result<u64, Error> {
-        self.ask(frame, 0x1003, |fields| fields.u64())
+        self.ask(frame, answer::NUMBER, |fields| fields.u64())
     }
 
     /// A number that is a u32 in each answer of the call.
     fn u32_of(&mut self, frame: Frame) -> Result<u32, Error> {
-        self.ask(frame, 0x1003, |fields| match u32::try_from(fields.u64()?) {
+        self.ask(frame, answer::NUMBER, |fields| match u32::try_from(fields.u64()?) {
             Ok(value) => Ok(value),
             Err(_) => protocol("an answer has a number that is out of range"),
         })
     }
 
     fn buffer_of(&mut self, frame: Frame) -> Result<Buffer, Error> {
-        self.ask(frame, 0x1005, |fields| Ok(Buffer { handle: fields.u32()?, size: fields.u64()? }))
+        self.ask(frame, answer::BUFFER, |fields| Ok(Buffer { handle: fields.u32()?, size: fields.u64()? }))
     }
 
     fn ids_of(&mut self, frame: Frame) -> Result<Vec<u32>, Error> {
-        self.ask(frame, 0x1007, |fields| fields.ids(MOST_IDS))
+        self.ask(frame, answer::LIST, |fields| fields.ids(MOST_IDS))
+    }
+
+    /// Whether the client of this number is open, as a root client is told by audits, each of which is a step.
+    pub fn is_open(&mut self, client: u32) -> Result<bool, Error> {
+        let client = u64::from(client);
+        let mut skipped = 0;
+        loop {
+            let rows = self.audit(audit_kind::CLIENT, skipped)?;
+            // numbers rise, and clients that close meanwhile move those behind them forward
+            let begins_before = skipped == 0 || rows.first().is_some_and(|row| row.a < client);
+            let ends_behind = rows.len() < MOST_ROWS as usize || rows.last().is_some_and(|row| row.a > client);
+            match rows.iter().any(|row| row.a == client) {
+                false if begins_before && ends_behind => return Ok(false),
+                false => skipped = if begins_before { skipped + MOST_ROWS - 1 } else { 0 },
+                true => return Ok(true),
+            }
+        }
+    }
+
+    /// Waits until the server has closed the client of this number, as a root client is told by audits: the end of a client that
+    /// was killed is taken in after a moment, and an opening before that finds what it had. Where it is open still when the time
+    /// limit is over this gives `TimedOut`, and the connection goes on.
+    pub fn wait_until_closed(&mut self, client: u32) -> Result<(), Error> {
+        let deadline = Deadline::new(self.timeout)?;
+        let mut pause = Duration::from_micros(500);
+        while self.is_open(client)? {
+            thread::sleep(pause.min(deadline.left()?));
+            pause = (2 * pause).min(Duration::from_millis(50));
+        }
+        Ok(())
     }
 
     pub fn version(&mut self) -> Result<Version, Error> {
-        self.ask(Frame::new(0x00), 0x1002, |fields| {
+        self.ask(Frame::new(call::VERSION), answer::VERSION, |fields| {
             Ok(Version { major: fields.u32()?, minor: fields.u32()?, patch: fields.u32()? })
         })
     }
 
     pub fn get_magic(&mut self) -> Result<u32, Error> {
-        self.u32_of(Frame::new(0x02))
+        self.u32_of(Frame::new(call::GET_MAGIC))
     }
 
     pub fn gem_close(&mut self, handle: u32) -> Result<(), Error> {
-        self.done(Frame::new(0x09).u32(handle))
+        self.done(Frame::new(call::GEM_CLOSE).u32(handle))
     }
 
     /// The global name.
     pub fn gem_flink(&mut self, handle: u32) -> Result<u32, Error> {
-        self.u32_of(Frame::new(0x0A).u32(handle))
+        self.u32_of(Frame::new(call::GEM_FLINK).u32(handle))
     }
 
     pub fn gem_open(&mut self, name: u32) -> Result<Buffer, Error> {
-        self.buffer_of(Frame::new(0x0B).u32(name))
+        self.buffer_of(Frame::new(call::GEM_OPEN).u32(name))
     }
 
     pub fn get_cap(&mut self, cap: u64) -> Result<u64, Error> {
-        self.number_of(Frame::new(0x0C).u64(cap))
+        self.number_of(Frame::new(call::GET_CAP).u64(cap))
     }
 
     pub fn set_client_cap(&mut self, cap: u64, value: u64) -> Result<(), Error> {
-        self.done(Frame::new(0x0D).u64(cap).u64(value))
+        self.done(Frame::new(call::SET_CLIENT_CAP).u64(cap).u64(value))
     }
 
     pub fn auth_magic(&mut self, magic: u32) -> Result<(), Error> {
-        self.done(Frame::new(0x11).u32(magic))
+        self.done(Frame::new(call::AUTH_MAGIC).u32(magic))
     }
 
     pub fn set_master(&mut self) -> Result<(), Error> {
-        self.done(Frame::new(0x1E))
+        self.done(Frame::new(call::SET_MASTER))
     }
 
     pub fn drop_master(&mut self) -> Result<(), Error> {
-        self.done(Frame::new(0x1F))
+        self.done(Frame::new(call::DROP_MASTER))
     }
 
     /// The PRIME token.
     pub fn prime_export(&mut self, handle: u32) -> Result<u32, Error> {
-        self.u32_of(Frame::new(0x2D).u32(handle))
+        self.u32_of(Frame::new(call::PRIME_HANDLE_TO_FD).u32(handle))
     }
 
     pub fn prime_import(&mut self, token: u32) -> Result<Buffer, Error> {
-        self.buffer_of(Frame::new(0x2E).u32(token))
+        self.buffer_of(Frame::new(call::PRIME_FD_TO_HANDLE).u32(token))
     }
 
     pub fn buf_create(&mut self, size: u64) -> Result<Buffer, Error> {
-        self.buffer_of(Frame::new(0x40).u64(size))
+        self.buffer_of(Frame::new(call::BUF_CREATE).u64(size))
     }
 
     pub fn stamp_write(&mut self, handle: u32, stamp: u64) -> Result<(), Error> {
-        self.done(Frame::new(0x41).u32(handle).u64(stamp))
+        self.done(Frame::new(call::STAMP_WRITE).u32(handle).u64(stamp))
     }
 
     pub fn stamp_read(&mut self, handle: u32) -> Result<u64, Error> {
-        self.number_of(Frame::new(0x42).u32(handle))
+        self.number_of(Frame::new(call::STAMP_READ).u32(handle))
     }
 
     pub fn token_close(&mut self, token: u32) -> Result<(), Error> {
-        self.done(Frame::new(0x43).u32(token))
+        self.done(Frame::new(call::TOKEN_CLOSE).u32(token))
     }
 
     /// The first 64 handles that are not below `least`.
     pub fn list_handles(&mut self, least: u32) -> Result<Vec<u32>, Error> {
-        self.ids_of(Frame::new(0x44).u32(least))
+        self.ids_of(Frame::new(call::LIST_HANDLES).u32(least))
     }
 
     /// Up to 16 rows of this kind, 1 to 10, behind the first `skipped` of them; root clients alone may ask.
     pub fn audit(&mut self, kind: u32, skipped: u32) -> Result<Vec<Row>, Error> {
-        self.ask(Frame::new(0x45).u32(kind).u32(skipped), 0x100B, |fields| fields.rows())
+        self.ask(Frame::new(call::AUDIT).u32(kind).u32(skipped), answer::AUDIT, |fields| fields.rows())
     }
 
     pub fn getresources(&mut self) -> Result<Resources, Error> {
-        self.ask(Frame::new(0xA0), 0x1006, |fields| {
+        self.ask(Frame::new(call::MODE_GETRESOURCES), answer::RESOURCES, |fields| {
             let mut next = || fields.ids(MOST_LENGTH as u32);
             Ok(Resources { crtcs: next()?, connectors: next()?, encoders: next()?, framebuffers: next()? })
         })
@@ -453,25 +665,25 @@ impl Client {
 
     /// The framebuffer that the CRTC shows, or 0.
     pub fn getcrtc(&mut self, crtc: u32) -> Result<u32, Error> {
-        self.u32_of(Frame::new(0xA1).u32(crtc))
+        self.u32_of(Frame::new(call::MODE_GETCRTC).u32(crtc))
     }
 
     pub fn setcrtc(&mut self, crtc: u32, framebuffer: u32, connector: u32) -> Result<(), Error> {
-        self.done(Frame::new(0xA2).u32(crtc).u32(framebuffer).u32(connector))
+        self.done(Frame::new(call::MODE_SETCRTC).u32(crtc).u32(framebuffer).u32(connector))
     }
 
     /// The mask of its possible CRTCs.
     pub fn getencoder(&mut self, encoder: u32) -> Result<u32, Error> {
-        self.u32_of(Frame::new(0xA6).u32(encoder))
+        self.u32_of(Frame::new(call::MODE_GETENCODER).u32(encoder))
     }
 
     /// Its encoder.
     pub fn getconnector(&mut self, connector: u32) -> Result<u32, Error> {
-        self.u32_of(Frame::new(0xA7).u32(connector))
+        self.u32_of(Frame::new(call::MODE_GETCONNECTOR).u32(connector))
     }
 
     pub fn getfb(&mut self, framebuffer: u32) -> Result<Framebuffer, Error> {
-        self.ask(Frame::new(0xAD).u32(framebuffer), 0x1009, |fields| {
+        self.ask(Frame::new(call::MODE_GETFB).u32(framebuffer), answer::FRAMEBUFFER, |fields| {
             let mut next = || fields.u32();
             Ok(Framebuffer { width: next()?, height: next()?, pitch: next()?, bpp: next()?, handle: next()? })
         })
@@ -479,54 +691,54 @@ impl Client {
 
     /// The framebuffer's id.
     pub fn addfb(&mut self, width: u32, height: u32, pitch: u32, bpp: u32, handle: u32) -> Result<u32, Error> {
-        self.u32_of(Frame::new(0xAE).u32(width).u32(height).u32(pitch).u32(bpp).u32(handle))
+        self.u32_of(Frame::new(call::MODE_ADDFB).u32(width).u32(height).u32(pitch).u32(bpp).u32(handle))
     }
 
     pub fn rmfb(&mut self, framebuffer: u32) -> Result<(), Error> {
-        self.done(Frame::new(0xAF).u32(framebuffer))
+        self.done(Frame::new(call::MODE_RMFB).u32(framebuffer))
     }
 
     pub fn create_dumb(&mut self, width: u32, height: u32, bpp: u32) -> Result<Dumb, Error> {
-        self.ask(Frame::new(0xB2).u32(width).u32(height).u32(bpp), 0x1004, |fields| {
+        self.ask(Frame::new(call::MODE_CREATE_DUMB).u32(width).u32(height).u32(bpp), answer::DUMB, |fields| {
             Ok(Dumb { handle: fields.u32()?, pitch: fields.u32()?, size: fields.u64()? })
         })
     }
 
     pub fn destroy_dumb(&mut self, handle: u32) -> Result<(), Error> {
-        self.done(Frame::new(0xB4).u32(handle))
+        self.done(Frame::new(call::MODE_DESTROY_DUMB).u32(handle))
     }
 
     pub fn getplaneresources(&mut self) -> Result<Vec<u32>, Error> {
-        self.ids_of(Frame::new(0xB5))
+        self.ids_of(Frame::new(call::MODE_GETPLANERESOURCES))
     }
 
     pub fn getplane(&mut self, plane: u32) -> Result<Plane, Error> {
-        self.ask(Frame::new(0xB6).u32(plane), 0x1008, |fields| {
+        self.ask(Frame::new(call::MODE_GETPLANE).u32(plane), answer::PLANE, |fields| {
             Ok(Plane { framebuffer: fields.u32()?, possible_crtcs: fields.u32()? })
         })
     }
 
     pub fn setplane(&mut self, plane: u32, crtc: u32, framebuffer: u32) -> Result<(), Error> {
-        self.done(Frame::new(0xB7).u32(plane).u32(crtc).u32(framebuffer))
+        self.done(Frame::new(call::MODE_SETPLANE).u32(plane).u32(crtc).u32(framebuffer))
     }
 
     /// A lease of these mode objects: the lessee's id, and the token that opens its client.
     pub fn create_lease(&mut self, ids: &[u32]) -> Result<Lease, Error> {
         let count = u32::try_from(ids.len()).unwrap_or(u32::MAX);
-        let frame = ids.iter().fold(Frame::new(0xC6).u32(count), |frame, &id| frame.u32(id));
-        self.ask(frame, 0x100A, |fields| Ok(Lease { lessee_id: fields.u32()?, token: fields.u32()? }))
+        let frame = ids.iter().fold(Frame::new(call::MODE_CREATE_LEASE).u32(count), |frame, &id| frame.u32(id));
+        self.ask(frame, answer::LEASE, |fields| Ok(Lease { lessee_id: fields.u32()?, token: fields.u32()? }))
     }
 
     pub fn list_lessees(&mut self) -> Result<Vec<u32>, Error> {
-        self.ids_of(Frame::new(0xC7))
+        self.ids_of(Frame::new(call::MODE_LIST_LESSEES))
     }
 
     pub fn get_lease(&mut self) -> Result<Vec<u32>, Error> {
-        self.ids_of(Frame::new(0xC8))
+        self.ids_of(Frame::new(call::MODE_GET_LEASE))
     }
 
     pub fn revoke_lease(&mut self, lessee_id: u32) -> Result<(), Error> {
-        self.done(Frame::new(0xC9).u32(lessee_id))
+        self.done(Frame::new(call::MODE_REVOKE_LEASE).u32(lessee_id))
     }
 }
 

@@ -1,0 +1,177 @@
+/* Frames over a socket, for drm_client.h: how their fields are written and read, and waits that have an end. */
+#ifndef ZIRKOSHE_DRM_FRAMES_H
+#define ZIRKOSHE_DRM_FRAMES_H
+
+#ifndef _POSIX_C_SOURCE
+#define _POSIX_C_SOURCE 200809L
+#endif
+
+#include <errno.h>
+#include <poll.h>
+#include <stdbool.h>
+#include <stddef.h>
+#include <stdint.h>
+#include <sys/socket.h>
+#include <time.h>
+
+#include "drm_server.h"
+
+/* A frame that is written. */
+struct zirkoshe_frame {
+    size_t length; /* of number and fields */
+    unsigned char bytes[4 + ZIRKOSHE_MOST_LENGTH];
+};
+
+/* Fields that are read from their front. */
+struct zirkoshe_fields {
+    const unsigned char *next;
+    size_t left;
+    bool is_wrong; /* more was taken than there was, or what was taken is out of range */
+};
+
+static inline void zirkoshe_put_at(unsigned char *bytes, size_t size, uint64_t value)
+{
+    size_t at;
+
+    for (at = 0; at < size; at++)
+        bytes[at] = (unsigned char)(value >> (8 * at));
+}
+
+static inline void zirkoshe_put(struct zirkoshe_frame *frame, size_t size, uint64_t value)
+{
+    zirkoshe_put_at(frame->bytes + 4 + frame->length, size, value);
+    frame->length += size;
+}
+
+static inline uint64_t zirkoshe_take(struct zirkoshe_fields *fields, size_t size)
+{
+    uint64_t value = 0;
+    size_t at;
+
+    if (fields->left < size) {
+        fields->is_wrong = true;
+        fields->left = 0;
+        return 0;
+    }
+    for (at = 0; at < size; at++)
+        value |= (uint64_t)fields->next[at] << (8 * at);
+    fields->next += size;
+    fields->left -= size;
+    return value;
+}
+
+static inline uint32_t zirkoshe_take_u32(struct zirkoshe_fields *fields)
+{
+    return (uint32_t)zirkoshe_take(fields, 4);
+}
+
+/* The next field: I is a u32, Q a u64, N a u64 that is a u32 in each answer of its call. */
+static inline uint64_t zirkoshe_take_field(struct zirkoshe_fields *fields, char code)
+{
+    uint64_t value = zirkoshe_take(fields, code == 'I' ? 4 : 8);
+
+    if (code == 'N' && value > UINT32_MAX)
+        fields->is_wrong = true;
+    return value;
+}
+
+/* A list of at most so many ids, and how many they are. */
+static inline uint32_t zirkoshe_take_ids(struct zirkoshe_fields *fields, uint32_t *ids, uint32_t most)
+{
+    uint32_t count = zirkoshe_take_u32(fields);
+    uint32_t at;
+
+    if (count > most || fields->left / 4 < count) {
+        fields->is_wrong = true;
+        return 0;
+    }
+    for (at = 0; at < count; at++)
+        ids[at] = zirkoshe_take_u32(fields);
+    return count;
+}
+
+/* Whether the fields are those that were taken, and no more. */
+static inline bool zirkoshe_is_whole(const struct zirkoshe_fields *fields)
+{
+    return !fields->is_wrong && fields->left == 0;
+}
+
+/* The frame of a call with these fields: I is a u32, Q a u64. */
+static inline void zirkoshe_write(struct zirkoshe_frame *frame, uint16_t number, const char *layout, const uint64_t *values)
+{
+    frame->length = 0;
+    zirkoshe_put(frame, 2, number);
+    for (; *layout != '\0'; layout++)
+        zirkoshe_put(frame, *layout == 'Q' ? 8 : 4, *values++);
+}
+
+static inline int64_t zirkoshe_now(void)
+{
+    struct timespec now;
+
+    clock_gettime(CLOCK_MONOTONIC, &now);
+    return (int64_t)now.tv_sec * 1000 + now.tv_nsec / 1000000;
+}
+
+/* Waits until the socket is ready for these events, until a time. */
+static inline int zirkoshe_wait(int fd, short events, int64_t until)
+{
+    struct pollfd waited = {fd, events, 0};
+    int64_t left = until - zirkoshe_now();
+    int ready;
+
+    if (left <= 0)
+        return -ETIMEDOUT;
+    ready = poll(&waited, 1, left < 1000 ? (int)left : 1000);
+    return ready < 0 && errno != EINTR ? -errno : 0;
+}
+
+/* Whether the operation is to be tried again once the socket is ready. */
+static inline bool zirkoshe_is_not_ready(int error)
+{
+    return error == EAGAIN || error == EWOULDBLOCK || error == EINTR;
+}
+
+static inline int zirkoshe_send_all(int fd, const unsigned char *bytes, size_t size, int64_t until)
+{
+    while (size > 0) {
+        ssize_t sent;
+        int failed = zirkoshe_wait(fd, POLLOUT, until);
+
+        if (failed)
+            return failed;
+        sent = send(fd, bytes, size, MSG_NOSIGNAL);
+        if (sent < 0 && !zirkoshe_is_not_ready(errno))
+            return -errno;
+        if (sent > 0) {
+            bytes += sent;
+            size -= (size_t)sent;
+        }
+    }
+    return 0;
+}
+
+/* So many bytes; `at_end` is what the connection's end gives before the first of them. */
+static inline int zirkoshe_take_all(int fd, unsigned char *bytes, size_t size, int64_t until, int at_end)
+{
+    while (size > 0) {
+        ssize_t taken;
+        int failed = zirkoshe_wait(fd, POLLIN, until);
+
+        if (failed)
+            return failed;
+        taken = recv(fd, bytes, size, 0);
+        if (taken == 0)
+            return at_end;
+        if (taken < 0 && !zirkoshe_is_not_ready(errno))
+            return -errno;
+        if (taken > 0) {
+            bytes += taken;
+            size -= (size_t)taken;
+            at_end = -EPROTO;
+        }
+    }
+    return 0;
+}
+
+#endif
