@@ -1,5 +1,6 @@
 """What the tests of the built program and of the clients share: how a server is run, and how tests are run and counted."""
 import contextlib
+import functools
 import os
 import pathlib
 import re
@@ -234,6 +235,27 @@ def want_program(name):
     """Skips the test where this program isn't on the path."""
     if shutil.which(name) is None:
         raise Skipped(f"there is no {name}")
+
+
+@functools.lru_cache(None)
+def find_libdrm():
+    """What a C compiler is told to find libdrm by, or none where there is no compiler, or no libdrm with its headers."""
+    if shutil.which("cc") is None:
+        return None
+    words = ["-I/usr/include/libdrm", "-ldrm"]
+    if shutil.which("pkg-config") is not None and run("pkg-config", "--exists", "libdrm").returncode == 0:
+        words = run("pkg-config", "--cflags", "--libs", "libdrm").stdout.split()
+    probe = run("cc", "-x", "c", "-", "-o", os.devnull, *words, stdin=None,
+                input="#include <xf86drm.h>\n#include <drm_fourcc.h>\nint main(void) { return drmAvailable(); }\n")
+    return words if probe.returncode == 0 else None
+
+
+def want_libdrm():
+    """What a C compiler is told to find libdrm by; skips the test where it can't be found."""
+    words = find_libdrm()
+    if words is None:
+        raise Skipped("there is no C compiler, or no libdrm with its headers")
+    return words
 
 
 COMPILERS = {
