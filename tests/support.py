@@ -20,7 +20,7 @@ PROGRAM = REPOSITORY / "crates/drm_server_main/out/drm_server_main"
 CLIENTS = REPOSITORY / "clients"
 SECONDS = 30
 # the flags of a socket that listens, in /proc/net/unix
-LISTENS = "00010000"
+LISTENS = b"00010000"
 
 sys.dont_write_bytecode = True
 sys.path[:0] = [str(CLIENTS / "python"), str(REPOSITORY / "tools")]
@@ -143,14 +143,15 @@ def retry(action):
 def wait_until_it_listens(path):
     """Waits until the server listens on this socket, and uses up none of its connections. (Its file is there a moment before.)"""
     until = time.monotonic() + SECONDS
-    while not any(len(row) == 8 and row[3] == LISTENS and row[7] == str(path) for row in sockets_of_this_system()):
+    wanted = os.fsencode(path)
+    while not any(len(row) == 8 and row[3] == LISTENS and row[7] == wanted for row in sockets_of_this_system()):
         expect(f"whether somebody listens on {path} in time", time.monotonic() < until, True)
         time.sleep(0.01)
 
 
 def sockets_of_this_system():
     """The rows of all Unix sockets."""
-    return [line.split(None, 7) for line in pathlib.Path("/proc/net/unix").read_text().splitlines()]
+    return [line.split(None, 7) for line in pathlib.Path("/proc/net/unix").read_bytes().split(b"\n")]
 
 
 @contextlib.contextmanager
@@ -245,7 +246,7 @@ def find_libdrm():
     words = ["-I/usr/include/libdrm", "-ldrm"]
     if shutil.which("pkg-config") is not None and run("pkg-config", "--exists", "libdrm").returncode == 0:
         words = run("pkg-config", "--cflags", "--libs", "libdrm").stdout.split()
-    probe = run("cc", "-x", "c", "-", "-o", os.devnull, *words, stdin=None,
+    probe = run("cc", "-x", "c", "-", "-o", os.path.join(BUILT.name, "probe"), *words, stdin=None,
                 input="#include <xf86drm.h>\n#include <drm_fourcc.h>\nint main(void) { return drmAvailable(); }\n")
     return words if probe.returncode == 0 else None
 

@@ -1,0 +1,106 @@
+/* Answers to requests of handles, names, PRIME and dumb buffers. */
+#include "answers.h"
+
+int answer_gem_close(struct connection *connection, void *argument)
+{
+    const struct drm_gem_close *closing = argument;
+    int failed = zirkoshe_drmCloseBufferHandle(&connection->client, closing->handle);
+
+    if (!failed)
+        buffers_forget(&connection->buffers, closing->handle);
+    return failed;
+}
+
+int answer_gem_flink(struct connection *connection, void *argument)
+{
+    struct drm_gem_flink *flink = argument;
+
+    return zirkoshe_gem_flink(&connection->client, flink->handle, &flink->name);
+}
+
+int answer_gem_open(struct connection *connection, void *argument)
+{
+    struct drm_gem_open *opening = argument;
+    struct zirkoshe_buffer buffer;
+    int failed = zirkoshe_gem_open(&connection->client, opening->name, &buffer);
+
+    if (failed)
+        return failed;
+    buffers_note(&connection->buffers, buffer.handle, buffer.size);
+    opening->handle = buffer.handle;
+    opening->size = buffer.size;
+    return 0;
+}
+
+/* The server gives a token, and the descriptor is made here. Where that fails, the token is closed again. */
+int answer_prime_export(struct connection *connection, void *argument)
+{
+    struct drm_prime_handle *prime = argument;
+    uint32_t token;
+    int failed, fd;
+
+    if (prime->flags & ~(uint32_t)(DRM_CLOEXEC | DRM_RDWR))
+        return -EINVAL;
+    buffers_close_tokens(connection, true);
+    failed = zirkoshe_drmPrimeHandleToFD(&connection->client, prime->handle, &token);
+    if (failed)
+        return failed;
+    fd = buffers_export(&connection->buffers, prime->handle, token, (int)prime->flags);
+    if (fd < 0) {
+        zirkoshe_token_close(&connection->client, token);
+        return fd;
+    }
+    prime->fd = fd;
+    return 0;
+}
+
+int answer_prime_import(struct connection *connection, void *argument)
+{
+    struct drm_prime_handle *prime = argument;
+
+    return buffers_import(connection, prime->fd, &prime->handle);
+}
+
+int answer_create_dumb(struct connection *connection, void *argument)
+{
+    struct drm_mode_create_dumb *dumb = argument;
+    struct zirkoshe_dumb made;
+    int failed;
+
+    buffers_close_tokens(connection, true);
+    failed = zirkoshe_drmModeCreateDumbBuffer(&connection->client, dumb->width, dumb->height, dumb->bpp, &made);
+    if (failed)
+        return failed;
+    buffers_note(&connection->buffers, made.handle, made.size);
+    dumb->handle = made.handle;
+    dumb->pitch = made.pitch;
+    dumb->size = made.size;
+    return 0;
+}
+
+/* Whether the caller holds a handle shows in the reading of its stamp, which the core has no word for. */
+int answer_map_dumb(struct connection *connection, void *argument)
+{
+    struct drm_mode_map_dumb *map = argument;
+    uint64_t stamp, size;
+    int failed = zirkoshe_stamp_read(&connection->client, map->handle, &stamp);
+    int memory;
+
+    if (failed)
+        return failed;
+    memory = buffers_memory(&connection->buffers, map->handle, &size);
+    if (memory < 0)
+        return memory;
+    map->offset = offset_of(map->handle);
+    return 0;
+}
+
+int answer_destroy_dumb(struct connection *connection, void *argument)
+{
+    const struct drm_mode_destroy_dumb *destroyed = argument;
+    int failed = zirkoshe_drmModeDestroyDumbBuffer(&connection->client, destroyed->handle);
+
+    if (!failed)
+        buffers_forget(&connection->buffers, destroyed->handle);
+    return failed;
+}

@@ -1,0 +1,66 @@
+/* The program's descriptors that are connections to the server.
+ *
+ * What the program gets for a node is the socket itself. So dup, fork, exec, passing it to another process and its closing are
+ * what they are for every descriptor, and the server's client goes with the last of them. A descriptor is told by the socket's
+ * cookie, a number that the kernel gives no other socket; so no table of descriptors is kept, and none can be wrong.
+ */
+#ifndef ZIRKOSHE_LIBDRM_CONNECTIONS_H
+#define ZIRKOSHE_LIBDRM_CONNECTIONS_H
+
+#include "libc.h"
+
+#include <signal.h>
+#include <unistd.h>
+
+/* The client closes duplicates alone, which are none of the program's closings. */
+#define close libc_close
+#include "drm_client.h"
+#undef close
+
+#include "buffers.h"
+
+enum node { NODE_CARD, NODE_RENDER, NODE_ROOT };
+
+struct connection {
+    struct connection *next;
+    uint64_t cookie;
+    enum node node;
+    unsigned users;   /* the list, and each thread that found it */
+    bool is_forked;   /* this process has forked since, or was forked with it: its parent and its children may have it */
+    bool is_received; /* this process has it from somewhere else: anybody may have it */
+    bool is_sent;     /* this process has sent it away, and it may still be under way */
+    struct buffers buffers;
+    struct zirkoshe_client client; /* its socket is a duplicate while the connection is held, and else -1 */
+    sigset_t signals;              /* what the holder had blocked before, */
+    int cancel_state;              /* and whether it could be cancelled */
+};
+
+/* The path of the server's socket for this node, or NULL where there is none. */
+const char *node_path(enum node node);
+
+/* Opens a node, or by a lease token, and gives a descriptor with these flags of open, or a negative errno. */
+int connection_open(enum node node, bool is_lease, uint32_t token, int flags);
+
+/* Whether this process has a connection that it knows of, and isn't a child of vfork. */
+bool connections_exist(void);
+
+/* The connection that this descriptor is, until connection_release; NULL where it is none. */
+struct connection *connection_find(int fd);
+void connection_release(struct connection *connection);
+
+/* Holds the connection, so that nobody else asks, in whichever thread or process; 0, or a negative errno. Calls may follow. */
+int connection_hold(struct connection *connection, int fd);
+
+/* Lets it go, and gives what the calls gave, or -ENODEV where the server is lost. */
+int connection_let_go(struct connection *connection, int fd, int failed);
+
+/* The rule by which the server refused what this thread asked last, or 0 where the errno is another one than that rule's. */
+uint32_t connection_refused_by(void);
+
+/* Closes this descriptor of the connection. Where it is the last one anywhere, the server has closed its client afterwards. */
+int connection_close(struct connection *connection, int fd);
+
+/* Notes that this descriptor is about to be sent to another process, if it is a connection. */
+void connection_is_sent(int fd);
+
+#endif

@@ -1,0 +1,199 @@
+/* Answers of the core: the driver, its capabilities, masters and magics. */
+#include "answers.h"
+
+#include <stdlib.h>
+
+int give(uint64_t pointer, uint32_t *room, const void *items, uint32_t count, size_t size)
+{
+    uint32_t given = *room < count ? *room : count;
+
+    *room = count;
+    if (given == 0)
+        return 0;
+    if (pointer == 0)
+        return -EFAULT;
+    memcpy((void *)(uintptr_t)pointer, items, given * size);
+    return 0;
+}
+
+void give_text(char *buffer, size_t *room, const char *text)
+{
+    size_t length = strlen(text);
+
+    if (buffer != NULL)
+        memcpy(buffer, text, *room < length ? *room : length);
+    *room = length;
+}
+
+/* Programs that look for a driver by its name are told the one that they look for. */
+static const char *driver_name(void)
+{
+    const char *name = getenv("DRM_SERVER_DRIVER");
+
+    return name == NULL || name[0] == '\0' ? "zirkoshe" : name;
+}
+
+int answer_version(struct connection *connection, void *argument)
+{
+    struct drm_version *version = argument;
+    struct zirkoshe_version found;
+    int failed = zirkoshe_drmGetVersion(&connection->client, &found);
+
+    if (failed)
+        return failed;
+    version->version_major = (int)found.major_number;
+    version->version_minor = (int)found.minor_number;
+    version->version_patchlevel = (int)found.patch;
+    give_text(version->name, &version->name_len, driver_name());
+    give_text(version->date, &version->date_len, "0");
+    give_text(version->desc, &version->desc_len, "Zirkoshe display and buffer server");
+    return 0;
+}
+
+/* A master's device has no name before SET_VERSION gives it one, which it doesn't here. */
+int answer_get_unique(struct connection *connection, void *argument)
+{
+    struct drm_unique *unique = argument;
+
+    (void)connection;
+    unique->unique_len = 0;
+    return 0;
+}
+
+/* The caller itself is client 0, and there is no other. Whether it is authenticated shows in a call that wants it, of no handle. */
+int answer_get_client(struct connection *connection, void *argument)
+{
+    struct drm_client *client = argument;
+    uint32_t name;
+
+    if (client->idx != 0)
+        return -EINVAL;
+    zirkoshe_gem_flink(&connection->client, 0, &name);
+    client->auth = connection->client.rule != 12;
+    client->pid = (unsigned long)getpid();
+    client->uid = (unsigned long)getuid();
+    client->magic = 0;
+    client->iocs = 0;
+    return 0;
+}
+
+int answer_nothing(struct connection *connection, void *argument)
+{
+    (void)connection;
+    (void)argument;
+    return 0;
+}
+
+/* Whether a version that was asked for, -1 for none, is at most this one. */
+static bool is_at_most(int major_number, int minor_number, int own_major, int own_minor)
+{
+    return major_number == -1 || (major_number == own_major && minor_number >= 0 && minor_number <= own_minor);
+}
+
+int answer_set_version(struct connection *connection, void *argument)
+{
+    struct drm_set_version *version = argument;
+    struct zirkoshe_version own;
+    int failed = zirkoshe_drmGetVersion(&connection->client, &own);
+    bool is_known;
+
+    if (failed)
+        return failed;
+    is_known = is_at_most(version->drm_di_major, version->drm_di_minor, 1, 4)
+        && is_at_most(version->drm_dd_major, version->drm_dd_minor, (int)own.major_number, (int)own.minor_number);
+    version->drm_di_major = 1;
+    version->drm_di_minor = 4;
+    version->drm_dd_major = (int)own.major_number;
+    version->drm_dd_minor = (int)own.minor_number;
+    return is_known ? 0 : -EINVAL;
+}
+
+/* What the core answers of capabilities that have nothing to do with the driver, or that the driver lacks. */
+static int find_core_cap(uint64_t capability, uint64_t *value)
+{
+    static const struct { uint64_t capability, value; } known[] = {
+        {DRM_CAP_VBLANK_HIGH_CRTC, 1}, {DRM_CAP_DUMB_PREFERRED_DEPTH, 0}, {DRM_CAP_DUMB_PREFER_SHADOW, 0},
+        {DRM_CAP_TIMESTAMP_MONOTONIC, 1}, {DRM_CAP_ASYNC_PAGE_FLIP, 0}, {DRM_CAP_CURSOR_WIDTH, 64}, {DRM_CAP_CURSOR_HEIGHT, 64},
+        {DRM_CAP_ADDFB2_MODIFIERS, 0}, {DRM_CAP_PAGE_FLIP_TARGET, 0}, {DRM_CAP_CRTC_IN_VBLANK_EVENT, 1}, {DRM_CAP_SYNCOBJ, 0},
+        {DRM_CAP_SYNCOBJ_TIMELINE, 0},
+    };
+    size_t at;
+
+    for (at = 0; at < sizeof known / sizeof known[0]; at++) {
+        if (known[at].capability == capability) {
+            *value = known[at].value;
+            return 0;
+        }
+    }
+    return -EINVAL;
+}
+
+/* Whether the server knows no such capability (rule 41). */
+static bool is_unknown_cap(const struct connection *connection)
+{
+    return connection->client.rule == 41;
+}
+
+int answer_get_cap(struct connection *connection, void *argument)
+{
+    struct drm_get_cap *cap = argument;
+    uint64_t value;
+    int failed = zirkoshe_drmGetCap(&connection->client, cap->capability, &value);
+
+    if (failed && is_unknown_cap(connection))
+        failed = find_core_cap(cap->capability, &value);
+    if (!failed)
+        cap->value = value;
+    return failed;
+}
+
+/* What the core does with a capability of a client that the server doesn't know. Layouts of stereo and aspect ratios are told in
+ * modes alone, and those here have none. Universal planes are on at all times: the server tells everybody of all planes that he sees.
+ */
+static int set_core_cap(const struct drm_set_client_cap *cap)
+{
+    switch (cap->capability) {
+    case DRM_CLIENT_CAP_STEREO_3D:
+    case DRM_CLIENT_CAP_UNIVERSAL_PLANES:
+    case DRM_CLIENT_CAP_ASPECT_RATIO:
+        return cap->value <= 1 ? 0 : -EINVAL;
+    case DRM_CLIENT_CAP_ATOMIC:
+        return -EOPNOTSUPP;
+    default:
+        return -EINVAL;
+    }
+}
+
+int answer_set_client_cap(struct connection *connection, void *argument)
+{
+    const struct drm_set_client_cap *cap = argument;
+    int failed = zirkoshe_drmSetClientCap(&connection->client, cap->capability, cap->value);
+
+    return failed && is_unknown_cap(connection) ? set_core_cap(cap) : failed;
+}
+
+int answer_get_magic(struct connection *connection, void *argument)
+{
+    struct drm_auth *auth = argument;
+
+    return zirkoshe_drmGetMagic(&connection->client, &auth->magic);
+}
+
+int answer_auth_magic(struct connection *connection, void *argument)
+{
+    const struct drm_auth *auth = argument;
+
+    return zirkoshe_drmAuthMagic(&connection->client, auth->magic);
+}
+
+int answer_set_master(struct connection *connection, void *argument)
+{
+    (void)argument;
+    return zirkoshe_drmSetMaster(&connection->client);
+}
+
+int answer_drop_master(struct connection *connection, void *argument)
+{
+    (void)argument;
+    return zirkoshe_drmDropMaster(&connection->client);
+}

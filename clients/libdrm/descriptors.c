@@ -1,0 +1,166 @@
+/* The functions of the C library on descriptors: connections and PRIME descriptors want other answers than sockets and files. */
+#include "connections.h"
+
+#include "ioctls.h"
+
+#include <stdarg.h>
+#include <sys/mman.h>
+
+/* What a function gives, where the answer may be a negative errno. */
+static int result_of(int answer)
+{
+    if (answer >= 0)
+        return answer;
+    errno = -answer;
+    return -1;
+}
+
+SHOWN int ioctl(int fd, unsigned long request, ...)
+{
+    struct connection *connection = is_for_nodes(request) ? connection_find(fd) : NULL;
+    void *argument;
+    va_list list;
+    int answer;
+
+    va_start(list, request);
+    argument = va_arg(list, void *);
+    va_end(list);
+    if (connection != NULL) {
+        answer = carry_out(connection, fd, (uint32_t)request, argument);
+        connection_release(connection);
+        return result_of(answer);
+    }
+    if (is_for_memory(request) && is_memory(fd))
+        return result_of(carry_out_on_memory((uint32_t)request, argument));
+    return REAL(ioctl)(fd, request, argument);
+}
+
+/* Whether it is a connection; then it is closed, and what close gives is in `result`. */
+static bool closes(int fd, int *result)
+{
+    struct connection *connection = connections_exist() ? connection_find(fd) : NULL;
+
+    if (connection == NULL)
+        return false;
+    *result = connection_close(connection, fd);
+    connection_release(connection);
+    return true;
+}
+
+SHOWN int close(int fd)
+{
+    bool was_memory = memory_exists() && is_memory(fd);
+    int result;
+
+    if (closes(fd, &result))
+        return result;
+    result = libc_close(fd);
+    if (was_memory)
+        memory_was_closed();
+    return result;
+}
+
+/* What is overwritten by dup2 is closed before, so that the server has seen it once dup2 is done. */
+static void make_way(int from, int to)
+{
+    int result;
+
+    if (from != to && fcntl(from, F_GETFD) >= 0)
+        closes(to, &result);
+}
+
+SHOWN int dup2(int from, int to)
+{
+    make_way(from, to);
+    return REAL(dup2)(from, to);
+}
+
+SHOWN int dup3(int from, int to, int flags)
+{
+    make_way(from, to);
+    return REAL(dup3)(from, to, flags);
+}
+
+/* Reading a node gives events, of which there are none: who may wait does so until a signal comes. */
+SHOWN ssize_t read(int fd, void *bytes, size_t size)
+{
+    struct connection *connection = connections_exist() ? connection_find(fd) : NULL;
+
+    if (connection == NULL)
+        return REAL(read)(fd, bytes, size);
+    connection_release(connection);
+    if (fcntl(fd, F_GETFL) & O_NONBLOCK)
+        return result_of(-EAGAIN);
+    return poll(NULL, 0, -1);
+}
+
+/* Notes which connections a message carries to another process. */
+static void note_sent(const struct msghdr *message)
+{
+    struct msghdr *parts = (struct msghdr *)(uintptr_t)message; /* CMSG_NXTHDR changes nothing */
+    struct cmsghdr *part;
+
+    for (part = message == NULL ? NULL : CMSG_FIRSTHDR(parts); part != NULL; part = CMSG_NXTHDR(parts, part)) {
+        size_t count = part->cmsg_len < CMSG_LEN(0) ? 0 : (part->cmsg_len - CMSG_LEN(0)) / sizeof(int);
+        size_t at;
+
+        if (part->cmsg_level != SOL_SOCKET || part->cmsg_type != SCM_RIGHTS)
+            continue;
+        for (at = 0; at < count; at++) {
+            int fd;
+
+            memcpy(&fd, CMSG_DATA(part) + at * sizeof fd, sizeof fd);
+            connection_is_sent(fd);
+        }
+    }
+}
+
+SHOWN ssize_t sendmsg(int socket, const struct msghdr *message, int flags)
+{
+    note_sent(message);
+    return REAL(sendmsg)(socket, message, flags);
+}
+
+SHOWN int sendmmsg(int socket, struct mmsghdr *messages, unsigned count, int flags)
+{
+    unsigned at;
+
+    for (at = 0; at < count; at++)
+        note_sent(&messages[at].msg_hdr);
+    return REAL(sendmmsg)(socket, messages, count, flags);
+}
+
+/* Maps what a handle's memory has at this offset, if it is one. */
+static void *map(struct connection *connection, void *address, size_t length, int protection, int flags, uint64_t offset)
+{
+    void *mapped = MAP_FAILED;
+    uint64_t size;
+    int memory;
+
+    zirkoshe_lock(&connection->client);
+    memory = buffers_memory(&connection->buffers, handle_at(offset), &size);
+    if (memory < 0)
+        errno = -memory;
+    else if (length > size || place_at(offset) > size - length)
+        errno = EINVAL;
+    else
+        mapped = REAL(mmap)(address, length, protection, flags, memory, (off_t)place_at(offset));
+    zirkoshe_unlock(&connection->client);
+    return mapped;
+}
+
+SHOWN void *mmap(void *address, size_t length, int protection, int flags, int fd, off_t offset)
+{
+    struct connection *connection = fd >= 0 && !(flags & MAP_ANONYMOUS) && connections_exist() ? connection_find(fd) : NULL;
+    void *mapped;
+
+    if (connection == NULL)
+        return REAL(mmap)(address, length, protection, flags, fd, offset);
+    mapped = map(connection, address, length, protection, flags, (uint64_t)offset);
+    connection_release(connection);
+    return mapped;
+}
+
+_Static_assert(sizeof(off_t) == sizeof(off64_t), "this is for systems of 64 bits");
+
+SHOWN ALSO(mmap64, mmap);

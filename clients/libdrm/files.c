@@ -1,0 +1,350 @@
+/* The functions of the C library that open, look at and close files: those of the device are answered here. */
+#include "tree.h"
+
+#include <limits.h>
+#include <stdarg.h>
+#include <stdio.h>
+#include <stdlib.h>
+#include <sys/mman.h>
+#include <sys/sysmacros.h>
+
+_Static_assert(sizeof(struct stat) == sizeof(struct stat64) && sizeof(off_t) == 8, "this is for systems of 64 bits");
+
+/* Fails as the C library does. */
+static int fail(int error)
+{
+    errno = error;
+    return -1;
+}
+
+/* A descriptor of a text, from its front. */
+static int open_text(const char *text, int flags)
+{
+    int fd = memfd_create("zirkoshe-text", flags & O_CLOEXEC ? MFD_CLOEXEC : 0);
+    size_t size = strlen(text);
+
+    if (fd >= 0 && (write(fd, text, size) != (ssize_t)size || lseek(fd, 0, SEEK_SET) != 0)) {
+        libc_close(fd);
+        return fail(EIO);
+    }
+    return fd;
+}
+
+/* Opens an entry, or the connection that it is. */
+static int open_entry(const struct entry *entry, int flags)
+{
+    int opened;
+
+    if (flags & (O_PATH | O_DIRECTORY))
+        return fail(entry->kind == KIND_FOLDER || flags & O_PATH ? EACCES : ENOTDIR);
+    if (entry->kind == KIND_TEXT)
+        return open_text(entry->text, flags);
+    if (entry->kind != KIND_NODE)
+        return fail(EACCES);
+    opened = connection_open(entry->node, false, 0, flags);
+    return opened < 0 ? fail(-opened) : opened;
+}
+
+/* Whether the path is the device's; then what open gives is in `fd`. */
+static bool opens(const char *path, int flags, int *fd)
+{
+    const struct entry *entry = entry_at(path);
+
+    if (entry == NULL && !is_hidden(path))
+        return false;
+    *fd = entry == NULL ? fail(ENOENT) : open_entry(entry, flags);
+    return true;
+}
+
+/* The mode of a file that open might make. */
+#define MODE_OF(flags, mode) \
+    do { \
+        if (((flags) & O_CREAT) || ((flags) & O_TMPFILE) == O_TMPFILE) { \
+            va_list list; \
+ \
+            va_start(list, flags); \
+            mode = va_arg(list, mode_t); \
+            va_end(list); \
+        } \
+    } while (0)
+
+SHOWN int open(const char *path, int flags, ...)
+{
+    mode_t mode = 0;
+    int fd;
+
+    MODE_OF(flags, mode);
+    return opens(path, flags, &fd) ? fd : REAL(open)(path, flags, mode);
+}
+
+SHOWN int openat(int folder, const char *path, int flags, ...)
+{
+    mode_t mode = 0;
+    int fd;
+
+    MODE_OF(flags, mode);
+    return opens(path, flags, &fd) ? fd : REAL(openat)(folder, path, flags, mode);
+}
+
+/* Sizes have 64 bits in any case. */
+SHOWN ALSO(open64, open);
+SHOWN ALSO(openat64, openat);
+
+/* What calls of open become where a program was compiled with checks. */
+SHOWN int __open_2(const char *path, int flags)
+{
+    return open(path, flags);
+}
+
+SHOWN int __openat_2(int folder, const char *path, int flags)
+{
+    return openat(folder, path, flags);
+}
+
+SHOWN ALSO(__open64_2, __open_2);
+SHOWN ALSO(__openat64_2, __openat_2);
+
+static bool opens_stream(const char *path, const char *mode, FILE **stream)
+{
+    const struct entry *entry = entry_at(path);
+
+    if (entry == NULL && !is_hidden(path))
+        return false;
+    *stream = NULL;
+    if (entry == NULL)
+        errno = ENOENT;
+    else if (entry->kind != KIND_TEXT || mode[0] != 'r')
+        errno = EACCES;
+    else
+        *stream = fmemopen((void *)(uintptr_t)entry->text, strlen(entry->text), "r");
+    return true;
+}
+
+SHOWN FILE *fopen(const char *path, const char *mode)
+{
+    FILE *stream;
+
+    return opens_stream(path, mode, &stream) ? stream : REAL(fopen)(path, mode);
+}
+
+SHOWN ALSO(fopen64, fopen);
+
+/* Whether the path is the device's; then what stat gives is in `result`. */
+static bool tells(const char *path, bool follows, struct stat *status, int *result)
+{
+    const struct entry *entry = entry_at(path);
+
+    if (entry == NULL && !is_hidden(path))
+        return false;
+    *result = entry == NULL ? fail(ENOENT) : 0;
+    if (entry != NULL)
+        entry_status(entry, follows, status);
+    return true;
+}
+
+/* What fstat told, where the descriptor turns out to be a connection. */
+static int told_of_descriptor(int fd, struct stat *status, int result)
+{
+    struct connection *connection = result == 0 && S_ISSOCK(status->st_mode) ? connection_find(fd) : NULL;
+
+    if (connection != NULL) {
+        node_status(connection->node, status);
+        connection_release(connection);
+    }
+    return result;
+}
+
+/* Whether the descriptor itself is asked of. (The C library's header says that a path is never NULL; a kernel takes it.) */
+__attribute__((noinline)) static bool is_no_path(const char *path)
+{
+    return path == NULL || path[0] == '\0';
+}
+
+/* Each function of stat, of whichever width, which are the same where a file's size has 64 bits. */
+#define STAT_FUNCTIONS(suffix) \
+    SHOWN int stat##suffix(const char *path, struct stat##suffix *status) \
+    { \
+        int result; \
+ \
+        return tells(path, true, (struct stat *)status, &result) ? result : REAL(stat##suffix)(path, status); \
+    } \
+    SHOWN int lstat##suffix(const char *path, struct stat##suffix *status) \
+    { \
+        int result; \
+ \
+        return tells(path, false, (struct stat *)status, &result) ? result : REAL(lstat##suffix)(path, status); \
+    } \
+    SHOWN int fstatat##suffix(int folder, const char *path, struct stat##suffix *status, int flags) \
+    { \
+        bool follows = !(flags & AT_SYMLINK_NOFOLLOW); \
+        int result; \
+ \
+        if (tells(path, follows, (struct stat *)status, &result)) \
+            return result; \
+        result = REAL(fstatat##suffix)(folder, path, status, flags); \
+        return is_no_path(path) ? told_of_descriptor(folder, (struct stat *)status, result) : result; \
+    } \
+    SHOWN int fstat##suffix(int fd, struct stat##suffix *status) \
+    { \
+        return told_of_descriptor(fd, (struct stat *)status, REAL(fstat##suffix)(fd, status)); \
+    }
+
+STAT_FUNCTIONS()
+STAT_FUNCTIONS(64)
+
+/* What calls of stat were before glibc 2.33. */
+#define OLD_STAT_FUNCTIONS(suffix) \
+    SHOWN int __xstat##suffix(int version, const char *path, struct stat##suffix *status) \
+    { \
+        (void)version; \
+        return stat##suffix(path, status); \
+    } \
+    SHOWN int __lxstat##suffix(int version, const char *path, struct stat##suffix *status) \
+    { \
+        (void)version; \
+        return lstat##suffix(path, status); \
+    } \
+    SHOWN int __fxstat##suffix(int version, int fd, struct stat##suffix *status) \
+    { \
+        (void)version; \
+        return fstat##suffix(fd, status); \
+    }
+
+int __xstat(int, const char *, struct stat *);
+int __lxstat(int, const char *, struct stat *);
+int __fxstat(int, int, struct stat *);
+int __xstat64(int, const char *, struct stat64 *);
+int __lxstat64(int, const char *, struct stat64 *);
+int __fxstat64(int, int, struct stat64 *);
+OLD_STAT_FUNCTIONS()
+OLD_STAT_FUNCTIONS(64)
+
+/* What statx tells, of what stat does. */
+static void widen(const struct stat *status, struct statx *wide)
+{
+    memset(wide, 0, sizeof *wide);
+    wide->stx_mask = STATX_BASIC_STATS;
+    wide->stx_mode = (uint16_t)status->st_mode;
+    wide->stx_ino = status->st_ino;
+    wide->stx_nlink = (uint32_t)status->st_nlink;
+    wide->stx_size = (uint64_t)status->st_size;
+    wide->stx_blksize = (uint32_t)status->st_blksize;
+    wide->stx_rdev_major = major(status->st_rdev);
+    wide->stx_rdev_minor = minor(status->st_rdev);
+}
+
+SHOWN int statx(int folder, const char *path, int flags, unsigned mask, struct statx *wide)
+{
+    bool is_of_descriptor = is_no_path(path);
+    struct stat status;
+    int result = 0;
+
+    if (!is_of_descriptor && tells(path, !(flags & AT_SYMLINK_NOFOLLOW), &status, &result)) {
+        if (result == 0)
+            widen(&status, wide);
+        return result;
+    }
+    result = REAL(statx)(folder, path, flags, mask, wide);
+    if (result == 0 && is_of_descriptor && S_ISSOCK(wide->stx_mode) && fstat(folder, &status) == 0 && S_ISCHR(status.st_mode))
+        widen(&status, wide);
+    return result;
+}
+
+/* Everybody may read and write what is here, and nobody may run it. */
+static bool allows(const char *path, int mode, int *result)
+{
+    const struct entry *entry = entry_at(path);
+
+    if (entry == NULL && !is_hidden(path))
+        return false;
+    *result = entry == NULL ? fail(ENOENT) : entry->kind == KIND_NODE && (mode & X_OK) ? fail(EACCES) : 0;
+    return true;
+}
+
+SHOWN int access(const char *path, int mode)
+{
+    int result;
+
+    return allows(path, mode, &result) ? result : REAL(access)(path, mode);
+}
+
+SHOWN int faccessat(int folder, const char *path, int mode, int flags)
+{
+    int result;
+
+    return allows(path, mode, &result) ? result : REAL(faccessat)(folder, path, mode, flags);
+}
+
+SHOWN int euidaccess(const char *path, int mode)
+{
+    int result;
+
+    return allows(path, mode, &result) ? result : REAL(euidaccess)(path, mode);
+}
+
+static bool leads(const char *path, char *target, size_t size, ssize_t *length)
+{
+    const struct entry *entry = entry_at(path);
+
+    if (entry == NULL && !is_hidden(path))
+        return false;
+    *length = -1;
+    if (entry == NULL || entry->kind != KIND_LINK) {
+        errno = entry == NULL ? ENOENT : EINVAL;
+        return true;
+    }
+    *length = (ssize_t)strlen(entry->text);
+    if (*length > (ssize_t)size)
+        *length = (ssize_t)size;
+    memcpy(target, entry->text, (size_t)*length);
+    return true;
+}
+
+SHOWN ssize_t readlink(const char *path, char *target, size_t size)
+{
+    ssize_t length;
+
+    return leads(path, target, size, &length) ? length : REAL(readlink)(path, target, size);
+}
+
+SHOWN ssize_t readlinkat(int folder, const char *path, char *target, size_t size)
+{
+    ssize_t length;
+
+    return leads(path, target, size, &length) ? length : REAL(readlinkat)(folder, path, target, size);
+}
+
+/* The paths of the tree are their own real paths, as far as programs ask for those of nodes. */
+static bool is_real(const char *path, char **resolved)
+{
+    const struct entry *entry = entry_at(path);
+
+    if (entry == NULL && !is_hidden(path))
+        return false;
+    if (entry == NULL)
+        errno = ENOENT;
+    if (*resolved == NULL && entry != NULL)
+        *resolved = malloc(PATH_MAX);
+    if (*resolved != NULL && entry != NULL)
+        snprintf(*resolved, PATH_MAX, "%s", path);
+    else
+        *resolved = NULL;
+    return true;
+}
+
+SHOWN char *realpath(const char *path, char *resolved)
+{
+    return is_real(path, &resolved) ? resolved : REAL(realpath)(path, resolved);
+}
+
+SHOWN char *canonicalize_file_name(const char *path)
+{
+    return realpath(path, NULL);
+}
+
+char *__realpath_chk(const char *, char *, size_t);
+
+SHOWN char *__realpath_chk(const char *path, char *resolved, size_t size)
+{
+    return is_real(path, &resolved) ? resolved : REAL(__realpath_chk)(path, resolved, size);
+}

@@ -1,0 +1,87 @@
+/* Answers to requests of framebuffers. */
+#include "answers.h"
+
+int answer_add_fb(struct connection *connection, void *argument)
+{
+    struct drm_mode_fb_cmd *fb = argument;
+
+    return zirkoshe_drmModeAddFB(&connection->client, fb->width, fb->height, fb->pitch, fb->bpp, fb->handle, &fb->fb_id);
+}
+
+/* Whether the server can say what is asked for: one plane from the object's front, and no modifier. */
+static bool is_plain(const struct drm_mode_fb_cmd2 *fb)
+{
+    size_t at;
+
+    for (at = 1; at < 4; at++) {
+        if (fb->handles[at] != 0 || fb->pitches[at] != 0 || fb->offsets[at] != 0)
+            return false;
+    }
+    return fb->offsets[0] == 0 && (fb->flags & ~(uint32_t)DRM_MODE_FB_INTERLACED) == 0;
+}
+
+int answer_add_fb2(struct connection *connection, void *argument)
+{
+    struct drm_mode_fb_cmd2 *fb = argument;
+    uint32_t bits = bits_of_format(fb->pixel_format);
+
+    if (bits == 0 || !is_plain(fb))
+        return -EINVAL;
+    return zirkoshe_drmModeAddFB(&connection->client, fb->width, fb->height, fb->pitches[0], bits, fb->handles[0], &fb->fb_id);
+}
+
+/* Asks for a framebuffer. A handle that comes with it is a new one, whose memory is as long as the framebuffer needs. */
+static int get_fb(struct connection *connection, uint32_t fb_id, struct zirkoshe_fb *fb)
+{
+    int failed = zirkoshe_drmModeGetFB(&connection->client, fb_id, fb);
+    uint64_t size;
+
+    if (failed || fb->handle == 0)
+        return failed;
+    size = (uint64_t)fb->pitch * fb->height;
+    buffers_note(&connection->buffers, fb->handle, (size + 4095) / 4096 * 4096);
+    return 0;
+}
+
+int answer_get_fb(struct connection *connection, void *argument)
+{
+    struct drm_mode_fb_cmd *fb = argument;
+    struct zirkoshe_fb found;
+    int failed = get_fb(connection, fb->fb_id, &found);
+
+    if (failed)
+        return failed;
+    fb->width = found.width;
+    fb->height = found.height;
+    fb->pitch = found.pitch;
+    fb->bpp = found.bpp;
+    fb->depth = depth_of_bits(found.bpp);
+    fb->handle = found.handle;
+    return 0;
+}
+
+int answer_get_fb2(struct connection *connection, void *argument)
+{
+    struct drm_mode_fb_cmd2 *fb = argument;
+    uint32_t fb_id = fb->fb_id;
+    struct zirkoshe_fb found;
+    int failed = get_fb(connection, fb_id, &found);
+
+    if (failed)
+        return failed;
+    memset(fb, 0, sizeof *fb);
+    fb->fb_id = fb_id;
+    fb->width = found.width;
+    fb->height = found.height;
+    fb->pixel_format = format_of_bits(found.bpp);
+    fb->pitches[0] = found.pitch;
+    fb->handles[0] = found.handle;
+    return 0;
+}
+
+int answer_rm_fb(struct connection *connection, void *argument)
+{
+    const uint32_t *fb_id = argument;
+
+    return zirkoshe_drmModeRmFB(&connection->client, *fb_id);
+}

@@ -1,0 +1,200 @@
+/* The table of requests, and the answering of one. */
+#include "ioctls.h"
+
+#include "answers.h"
+
+#include <linux/dma-buf.h>
+#include <stdio.h>
+#include <stdlib.h>
+#include <sys/ioctl.h>
+
+/* What the core asks of the caller before a call that the server doesn't have; the server asks it before its own. */
+enum wants { WANTS_NOTHING, WANTS_PRIMARY, WANTS_MASTER };
+
+struct row {
+    uint32_t request;
+    const char *name;
+    answer *answer;
+    enum wants wants;
+};
+
+#define ROW(name, answer, wants) {DRM_IOCTL_##name, #name, answer, wants}
+
+static const struct row rows[] = {
+    ROW(VERSION, answer_version, WANTS_NOTHING),
+    ROW(GET_UNIQUE, answer_get_unique, WANTS_PRIMARY),
+    ROW(GET_MAGIC, answer_get_magic, WANTS_NOTHING),
+    ROW(GET_CLIENT, answer_get_client, WANTS_PRIMARY),
+    ROW(GET_STATS, answer_nothing, WANTS_PRIMARY),
+    ROW(SET_VERSION, answer_set_version, WANTS_MASTER),
+    ROW(GEM_CLOSE, answer_gem_close, WANTS_NOTHING),
+    ROW(GEM_FLINK, answer_gem_flink, WANTS_NOTHING),
+    ROW(GEM_OPEN, answer_gem_open, WANTS_NOTHING),
+    ROW(GET_CAP, answer_get_cap, WANTS_NOTHING),
+    ROW(SET_CLIENT_CAP, answer_set_client_cap, WANTS_NOTHING),
+    ROW(AUTH_MAGIC, answer_auth_magic, WANTS_NOTHING),
+    ROW(SET_MASTER, answer_set_master, WANTS_NOTHING),
+    ROW(DROP_MASTER, answer_drop_master, WANTS_NOTHING),
+    ROW(PRIME_HANDLE_TO_FD, answer_prime_export, WANTS_NOTHING),
+    ROW(PRIME_FD_TO_HANDLE, answer_prime_import, WANTS_NOTHING),
+    ROW(WAIT_VBLANK, lacks_support, WANTS_PRIMARY),
+    ROW(CRTC_GET_SEQUENCE, lacks_support, WANTS_PRIMARY),
+    ROW(CRTC_QUEUE_SEQUENCE, lacks_support, WANTS_PRIMARY),
+    ROW(MODE_GETRESOURCES, answer_get_resources, WANTS_NOTHING),
+    ROW(MODE_GETCRTC, answer_get_crtc, WANTS_NOTHING),
+    ROW(MODE_SETCRTC, answer_set_crtc, WANTS_NOTHING),
+    ROW(MODE_CURSOR, lacks_cursor, WANTS_MASTER),
+    ROW(MODE_GETGAMMA, lacks_gamma_size, WANTS_PRIMARY),
+    ROW(MODE_SETGAMMA, lacks_gamma, WANTS_MASTER),
+    ROW(MODE_GETENCODER, answer_get_encoder, WANTS_NOTHING),
+    ROW(MODE_GETCONNECTOR, answer_get_connector, WANTS_NOTHING),
+    ROW(MODE_ATTACHMODE, answer_nothing, WANTS_MASTER),
+    ROW(MODE_DETACHMODE, answer_nothing, WANTS_MASTER),
+    ROW(MODE_GETPROPERTY, answer_get_property, WANTS_PRIMARY),
+    ROW(MODE_SETPROPERTY, answer_set_connector_property, WANTS_MASTER),
+    ROW(MODE_GETPROPBLOB, lacks_object, WANTS_PRIMARY),
+    ROW(MODE_GETFB, answer_get_fb, WANTS_NOTHING),
+    ROW(MODE_ADDFB, answer_add_fb, WANTS_NOTHING),
+    ROW(MODE_RMFB, answer_rm_fb, WANTS_NOTHING),
+    ROW(MODE_PAGE_FLIP, lacks_page_flip, WANTS_MASTER),
+    ROW(MODE_DIRTYFB, lacks_dirty, WANTS_MASTER),
+    ROW(MODE_CREATE_DUMB, answer_create_dumb, WANTS_NOTHING),
+    ROW(MODE_MAP_DUMB, answer_map_dumb, WANTS_PRIMARY),
+    ROW(MODE_DESTROY_DUMB, answer_destroy_dumb, WANTS_NOTHING),
+    ROW(MODE_GETPLANERESOURCES, answer_get_plane_resources, WANTS_NOTHING),
+    ROW(MODE_GETPLANE, answer_get_plane, WANTS_NOTHING),
+    ROW(MODE_SETPLANE, answer_set_plane, WANTS_NOTHING),
+    ROW(MODE_ADDFB2, answer_add_fb2, WANTS_PRIMARY),
+    ROW(MODE_OBJ_GETPROPERTIES, answer_get_object_properties, WANTS_PRIMARY),
+    ROW(MODE_OBJ_SETPROPERTY, answer_set_object_property, WANTS_MASTER),
+    ROW(MODE_CURSOR2, lacks_cursor, WANTS_MASTER),
+    ROW(MODE_ATOMIC, lacks_support, WANTS_MASTER),
+    ROW(MODE_CREATEPROPBLOB, lacks_support, WANTS_PRIMARY),
+    ROW(MODE_DESTROYPROPBLOB, lacks_object, WANTS_PRIMARY),
+    ROW(SYNCOBJ_CREATE, lacks_support, WANTS_NOTHING),
+    ROW(SYNCOBJ_DESTROY, lacks_support, WANTS_NOTHING),
+    ROW(SYNCOBJ_HANDLE_TO_FD, lacks_support, WANTS_NOTHING),
+    ROW(SYNCOBJ_FD_TO_HANDLE, lacks_support, WANTS_NOTHING),
+    ROW(SYNCOBJ_WAIT, lacks_support, WANTS_NOTHING),
+    ROW(SYNCOBJ_RESET, lacks_support, WANTS_NOTHING),
+    ROW(SYNCOBJ_SIGNAL, lacks_support, WANTS_NOTHING),
+    ROW(SYNCOBJ_TIMELINE_WAIT, lacks_support, WANTS_NOTHING),
+    ROW(SYNCOBJ_QUERY, lacks_support, WANTS_NOTHING),
+    ROW(SYNCOBJ_TRANSFER, lacks_support, WANTS_NOTHING),
+    ROW(SYNCOBJ_TIMELINE_SIGNAL, lacks_support, WANTS_NOTHING),
+    ROW(MODE_LIST_LESSEES, answer_list_lessees, WANTS_NOTHING),
+    ROW(MODE_GET_LEASE, answer_get_lease, WANTS_NOTHING),
+    ROW(MODE_REVOKE_LEASE, answer_revoke_lease, WANTS_NOTHING),
+    ROW(MODE_GETFB2, answer_get_fb2, WANTS_NOTHING),
+};
+
+/* The struct of a request, as large as the largest. */
+union argument {
+    struct drm_stats largest;
+    max_align_t aligned;
+};
+
+bool is_for_nodes(unsigned long request)
+{
+    return _IOC_TYPE(request) == DRM_IOCTL_BASE;
+}
+
+bool is_for_memory(unsigned long request)
+{
+    return _IOC_TYPE(request) == DMA_BUF_BASE;
+}
+
+static const struct row *row_of(uint32_t request)
+{
+    size_t at;
+
+    for (at = 0; at < sizeof rows / sizeof rows[0]; at++) {
+        if (_IOC_NR(rows[at].request) == _IOC_NR(request))
+            return &rows[at];
+    }
+    return NULL;
+}
+
+/* Who is current is told by a call that changes nothing and that they alone may make. */
+static int permit(struct connection *connection, enum wants wants)
+{
+    struct zirkoshe_ids lessees;
+
+    if (wants == WANTS_NOTHING)
+        return 0;
+    if (connection->node == NODE_RENDER)
+        return -EACCES;
+    return wants == WANTS_MASTER ? zirkoshe_drmModeListLessees(&connection->client, &lessees) : 0;
+}
+
+static int ask(struct connection *connection, int fd, const struct row *row, void *argument)
+{
+    int failed = connection_hold(connection, fd);
+
+    if (failed)
+        return failed;
+    buffers_close_tokens(connection, false);
+    connection->client.rule = 0;
+    failed = permit(connection, row->wants);
+    if (!failed)
+        failed = row->answer(connection, argument);
+    return connection_let_go(connection, fd, failed);
+}
+
+/* Tells who wants to know what failed: by a rule of the server, or in this library (0), with the errno. */
+static void trace(const char *name, uint32_t rule, int error)
+{
+    const char *wanted = getenv("DRM_SERVER_TRACE");
+
+    if (wanted == NULL || wanted[0] == '\0')
+        return;
+    if (rule != 0)
+        dprintf(STDERR_FILENO, "%s: denied %u %s %d\n", name, (unsigned)rule, zirkoshe_rule_name(rule), error);
+    else
+        dprintf(STDERR_FILENO, "%s: failed %d\n", name, error);
+}
+
+static size_t least(size_t one, size_t other)
+{
+    return one < other ? one : other;
+}
+
+/* The core takes a struct that is shorter or longer than it knows: what is missing is 0, and what is too much is left alone. */
+int carry_out(struct connection *connection, int fd, uint32_t request, void *argument)
+{
+    static const struct row lease = ROW(MODE_CREATE_LEASE, NULL, WANTS_NOTHING);
+    bool is_lease = _IOC_NR(request) == _IOC_NR(lease.request);
+    const struct row *row = is_lease ? &lease : row_of(request);
+    union argument held;
+    size_t size;
+    int failed;
+
+    if (row == NULL) {
+        trace("a request that isn't known", 0, EINVAL);
+        return -EINVAL;
+    }
+    size = least(least(_IOC_SIZE(request), _IOC_SIZE(row->request)), sizeof held);
+    if (size > 0 && argument == NULL)
+        return -EFAULT;
+    memset(&held, 0, sizeof held);
+    if (request & row->request & IOC_IN)
+        memcpy(&held, argument, size);
+    failed = is_lease ? answer_create_lease(connection, fd, &held) : ask(connection, fd, row, &held);
+    if (failed)
+        trace(row->name, connection_refused_by(), -failed);
+    if (request & row->request & IOC_OUT)
+        memcpy(argument, &held, size);
+    return failed;
+}
+
+/* Memory that all share needs no keeping in step. */
+int carry_out_on_memory(uint32_t request, const void *argument)
+{
+    const struct dma_buf_sync *sync = argument;
+
+    if (request != DMA_BUF_IOCTL_SYNC)
+        return -ENOTTY;
+    if (argument == NULL)
+        return -EFAULT;
+    return sync->flags & ~(__u64)DMA_BUF_SYNC_VALID_FLAGS_MASK || !(sync->flags & DMA_BUF_SYNC_RW) ? -EINVAL : 0;
+}

@@ -1,0 +1,74 @@
+/* Answers to requests of leases. */
+#include "answers.h"
+
+/* The server takes 32 ids at most; more are refused by it as a request that is none, as everywhere. */
+static int create(struct connection *connection, const struct drm_mode_create_lease *create, struct zirkoshe_lease *lease)
+{
+    uint32_t count = create->object_count;
+
+    if (create->flags & ~(uint32_t)(O_CLOEXEC | O_NONBLOCK))
+        return -EINVAL;
+    if (count > 0 && create->object_ids == 0)
+        return -EFAULT;
+    return zirkoshe_drmModeCreateLease(&connection->client, (const uint32_t *)(uintptr_t)create->object_ids, count, lease);
+}
+
+/* Takes a lease back that nobody could open. */
+static void take_back(struct connection *connection, int fd, uint32_t lessee_id)
+{
+    if (connection_hold(connection, fd) == 0)
+        connection_let_go(connection, fd, zirkoshe_drmModeRevokeLease(&connection->client, lessee_id));
+}
+
+/* The descriptor is a client that has redeemed the lease, on the card's socket, where nobody is root. */
+int answer_create_lease(struct connection *connection, int fd, void *argument)
+{
+    struct drm_mode_create_lease *asked = argument;
+    struct zirkoshe_lease lease;
+    enum node node = node_path(NODE_CARD) != NULL ? NODE_CARD : connection->node;
+    int failed = connection_hold(connection, fd);
+    int opened;
+
+    if (failed)
+        return failed;
+    failed = connection_let_go(connection, fd, create(connection, asked, &lease));
+    if (failed)
+        return failed;
+    opened = connection_open(node, true, lease.token, (int)asked->flags);
+    if (opened < 0) {
+        take_back(connection, fd, lease.lessee_id);
+        return opened;
+    }
+    asked->lessee_id = lease.lessee_id;
+    asked->fd = (uint32_t)opened;
+    return 0;
+}
+
+int answer_list_lessees(struct connection *connection, void *argument)
+{
+    struct drm_mode_list_lessees *listed = argument;
+    struct zirkoshe_ids lessees;
+    int failed = zirkoshe_drmModeListLessees(&connection->client, &lessees);
+
+    if (!failed && listed->pad != 0)
+        failed = -EINVAL;
+    return failed ? failed : give(listed->lessees_ptr, &listed->count_lessees, lessees.ids, lessees.count, sizeof lessees.ids[0]);
+}
+
+int answer_get_lease(struct connection *connection, void *argument)
+{
+    struct drm_mode_get_lease *leased = argument;
+    struct zirkoshe_ids objects;
+    int failed = zirkoshe_drmModeGetLease(&connection->client, &objects);
+
+    if (!failed && leased->pad != 0)
+        failed = -EINVAL;
+    return failed ? failed : give(leased->objects_ptr, &leased->count_objects, objects.ids, objects.count, sizeof objects.ids[0]);
+}
+
+int answer_revoke_lease(struct connection *connection, void *argument)
+{
+    const struct drm_mode_revoke_lease *revoked = argument;
+
+    return zirkoshe_drmModeRevokeLease(&connection->client, revoked->lessee_id);
+}

@@ -1,0 +1,17 @@
+/* The C library's own functions, where more than one file wants them. */
+#include "libc.h"
+
+#include <fcntl.h>
+#include <unistd.h>
+
+int libc_close(int fd)
+{
+    return REAL(close)(fd);
+}
+
+int libc_duplicate(int fd)
+{
+    int duplicate = fcntl(fd, F_DUPFD_CLOEXEC, LEAST_HIDDEN);
+
+    return duplicate < 0 ? fcntl(fd, F_DUPFD_CLOEXEC, 0) : duplicate;
+}

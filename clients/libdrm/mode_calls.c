@@ -1,0 +1,195 @@
+/* Answers to requests of mode objects and of what they show. */
+#include "answers.h"
+
+/* the sizes of framebuffers, which are the server's */
+#define LEAST_SIDE 1
+#define MOST_SIDE 65535
+
+int answer_get_resources(struct connection *connection, void *argument)
+{
+    struct drm_mode_card_res *resources = argument;
+    struct zirkoshe_resources found;
+    int failed = zirkoshe_drmModeGetResources(&connection->client, &found);
+
+    if (failed)
+        return failed;
+    resources->min_width = resources->min_height = LEAST_SIDE;
+    resources->max_width = resources->max_height = MOST_SIDE;
+    failed = give(resources->fb_id_ptr, &resources->count_fbs, found.fbs, found.count_fbs, sizeof *found.fbs);
+    if (!failed)
+        failed = give(resources->crtc_id_ptr, &resources->count_crtcs, found.crtcs, found.count_crtcs, sizeof *found.crtcs);
+    if (!failed)
+        failed = give(resources->connector_id_ptr, &resources->count_connectors, found.connectors, found.count_connectors,
+                      sizeof *found.connectors);
+    if (!failed)
+        failed = give(resources->encoder_id_ptr, &resources->count_encoders, found.encoders, found.count_encoders,
+                      sizeof *found.encoders);
+    return failed;
+}
+
+/* A CRTC that shows something is told to do so from its corner, in the preferred mode. */
+int answer_get_crtc(struct connection *connection, void *argument)
+{
+    struct drm_mode_crtc *crtc = argument;
+    uint32_t fb_id, count;
+    int failed = zirkoshe_drmModeGetCrtc(&connection->client, crtc->crtc_id, &fb_id);
+
+    if (failed)
+        return failed;
+    crtc->fb_id = fb_id;
+    crtc->x = crtc->y = 0;
+    crtc->gamma_size = 0;
+    crtc->mode_valid = fb_id != 0;
+    memset(&crtc->mode, 0, sizeof crtc->mode);
+    if (crtc->mode_valid)
+        crtc->mode = all_modes(&count)[0];
+    return 0;
+}
+
+/* What the core refuses before the driver is asked comes behind its tests of who asks, and of the CRTC. */
+static int refuse(struct zirkoshe_client *client, uint32_t crtc_id)
+{
+    struct zirkoshe_ids lessees;
+    uint32_t fb_id;
+    int failed = zirkoshe_drmModeListLessees(client, &lessees);
+
+    if (!failed)
+        failed = zirkoshe_drmModeGetCrtc(client, crtc_id, &fb_id);
+    return failed ? failed : -EINVAL;
+}
+
+/* The framebuffer that a request names: -1 stands for the one that the CRTC shows. */
+static int find_fb(struct zirkoshe_client *client, const struct drm_mode_crtc *crtc, uint32_t *fb_id)
+{
+    int failed = 0;
+
+    *fb_id = crtc->mode_valid ? crtc->fb_id : 0;
+    if (*fb_id == UINT32_MAX) {
+        failed = zirkoshe_drmModeGetCrtc(client, crtc->crtc_id, fb_id);
+        if (!failed && *fb_id == 0)
+            failed = refuse(client, crtc->crtc_id);
+    }
+    return failed;
+}
+
+/* The server takes one connector at most, and no mode. */
+int answer_set_crtc(struct connection *connection, void *argument)
+{
+    const struct drm_mode_crtc *crtc = argument;
+    struct zirkoshe_client *client = &connection->client;
+    uint32_t connector_id = 0, fb_id;
+    int failed;
+
+    if (crtc->count_connectors > 1)
+        return refuse(client, crtc->crtc_id);
+    if (crtc->count_connectors == 1 && crtc->set_connectors_ptr == 0)
+        return -EFAULT;
+    if (crtc->count_connectors == 1)
+        memcpy(&connector_id, (const void *)(uintptr_t)crtc->set_connectors_ptr, sizeof connector_id);
+    failed = find_fb(client, crtc, &fb_id);
+    return failed ? failed : zirkoshe_drmModeSetCrtc(client, crtc->crtc_id, fb_id, connector_id);
+}
+
+int answer_get_encoder(struct connection *connection, void *argument)
+{
+    struct drm_mode_get_encoder *encoder = argument;
+    uint32_t possible_crtcs;
+    int failed = zirkoshe_drmModeGetEncoder(&connection->client, encoder->encoder_id, &possible_crtcs);
+
+    if (failed)
+        return failed;
+    encoder->encoder_type = DRM_MODE_ENCODER_VIRTUAL;
+    encoder->crtc_id = 0;
+    encoder->possible_crtcs = possible_crtcs;
+    encoder->possible_clones = 0;
+    return 0;
+}
+
+/* Each connector is told to have a monitor of 96 dots to the inch, to be named by its id, and to be driven by no encoder now. */
+static void describe(struct drm_mode_get_connector *connector)
+{
+    connector->encoder_id = 0;
+    connector->connector_type = DRM_MODE_CONNECTOR_VIRTUAL;
+    connector->connector_type_id = connector->connector_id;
+    connector->connection = 1;
+    connector->mm_width = 508;
+    connector->mm_height = 286;
+    connector->subpixel = 0;
+}
+
+int answer_get_connector(struct connection *connection, void *argument)
+{
+    struct drm_mode_get_connector *connector = argument;
+    const struct drm_mode_modeinfo *modes;
+    uint32_t encoder_id, count;
+    int failed = zirkoshe_drmModeGetConnector(&connection->client, connector->connector_id, &encoder_id);
+
+    if (failed)
+        return failed;
+    describe(connector);
+    modes = all_modes(&count);
+    /* of modes and encoders all are given, or none */
+    if (connector->count_modes < count)
+        connector->count_modes = 0;
+    failed = give(connector->modes_ptr, &connector->count_modes, modes, count, sizeof *modes);
+    if (!failed)
+        failed = give(connector->encoders_ptr, &connector->count_encoders, &encoder_id, 1, sizeof encoder_id);
+    if (!failed)
+        failed = give_connector_properties(connector);
+    return failed;
+}
+
+int answer_get_plane_resources(struct connection *connection, void *argument)
+{
+    struct drm_mode_get_plane_res *resources = argument;
+    struct zirkoshe_ids planes;
+    int failed = zirkoshe_drmModeGetPlaneResources(&connection->client, &planes);
+
+    if (failed)
+        return failed;
+    return give(resources->plane_id_ptr, &resources->count_planes, planes.ids, planes.count, sizeof planes.ids[0]);
+}
+
+/* The CRTC of a plane that shows something, where its mask leaves no choice; else 0, since the server doesn't tell. */
+static int find_crtc(struct zirkoshe_client *client, const struct zirkoshe_plane *plane, uint32_t *crtc_id)
+{
+    struct zirkoshe_resources resources;
+    uint32_t mask = plane->possible_crtcs;
+    int failed, place = __builtin_ffs((int)mask) - 1;
+
+    *crtc_id = 0;
+    if (plane->fb_id == 0 || mask == 0 || (mask & (mask - 1)) != 0)
+        return 0;
+    failed = zirkoshe_drmModeGetResources(client, &resources);
+    if (!failed && (uint32_t)place < resources.count_crtcs)
+        *crtc_id = resources.crtcs[place];
+    return failed;
+}
+
+int answer_get_plane(struct connection *connection, void *argument)
+{
+    struct drm_mode_get_plane *plane = argument;
+    struct zirkoshe_plane found;
+    const uint32_t *formats;
+    uint32_t crtc_id, count;
+    int failed = zirkoshe_drmModeGetPlane(&connection->client, plane->plane_id, &found);
+
+    if (!failed)
+        failed = find_crtc(&connection->client, &found, &crtc_id);
+    if (failed)
+        return failed;
+    plane->crtc_id = crtc_id;
+    plane->fb_id = found.fb_id;
+    plane->possible_crtcs = found.possible_crtcs;
+    plane->gamma_size = 0;
+    formats = all_formats(&count);
+    return give(plane->format_type_ptr, &plane->count_format_types, formats, count, sizeof *formats);
+}
+
+/* Where on the CRTC, and what of the framebuffer, the server doesn't ask. */
+int answer_set_plane(struct connection *connection, void *argument)
+{
+    const struct drm_mode_set_plane *plane = argument;
+
+    return zirkoshe_drmModeSetPlane(&connection->client, plane->plane_id, plane->crtc_id, plane->fb_id);
+}
