@@ -7,6 +7,7 @@ import re
 import resource
 import select
 import shutil
+import signal
 import socket
 import subprocess
 import sys
@@ -106,14 +107,16 @@ def server(folder, *counts, limits=(), **options):
 
     A limit is a resource and how much of it the server may have.
     """
-    def limit():
+    def prepare():
+        # a shell lets what it starts in the background ignore this one
+        signal.signal(signal.SIGINT, signal.SIG_DFL)
         for kind, most in limits:
             resource.setrlimit(kind, (most, most))
 
     started = subprocess.Popen(
         [PROGRAM, "serve", *path_words(folder), *count_words(*counts)],
         **{"stdin": subprocess.DEVNULL, "stdout": subprocess.PIPE, "stderr": subprocess.PIPE, "text": True, **options},
-        preexec_fn=limit)
+        preexec_fn=prepare)
     try:
         yield started
     finally:
