@@ -143,13 +143,20 @@ def retry(action):
             time.sleep(0.01)
 
 
+def wait_until(what, is_so):
+    """Waits until this is so, and fails where it takes too long."""
+    until = time.monotonic() + SECONDS
+    while not is_so():
+        expect(f"{what} in time", time.monotonic() < until, True)
+        time.sleep(0.01)
+
+
 def wait_until_it_listens(path):
     """Waits until the server listens on this socket, and uses up none of its connections. (Its file is there a moment before.)"""
-    until = time.monotonic() + SECONDS
     wanted = os.fsencode(path)
-    while not any(len(row) == 8 and row[3] == LISTENS and row[7] == wanted for row in sockets_of_this_system()):
-        expect(f"whether somebody listens on {path} in time", time.monotonic() < until, True)
-        time.sleep(0.01)
+    wait_until(
+        f"whether somebody listens on {path}",
+        lambda: any(len(row) == 8 and row[3] == LISTENS and row[7] == wanted for row in sockets_of_this_system()))
 
 
 def sockets_of_this_system():
