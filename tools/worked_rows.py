@@ -39,6 +39,8 @@ ANSWERS = {
 KINDS = "Client Master Object Name Token Hold Grant Framebuffer Shown Device".split()
 LIMITS = "clients handles names tokens objects framebuffers lessees journal".split()
 PROGRAM = "64 65535 65535 65535 65535 64 64 100000".split()
+# whether universal planes are on after an opening by each version of the hello
+OPENINGS = {"open": "true", "open2": "false"}
 # the files of specs/ whose definitions a computation opens; all of them where none is named
 OPENED = {
     "drm_index_array": ["Least"],
@@ -47,7 +49,7 @@ OPENED = {
     "drm_table": [],
     "drm_model": [],
 }
-TOPOLOGY = "record { crtcs = 2; planes = 1 ∷ 2 ∷ []; encoders = 3 ∷ 2 ∷ []; connectors = 5 ∷ 6 ∷ [] }"
+TOPOLOGY = "record { crtcs = 2; planes = 1 ∷ 2 ∷ []; kinds = PrimaryPlane 1 ∷ OverlayPlane ∷ []; encoders = 3 ∷ 2 ∷ []; connectors = 5 ∷ 6 ∷ [] }"
 
 
 class Line(NamedTuple):
@@ -193,10 +195,12 @@ def answer_term(text: str, known: Definitions) -> str:
     return term("Ok", term(ANSWERS[word], *rest))
 
 
-def opening_term(words: List[str]) -> str:
+def opening_term(words: List[str], universal: str) -> str:
     if words[0] in ("lease", "rootlease"):
-        return term("Lease", words[1], "true" if words[0] == "rootlease" else "false")
-    return {"card": "(Primary false)", "root": "(Primary true)", "render": "Render"}[words[0]]
+        return term("Lease", words[1], "true" if words[0] == "rootlease" else "false", universal)
+    if words[0] == "render":
+        return "Render"
+    return term("Primary", "true" if words[0] == "root" else "false", universal)
 
 
 def call_term(word: str, fields: List[str], known: Definitions) -> str:
@@ -213,8 +217,8 @@ def call_term(word: str, fields: List[str], known: Definitions) -> str:
 def event_term(asked: str, labels: Dict[str, str], known: Definitions) -> str:
     """A line of a script as an event; a label that none has stands for client 0."""
     first, *rest = asked.split()
-    if first == "open":
-        return term("Open", opening_term(rest[1:]))
+    if first in OPENINGS:
+        return term("Open", opening_term(rest[1:], OPENINGS[first]))
     if first == "close":
         return term("Close", labels.get(rest[0], "0"))
     return term("Ask", labels.get(first, "0"), call_term(rest[0], rest[1:], known))
@@ -225,7 +229,7 @@ def event_terms(row: Row, known: Definitions) -> List[str]:
     events = []
     for asked, answer in row.lines:
         events.append(bare(event_term(asked, labels, known)))
-        if asked.startswith("open ") and answer.startswith("client "):
+        if asked.split()[0] in OPENINGS and answer.startswith("client "):
             labels[asked.split()[1]] = answer.split()[1]
     return events
 
@@ -251,6 +255,7 @@ List as ListIs, Audit as AuditIs, Closed, Denied"
         *((f"Rattle.{crate}.specs.{file}", names) for (crate, file), names in known.opened.items()),
         ("Rattle.drm_model.specs.Audit", ["audit_row"]),
         ("Rattle.drm_model.specs.Rows", ["empty_rows"]),
+        ("Rattle.drm_modes.specs.declared.kinds.PlaneKind.TheVariants", ["Overlay as OverlayPlane", "Primary as PrimaryPlane"]),
         ("Rattle.drm_modes.specs.Topology", ["Topology"]),
     ]
 

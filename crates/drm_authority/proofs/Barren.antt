@@ -1,10 +1,9 @@
 -- A lessee that some step ended stays without a lease, so that its clients see no CRTC, connector or plane.
-use Rattle.std.proofs.Common.{◌≡◌, ℕ, ◌+◌, ◌<◌, ◌≤◌, ◌==◌, Bool, true, false, cond, not, ◌&&◌, ◌||◌, List, [], ◌∷◌, length, filter, map, find, Option, None, Some, refl, sym, ap, ◌∙◌, subst, arith, eq-eqb}
+use Rattle.std.proofs.Common.{◌≡◌, ℕ, ◌≤◌, ◌==◌, Bool, true, false, not, ◌&&◌, ◌||◌, List, [], ◌∷◌, length, map, Option, None, Some, refl, sym, ap, ◌∙◌, subst, arith, eq-eqb}
 use Rattle.std.specs.Prelude.{if◌then◌else◌, unwrap_or, IfSome}
-use Rattle.std.specs.List.{list_any, list_all, AllByRecursion}
+use Rattle.std.specs.List.{list_any, list_all}
 use Rattle.std.specs.Option.{is_some, option_and_then}
 use Rattle.std.proofs.lemmas.Bool.{eqb-true, and_parts}
-use Rattle.drm_lists.specs.Numbers.{is_among}
 use Rattle.drm_lists.specs.Orders.{sorted_by}
 use Rattle.drm_lists.proofs.Lists.{all_both, all_weaker, some_passing}
 use Rattle.drm_lists.proofs.Each.{each_passes, each_any, filter_none}
@@ -17,11 +16,10 @@ use Rattle.drm_table.specs.declared.calls.Call.TheVariants.{Version, GetResource
 use Rattle.drm_table.specs.declared.events.Event.{Event}
 use Rattle.drm_table.specs.declared.events.Event.TheVariants.{Open, Ask, Close}
 use Rattle.drm_table.specs.declared.rules.Rule.{Rule}
-use Rattle.drm_modes.specs.Topology.{Topology, crtc_ids, plane_ids, connector_ids, encoder_ids, first_plane, first_encoder, first_connector, is_crtc, is_plane, is_encoder, is_connector, kind_of, mask_over}
-use Rattle.drm_modes.proofs.Fixed.{within}
+use Rattle.drm_modes.specs.Topology.{Topology, crtc_ids, plane_ids, connector_ids, encoder_ids, is_crtc, is_plane, is_encoder, is_connector, is_primary_or_cursor, kind_of, mask_over}
 use Rattle.drm_model.specs.Rows.{Rows, GrantRow, is_open, is_framebuffer}
 use Rattle.drm_model.specs.Masters.{master_of, lessor_of, is_lessee}
-use Rattle.drm_model.specs.Sees.{sees, sees_crtc, sees_plane, sees_connector, controls, is_granted, visible_crtcs, visible_planes, visible_connectors, own_framebuffers}
+use Rattle.drm_model.specs.Sees.{sees, sees_crtc, sees_plane, sees_connector, master_controls, controls, has_universal, is_granted, visible_crtcs, visible_planes, visible_connectors, own_framebuffers}
 use Rattle.drm_model.specs.Leases.{granted_of, is_seen, is_leasable, leasable_ids}
 use Rattle.drm_model.specs.Magics.{own_master}
 use Rattle.drm_model.specs.Numbers.{rising}
@@ -31,10 +29,11 @@ use Rattle.drm_model.specs.Reply.{reply, reply_by, answer_of}
 use Rattle.drm_model.proofs.Leased.{rules_hold}
 use Rattle.drm_history.specs.History.{Entry, next_number}
 use Rattle.drm_authority.specs.Deeds.{Deed, Nothing, Closes, Leases, Revokes, deed, is_accepted}
-use Rattle.drm_authority.specs.Standing.{standing, is_master_in, master_in, own_master_in}
+use Rattle.drm_authority.specs.Standing.{is_master_in, master_in, own_master_in}
 use Rattle.drm_authority.specs.Lessees.{lessor_in, top_in, is_under_in, lessee_by, lessee_in, ended_by, is_under_any, ends, has_ended, is_lent, granted}
-use Rattle.drm_authority.specs.Barren.{IsBarren, BarrenFor, StaysBarren}
-use Rattle.drm_authority.proofs.Runs.{IsReached, replied}
+use Rattle.drm_authority.specs.Barren.{IsBarren, StaysBarren}
+use Rattle.drm_authority.proofs.Apart.{crtc_apart, plane_apart, connector_apart}
+use Rattle.drm_authority.proofs.Runs.{replied}
 use Rattle.drm_authority.proofs.Rules.{caller_open}
 use Rattle.drm_authority.proofs.Stands.{open_stands}
 use Rattle.drm_authority.proofs.Held.{is_there, master_there}
@@ -81,41 +80,21 @@ nothing_and true = refl
 nothing_and false = refl
 
 -- what some step ended has no grant, and gets none
-ended_bare : (past : List Entry) (m : ℕ) → has_ended past m ≡ true → (m ≤ length past) × ((x : ℕ) → granted past m x ≡ false)
+ended_bare : (t : Topology) (past : List Entry) (m : ℕ) → has_ended past m ≡ true → (m ≤ length past) × ((x : ℕ) → granted t past m x ≡ false)
 unfolding has_ended granted
-ended_bare [] m h = absurd (let n : false ≡ true = h in cc)
-ended_bare (step ∷ past) m h =
-    (elim (ends step past m) as (λ b. ends step past m ≡ b → (b || has_ended past m) ≡ true → (m ≤ length (step ∷ past)) × ((x : ℕ) → granted (step ∷ past) m x ≡ false)) [
-      | true ↦ λ e k. let old = end_born step past m e in (omega (arith, old), λ x. later x old ∙ ap (λ b. not b && granted past m x) e)
-      | false ↦ λ e k. let before = ended_bare past m k in let old = before.0 in (omega (arith, old), λ x. later x old ∙ ap (λ b. not (ends step past m) && b) (before.1 x) ∙ nothing_and (not (ends step past m)))
+ended_bare t [] m h = absurd (let n : false ≡ true = h in cc)
+ended_bare t (step ∷ past) m h =
+    (elim (ends step past m) as (λ b. ends step past m ≡ b → (b || has_ended past m) ≡ true → (m ≤ length (step ∷ past)) × ((x : ℕ) → granted t (step ∷ past) m x ≡ false)) [
+      | true ↦ λ e k. let old = end_born step past m e in (omega (arith, old), λ x. later x old ∙ ap (λ b. not b && granted t past m x) e)
+      | false ↦ λ e k. let before = ended_bare t past m k in let old = before.0 in (omega (arith, old), λ x. later x old ∙ ap (λ b. not (ends step past m) && b) (before.1 x) ∙ nothing_and (not (ends step past m)))
     ]) refl h
   where
-    later : (x : ℕ) → m ≤ length past → granted (step ∷ past) m x ≡ (not (ends step past m) && granted past m x)
-    later x old = ap (λ b. if b then is_lent (deed step) x else not (ends step past m) && granted past m x) (less-differ m (next_number past) (omega (arith, old)))
-
--- ---- the kinds of mode objects
-
-crtc_apart : (t : Topology) (x : ℕ) → is_crtc t x ≡ true → is_encoder t x ≡ false
-crtc_apart t x h = elim (is_encoder t x) as (λ b. is_encoder t x ≡ b → b ≡ false) [
-  | true ↦ λ e. let low = within 1 t.crtcs x h in let high = within (first_encoder t) (length t.encoders) x e in absurd (omega (arith, low, high))
-  | false ↦ λ e. refl
-] refl
-
-plane_apart : (t : Topology) (x : ℕ) → is_plane t x ≡ true → is_encoder t x ≡ false
-plane_apart t x h = elim (is_encoder t x) as (λ b. is_encoder t x ≡ b → b ≡ false) [
-  | true ↦ λ e. let low = within (first_plane t) (length t.planes) x h in let high = within (first_encoder t) (length t.encoders) x e in absurd (omega (arith, low, high))
-  | false ↦ λ e. refl
-] refl
-
-connector_apart : (t : Topology) (x : ℕ) → is_connector t x ≡ true → is_encoder t x ≡ false
-connector_apart t x h = elim (is_encoder t x) as (λ b. is_encoder t x ≡ b → b ≡ false) [
-  | true ↦ λ e. let high = within (first_connector t) (length t.connectors) x h in let low = within (first_encoder t) (length t.encoders) x e in absurd (omega (arith, low, high))
-  | false ↦ λ e. refl
-] refl
+    later : (x : ℕ) → m ≤ length past → granted t (step ∷ past) m x ≡ (not (ends step past m) && granted t past m x)
+    later x old = ap (λ b. if b then is_lent t (deed step) past x (λ n. granted t past n x) else not (ends step past m) && granted t past m x) (less-differ m (next_number past) (omega (arith, old)))
 
 -- ---- a client of such a lessee
 
-module _ (past : List Entry) (w : Rows) (p : Lending past w) (c m lessor : ℕ) (opened : is_open w c ≡ true) (its : master_in past c ≡ Some m) (lent : lessor_in past m ≡ Some lessor) (over : has_ended past m ≡ true) where
+module _ (t : Topology) (past : List Entry) (w : Rows) (p : Lending t past w) (c m lessor : ℕ) (opened : is_open w c ≡ true) (its : master_in past c ≡ Some m) (lent : lessor_in past m ≡ Some lessor) (over : has_ended past m ≡ true) where
   master_is : master_of w c ≡ Some m
   master_is = (open_stands past w p.0.0.0.1 c opened).1 ∙ its
 
@@ -126,11 +105,15 @@ module _ (past : List Entry) (w : Rows) (p : Lending past w) (c m lessor : ℕ) 
   lessor_is = lessor_same past w p.0.1 p.0.0.1 m there ∙ lent
 
   bare : (x : ℕ) → is_granted w m x ≡ false
-  bare x = p.1 m x ∙ (ended_bare past m over).1 x
+  bare x = p.1 m x ∙ (ended_bare t past m over).1 x
+
+  controls_none : (x : ℕ) → controls w c x ≡ false
+  unfolding controls
+  controls_none x = (λ i. master_controls w (master_is i) x) ∙ (λ i. not (is_some (lessor_is i)) || bare x i)
 
   sees_none : (x : ℕ) → is_encoder w.topology x ≡ false → sees w c x ≡ false
   unfolding sees
-  sees_none x e = (λ i. e i || controls w (master_is i) x) ∙ (λ i. not (is_some (lessor_is i)) || bare x i)
+  sees_none x e = ap (λ b. is_encoder w.topology x || (b && (not (is_primary_or_cursor w.topology x) || has_universal w c))) (controls_none x) ∙ (λ i. e i || false)
 
   no_crtc : (x : ℕ) → sees_crtc w c x ≡ false
   no_crtc x = elim (is_crtc w.topology x) as (λ b. is_crtc w.topology x ≡ b → (b && sees w c x) ≡ false) [ true ↦ λ e. sees_none x (crtc_apart w.topology x e) | false ↦ λ e. refl ] refl
@@ -198,8 +181,8 @@ accepted : (w : Rows) (c : ℕ) (call : Call) (v : Option Rule) → verdict w (A
 accepted w c call (Some rule) e f h = absurd (let n : false ≡ true = h in cc)
 accepted w c call None e f h = f e
 
-pub stays_barren : (past : List Entry) (w : Rows) (event : Event) → Lending past w → StaysBarren (replied w event) past
+pub stays_barren : (t : Topology) (past : List Entry) (w : Rows) (event : Event) → Lending t past w → StaysBarren (replied w event) past
 unfolding reply
-stays_barren past w (Open opening) p = tt
-stays_barren past w (Ask c call) p = λ m lessor its lent over h. accepted w c call (verdict w (Ask c call)) refl (λ v. barren past w p c m lessor (caller_open w c call v) its lent over call v) h
-stays_barren past w (Close c) p = tt
+stays_barren t past w (Open opening) p = tt
+stays_barren t past w (Ask c call) p = λ m lessor its lent over h. accepted w c call (verdict w (Ask c call)) refl (λ v. barren t past w p c m lessor (caller_open w c call v) its lent over call v) h
+stays_barren t past w (Close c) p = tt

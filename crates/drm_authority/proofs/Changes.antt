@@ -1,12 +1,12 @@
 -- What an event that is carried out does to the lists of clients and of masters: each row stays, or changes as its event says,
 -- and the new one comes last.
-use Rattle.std.proofs.Common.{◌≡◌, ℕ, ◌==◌, Bool, true, false, cond, not, ◌||◌, List, [], ◌∷◌, ◌++◌, filter, map, find, Option, None, Some, refl, sym, ap, ◌∙◌}
+use Rattle.std.proofs.Common.{ℕ, ◌==◌, Bool, true, false, List, [], ◌∷◌, ◌++◌, map, Option, None, Some}
 use Rattle.std.specs.Prelude.{if◌then◌else◌}
-use Rattle.std.specs.List.{list_any, AllByRecursion}
+use Rattle.std.specs.List.{AllByRecursion}
 use Rattle.std.specs.Option.{option_map}
 use Rattle.drm_lists.proofs.Lists.{all_weaker, all_append, all_filter, all_mapped}
 use Rattle.drm_table.specs.declared.calls.Call.{Call}
-use Rattle.drm_table.specs.declared.calls.Call.TheVariants.{Version, AuthMagic, SetMaster, CreateLease, RevokeLease}
+use Rattle.drm_table.specs.declared.calls.Call.TheVariants.{Version, SetClientCap, AuthMagic, SetMaster, CreateLease, RevokeLease}
 use Rattle.drm_table.specs.declared.events.Event.{Event}
 use Rattle.drm_table.specs.declared.events.Event.TheVariants.{Open, Ask, Close}
 use Rattle.drm_table.specs.declared.events.Opening.{Opening}
@@ -16,6 +16,7 @@ use Rattle.drm_model.specs.Buffers.{with_object}
 use Rattle.drm_model.specs.Masters.{new_master, is_under}
 use Rattle.drm_model.specs.Leases.{ended, lease_master, lessee_master, new_lessee}
 use Rattle.drm_model.specs.Magics.{own_master, magic_client, is_current, is_master, mastered, with_authenticated, with_master}
+use Rattle.drm_model.specs.Capabilities.{with_universal}
 use Rattle.drm_model.specs.Clients.{opened, opened_primary, closed, ended_if, ended_own}
 use Rattle.drm_model.specs.Calls.{meaning}
 use Rattle.drm_model.specs.Change.{changed, swept, noted, is_living}
@@ -25,27 +26,27 @@ all_push P xs x h k = all_append P xs (x ∷ []) h (k, tt)
 
 -- ---- clients
 
-abbrev pub founder_row : Rows → Bool → ClientRow
-founder_row w root = record { client = birth w; render = false; root = root; authenticated = true; once_master = true; is_master = true; master = Some (birth w) }
+abbrev pub founder_row : Rows → Bool → Bool → ClientRow
+founder_row w root universal = record { client = birth w; render = false; root = root; authenticated = true; once_master = true; is_master = true; master = Some (birth w); universal = universal }
 
-abbrev pub guest_row : Rows → Bool → ℕ → ClientRow
-guest_row w root m = record { client = birth w; render = false; root = root; authenticated = root; once_master = false; is_master = false; master = Some m }
+abbrev pub guest_row : Rows → Bool → Bool → ℕ → ClientRow
+guest_row w root universal m = record { client = birth w; render = false; root = root; authenticated = root; once_master = false; is_master = false; master = Some m; universal = universal }
 
 abbrev pub render_row : Rows → ClientRow
-render_row w = record { client = birth w; render = true; root = false; authenticated = false; once_master = false; is_master = false; master = None }
+render_row w = record { client = birth w; render = true; root = false; authenticated = false; once_master = false; is_master = false; master = None; universal = true }
 
-abbrev pub lease_row : Rows → ℕ → Bool → ClientRow
-lease_row w token root = record { client = birth w; render = false; root = root; authenticated = true; once_master = false; is_master = true; master = option_map (λ (row : MasterRow). row.master) (lease_master w token) }
+abbrev pub lease_row : Rows → ℕ → Bool → Bool → ClientRow
+lease_row w token root universal = record { client = birth w; render = false; root = root; authenticated = true; once_master = false; is_master = true; master = option_map (λ (row : MasterRow). row.master) (lease_master w token); universal = universal }
 
 -- a primary client by the device's master
-abbrev pub primary_row : Rows → Bool → Option ℕ → ClientRow
-primary_row w root None = founder_row w root
-primary_row w root (Some m) = guest_row w root m
+abbrev pub primary_row : Rows → Bool → Bool → Option ℕ → ClientRow
+primary_row w root universal None = founder_row w root universal
+primary_row w root universal (Some m) = guest_row w root universal m
 
 abbrev pub opened_row : Rows → Opening → ClientRow
-opened_row w (Primary root) = primary_row w root w.device_master
+opened_row w (Primary root universal) = primary_row w root universal w.device_master
 opened_row w Render = render_row w
-opened_row w (Lease token root) = lease_row w token root
+opened_row w (Lease token root universal) = lease_row w token root universal
 
 -- what is owed of a new client
 abbrev pub ForClient : (ClientRow → Type 0) → Rows → Event → Type 0
@@ -62,12 +63,13 @@ set_row w c false false row = if is_client c row then record row { authenticated
 abbrev pub client_after : Rows → Event → ClientRow → ClientRow
 client_after w (Ask c (AuthMagic magic)) row = if is_option row.client (magic_client w (own_master w c) magic) then record row { authenticated = true } else row
 client_after w (Ask c SetMaster) row = set_row w c (is_current w c) (is_master w c) row
+client_after w (Ask c (SetClientCap cap value)) row = if is_client c row then record row { universal = value == 1 } else row
 client_after w _ row = row
 
 module _ (w : Rows) (R : ClientRow → Type 0) where
-  primary-all : (root : Bool) (m : Option ℕ) → AllByRecursion R w.clients → R (primary_row w root m) → AllByRecursion R (opened_primary w root m).clients
-  primary-all root None h new = all_push R w.clients _ h new
-  primary-all root (Some m) h new = all_push R w.clients _ h new
+  primary-all : (root universal : Bool) (m : Option ℕ) → AllByRecursion R w.clients → R (primary_row w root universal m) → AllByRecursion R (opened_primary w root universal m).clients
+  primary-all root universal None h new = all_push R w.clients _ h new
+  primary-all root universal (Some m) h new = all_push R w.clients _ h new
 
   mastered-all : (c : ℕ) (current master : Bool) → AllByRecursion (λ row. R (set_row w c current master row)) w.clients → AllByRecursion R (mastered w c current master).clients
   unfolding with_master
@@ -76,18 +78,19 @@ module _ (w : Rows) (R : ClientRow → Type 0) where
   mastered-all c false false h = all_mapped R _ w.clients h
 
   asked-all : (c : ℕ) (call : Call) → AllByRecursion (λ row. R (client_after w (Ask c call) row)) w.clients → AllByRecursion R (meaning w c call).rows.clients
-  unfolding meaning with_object with_authenticated ended
+  unfolding meaning with_object with_authenticated with_universal ended
   asked-all c Version h = h
   asked-all c (AuthMagic magic) h = all_mapped R _ w.clients h
+  asked-all c (SetClientCap cap value) h = all_mapped R _ w.clients h
   asked-all c SetMaster h = mastered-all c (is_current w c) (is_master w c) h
   asked-all c _ h = h
 
   -- before the sweep
   pub changed-all : (event : Event) → AllByRecursion (λ row. R (client_after w event row)) w.clients → ForClient R w event → AllByRecursion R (changed w event).clients
   unfolding changed opened closed
-  changed-all (Open (Primary root)) h new = primary-all root w.device_master h new
+  changed-all (Open (Primary root universal)) h new = primary-all root universal w.device_master h new
   changed-all (Open Render) h new = all_push R w.clients _ h new
-  changed-all (Open (Lease token root)) h new = all_push R w.clients _ h new
+  changed-all (Open (Lease token root universal)) h new = all_push R w.clients _ h new
   changed-all (Ask c call) h new = asked-all c call h
   changed-all (Close c) h new = all_filter R _ w.clients h
 
@@ -100,7 +103,7 @@ module _ (w : Rows) (R : ClientRow → Type 0) where
 
 -- what is owed of a new master
 abbrev pub ForMaster : (MasterRow → Type 0) → Rows → Event → Type 0
-ForMaster R w (Open (Primary root)) = R (new_master (birth w))
+ForMaster R w (Open (Primary root universal)) = R (new_master (birth w))
 ForMaster R w (Ask c SetMaster) = R (new_master (birth w))
 ForMaster R w (Ask c (CreateLease ids)) = R (new_lessee w (own_master w c))
 ForMaster R w _ = Unit {0}
@@ -130,9 +133,9 @@ module _ (w : Rows) (Q R : MasterRow → Type 0) (stays : (row : MasterRow) → 
   ended_own-all None h = all_stay w.masters h
   ended_own-all (Some row) h = ended_if-all row.is_master row.master h
 
-  founded-all : (root : Bool) (m : Option ℕ) → AllByRecursion Q w.masters → R (new_master (birth w)) → AllByRecursion R (opened_primary w root m).masters
-  founded-all root None h new = all_push R w.masters _ (all_stay w.masters h) new
-  founded-all root (Some m) h new = all_stay w.masters h
+  founded-all : (root universal : Bool) (m : Option ℕ) → AllByRecursion Q w.masters → R (new_master (birth w)) → AllByRecursion R (opened_primary w root universal m).masters
+  founded-all root universal None h new = all_push R w.masters _ (all_stay w.masters h) new
+  founded-all root universal (Some m) h new = all_stay w.masters h
 
   set-all : (c : ℕ) (current master : Bool) → AllByRecursion Q w.masters → R (new_master (birth w)) → AllByRecursion R (mastered w c current master).masters
   set-all c true master h new = all_stay w.masters h
@@ -150,9 +153,9 @@ module _ (w : Rows) (Q R : MasterRow → Type 0) (stays : (row : MasterRow) → 
   -- before the sweep
   pub masters_changed : (event : Event) → AllByRecursion Q w.masters → ForMaster R w event → AllByRecursion R (changed w event).masters
   unfolding changed opened closed
-  masters_changed (Open (Primary root)) h new = founded-all root w.device_master h new
+  masters_changed (Open (Primary root universal)) h new = founded-all root universal w.device_master h new
   masters_changed (Open Render) h new = all_stay w.masters h
-  masters_changed (Open (Lease token root)) h new = all_untokened (λ row. is_option token row.lease_token) w.masters h
+  masters_changed (Open (Lease token root universal)) h new = all_untokened (λ row. is_option token row.lease_token) w.masters h
   masters_changed (Ask c call) h new = called-all c call h new
   masters_changed (Close c) h new = ended_own-all (client_row w c) h
 

@@ -1,23 +1,22 @@
 -- A client that closed has no row again, so that no event of it is carried out.
-use Rattle.std.proofs.Common.{◌≡◌, ℕ, ◌+◌, ◌≤◌, ◌==◌, Bool, true, false, cond, not, ◌||◌, List, [], ◌∷◌, ◌++◌, length, filter, map, find, Option, None, Some, refl, sym, ap, ◌∙◌, subst, arith}
+use Rattle.std.proofs.Common.{◌≡◌, ℕ, ◌≤◌, ◌==◌, Bool, true, false, ◌||◌, List, ◌∷◌, length, Option, None, Some, refl, sym, ap, ◌∙◌, subst, arith}
 use Rattle.std.specs.Prelude.{if◌then◌else◌}
 use Rattle.std.specs.List.{list_any, AllByRecursion}
-use Rattle.std.specs.Option.{is_some}
 use Rattle.std.proofs.lemmas.Bool.{eqb-true}
 use Rattle.drm_lists.proofs.Lists.{none_added, none_changed, none_filtered, none_left, some_passing}
 use Rattle.drm_lists.proofs.Found.{is_some-find}
 use Rattle.drm_lists.proofs.Numbers.{flipped, less-differ}
-use Rattle.drm_table.specs.declared.answers.Answer.TheVariants.{Denied}
 use Rattle.drm_table.specs.declared.calls.Call.{Call}
-use Rattle.drm_table.specs.declared.calls.Call.TheVariants.{Version, AuthMagic, SetMaster}
+use Rattle.drm_table.specs.declared.calls.Call.TheVariants.{Version, SetClientCap, AuthMagic, SetMaster}
 use Rattle.drm_table.specs.declared.events.Event.{Event}
 use Rattle.drm_table.specs.declared.events.Event.TheVariants.{Open, Ask, Close}
 use Rattle.drm_table.specs.declared.events.Opening.TheVariants.{Primary, Render, Lease}
 use Rattle.drm_table.specs.declared.rules.Rule.{Rule}
-use Rattle.drm_model.specs.Rows.{Rows, ClientRow, birth, is_option, is_client, client_row, is_open}
+use Rattle.drm_model.specs.Rows.{Rows, ClientRow, birth, is_option, is_client, is_open}
 use Rattle.drm_model.specs.Buffers.{with_object}
 use Rattle.drm_model.specs.Leases.{ended}
 use Rattle.drm_model.specs.Magics.{own_master, magic_client, is_current, is_master, mastered, with_authenticated, with_master}
+use Rattle.drm_model.specs.Capabilities.{with_universal}
 use Rattle.drm_model.specs.Clients.{opened, opened_primary, closed}
 use Rattle.drm_model.specs.Calls.{meaning}
 use Rattle.drm_model.specs.Verdict.{verdict}
@@ -40,13 +39,17 @@ IsAbsent c w = list_any (is_client c) w.clients ≡ false
 born_later : (w : Rows) (c : ℕ) → c ≤ w.steps → (birth w == c || false) ≡ false
 born_later w c old = ap (λ b. b || false) (flipped c (birth w) (less-differ c (birth w) (omega (arith, old))))
 
-opened_primary-absent : (w : Rows) (root : Bool) (m : Option ℕ) (c : ℕ) → c ≤ w.steps → IsAbsent c w → IsAbsent c (opened_primary w root m)
-opened_primary-absent w root None c old h = none_added (is_client c) w.clients _ h (born_later w c old)
-opened_primary-absent w root (Some m) c old h = none_added (is_client c) w.clients _ h (born_later w c old)
+opened_primary-absent : (w : Rows) (root universal : Bool) (m : Option ℕ) (c : ℕ) → c ≤ w.steps → IsAbsent c w → IsAbsent c (opened_primary w root universal m)
+opened_primary-absent w root universal None c old h = none_added (is_client c) w.clients _ h (born_later w c old)
+opened_primary-absent w root universal (Some m) c old h = none_added (is_client c) w.clients _ h (born_later w c old)
 
 authenticated : (c : ℕ) (b : Bool) (row : ClientRow) → is_client c row ≡ false → is_client c (if b then record row { authenticated = true } else row) ≡ false
 authenticated c true row h = h
 authenticated c false row h = h
+
+capable : (c : ℕ) (b on : Bool) (row : ClientRow) → is_client c row ≡ false → is_client c (if b then record row { universal = on } else row) ≡ false
+capable c true on row h = h
+capable c false on row h = h
 
 mastering : (c m : ℕ) (b : Bool) (row : ClientRow) → is_client c row ≡ false → is_client c (if b then record row { authenticated = true; once_master = true; is_master = true; master = Some m } else row) ≡ false
 mastering c m true row h = h
@@ -59,17 +62,18 @@ mastered-absent w d false true c h = h
 mastered-absent w d false false c h = none_changed (is_client c) _ (λ row k. mastering c (birth w) (is_client d row) row k) w.clients h
 
 asked-absent : (w : Rows) (d : ℕ) (call : Call) (c : ℕ) → IsAbsent c w → IsAbsent c (meaning w d call).rows
-unfolding meaning with_object with_authenticated ended
+unfolding meaning with_object with_authenticated with_universal ended
 asked-absent w d Version c h = h
+asked-absent w d (SetClientCap cap value) c h = none_changed (is_client c) _ (λ row k. capable c (is_client d row) (value == 1) row k) w.clients h
 asked-absent w d (AuthMagic magic) c h = none_changed (is_client c) _ (λ row k. authenticated c (is_option row.client (magic_client w (own_master w d) magic)) row k) w.clients h
 asked-absent w d SetMaster c h = mastered-absent w d (is_current w d) (is_master w d) c h
 asked-absent w d _ c h = h
 
 changed-absent : (w : Rows) (event : Event) (c : ℕ) → c ≤ w.steps → IsAbsent c w → IsAbsent c (changed w event)
 unfolding changed opened closed
-changed-absent w (Open (Primary root)) c old h = opened_primary-absent w root w.device_master c old h
+changed-absent w (Open (Primary root universal)) c old h = opened_primary-absent w root universal w.device_master c old h
 changed-absent w (Open Render) c old h = none_added (is_client c) w.clients _ h (born_later w c old)
-changed-absent w (Open (Lease token root)) c old h = none_added (is_client c) w.clients _ h (born_later w c old)
+changed-absent w (Open (Lease token root universal)) c old h = none_added (is_client c) w.clients _ h (born_later w c old)
 changed-absent w (Ask d call) c old h = asked-absent w d call c h
 changed-absent w (Close d) c old h = none_filtered (is_client c) _ w.clients h
 
@@ -112,9 +116,9 @@ now past w d c r old gone h =
 
 gone_changed : (past : List Entry) (w : Rows) (event : Event) → IsReached past w → verdict w event ≡ None → AreGone past w → (c : ℕ) → has_closed (carried w event ∷ past) c ≡ true → (c ≤ length (carried w event ∷ past)) × IsAbsent c (changed w event)
 unfolding deed answer_of
-gone_changed past w (Open (Primary root)) r v gone c h = later past w (Open (Primary root)) _ c r refl gone h
+gone_changed past w (Open (Primary root universal)) r v gone c h = later past w (Open (Primary root universal)) _ c r refl gone h
 gone_changed past w (Open Render) r v gone c h = later past w (Open Render) _ c r refl gone h
-gone_changed past w (Open (Lease token root)) r v gone c h = later past w (Open (Lease token root)) _ c r refl gone h
+gone_changed past w (Open (Lease token root universal)) r v gone c h = later past w (Open (Lease token root universal)) _ c r refl gone h
 gone_changed past w (Ask d call) r v gone c h = later past w (Ask d call) _ c r (closes_nothing w d call c) gone h
 gone_changed past w (Close d) r v gone c h = now past w d c r (open_old w d r.births.0.1 (closer_open w d v)) gone h
 

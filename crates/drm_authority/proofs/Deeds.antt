@@ -1,6 +1,6 @@
 -- A denial does nothing.
 use Rattle.std.proofs.Common.{◌≡◌, refl}
-use Rattle.drm_table.specs.declared.calls.Call.TheVariants.{GetMagic, AuthMagic, SetMaster, DropMaster, CreateLease, RevokeLease}
+use Rattle.drm_table.specs.declared.calls.Call.TheVariants.{GetMagic}
 use Rattle.drm_table.specs.declared.events.Event.{Event}
 use Rattle.drm_table.specs.declared.events.Event.TheVariants.{Open, Ask, Close}
 use Rattle.drm_table.specs.declared.rules.Rule.{Rule}

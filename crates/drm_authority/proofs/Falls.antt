@@ -1,16 +1,16 @@
 -- What a history says of numbers: masters, leases and lessors are of steps that were made, and a lessor is older than its lessee.
-use Rattle.std.proofs.Common.{◌≡◌, ℕ, ◌+◌, ◌<◌, ◌≤◌, ◌==◌, Bool, true, false, cond, List, [], ◌∷◌, length, Option, None, Some, refl, sym, ap, ◌∙◌, subst, arith}
+use Rattle.std.proofs.Common.{◌≡◌, ℕ, ◌+◌, ◌<◌, ◌≤◌, ◌==◌, Bool, true, false, List, [], ◌∷◌, length, Option, None, Some, refl, ap, arith}
 use Rattle.std.specs.Prelude.{if◌then◌else◌}
 use Rattle.std.specs.Option.{option_or}
 use Rattle.std.proofs.lemmas.Bool.{eqb-true}
-use Rattle.drm_lists.specs.Chains.{chain_within, chain_of, last_of}
+use Rattle.drm_lists.specs.Chains.{chain_within, last_of}
 use Rattle.drm_lists.specs.Numbers.{is_among}
 use Rattle.drm_lists.proofs.Chains.{IsFalling, same_chain}
 use Rattle.drm_lists.proofs.Numbers.{less-differ}
 use Rattle.drm_model.specs.Rows.{is_option}
 use Rattle.drm_history.specs.History.{Entry, next_number}
-use Rattle.drm_authority.specs.Deeds.{Deed, Nothing, OpensPrimary, OpensRender, Redeems, Closes, GetsMagic, Authenticates, SetsMaster, DropsMaster, Leases, Revokes, deed}
-use Rattle.drm_authority.specs.Standing.{Standing, standing, stood, put, with_client, with_primary, with_set, owner_without, leased_by, lease_in}
+use Rattle.drm_authority.specs.Deeds.{Deed, Nothing, OpensPrimary, OpensRender, Redeems, Closes, SetsMaster, DropsMaster, Leases, deed}
+use Rattle.drm_authority.specs.Standing.{Standing, standing, stood, with_client, with_primary, with_set, owner_without, leased_by, lease_in}
 use Rattle.drm_authority.specs.Lessees.{lessor_by, lessor_in, top_in, is_under_in}
 
 -- ---- numbers up to a last
@@ -73,9 +73,9 @@ without_up last true None owner h = h
 without_up last false master owner h = h
 
 stood_up : (d : Deed) (number : ℕ) (lease : ℕ → Option ℕ) (s : Standing) → ((token : ℕ) → UpTo number (lease token)) → StandsUp number s → StandsUp number (stood d number lease s)
-stood_up (OpensPrimary root) number lease s up h = primary_up number s.owner s h.owner h
+stood_up (OpensPrimary root universal) number lease s up h = primary_up number s.owner s h.owner h
 stood_up OpensRender number lease s up h = record { owner = h.owner; master = client_up number number false None s (none_up number) h }
-stood_up (Redeems token root) number lease s up h = record { owner = h.owner; master = client_up number number true (lease token) s (up token) h }
+stood_up (Redeems token root universal) number lease s up h = record { owner = h.owner; master = client_up number number true (lease token) s (up token) h }
 stood_up (Closes c) number lease s up h = record { owner = without_up number (s.is_master c) (s.master c) s.owner h.owner; master = h.master }
 stood_up (SetsMaster c) number lease s up h = set_up number c (s.is_master c) s h
 stood_up DropsMaster number lease s up h = record { owner = none_up number; master = h.master }

@@ -1,7 +1,6 @@
 -- A client without a magic finds one that is free: each open client has one at most, and no more clients are open than magics
 -- there are.
-use Rattle.std.proofs.Common.{◌≡◌, ℕ, zero, suc, ◌+◌, ◌<◌, ◌≤◌, ◌==◌, Bool, true, false, cond, not, ◌&&◌, ◌||◌, List, [], ◌∷◌, ◌++◌, length, filter, map, find, Option, None, Some, refl, sym, ap, ◌∙◌, subst, arith, eq-eqb}
-use Rattle.std.specs.Prelude.{if◌then◌else◌, nat_lt}
+use Rattle.std.proofs.Common.{◌≡◌, ℕ, zero, suc, ◌+◌, ◌<◌, ◌≤◌, ◌==◌, Bool, true, false, not, ◌||◌, List, [], ◌∷◌, length, filter, map, Option, None, Some, refl, sym, ap, ◌∙◌, arith, eq-eqb}
 use Rattle.std.specs.List.{list_any, AllByRecursion, IsDistinct}
 use Rattle.std.specs.Option.{is_some}
 use Rattle.std.specs.Cmp.{IsEquivalence}
@@ -14,15 +13,11 @@ use Rattle.std.proofs.lemmas.Map.Made.{length-le_from_is_member}
 use Rattle.std.proofs.lemmas.Map.Steps.{le-length_from_below}
 use Rattle.drm_lists.specs.Numbers.{is_among}
 use Rattle.drm_lists.specs.Orders.{InOrder}
-use Rattle.drm_lists.proofs.Lists.{all_weaker, all_mapped, all_append, all_filter, all_both, filter-shorter, some_passing, list_any-map, list_any_left, list_any_agree}
-use Rattle.drm_lists.proofs.Orders.{in_order_filter, in_order_append, in_order_map}
-use Rattle.drm_lists.proofs.Rising.{any_more, in_order_kept}
-use Rattle.drm_lists.proofs.Each.{any_filter, any_mapped}
+use Rattle.drm_lists.proofs.Lists.{all_weaker, all_mapped, filter-shorter, some_passing, list_any-map, list_any_agree}
 use Rattle.drm_lists.proofs.Found.{is_some-find, none_found}
 use Rattle.drm_lists.proofs.Numbers.{flipped}
-use Rattle.drm_index_array.specs.Least.{least}
 use Rattle.drm_index_array.proofs.Least.{least_none}
-use Rattle.drm_model.specs.Rows.{Rows, ClientRow, MagicRow, is_client, client_row, is_open, magic_row}
+use Rattle.drm_model.specs.Rows.{Rows, ClientRow, MagicRow, is_client, is_open, magic_row}
 use Rattle.drm_model.specs.Magics.{magics_under, free_magic}
 
 turned : (a b : ℕ) → (a == b) ≡ (b == a)

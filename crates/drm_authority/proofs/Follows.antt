@@ -1,24 +1,26 @@
 -- The laws of a device's history and its rows.
-use Rattle.std.proofs.Common.{◌≡◌, ℕ, ◌≤◌, true, false, Bool, List, [], Option, None, Some, refl, ap, ◌∙◌, subst, arith}
+use Rattle.std.proofs.Common.{◌≡◌, true, false, List, [], Option, None, Some, refl, ap, ◌∙◌, subst, arith}
 use Rattle.std.specs.Prelude.{IfSome}
-use Rattle.std.specs.List.{AllByRecursion}
 use Rattle.std.specs.Option.{is_some, option_map_or}
 use Rattle.std.proofs.lemmas.Bool.{eqb-true}
 use Rattle.drm_lists.proofs.Lists.{all_weaker, all_both}
 use Rattle.drm_lists.proofs.Rising.{found}
-use Rattle.drm_model.specs.Rows.{Rows, ClientRow, MasterRow, MagicRow, client_row, is_client, is_open}
+use Rattle.drm_modes.specs.Topology.{Topology}
+use Rattle.drm_model.specs.Rows.{Rows, ClientRow, MasterRow, MagicRow, client_row, is_client}
 use Rattle.drm_model.specs.Masters.{owner_of}
 use Rattle.drm_model.specs.Run.{History, rows_of, start_of}
 use Rattle.drm_history.specs.History.{Entry, history_of}
 use Rattle.drm_authority.specs.Standing.{standing}
 use Rattle.drm_authority.specs.Lessees.{lessee_in, top_in, granted}
 use Rattle.drm_authority.specs.Magics.{magic_in, is_named_in, known}
+use Rattle.drm_authority.specs.Shown.{KeepsToOverlays}
 use Rattle.drm_authority.specs.Barren.{StaysBarren}
-use Rattle.drm_authority.specs.Laws.{OwnerFollows, ClientsFollow, LeaseTokensFollow, LessorsFollow, LesseesFollow, GrantsFollow, EndedLesseesAreBarren, MagicsFollow, AuthenticationFollows}
-use Rattle.drm_authority.proofs.Runs.{Keeps, by_verdict, at_all_times, at_each_step}
+use Rattle.drm_authority.specs.Laws.{CapabilitiesFollow, OverlaysAlone, OwnerFollows, ClientsFollow, LeaseTokensFollow, LessorsFollow, LesseesFollow, GrantsFollow, EndedLesseesAreBarren, MagicsFollow, AuthenticationFollows}
+use Rattle.drm_authority.proofs.Runs.{Keeps, replied, by_verdict, at_all_times, at_each_step}
+use Rattle.drm_authority.proofs.Capable.{capable_told, keeps_to_overlays}
 use Rattle.drm_authority.proofs.Stands.{open_stands}
 use Rattle.drm_authority.proofs.Held.{is_there, row_there, if_some}
-use Rattle.drm_authority.proofs.Lessors.{Descended, IdTold, LessorTold, owner_same}
+use Rattle.drm_authority.proofs.Lessors.{Descended, IdTold, owner_same}
 use Rattle.drm_authority.proofs.Grants.{Lending, lending_denied, lending_carried}
 use Rattle.drm_authority.proofs.Barren.{stays_barren}
 use Rattle.drm_authority.proofs.Named.{Magical, MagicTold, magical_denied, magical_carried}
@@ -26,15 +28,15 @@ use Rattle.drm_authority.proofs.Known.{AuthTold, AuthsTold, auths_denied, auths_
 
 -- ---- of leases
 
-lending_start : (h : History) → Lending [] (start_of h)
+lending_start : (h : History) → Lending h.topology [] (start_of h)
 unfolding standing granted
-lending_start h = ((((tt, record { owner = refl; clients = tt }), (tt, tt, tt, tt)), tt, tt), λ m x. refl)
+lending_start h = ((((tt, record { owner = refl; clients = tt }), (tt, tt, tt, tt)), tt, tt), (λ m x. refl), tt, refl)
 
-keeps_lending : Keeps Lending
-keeps_lending = by_verdict Lending lending_denied lending_carried
+keeps_lending : (t : Topology) → Keeps (Lending t)
+keeps_lending t = by_verdict (Lending t) (lending_denied t) (lending_carried t)
 
-lending : (h : History) → Lending (history_of h) (rows_of h)
-lending h = at_all_times Lending keeps_lending h (lending_start h)
+lending : (h : History) → Lending h.topology (history_of h) (rows_of h)
+lending h = at_all_times (Lending h.topology) (keeps_lending h.topology) h (lending_start h)
 
 descended : (h : History) → Descended (history_of h) (rows_of h)
 descended h = (lending h).0
@@ -64,23 +66,33 @@ pub grants_follow : (h : History) → GrantsFollow h
 grants_follow h = (lending h).1
 
 pub ended_lessees_are_barren : (h : History) → EndedLesseesAreBarren h
-ended_lessees_are_barren h = at_each_step Lending keeps_lending StaysBarren (λ past w event r p. stays_barren past w event p) h (lending_start h)
+ended_lessees_are_barren h = at_each_step (Lending h.topology) (keeps_lending h.topology) StaysBarren (λ past w event r p. stays_barren h.topology past w event p) h (lending_start h)
+
+-- ---- of capabilities
+
+pub capabilities_follow : (h : History) → CapabilitiesFollow h
+capabilities_follow h c opened = capable_told (history_of h) (rows_of h) (lending h).2 c opened
+
+pub overlays_alone : (h : History) → OverlaysAlone h
+overlays_alone h =
+    at_each_step (Lending h.topology) (keeps_lending h.topology) (KeepsToOverlays h.topology)
+    (λ past w event r p. subst (λ t. KeepsToOverlays t (replied w event) past) p.3 (keeps_to_overlays past w event p.2)) h (lending_start h)
 
 -- ---- of magics
 
-abbrev Authentic : List Entry → Rows → Type 0
-Authentic past w = Lending past w × Magical past w × AuthsTold past w
+abbrev Authentic : Topology → List Entry → Rows → Type 0
+Authentic t past w = Lending t past w × Magical past w × AuthsTold past w
 
-authentic_start : (h : History) → Authentic [] (start_of h)
+authentic_start : (h : History) → Authentic h.topology [] (start_of h)
 unfolding is_named_in
 authentic_start h = (lending_start h, ((tt, tt, omega arith), tt, λ d late. refl), tt)
 
-authentic : (h : History) → Authentic (history_of h) (rows_of h)
+authentic : (h : History) → Authentic h.topology (history_of h) (rows_of h)
 authentic h =
-    at_all_times Authentic
-    (by_verdict Authentic
-    (λ past w event rule r p. (lending_denied past w event rule r p.0, magical_denied past w event rule p.1, auths_denied past w event rule p.2))
-    (λ past w event r v p. let stands = p.0.0.0.0.1 in (lending_carried past w event r v p.0, magical_carried past w event r v stands p.1, auths_carried past w r stands p.1 event v p.2)))
+    at_all_times (Authentic h.topology)
+    (by_verdict (Authentic h.topology)
+    (λ past w event rule r p. (lending_denied h.topology past w event rule r p.0, magical_denied past w event rule p.1, auths_denied past w event rule p.2))
+    (λ past w event r v p. let stands = p.0.0.0.0.1 in (lending_carried h.topology past w event r v p.0, magical_carried past w event r v stands p.1, auths_carried past w r stands p.1 event v p.2)))
     h (authentic_start h)
 
 pub magics_follow : (h : History) → MagicsFollow h

@@ -1,14 +1,14 @@
 -- The grants are those of the history.
-use Rattle.std.proofs.Common.{◌≡◌, ℕ, ◌+◌, ◌≤◌, ◌==◌, Bool, true, false, cond, not, ◌&&◌, ◌||◌, List, [], ◌∷◌, ◌++◌, length, filter, map, find, Option, None, Some, refl, sym, ap, ◌∙◌, subst, arith, eq-eqb}
-use Rattle.std.specs.Prelude.{if◌then◌else◌, unwrap_or, IfSome}
-use Rattle.std.specs.List.{list_any, AllByRecursion}
-use Rattle.std.specs.Option.{is_some, option_map}
+use Rattle.std.proofs.Common.{◌≡◌, ℕ, ◌+◌, ◌≤◌, ◌==◌, Bool, true, false, cond, not, ◌&&◌, ◌||◌, List, [], ◌∷◌, length, filter, map, Option, None, Some, refl, sym, ap, ◌∙◌, subst, arith, eq-eqb}
+use Rattle.std.specs.Prelude.{◌-◌, if◌then◌else◌, slice_get, unwrap_or, IfSome}
+use Rattle.std.specs.List.{list_any}
+use Rattle.std.specs.Option.{is_some, option_map, option_map_or, option_and_then}
 use Rattle.std.proofs.lemmas.Bool.{eqb-true, and_parts}
 use Rattle.std.proofs.lemmas.List.Folds.{list_any-append}
 use Rattle.drm_lists.specs.Numbers.{is_among}
 use Rattle.drm_lists.proofs.Lists.{all_both, some_passing, list_any-map}
 use Rattle.drm_lists.proofs.Each.{some_found}
-use Rattle.drm_lists.proofs.Numbers.{flipped, less-differ}
+use Rattle.drm_lists.proofs.Numbers.{among-append, flipped, less-differ}
 use Rattle.drm_lists.proofs.Rising.{found}
 use Rattle.drm_table.specs.declared.calls.Call.{Call}
 use Rattle.drm_table.specs.declared.calls.Call.TheVariants.{Version, SetMaster, CreateLease, RevokeLease}
@@ -16,35 +16,39 @@ use Rattle.drm_table.specs.declared.events.Event.{Event}
 use Rattle.drm_table.specs.declared.events.Event.TheVariants.{Open, Ask, Close}
 use Rattle.drm_table.specs.declared.events.Opening.TheVariants.{Primary, Render, Lease}
 use Rattle.drm_table.specs.declared.rules.Rule.{Rule}
+use Rattle.drm_modes.specs.PlaneKinds.{crtc_of_kind}
+use Rattle.drm_modes.specs.Topology.{Topology, first_plane, plane_ids, is_plane, planes_of}
 use Rattle.drm_model.specs.Rows.{Rows, ClientRow, MasterRow, GrantRow, birth, client_row, is_open}
 use Rattle.drm_model.specs.Buffers.{with_object}
-use Rattle.drm_model.specs.Masters.{owner_of, is_under}
-use Rattle.drm_model.specs.Sees.{is_granted}
-use Rattle.drm_model.specs.Leases.{ended, grant, lessee_master, lessee_row, is_lessee_of}
+use Rattle.drm_model.specs.Masters.{master_of, owner_of, is_under}
+use Rattle.drm_model.specs.Sees.{is_granted, master_controls, controls, has_universal}
+use Rattle.drm_model.specs.Leases.{ended, grant, brought_along, leased, lessee_master, lessee_row, is_lessee_of}
 use Rattle.drm_model.specs.Magics.{own_master, is_current, is_master, mastered}
 use Rattle.drm_model.specs.Clients.{opened, opened_primary, closed, ended_if, ended_own}
 use Rattle.drm_model.specs.Calls.{meaning}
 use Rattle.drm_model.specs.Verdict.{verdict}
-use Rattle.drm_model.specs.Change.{changed, swept, noted}
+use Rattle.drm_model.specs.Change.{after, after_verdict, changed, swept, noted}
 use Rattle.drm_model.specs.Reply.{answer_of}
+use Rattle.drm_model.proofs.Journals.{after-topology}
 use Rattle.drm_model.proofs.Leased.{rules_hold}
 use Rattle.drm_history.specs.History.{Entry, next_number}
-use Rattle.drm_authority.specs.Deeds.{Deed, Nothing, Leases, deed}
-use Rattle.drm_authority.specs.Standing.{standing, own_master_in}
-use Rattle.drm_authority.specs.Lessees.{top_in, is_under_in, lessee_in, ended_by, is_under_any, ends, is_lent, granted}
+use Rattle.drm_authority.specs.Deeds.{deed}
+use Rattle.drm_authority.specs.Standing.{standing, master_in, own_master_in}
+use Rattle.drm_authority.specs.Lessees.{top_in, is_under_in, lessee_in, ended_by, is_under_any, ends, is_plane_of, is_controlled, is_lent, granted}
+use Rattle.drm_authority.specs.Shown.{is_universal_in}
 use Rattle.drm_authority.proofs.Runs.{IsReached, denied, carried}
 use Rattle.drm_authority.proofs.Rules.{caller_open, closer_open, revoker_current}
 use Rattle.drm_authority.proofs.Deeds.{denied_nothing}
-use Rattle.drm_authority.proofs.Stands.{StandsBy, row_stands, open_stands}
-use Rattle.drm_authority.proofs.Held.{is_there, is_lease_held, LeaseHeld, Held, lease_there, own_there, row_there}
-use Rattle.drm_authority.proofs.Lent.{Rooted}
-use Rattle.drm_authority.proofs.Lessors.{Descended, descended_denied, descended_carried, LessorsTold, IdsTold, IdTold, own_told, under_same, owner_same}
+use Rattle.drm_authority.proofs.Capable.{CapablesTold, capables_carried, capables_denied, capable_told}
+use Rattle.drm_authority.proofs.Stands.{row_stands, open_stands}
+use Rattle.drm_authority.proofs.Held.{is_there, is_lease_held, LeaseHeld, Held, lease_there, master_there, own_there, row_there}
+use Rattle.drm_authority.proofs.Lessors.{Descended, descended_denied, descended_carried, IdTold, own_told, lessor_same, under_same, owner_same}
 
 abbrev pub is_grant : ℕ → ℕ → GrantRow → Bool
 is_grant m x row = (row.master == m) && (row.mode_object == x)
 
-abbrev pub GrantsTold : List Entry → Rows → Type 0
-GrantsTold past w = (m x : ℕ) → is_granted w m x ≡ granted past m x
+abbrev pub GrantsTold : Topology → List Entry → Rows → Type 0
+GrantsTold t past w = (m x : ℕ) → is_granted w m x ≡ granted t past m x
 
 -- ---- what a history says of grants
 
@@ -52,25 +56,25 @@ no_more : (b : Bool) → (b && false) ≡ false
 no_more true = refl
 no_more false = refl
 
-not_yet : (past : List Entry) (m x : ℕ) → length past + 1 ≤ m → granted past m x ≡ false
+not_yet : (t : Topology) (past : List Entry) (m x : ℕ) → length past + 1 ≤ m → granted t past m x ≡ false
 unfolding granted
-not_yet [] m x late = refl
-not_yet (step ∷ past) m x late =
-    ap (λ b. if b then is_lent (deed step) x else not (ends step past m) && granted past m x) (flipped (next_number past) m (less-differ (next_number past) m (omega (arith, late))))
-    ∙ ap (λ b. not (ends step past m) && b) (not_yet past m x (omega (arith, late))) ∙ no_more (not (ends step past m))
+not_yet t [] m x late = refl
+not_yet t (step ∷ past) m x late =
+    ap (λ b. if b then is_lent t (deed step) past x (λ n. granted t past n x) else not (ends step past m) && granted t past m x) (flipped (next_number past) m (less-differ (next_number past) m (omega (arith, late))))
+    ∙ ap (λ b. not (ends step past m) && b) (not_yet t past m x (omega (arith, late))) ∙ no_more (not (ends step past m))
 
 -- a step that lends nothing
-granted_ends : (step : Entry) (past : List Entry) → ((x : ℕ) → is_lent (deed step) x ≡ false) → (m x : ℕ) → granted (step ∷ past) m x ≡ (not (ends step past m) && granted past m x)
+granted_ends : (t : Topology) (step : Entry) (past : List Entry) → ((x : ℕ) → is_lent t (deed step) past x (λ n. granted t past n x) ≡ false) → (m x : ℕ) → granted t (step ∷ past) m x ≡ (not (ends step past m) && granted t past m x)
 unfolding granted
-granted_ends step past lends m x =
-    elim (m == next_number past) as (λ b. (m == next_number past) ≡ b → (if b then is_lent (deed step) x else not (ends step past m) && granted past m x) ≡ (not (ends step past m) && granted past m x)) [
-      | true ↦ λ e. lends x ∙ sym (no_more (not (ends step past m))) ∙ ap (λ b. not (ends step past m) && b) (sym (not_yet past m x (let same = eqb-true m (next_number past) e in omega (arith, same))))
+granted_ends t step past lends m x =
+    elim (m == next_number past) as (λ b. (m == next_number past) ≡ b → (if b then is_lent t (deed step) past x (λ n. granted t past n x) else not (ends step past m) && granted t past m x) ≡ (not (ends step past m) && granted t past m x)) [
+      | true ↦ λ e. lends x ∙ sym (no_more (not (ends step past m))) ∙ ap (λ b. not (ends step past m) && b) (sym (not_yet t past m x (let same = eqb-true m (next_number past) e in omega (arith, same))))
       | false ↦ λ e. refl
     ] refl
 
 -- and ends nothing
-granted_stays : (step : Entry) (past : List Entry) → ((x : ℕ) → is_lent (deed step) x ≡ false) → ((m : ℕ) → ends step past m ≡ false) → (m x : ℕ) → granted (step ∷ past) m x ≡ granted past m x
-granted_stays step past lends still m x = granted_ends step past lends m x ∙ ap (λ b. not b && granted past m x) (still m)
+granted_stays : (t : Topology) (step : Entry) (past : List Entry) → ((x : ℕ) → is_lent t (deed step) past x (λ n. granted t past n x) ≡ false) → ((m : ℕ) → ends step past m ≡ false) → (m x : ℕ) → granted t (step ∷ past) m x ≡ granted t past m x
+granted_stays t step past lends still m x = granted_ends t step past lends m x ∙ ap (λ b. not b && granted t past m x) (still m)
 
 -- ---- what rows say of grants
 
@@ -101,8 +105,8 @@ filtered p m x (row ∷ rows) =
 
 -- ---- a master ends with all below it
 
-module _ (past : List Entry) (w : Rows) (p : Descended past w) (told : GrantsTold past w) where
-  ended_told : (top m x : ℕ) → list_any (is_grant m x) (ended w top).grants ≡ (not (is_under_in past top m) && granted past m x)
+module _ (t : Topology) (past : List Entry) (w : Rows) (p : Descended past w) (told : GrantsTold t past w) where
+  ended_told : (top m x : ℕ) → list_any (is_grant m x) (ended w top).grants ≡ (not (is_under_in past top m) && granted t past m x)
   unfolding ended
   ended_told top m x =
       filtered (λ n. not (is_under w.masters top n)) m x w.grants
@@ -113,16 +117,16 @@ module _ (past : List Entry) (w : Rows) (p : Descended past w) (told : GrantsTol
       ∙ ap (λ b. not (is_under_in past top m) && b) (told m x)
 
   -- a closing client that is a master
-  closed_told : (is_master : Bool) (master : Option ℕ) (m x : ℕ) → list_any (is_grant m x) (ended_if w is_master master).grants ≡ (not (is_under_any past (if is_master then master else None) m) && granted past m x)
+  closed_told : (is_master : Bool) (master : Option ℕ) (m x : ℕ) → list_any (is_grant m x) (ended_if w is_master master).grants ≡ (not (is_under_any past (if is_master then master else None) m) && granted t past m x)
   closed_told true (Some own) m x = ended_told own m x
   closed_told true None m x = told m x
   closed_told false master m x = told m x
 
-  close_told : (c : ℕ) (o : Option ClientRow) → client_row w c ≡ o → is_some o ≡ true → (m x : ℕ) → list_any (is_grant m x) (ended_own w o).grants ≡ (not (is_under_any past (if (standing past).is_master c then (standing past).master c else None) m) && granted past m x)
+  close_told : (c : ℕ) (o : Option ClientRow) → client_row w c ≡ o → is_some o ≡ true → (m x : ℕ) → list_any (is_grant m x) (ended_own w o).grants ≡ (not (is_under_any past (if (standing past).is_master c then (standing past).master c else None) m) && granted t past m x)
   close_told c None e opened m x = absurd (let n : false ≡ true = opened in cc)
   close_told c (Some row) e opened m x =
       let stands = row_stands (standing past) w c row p.0.0.1.clients e in
-      closed_told row.is_master row.master m x ∙ (λ i. not (is_under_any past (if stands.0 i then stands.1 i else None) m) && granted past m x)
+      closed_told row.is_master row.master m x ∙ (λ i. not (is_under_any past (if stands.0 i then stands.1 i else None) m) && granted t past m x)
 
   -- the lessee of an id
   lessee_told : (c id : ℕ) → verdict w (Ask c (RevokeLease id)) ≡ None → lessee_in past (top_in past (own_master_in past c)) id ≡ Some (lessee_master w (own_master w c) id)
@@ -145,9 +149,9 @@ module _ (past : List Entry) (w : Rows) (p : Descended past w) (told : GrantsTol
 
 -- ---- a step
 
-primary_grants : (w : Rows) (root : Bool) (m : Option ℕ) → (opened_primary w root m).grants ≡ w.grants
-primary_grants w root None = refl
-primary_grants w root (Some m) = refl
+primary_grants : (w : Rows) (root universal : Bool) (m : Option ℕ) → (opened_primary w root universal m).grants ≡ w.grants
+primary_grants w root universal None = refl
+primary_grants w root universal (Some m) = refl
 
 set_grants : (w : Rows) (c : ℕ) (current master : Bool) → (mastered w c current master).grants ≡ w.grants
 set_grants w c true master = refl
@@ -169,53 +173,119 @@ or_nothing : (b : Bool) → (b || false) ≡ b
 or_nothing true = refl
 or_nothing false = refl
 
-leased_told : (past : List Entry) (w : Rows) (c : ℕ) (ids : List ℕ) → IsReached past w → GrantsTold past w → GrantsTold (carried w (Ask c (CreateLease ids)) ∷ past) (noted (swept (changed w (Ask c (CreateLease ids)))))
+-- ---- what an accepted MODE_CREATE_LEASE lends
+
+among_filter : (p : ℕ → Bool) (xs : List ℕ) (x : ℕ) → is_among (filter p xs) x ≡ (p x && is_among xs x)
+among_filter p [] x = sym (no_more (p x))
+among_filter p (y ∷ ys) x =
+    elim (p y) as (λ b. p y ≡ b → is_among (cond b (y ∷ filter p ys) (filter p ys)) x ≡ (p x && ((y == x) || is_among ys x))) [
+      | true ↦ λ e.
+          elim (y == x) as (λ b. (y == x) ≡ b → (b || is_among (filter p ys) x) ≡ (p x && (b || is_among ys x)))
+          [ true ↦ λ same. sym (ap (λ b. b && true) (ap p (sym (eqb-true y x same)) ∙ e)) | false ↦ λ other. among_filter p ys x ] refl
+      | false ↦ λ e.
+          elim (y == x) as (λ b. (y == x) ≡ b → is_among (filter p ys) x ≡ (p x && (b || is_among ys x))) [
+            | true ↦ λ same. let fails = ap p (sym (eqb-true y x same)) ∙ e in among_filter p ys x ∙ ap (λ b. b && is_among ys x) fails ∙ sym (ap (λ b. b && true) fails)
+            | false ↦ λ other. among_filter p ys x
+          ] refl
+    ] refl
+
+and_itself : (b : Bool) → (b && true) ≡ b
+and_itself true = refl
+and_itself false = refl
+
+-- a plane of a CRTC is a plane
+plane_there : (t : Topology) (ids : List ℕ) (x : ℕ) → (is_plane_of t ids x && is_among (plane_ids t) x) ≡ is_plane_of t ids x
+plane_there t ids x =
+    let by = λ (b : Bool). option_map_or (is_among ids) (option_and_then crtc_of_kind (if b then slice_get t.kinds (x - first_plane t) else None)) false in
+    elim (is_plane t x) as (λ b. (by b && b) ≡ by b) [ true ↦ and_itself (by true) | false ↦ refl ]
+
+-- what comes along, by whether universal planes are on
+along : (t : Topology) (p : ℕ → Bool) (ids : List ℕ) (x : ℕ) (universal : Bool) → is_among (if universal then [] else filter p (planes_of t ids)) x ≡ (not universal && is_plane_of t ids x && p x)
+along t p ids x true = refl
+along t p ids x false = among_filter p (planes_of t ids) x ∙ ap (λ b. p x && b) (among_filter (is_plane_of t ids) (plane_ids t) x ∙ plane_there t ids x) ∙ turned (p x) (is_plane_of t ids x)
+  where
+    turned : (a b : Bool) → (a && b) ≡ (b && a)
+    turned true true = refl
+    turned true false = refl
+    turned false true = refl
+    turned false false = refl
+
+module _ (t : Topology) (past : List Entry) (w : Rows) (p : Descended past w) (told : GrantsTold t past w) (capable : CapablesTold past w) (top : w.topology ≡ t) (c : ℕ) (opened : is_open w c ≡ true) where
+  abbrev has : ℕ → ℕ → Bool
+  has x n = granted t past n x
+
+  controlled_told : (x : ℕ) → controls w c x ≡ is_controlled past (master_in past c) (has x)
+  unfolding controls
+  controlled_told x = by (master_of w c) (master_there w c p.0.1.1) ∙ ap (λ o. is_controlled past o (has x)) (open_stands past w p.0.0.1 c opened).1
+    where
+      by : (o : Option ℕ) → IfSome o (λ m. is_there w.masters m ≡ true) → master_controls w o x ≡ is_controlled past o (has x)
+      by None there = refl
+      by (Some m) there = λ i. not (is_some (lessor_same past w p.1 p.0.1 m there i)) || told m x i
+
+  lent_told : (ids : List ℕ) (x : ℕ) → is_among (leased w c ids) x ≡ (is_among ids x || (not (is_universal_in past c) && is_plane_of t ids x && is_controlled past (master_in past c) (has x)))
+  lent_told ids x =
+      among-append ids (brought_along w c ids) x
+      ∙ ap (λ b. is_among ids x || b) (along w.topology (controls w c) ids x (has_universal w c))
+      ∙ (λ i. is_among ids x || (not (capable_told past w capable c opened i) && is_plane_of (top i) ids x && controlled_told x i))
+
+leased_told : (t : Topology) (past : List Entry) (w : Rows) (c : ℕ) (ids : List ℕ) → IsReached past w → verdict w (Ask c (CreateLease ids)) ≡ None → Descended past w → CapablesTold past w → w.topology ≡ t → GrantsTold t past w → GrantsTold t (carried w (Ask c (CreateLease ids)) ∷ past) (noted (swept (changed w (Ask c (CreateLease ids)))))
 unfolding granted ends swept changed deed answer_of meaning
-leased_told past w c ids r told m x =
-    list_any-append (is_grant m x) w.grants (map (grant (birth w)) ids)
-    ∙ (λ i. told m x i || (list_any-map (is_grant m x) (grant (birth w)) ids ∙ one_master (birth w) m x ids) i)
-    ∙ elim (m == next_number past) as (λ b. (m == next_number past) ≡ b → (granted past m x || ((birth w == m) && is_among ids x)) ≡ (if b then is_among ids x else not false && granted past m x)) [
+leased_told t past w c ids r v p capable top told m x =
+    let all = leased w c ids in
+    let lent = is_among ids x || (not (is_universal_in past c) && is_plane_of t ids x && is_controlled past (master_in past c) (λ n. granted t past n x)) in
+    let its : list_any (is_grant m x) (map (grant (birth w)) all) ≡ ((birth w == m) && lent) =
+    list_any-map (is_grant m x) (grant (birth w)) all ∙ one_master (birth w) m x all ∙ ap (λ b. (birth w == m) && b) (lent_told t past w p told capable top c (caller_open w c (CreateLease ids) v) ids x) in
+    list_any-append (is_grant m x) w.grants (map (grant (birth w)) all)
+    ∙ (λ i. told m x i || its i)
+    ∙ elim (m == next_number past) as (λ b. (m == next_number past) ≡ b → (granted t past m x || ((birth w == m) && lent)) ≡ (if b then lent else not false && granted t past m x)) [
       | true ↦ λ e.
           let same = eqb-true m (next_number past) e in
           let steps = r.steps in
-          (λ i. not_yet past m x (omega (arith, same)) i || (eq-eqb (birth w) m (omega (arith, same, steps)) i && is_among ids x))
+          (λ i. not_yet t past m x (omega (arith, same)) i || (eq-eqb (birth w) m (omega (arith, same, steps)) i && lent))
       | false ↦ λ e.
           let apart : (birth w == m) ≡ false = ap (λ n. n + 1 == m) r.steps ∙ flipped m (next_number past) e in
-          ap (λ b. granted past m x || (b && is_among ids x)) apart ∙ or_nothing (granted past m x)
+          ap (λ b. granted t past m x || (b && lent)) apart ∙ or_nothing (granted t past m x)
     ] refl
 
-asked_told : (past : List Entry) (w : Rows) (c : ℕ) (call : Call) → IsReached past w → verdict w (Ask c call) ≡ None → Descended past w → GrantsTold past w → GrantsTold (carried w (Ask c call) ∷ past) (noted (swept (changed w (Ask c call))))
+-- ---- a step
+
+asked_told : (t : Topology) (past : List Entry) (w : Rows) (c : ℕ) (call : Call) → IsReached past w → verdict w (Ask c call) ≡ None → Descended past w → CapablesTold past w → w.topology ≡ t → GrantsTold t past w → GrantsTold t (carried w (Ask c call) ∷ past) (noted (swept (changed w (Ask c call))))
 unfolding ends swept changed deed answer_of meaning with_object
-asked_told past w c Version r v p told m x = told m x ∙ sym (granted_stays (carried w (Ask c Version)) past (λ y. refl) (λ k. refl) m x)
-asked_told past w c SetMaster r v p told m x = ap (list_any (is_grant m x)) (set_grants w c (is_current w c) (is_master w c)) ∙ told m x ∙ sym (granted_stays (carried w (Ask c SetMaster)) past (λ y. refl) (λ k. refl) m x)
-asked_told past w c (CreateLease ids) r v p told m x = leased_told past w c ids r told m x
-asked_told past w c (RevokeLease id) r v p told m x =
-    ended_told past w p told (lessee_master w (own_master w c) id) m x
-    ∙ ap (λ o. not (is_under_any past o m) && granted past m x) (sym (lessee_told past w p told c id v))
-    ∙ sym (granted_ends (carried w (Ask c (RevokeLease id))) past (λ y. refl) m x)
-asked_told past w c call r v p told m x = told m x ∙ sym (granted_stays (carried w (Ask c call)) past (λ y. refl) (λ k. refl) m x)
+asked_told t past w c Version r v p capable top told m x = told m x ∙ sym (granted_stays t (carried w (Ask c Version)) past (λ y. refl) (λ k. refl) m x)
+asked_told t past w c SetMaster r v p capable top told m x = ap (list_any (is_grant m x)) (set_grants w c (is_current w c) (is_master w c)) ∙ told m x ∙ sym (granted_stays t (carried w (Ask c SetMaster)) past (λ y. refl) (λ k. refl) m x)
+asked_told t past w c (CreateLease ids) r v p capable top told m x = leased_told t past w c ids r v p capable top told m x
+asked_told t past w c (RevokeLease id) r v p capable top told m x =
+    ended_told t past w p told (lessee_master w (own_master w c) id) m x
+    ∙ ap (λ o. not (is_under_any past o m) && granted t past m x) (sym (lessee_told t past w p told c id v))
+    ∙ sym (granted_ends t (carried w (Ask c (RevokeLease id))) past (λ y. refl) m x)
+asked_told t past w c call r v p capable top told m x = told m x ∙ sym (granted_stays t (carried w (Ask c call)) past (λ y. refl) (λ k. refl) m x)
 
-grants_carried : (past : List Entry) (w : Rows) (event : Event) → IsReached past w → verdict w event ≡ None → Descended past w → GrantsTold past w → GrantsTold (carried w event ∷ past) (noted (swept (changed w event)))
+grants_carried : (t : Topology) (past : List Entry) (w : Rows) (event : Event) → IsReached past w → verdict w event ≡ None → Descended past w → CapablesTold past w → w.topology ≡ t → GrantsTold t past w → GrantsTold t (carried w event ∷ past) (noted (swept (changed w event)))
 unfolding ends swept changed deed answer_of opened closed
-grants_carried past w (Open (Primary root)) r v p told m x = ap (list_any (is_grant m x)) (primary_grants w root w.device_master) ∙ told m x ∙ sym (granted_stays (carried w (Open (Primary root))) past (λ y. refl) (λ k. refl) m x)
-grants_carried past w (Open Render) r v p told m x = told m x ∙ sym (granted_stays (carried w (Open Render)) past (λ y. refl) (λ k. refl) m x)
-grants_carried past w (Open (Lease token root)) r v p told m x = told m x ∙ sym (granted_stays (carried w (Open (Lease token root))) past (λ y. refl) (λ k. refl) m x)
-grants_carried past w (Ask c call) r v p told m x = asked_told past w c call r v p told m x
-grants_carried past w (Close c) r v p told m x = close_told past w p told c (client_row w c) refl (closer_open w c v) m x ∙ sym (granted_ends (carried w (Close c)) past (λ y. refl) m x)
+grants_carried t past w (Open (Primary root universal)) r v p capable top told m x = ap (list_any (is_grant m x)) (primary_grants w root universal w.device_master) ∙ told m x ∙ sym (granted_stays t (carried w (Open (Primary root universal))) past (λ y. refl) (λ k. refl) m x)
+grants_carried t past w (Open Render) r v p capable top told m x = told m x ∙ sym (granted_stays t (carried w (Open Render)) past (λ y. refl) (λ k. refl) m x)
+grants_carried t past w (Open (Lease token root universal)) r v p capable top told m x = told m x ∙ sym (granted_stays t (carried w (Open (Lease token root universal))) past (λ y. refl) (λ k. refl) m x)
+grants_carried t past w (Ask c call) r v p capable top told m x = asked_told t past w c call r v p capable top told m x
+grants_carried t past w (Close c) r v p capable top told m x = close_told t past w p told c (client_row w c) refl (closer_open w c v) m x ∙ sym (granted_ends t (carried w (Close c)) past (λ y. refl) m x)
 
-grants_denied : (past : List Entry) (w : Rows) (event : Event) (rule : Rule) → GrantsTold past w → GrantsTold (denied event rule ∷ past) (noted w)
+grants_denied : (t : Topology) (past : List Entry) (w : Rows) (event : Event) (rule : Rule) → GrantsTold t past w → GrantsTold t (denied event rule ∷ past) (noted w)
 unfolding ends
-grants_denied past w event rule told m x =
+grants_denied t past w event rule told m x =
     let nothing = denied_nothing event rule in
-    told m x ∙ sym (granted_stays (denied event rule) past (λ y. ap (λ d. is_lent d y) nothing) (λ k. ap (λ d. is_under_any past (ended_by d past) k) nothing) m x)
+    told m x ∙ sym (granted_stays t (denied event rule) past (λ y. ap (λ d. is_lent t d past y (λ n. granted t past n y)) nothing) (λ k. ap (λ d. is_under_any past (ended_by d past) k) nothing) m x)
 
 -- ---- with all before it
 
-abbrev pub Lending : List Entry → Rows → Type 0
-Lending past w = Descended past w × GrantsTold past w
+-- what a step that is carried out leaves of the topology: all
+topology_stays : (w : Rows) (event : Event) → verdict w event ≡ None → (noted (swept (changed w event))).topology ≡ w.topology
+unfolding after
+topology_stays w event v = ap (λ o. (after_verdict o w event).topology) (sym v) ∙ after-topology w event
 
-pub lending_denied : (past : List Entry) (w : Rows) (event : Event) (rule : Rule) → IsReached past w → Lending past w → Lending (denied event rule ∷ past) (noted w)
-lending_denied past w event rule r p = (descended_denied past w event rule r p.0, grants_denied past w event rule p.1)
+abbrev pub Lending : Topology → List Entry → Rows → Type 0
+Lending t past w = Descended past w × GrantsTold t past w × CapablesTold past w × (w.topology ≡ t)
 
-pub lending_carried : (past : List Entry) (w : Rows) (event : Event) → IsReached past w → verdict w event ≡ None → Lending past w → Lending (carried w event ∷ past) (noted (swept (changed w event)))
-lending_carried past w event r v p = (descended_carried past w event r v p.0, grants_carried past w event r v p.0 p.1)
+pub lending_denied : (t : Topology) (past : List Entry) (w : Rows) (event : Event) (rule : Rule) → IsReached past w → Lending t past w → Lending t (denied event rule ∷ past) (noted w)
+lending_denied t past w event rule r p = (descended_denied past w event rule r p.0, grants_denied t past w event rule p.1, capables_denied past w event rule p.2, p.3)
+
+pub lending_carried : (t : Topology) (past : List Entry) (w : Rows) (event : Event) → IsReached past w → verdict w event ≡ None → Lending t past w → Lending t (carried w event ∷ past) (noted (swept (changed w event)))
+lending_carried t past w event r v p = (descended_carried past w event r v p.0, grants_carried t past w event r v p.0 p.2 p.3 p.1, capables_carried past w event r p.2, topology_stays w event v ∙ p.3)

@@ -1,38 +1,35 @@
 -- Masters that rows name are there: the lessor of each, that of each client, the device's, of which a client is a master, and
 -- those of grants, whose token is open or of which a client is a master. So a sweep takes none of them.
-use Rattle.std.proofs.Common.{◌≡◌, ℕ, ◌+◌, ◌<◌, ◌≤◌, ◌==◌, Bool, true, false, cond, not, ◌&&◌, ◌||◌, ◌⊎◌, inl, inr, List, [], ◌∷◌, ◌++◌, length, filter, map, find, Option, None, Some, refl, sym, ap, ◌∙◌, subst, arith, eq-eqb}
+use Rattle.std.proofs.Common.{◌≡◌, ℕ, ◌==◌, Bool, true, false, not, ◌&&◌, ◌||◌, List, [], ◌∷◌, ◌++◌, filter, map, find, Option, None, Some, refl, sym, ap, ◌∙◌, subst, eq-eqb}
 use Rattle.std.specs.Prelude.{if◌then◌else◌, unwrap_or, IfSome}
 use Rattle.std.specs.List.{list_any, AllByRecursion}
-use Rattle.std.specs.Option.{is_some, is_none, option_map, option_map_or, option_and_then}
+use Rattle.std.specs.Option.{is_some, option_map, option_map_or, option_and_then}
 use Rattle.std.proofs.lemmas.Bool.{eqb-true, and_parts, or_left, or_right}
-use Rattle.drm_lists.proofs.Lists.{all_both, all_weaker, all_each, all_append, all_filter, all_mapped, list_any_left, list_any_right}
-use Rattle.drm_lists.proofs.Each.{each_any, any_filter, any_mapped, some_found}
+use Rattle.drm_lists.proofs.Lists.{all_weaker, all_each, list_any_left, list_any_right}
+use Rattle.drm_lists.proofs.Each.{each_any, any_filter, any_mapped}
 use Rattle.drm_lists.proofs.Rising.{found, any_found, any_more}
 use Rattle.drm_lists.proofs.Found.{is_some-find}
-use Rattle.drm_lists.proofs.Chains.{IsFalling, itself, above_too}
 use Rattle.drm_table.specs.declared.calls.Call.{Call}
-use Rattle.drm_table.specs.declared.calls.Call.TheVariants.{Version, AuthMagic, SetMaster, DropMaster, CreateLease, RevokeLease}
+use Rattle.drm_table.specs.declared.calls.Call.TheVariants.{Version, SetClientCap, AuthMagic, SetMaster, DropMaster, CreateLease, RevokeLease}
 use Rattle.drm_table.specs.declared.events.Event.{Event}
 use Rattle.drm_table.specs.declared.events.Event.TheVariants.{Open, Ask, Close}
 use Rattle.drm_table.specs.declared.events.Opening.TheVariants.{Primary, Render, Lease}
 use Rattle.drm_model.specs.Rows.{Rows, ClientRow, MasterRow, GrantRow, birth, is_option, is_client, client_row, is_open}
-use Rattle.drm_model.specs.Births.{IsMadeMaster}
 use Rattle.drm_model.specs.Buffers.{with_object}
 use Rattle.drm_model.specs.Endings.{is_open_lease}
-use Rattle.drm_model.specs.Masters.{new_master, master_row, master_of, lessor_of, is_under}
-use Rattle.drm_model.specs.Leases.{ended, lease_master, lessee_master, new_lessee, grant}
+use Rattle.drm_model.specs.Masters.{new_master, master_of, is_under}
+use Rattle.drm_model.specs.Leases.{ended, lease_master, lessee_master}
 use Rattle.drm_model.specs.Magics.{own_master, magic_client, is_current, is_master, mastered, with_authenticated, with_master}
+use Rattle.drm_model.specs.Capabilities.{with_universal}
 use Rattle.drm_model.specs.Clients.{opened, opened_primary, closed, ended_if, ended_own}
 use Rattle.drm_model.specs.Calls.{meaning}
 use Rattle.drm_model.specs.Verdict.{verdict}
-use Rattle.drm_model.specs.Change.{changed, swept, noted, is_held, is_living}
+use Rattle.drm_model.specs.Change.{changed}
 use Rattle.drm_history.specs.History.{Entry}
-use Rattle.drm_authority.specs.Standing.{standing, lease_in}
-use Rattle.drm_authority.proofs.Runs.{IsReached, denied, carried, Keeps, by_verdict}
+use Rattle.drm_authority.specs.Standing.{standing}
 use Rattle.drm_authority.proofs.Rules.{caller_open, closer_open, lessor_current}
-use Rattle.drm_authority.proofs.Changes.{masters_changed, changed-all, client_after, ForClient, ForMaster, set_row, primary_row, lease_row, opened_row}
-use Rattle.drm_authority.proofs.Tokens.{TokensTold, TokenTold}
-use Rattle.drm_authority.proofs.Stands.{ClientStands, StandsBy, Ranked, row_stands, current, lease_told}
+use Rattle.drm_authority.proofs.Changes.{masters_changed, changed-all, client_after, ForClient, ForMaster, set_row, primary_row}
+use Rattle.drm_authority.proofs.Stands.{ClientStands, StandsBy, row_stands, current}
 
 abbrev pub is_row_of : ℕ → MasterRow → Bool
 is_row_of m row = row.master == m
@@ -121,9 +118,9 @@ module _ (w : Rows) (p : MasterRow → Bool) (same : (row : MasterRow) → p row
   any_ended_own None h = h
   any_ended_own (Some row) h = any_ended_if row.is_master row.master h
 
-  pub any_primary : (root : Bool) (m : Option ℕ) → list_any p w.masters ≡ true → list_any p (opened_primary w root m).masters ≡ true
-  any_primary root None h = list_any_left p w.masters _ h
-  any_primary root (Some m) h = h
+  pub any_primary : (root universal : Bool) (m : Option ℕ) → list_any p w.masters ≡ true → list_any p (opened_primary w root universal m).masters ≡ true
+  any_primary root universal None h = list_any_left p w.masters _ h
+  any_primary root universal (Some m) h = h
 
   pub any_set : (c : ℕ) (current master : Bool) → list_any p w.masters ≡ true → list_any p (mastered w c current master).masters ≡ true
   any_set c true master h = h
@@ -140,9 +137,9 @@ module _ (w : Rows) (p : MasterRow → Bool) (same : (row : MasterRow) → p row
 
   any_changed : (event : Event) → list_any p w.masters ≡ true → list_any p (changed w event).masters ≡ true
   unfolding changed opened closed
-  any_changed (Open (Primary root)) h = any_primary root w.device_master h
+  any_changed (Open (Primary root universal)) h = any_primary root universal w.device_master h
   any_changed (Open Render) h = h
-  any_changed (Open (Lease token root)) h = any_untokened (λ row. is_option token row.lease_token) h
+  any_changed (Open (Lease token root universal)) h = any_untokened (λ row. is_option token row.lease_token) h
   any_changed (Ask c call) h = any_asked c call h
   any_changed (Close c) h = any_ended_own (client_row w c) h
 
@@ -175,9 +172,9 @@ lessor_there : (w : Rows) (event : Event) → verdict w event ≡ None → Held 
 lessor_there w (Ask c (CreateLease ids)) v h = there_still w (Ask c (CreateLease ids)) (own_master w c) (own_there w c h (lessor_current w c ids v))
 lessor_there w (Ask c SetMaster) v h = tt
 lessor_there w (Ask c call) v h = tt
-lessor_there w (Open (Primary root)) v h = tt
+lessor_there w (Open (Primary root universal)) v h = tt
 lessor_there w (Open Render) v h = tt
-lessor_there w (Open (Lease token root)) v h = tt
+lessor_there w (Open (Lease token root universal)) v h = tt
 lessor_there w (Close c) v h = tt
 
 pub lessors_there : (w : Rows) (event : Event) → verdict w event ≡ None → Held w → AllByRecursion (LessorThere (changed w event).masters) (changed w event).masters
@@ -203,17 +200,22 @@ authenticated_there : (rows : List MasterRow) (b : Bool) (row : ClientRow) → M
 authenticated_there rows true row h = h
 authenticated_there rows false row h = h
 
+capable_there : (rows : List MasterRow) (b on : Bool) (row : ClientRow) → MasterThere rows row → MasterThere rows (if b then record row { universal = on } else row)
+capable_there rows true on row h = h
+capable_there rows false on row h = h
+
 client_there : (w : Rows) (event : Event) (row : ClientRow) → MasterThere (changed w event).masters row → MasterThere (changed w event).masters (client_after w event row)
 unfolding changed meaning
 client_there w (Ask c (AuthMagic magic)) row h = authenticated_there w.masters (is_option row.client (magic_client w (own_master w c) magic)) row h
+client_there w (Ask c (SetClientCap cap value)) row h = capable_there w.masters (is_client c row) (value == 1) row h
 client_there w (Ask c SetMaster) row h = set_there w c (is_current w c) (is_master w c) row h
 client_there w (Ask c call) row h = h
 client_there w (Open opening) row h = h
 client_there w (Close c) row h = h
 
-primary_there : (w : Rows) (root : Bool) (m : Option ℕ) → IfSome m (λ m. is_there w.masters m ≡ true) → MasterThere (opened_primary w root m).masters (primary_row w root m)
-primary_there w root None h = new_there w.masters (new_master (birth w))
-primary_there w root (Some m) h = h
+primary_there : (w : Rows) (root universal : Bool) (m : Option ℕ) → IfSome m (λ m. is_there w.masters m ≡ true) → MasterThere (opened_primary w root universal m).masters (primary_row w root universal m)
+primary_there w root universal None h = new_there w.masters (new_master (birth w))
+primary_there w root universal (Some m) h = h
 
 pub row_there : (rows : List MasterRow) → AllByRecursion (λ (row : MasterRow). is_there rows row.master ≡ true) rows
 row_there rows = all_weaker (λ (row : MasterRow). (row.master == row.master) ≡ true → is_there rows row.master ≡ true) (λ (row : MasterRow). is_there rows row.master ≡ true) (λ row f. f (eq-eqb row.master row.master refl)) rows (each_any (λ (x y : MasterRow). y.master == x.master) rows)
@@ -230,9 +232,9 @@ device_there w h = if_some (λ m. is_client_held w.clients m ≡ true) (λ m. is
 
 opened_there : (w : Rows) (event : Event) → Held w → ForClient (MasterThere (changed w event).masters) w event
 unfolding changed opened
-opened_there w (Open (Primary root)) h = primary_there w root w.device_master (device_there w h)
+opened_there w (Open (Primary root universal)) h = primary_there w root universal w.device_master (device_there w h)
 opened_there w (Open Render) h = tt
-opened_there w (Open (Lease token root)) h = if_some (λ m. is_there w.masters m ≡ true) (λ m. is_there (changed w (Open (Lease token root))).masters m ≡ true) (λ m e. there_still w (Open (Lease token root)) m e) (option_map (λ (row : MasterRow). row.master) (lease_master w token)) (redeemed_there w token)
+opened_there w (Open (Lease token root universal)) h = if_some (λ m. is_there w.masters m ≡ true) (λ m. is_there (changed w (Open (Lease token root universal))).masters m ≡ true) (λ m e. there_still w (Open (Lease token root universal)) m e) (option_map (λ (row : MasterRow). row.master) (lease_master w token)) (redeemed_there w token)
 opened_there w (Ask c call) h = tt
 opened_there w (Close c) h = tt
 
@@ -292,6 +294,13 @@ held_authenticated test rows m h = any_mapped (λ _. Unit {0}) (holds m) (holds 
     by true row e = e
     by false row e = e
 
+pub held_capable : (test : ClientRow → Bool) (on : Bool) (rows : List ClientRow) (m : ℕ) → is_client_held rows m ≡ true → is_client_held (map (λ (row : ClientRow). if test row then record row { universal = on } else row) rows) m ≡ true
+held_capable test on rows m h = any_mapped (λ _. Unit {0}) (holds m) (holds m) _ (λ (row : ClientRow) _ e. by (test row) row e) rows (all_each (λ (row : ClientRow). Unit {0}) (λ _. tt) rows) h
+  where
+    by : (b : Bool) (row : ClientRow) → holds m row ≡ true → holds m (if b then record row { universal = on } else row) ≡ true
+    by true row e = e
+    by false row e = e
+
 -- a client that is a master holds its own
 own_held : (w : Rows) (c : ℕ) → is_master w c ≡ true → IfSome (master_of w c) (λ m. is_client_held w.clients m ≡ true)
 own_held w c h = of_row (client_row w c) refl h
@@ -309,9 +318,9 @@ own_held w c h = of_row (client_row w c) refl h
 abbrev pub DeviceHeld : Rows → Type 0
 DeviceHeld v = IfSome v.device_master (λ m. is_client_held v.clients m ≡ true)
 
-primary_device : (w : Rows) (root : Bool) (m : Option ℕ) → Held w → DeviceHeld (opened_primary w root m)
-primary_device w root None h = list_any_right (holds (birth w)) w.clients _ (ap (λ b. b || false) (eq-eqb (birth w) (birth w) refl))
-primary_device w root (Some m) h = if_some (λ m. is_client_held w.clients m ≡ true) (λ k. is_client_held (opened_primary w root (Some m)).clients k ≡ true) (λ k e. list_any_left (holds k) w.clients _ e) w.device_master h.2
+primary_device : (w : Rows) (root universal : Bool) (m : Option ℕ) → Held w → DeviceHeld (opened_primary w root universal m)
+primary_device w root universal None h = list_any_right (holds (birth w)) w.clients _ (ap (λ b. b || false) (eq-eqb (birth w) (birth w) refl))
+primary_device w root universal (Some m) h = if_some (λ m. is_client_held w.clients m ≡ true) (λ k. is_client_held (opened_primary w root universal (Some m)).clients k ≡ true) (λ k e. list_any_left (holds k) w.clients _ e) w.device_master h.2
 
 set_device : (w : Rows) (c : ℕ) (current master : Bool) → is_master w c ≡ master → is_open w c ≡ true → Held w → DeviceHeld (mastered w c current master)
 set_device w c true master is opened h = h.2
@@ -347,16 +356,17 @@ closed_device past w a c None e opened h = absurd (let n : false ≡ true = open
 closed_device past w a c (Some row) e opened h = let told = row_stands (standing past) w c row a.clients e in close_device past w a c row.is_master row.master (sym told.0) (sym told.1) h
 
 asked_device : (past : List Entry) (w : Rows) (c : ℕ) (call : Call) → verdict w (Ask c call) ≡ None → Held w → DeviceHeld (changed w (Ask c call))
-unfolding changed meaning with_object with_authenticated ended
+unfolding changed meaning with_object with_authenticated with_universal ended
 asked_device past w c SetMaster v h = set_device w c (is_current w c) (is_master w c) refl (caller_open w c SetMaster v) h
 asked_device past w c DropMaster v h = tt
 asked_device past w c (AuthMagic magic) v h = if_some (λ m. is_client_held w.clients m ≡ true) (λ m. is_client_held (changed w (Ask c (AuthMagic magic))).clients m ≡ true) (λ m e. held_authenticated (λ row. is_option row.client (magic_client w (own_master w c) magic)) w.clients m e) w.device_master h.2
+asked_device past w c (SetClientCap cap value) v h = if_some (λ m. is_client_held w.clients m ≡ true) (λ m. is_client_held (changed w (Ask c (SetClientCap cap value))).clients m ≡ true) (λ m e. held_capable (is_client c) (value == 1) w.clients m e) w.device_master h.2
 asked_device past w c call v h = h.2
 
 pub device_held : (past : List Entry) (w : Rows) (event : Event) → verdict w event ≡ None → StandsBy past w → Held w → DeviceHeld (changed w event)
 unfolding changed opened closed
-device_held past w (Open (Primary root)) v a h = primary_device w root w.device_master h
+device_held past w (Open (Primary root universal)) v a h = primary_device w root universal w.device_master h
 device_held past w (Open Render) v a h = if_some (λ m. is_client_held w.clients m ≡ true) (λ m. is_client_held (changed w (Open Render)).clients m ≡ true) (λ m e. list_any_left (holds m) w.clients _ e) w.device_master h.2
-device_held past w (Open (Lease token root)) v a h = if_some (λ m. is_client_held w.clients m ≡ true) (λ m. is_client_held (changed w (Open (Lease token root))).clients m ≡ true) (λ m e. list_any_left (holds m) w.clients _ e) w.device_master h.2
+device_held past w (Open (Lease token root universal)) v a h = if_some (λ m. is_client_held w.clients m ≡ true) (λ m. is_client_held (changed w (Open (Lease token root universal))).clients m ≡ true) (λ m e. list_any_left (holds m) w.clients _ e) w.device_master h.2
 device_held past w (Ask c call) v a h = asked_device past w c call v h
 device_held past w (Close c) v a h = closed_device past w a c (client_row w c) refl (closer_open w c v) h

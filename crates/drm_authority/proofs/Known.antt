@@ -1,20 +1,18 @@
 -- A client is authenticated exactly where the history says so.
-use Rattle.std.proofs.Common.{◌≡◌, ℕ, ◌+◌, ◌<◌, ◌≤◌, ◌==◌, Bool, true, false, cond, not, ◌&&◌, ◌||◌, List, [], ◌∷◌, length, find, map, Option, None, Some, refl, sym, ap, ◌∙◌, subst, arith, eq-eqb}
+use Rattle.std.proofs.Common.{◌≡◌, ℕ, ◌+◌, ◌<◌, ◌≤◌, ◌==◌, Bool, true, false, cond, not, ◌&&◌, ◌||◌, List, [], ◌∷◌, length, Option, None, Some, refl, sym, ap, ◌∙◌, subst, arith, eq-eqb}
 use Rattle.std.specs.Prelude.{if◌then◌else◌}
 use Rattle.std.specs.List.{AllByRecursion}
-use Rattle.std.specs.Option.{is_some, option_map}
-use Rattle.std.proofs.lemmas.Bool.{eqb-true, or_left, or_right}
+use Rattle.std.specs.Option.{is_some}
+use Rattle.std.proofs.lemmas.Bool.{or_left, or_right}
 use Rattle.drm_lists.proofs.Lists.{all_weaker, all_both}
-use Rattle.drm_lists.proofs.Rising.{found}
 use Rattle.drm_lists.proofs.Numbers.{less-differ, flipped}
 use Rattle.drm_table.specs.declared.calls.Call.{Call}
-use Rattle.drm_table.specs.declared.calls.Call.TheVariants.{Version, AuthMagic, SetMaster}
+use Rattle.drm_table.specs.declared.calls.Call.TheVariants.{Version, SetClientCap, AuthMagic, SetMaster}
 use Rattle.drm_table.specs.declared.events.Event.{Event}
 use Rattle.drm_table.specs.declared.events.Event.TheVariants.{Open, Ask, Close}
 use Rattle.drm_table.specs.declared.events.Opening.TheVariants.{Primary, Render, Lease}
 use Rattle.drm_table.specs.declared.rules.Rule.{Rule}
-use Rattle.drm_model.specs.Rows.{Rows, ClientRow, birth, is_option, is_client, client_row, is_open}
-use Rattle.drm_model.specs.Masters.{standing_of, standing_in}
+use Rattle.drm_model.specs.Rows.{Rows, ClientRow, birth, is_option, is_client}
 use Rattle.drm_model.specs.Magics.{own_master, magic_client, is_current, is_master}
 use Rattle.drm_model.specs.Calls.{meaning}
 use Rattle.drm_model.specs.Verdict.{verdict}
@@ -22,14 +20,14 @@ use Rattle.drm_model.specs.Change.{changed, swept, noted}
 use Rattle.drm_model.specs.Reply.{answer_of}
 use Rattle.drm_history.specs.History.{Entry, next_number}
 use Rattle.drm_authority.specs.Deeds.{Deed, Nothing, OpensPrimary, Redeems, deed}
-use Rattle.drm_authority.specs.Standing.{Standing, standing, put, with_client, with_primary, with_set, is_master_in, own_master_in}
+use Rattle.drm_authority.specs.Standing.{Standing, standing, with_primary, with_set, is_master_in, own_master_in}
 use Rattle.drm_authority.specs.Magics.{magic_in, is_root_by, is_root_in, is_named_by, is_named_in, known}
 use Rattle.drm_authority.proofs.Runs.{IsReached, denied, carried}
 use Rattle.drm_authority.proofs.Rules.{caller_open}
 use Rattle.drm_authority.proofs.Deeds.{denied_nothing}
-use Rattle.drm_authority.proofs.Changes.{clients_after, client_after, ForClient, primary_row, render_row, lease_row, set_row}
+use Rattle.drm_authority.proofs.Changes.{clients_after, primary_row, set_row}
 use Rattle.drm_authority.proofs.Stands.{StandsBy, standing_denied, open_stands, current}
-use Rattle.drm_authority.proofs.Named.{MagicsTold, NamedBorn, Magical, named_told}
+use Rattle.drm_authority.proofs.Named.{Magical, named_told}
 
 abbrev pub AuthTold : List Entry → ClientRow → Type 0
 AuthTold past row = row.authenticated ≡ known past row.client
@@ -40,12 +38,12 @@ AuthsTold past w = AllByRecursion (AuthTold past) w.clients
 -- ---- who opened as root
 
 root_by_born : (d : Deed) (n c : ℕ) → n < c → is_root_by d n c ≡ false
-root_by_born (OpensPrimary root) n c lt = ap (λ b. root && b) (less-differ n c lt) ∙ nothing_and root
+root_by_born (OpensPrimary root universal) n c lt = ap (λ b. root && b) (less-differ n c lt) ∙ nothing_and root
   where
     nothing_and : (b : Bool) → (b && false) ≡ false
     nothing_and true = refl
     nothing_and false = refl
-root_by_born (Redeems token root) n c lt = ap (λ b. root && b) (less-differ n c lt) ∙ nothing_and root
+root_by_born (Redeems token root universal) n c lt = ap (λ b. root && b) (less-differ n c lt) ∙ nothing_and root
   where
     nothing_and : (b : Bool) → (b && false) ≡ false
     nothing_and true = refl
@@ -81,15 +79,15 @@ primary_is : (n d : ℕ) (owner : Option ℕ) (s : Standing) → (d == n) ≡ tr
 primary_is n d None s e = ap (λ b. cond b true (s.is_master d)) e
 primary_is n d (Some m) s e = ap (λ b. cond b false (s.is_master d)) e
 
-primary_known : (w : Rows) (root : Bool) (owner : Option ℕ) → (primary_row w root owner).authenticated ≡ (root || not (is_some owner))
-primary_known w true None = refl
-primary_known w false None = refl
-primary_known w true (Some m) = refl
-primary_known w false (Some m) = refl
+primary_known : (w : Rows) (root universal : Bool) (owner : Option ℕ) → (primary_row w root universal owner).authenticated ≡ (root || not (is_some owner))
+primary_known w true universal None = refl
+primary_known w false universal None = refl
+primary_known w true universal (Some m) = refl
+primary_known w false universal (Some m) = refl
 
-primary_number : (w : Rows) (root : Bool) (owner : Option ℕ) → (primary_row w root owner).client ≡ birth w
-primary_number w root None = refl
-primary_number w root (Some m) = refl
+primary_number : (w : Rows) (root universal : Bool) (owner : Option ℕ) → (primary_row w root universal owner).client ≡ birth w
+primary_number w root universal None = refl
+primary_number w root universal (Some m) = refl
 
 or_nothing : (b : Bool) → (b || false) ≡ b
 or_nothing true = refl
@@ -114,19 +112,19 @@ module _ (past : List Entry) (w : Rows) (r : IsReached past w) (a : StandsBy pas
   no_name : is_named_in past (birth w) ≡ false
   no_name = p.2 (birth w) (let steps = r.steps in omega (arith, steps))
 
-  open_primary : (root : Bool) → AuthsTold past w → AuthsTold (carried w (Open (Primary root)) ∷ past) (noted (swept (changed w (Open (Primary root)))))
+  open_primary : (root universal : Bool) → AuthsTold past w → AuthsTold (carried w (Open (Primary root universal)) ∷ past) (noted (swept (changed w (Open (Primary root universal)))))
   unfolding standing is_root_in is_named_in deed answer_of
-  open_primary root h =
-      let event = Open (Primary root) in
+  open_primary root universal h =
+      let event = Open (Primary root universal) in
       clients_after w (AuthTold (carried w event ∷ past)) event (Aged past w)
       (λ row k. k.0 ∙ still_known past (carried w event) row.client (ap (λ b. b || is_root_in past row.client) (other_root root (next_number past) row.client (older row k))) (primary_still (next_number past) row.client (standing past).owner (standing past) (older row k)) refl)
       (new w.device_master a.owner) (aged past w r h)
     where
-      new : (owner : Option ℕ) → owner ≡ (standing past).owner → (primary_row w root owner).authenticated ≡ (((root && (next_number past == (primary_row w root owner).client)) || is_root_in past (primary_row w root owner).client) || (with_primary (next_number past) (standing past).owner (standing past)).is_master (primary_row w root owner).client || is_named_in past (primary_row w root owner).client)
+      new : (owner : Option ℕ) → owner ≡ (standing past).owner → (primary_row w root universal owner).authenticated ≡ (((root && (next_number past == (primary_row w root universal owner).client)) || is_root_in past (primary_row w root universal owner).client) || (with_primary (next_number past) (standing past).owner (standing past)).is_master (primary_row w root universal owner).client || is_named_in past (primary_row w root universal owner).client)
       new owner e =
-          primary_known w root owner
+          primary_known w root universal owner
           ∙ sym (
-          ap (λ n. ((root && (next_number past == n)) || is_root_in past n) || (with_primary (next_number past) (standing past).owner (standing past)).is_master n || is_named_in past n) (primary_number w root owner)
+          ap (λ n. ((root && (next_number past == n)) || is_root_in past n) || (with_primary (next_number past) (standing past).owner (standing past)).is_master n || is_named_in past n) (primary_number w root universal owner)
           ∙ (λ i. (it_root root (next_number past) (birth w) (sym newest) i || no_root i) || primary_is (next_number past) (birth w) (standing past).owner (standing past) (eq-eqb (birth w) (next_number past) newest) i || no_name i)
           ∙ (λ i. or_nothing root i || not (is_some (sym e i)) || false) ∙ or_nothing (root || not (is_some owner))
           )
@@ -139,10 +137,10 @@ module _ (past : List Entry) (w : Rows) (r : IsReached past w) (a : StandsBy pas
       (λ row k. k.0 ∙ still_known past (carried w event) row.client refl (ap (λ b. cond b false ((standing past).is_master row.client)) (older row k)) refl)
       (sym (λ i. no_root i || cond (eq-eqb (birth w) (next_number past) newest i) false ((standing past).is_master (birth w)) || no_name i)) (aged past w r h)
 
-  open_lease : (token : ℕ) (root : Bool) → AuthsTold past w → AuthsTold (carried w (Open (Lease token root)) ∷ past) (noted (swept (changed w (Open (Lease token root)))))
+  open_lease : (token : ℕ) (root universal : Bool) → AuthsTold past w → AuthsTold (carried w (Open (Lease token root universal)) ∷ past) (noted (swept (changed w (Open (Lease token root universal)))))
   unfolding standing is_root_in is_named_in deed answer_of
-  open_lease token root h =
-      let event = Open (Lease token root) in
+  open_lease token root universal h =
+      let event = Open (Lease token root universal) in
       clients_after w (AuthTold (carried w event ∷ past)) event (Aged past w)
       (λ row k. k.0 ∙ still_known past (carried w event) row.client (ap (λ b. b || is_root_in past row.client) (other_root root (next_number past) row.client (older row k))) (ap (λ b. cond b true ((standing past).is_master row.client)) (older row k)) refl)
       (sym (or_left _ (is_named_in past (birth w)) (or_right _ _ (ap (λ b. cond b true ((standing past).is_master (birth w))) (eq-eqb (birth w) (next_number past) newest))))) (aged past w r h)
@@ -193,13 +191,16 @@ module _ (past : List Entry) (w : Rows) (r : IsReached past w) (a : StandsBy pas
   asked c Version v h = clients_after w (AuthTold (carried w (Ask c Version) ∷ past)) (Ask c Version) (AuthTold past) (λ row k. k) tt h
   asked c SetMaster v h = ask_set c v h
   asked c (AuthMagic magic) v h = ask_auth c magic v h
+  asked c (SetClientCap cap value) v h =
+      clients_after w (AuthTold past) (Ask c (SetClientCap cap value)) (AuthTold past)
+      (λ row k. elim (is_client c row) as (λ b. AuthTold past (if b then record row { universal = value == 1 } else row)) [ true ↦ k | false ↦ k ]) tt h
   asked c call v h = clients_after w (AuthTold (carried w (Ask c call) ∷ past)) (Ask c call) (AuthTold past) (λ row k. k) tt h
 
   pub auths_carried : (event : Event) → verdict w event ≡ None → AuthsTold past w → AuthsTold (carried w event ∷ past) (noted (swept (changed w event)))
   unfolding standing is_root_in is_named_in deed answer_of
-  auths_carried (Open (Primary root)) v h = open_primary root h
+  auths_carried (Open (Primary root universal)) v h = open_primary root universal h
   auths_carried (Open Render) v h = open_render h
-  auths_carried (Open (Lease token root)) v h = open_lease token root h
+  auths_carried (Open (Lease token root universal)) v h = open_lease token root universal h
   auths_carried (Ask c call) v h = asked c call v h
   auths_carried (Close c) v h = clients_after w (AuthTold (carried w (Close c) ∷ past)) (Close c) (AuthTold past) (λ row k. k) tt h
 

@@ -1,8 +1,8 @@
 -- The master of each grant stays held as long as the grant is there, and what a sweep leaves is held as before.
-use Rattle.std.proofs.Common.{◌≡◌, ℕ, ◌+◌, ◌<◌, ◌≤◌, ◌==◌, Bool, true, false, cond, not, ◌&&◌, ◌||◌, ◌⊎◌, inl, inr, List, [], ◌∷◌, ◌++◌, filter, map, find, Option, None, Some, refl, sym, ap, ◌∙◌, subst, arith, eq-eqb}
-use Rattle.std.specs.Prelude.{if◌then◌else◌, unwrap_or, IfSome}
+use Rattle.std.proofs.Common.{◌≡◌, ℕ, ◌==◌, Bool, true, false, not, ◌&&◌, ◌||◌, ◌⊎◌, inl, inr, List, [], ◌∷◌, ◌++◌, filter, map, find, Option, None, Some, refl, sym, ap, ◌∙◌, subst, arith, eq-eqb}
+use Rattle.std.specs.Prelude.{if◌then◌else◌, IfSome}
 use Rattle.std.specs.List.{list_any, AllByRecursion}
-use Rattle.std.specs.Option.{is_some, option_map, option_map_or, option_and_then}
+use Rattle.std.specs.Option.{is_some, option_map, option_and_then}
 use Rattle.std.proofs.lemmas.Bool.{eqb-true, and_parts, or_left, or_right}
 use Rattle.drm_lists.proofs.Lists.{all_both, all_weaker, all_each, all_append, all_filter, filter_true, list_any_left, list_any_right}
 use Rattle.drm_lists.proofs.Each.{each_any, any_filter, any_mapped}
@@ -10,7 +10,7 @@ use Rattle.drm_lists.proofs.Found as found
 use Rattle.drm_lists.proofs.Rising.{any_more, all_found}
 use Rattle.drm_lists.proofs.Chains.{IsFalling, itself, above_too}
 use Rattle.drm_table.specs.declared.calls.Call.{Call}
-use Rattle.drm_table.specs.declared.calls.Call.TheVariants.{Version, AuthMagic, SetMaster, DropMaster, CreateLease, RevokeLease}
+use Rattle.drm_table.specs.declared.calls.Call.TheVariants.{Version, SetClientCap, AuthMagic, SetMaster, CreateLease, RevokeLease}
 use Rattle.drm_table.specs.declared.events.Event.{Event}
 use Rattle.drm_table.specs.declared.events.Event.TheVariants.{Open, Ask, Close}
 use Rattle.drm_table.specs.declared.events.Opening.TheVariants.{Primary, Render, Lease}
@@ -19,9 +19,10 @@ use Rattle.drm_model.specs.Rows.{Rows, ClientRow, MasterRow, GrantRow, birth, is
 use Rattle.drm_model.specs.Births.{IsMadeMaster, MadeInTurn}
 use Rattle.drm_model.specs.Buffers.{with_object}
 use Rattle.drm_model.specs.Endings.{is_open_lease}
-use Rattle.drm_model.specs.Masters.{master_row, master_of, lessor_of, is_under}
-use Rattle.drm_model.specs.Leases.{ended, lease_master, lessee_master, new_lessee, new_lease_token, grant}
-use Rattle.drm_model.specs.Magics.{own_master, magic_client, is_current, is_master, mastered, with_authenticated, with_master}
+use Rattle.drm_model.specs.Masters.{master_row, lessor_of, is_under}
+use Rattle.drm_model.specs.Leases.{ended, lease_master, lessee_master, new_lessee, grant, leased}
+use Rattle.drm_model.specs.Magics.{own_master, magic_client, is_current, is_master, mastered, with_authenticated}
+use Rattle.drm_model.specs.Capabilities.{with_universal}
 use Rattle.drm_model.specs.Clients.{opened, opened_primary, closed, ended_if, ended_own}
 use Rattle.drm_model.specs.Calls.{meaning}
 use Rattle.drm_model.specs.Verdict.{verdict}
@@ -30,12 +31,12 @@ use Rattle.drm_model.proofs.Births.{changed-births}
 use Rattle.drm_model.proofs.Lessors.{changed-made, lessor_there}
 use Rattle.drm_history.specs.History.{Entry}
 use Rattle.drm_authority.specs.Standing.{standing, lease_in}
-use Rattle.drm_authority.proofs.Runs.{IsReached, denied, carried, Keeps, by_verdict}
+use Rattle.drm_authority.proofs.Runs.{IsReached, denied, carried}
 use Rattle.drm_authority.proofs.Rules.{caller_open, closer_open}
 use Rattle.drm_authority.proofs.Changes.{lease_row}
 use Rattle.drm_authority.proofs.Tokens.{TokensTold, TokenTold}
-use Rattle.drm_authority.proofs.Stands.{ClientStands, StandsBy, Ranked, row_stands, open_stands, lease_told, ranks_denied, ranks_carried}
-use Rattle.drm_authority.proofs.Held.{is_row_of, is_there, holds, is_client_held, is_lease_held, LessorThere, MasterThere, LeaseHeld, Held, if_some, is_option-same, or_more, not_equal, no_holder, held_without, held_mastered, held_authenticated, own_apart, guest_apart, lone_apart, any_untokened, any_primary, any_set, any_asked, lessors_there, clients_there, DeviceHeld, device_held}
+use Rattle.drm_authority.proofs.Stands.{StandsBy, Ranked, row_stands, open_stands, lease_told, ranks_denied, ranks_carried}
+use Rattle.drm_authority.proofs.Held.{is_row_of, is_there, holds, is_client_held, is_lease_held, LessorThere, MasterThere, LeaseHeld, Held, or_more, not_equal, held_without, held_mastered, held_authenticated, held_capable, own_apart, guest_apart, lone_apart, lessors_there, clients_there, device_held}
 
 -- ---- grants of what ends are gone, and the others' tokens stay
 
@@ -75,39 +76,39 @@ module _ (w v : Rows) (tokens : (m : ℕ) → list_any (is_open_lease m) w.maste
   more_held : AllByRecursion (LeaseHeld w) w.grants → AllByRecursion (LeaseHeld v) w.grants
   more_held h = all_weaker (LeaseHeld w) (LeaseHeld v) (λ row e. or_more (list_any (is_open_lease row.master) w.masters) (is_client_held w.clients row.master) _ _ (tokens row.master) (clients row.master) e) w.grants h
 
-primary_leases : (w : Rows) (root : Bool) (m : Option ℕ) → Held w → LeasesHeld (opened_primary w root m)
+primary_leases : (w : Rows) (root universal : Bool) (m : Option ℕ) → Held w → LeasesHeld (opened_primary w root universal m)
 unfolding LeasesHeld
-primary_leases w root None h = more_held w (opened_primary w root None) (λ m e. list_any_left (is_open_lease m) w.masters _ e) (λ m e. list_any_left (holds m) w.clients _ e) h.3
-primary_leases w root (Some d) h = more_held w (opened_primary w root (Some d)) (λ m e. e) (λ m e. list_any_left (holds m) w.clients _ e) h.3
+primary_leases w root universal None h = more_held w (opened_primary w root universal None) (λ m e. list_any_left (is_open_lease m) w.masters _ e) (λ m e. list_any_left (holds m) w.clients _ e) h.3
+primary_leases w root universal (Some d) h = more_held w (opened_primary w root universal (Some d)) (λ m e. e) (λ m e. list_any_left (holds m) w.clients _ e) h.3
 
 -- a token that is spent leaves a client of its master
-module _ (past : List Entry) (w : Rows) (token : ℕ) (root : Bool) (told : TokensTold past w) (its : option_map (λ (row : MasterRow). row.master) (lease_master w token) ≡ lease_in past token) where
-  spent_held : (m : ℕ) → list_any (is_open_lease m) w.masters ≡ true → is_lease_held (changed w (Open (Lease token root))) m ≡ true
+module _ (past : List Entry) (w : Rows) (token : ℕ) (root universal : Bool) (told : TokensTold past w) (its : option_map (λ (row : MasterRow). row.master) (lease_master w token) ≡ lease_in past token) where
+  spent_held : (m : ℕ) → list_any (is_open_lease m) w.masters ≡ true → is_lease_held (changed w (Open (Lease token root universal))) m ≡ true
   unfolding changed opened
   spent_held m h = in_list w.masters told h
     where
       untoken : MasterRow → MasterRow
       untoken row = if is_option token row.lease_token then record row { lease_token = None } else row
 
-      here : (row : MasterRow) (t : Option ℕ) → row.lease_token ≡ t → row.master ≡ m → is_some t ≡ true → IfSome t (λ t. lease_in past t ≡ Some row.master) → (is_open_lease m (untoken row) ≡ true) ⊎ (is_client_held (w.clients ++ lease_row w token root ∷ []) m ≡ true)
+      here : (row : MasterRow) (t : Option ℕ) → row.lease_token ≡ t → row.master ≡ m → is_some t ≡ true → IfSome t (λ t. lease_in past t ≡ Some row.master) → (is_open_lease m (untoken row) ≡ true) ⊎ (is_client_held (w.clients ++ lease_row w token root universal ∷ []) m ≡ true)
       here row None e same some k = absurd (let n : false ≡ true = some in cc)
       here row (Some t) e same some k =
-          elim (t == token) as (λ b. (t == token) ≡ b → (is_open_lease m (untoken row) ≡ true) ⊎ (is_client_held (w.clients ++ lease_row w token root ∷ []) m ≡ true)) [
-            | true ↦ λ is. inr (list_any_right (holds m) w.clients (lease_row w token root ∷ []) (ap (λ (o : Option ℕ). is_option m o || false) (its ∙ ap (lease_in past) (sym (eqb-true t token is)) ∙ k ∙ ap Some same) ∙ ap (λ b. b || false) (eq-eqb m m refl)))
+          elim (t == token) as (λ b. (t == token) ≡ b → (is_open_lease m (untoken row) ≡ true) ⊎ (is_client_held (w.clients ++ lease_row w token root universal ∷ []) m ≡ true)) [
+            | true ↦ λ is. inr (list_any_right (holds m) w.clients (lease_row w token root universal ∷ []) (ap (λ (o : Option ℕ). is_option m o || false) (its ∙ ap (lease_in past) (sym (eqb-true t token is)) ∙ k ∙ ap Some same) ∙ ap (λ b. b || false) (eq-eqb m m refl)))
             | false ↦ λ is. inl (ap (λ b. is_open_lease m (if b then record row { lease_token = None } else row)) (ap (is_option token) e ∙ is) ∙ ap (λ b. b && is_some row.lease_token) (eq-eqb row.master m same) ∙ ap is_some e)
           ] refl
 
-      in_list : (rows : List MasterRow) → AllByRecursion (TokenTold past) rows → list_any (is_open_lease m) rows ≡ true → (list_any (is_open_lease m) (map untoken rows) || is_client_held (w.clients ++ lease_row w token root ∷ []) m) ≡ true
+      in_list : (rows : List MasterRow) → AllByRecursion (TokenTold past) rows → list_any (is_open_lease m) rows ≡ true → (list_any (is_open_lease m) (map untoken rows) || is_client_held (w.clients ++ lease_row w token root universal ∷ []) m) ≡ true
       in_list [] k e = absurd (let n : false ≡ true = e in cc)
       in_list (row ∷ rows) k e =
-          (elim (is_open_lease m row) as (λ b. is_open_lease m row ≡ b → (b || list_any (is_open_lease m) rows) ≡ true → ((is_open_lease m (untoken row) || list_any (is_open_lease m) (map untoken rows)) || is_client_held (w.clients ++ lease_row w token root ∷ []) m) ≡ true) [
+          (elim (is_open_lease m row) as (λ b. is_open_lease m row ≡ b → (b || list_any (is_open_lease m) rows) ≡ true → ((is_open_lease m (untoken row) || list_any (is_open_lease m) (map untoken rows)) || is_client_held (w.clients ++ lease_row w token root universal ∷ []) m) ≡ true) [
             | true ↦ λ is j. let parts = and_parts (row.master == m) (is_some row.lease_token) is in first (here row row.lease_token refl (eqb-true row.master m parts.0) parts.1 k.0)
-            | false ↦ λ is j. or_more (list_any (is_open_lease m) (map untoken rows)) (is_client_held (w.clients ++ lease_row w token root ∷ []) m) _ _ (λ q. or_right (is_open_lease m (untoken row)) (list_any (is_open_lease m) (map untoken rows)) q) (λ q. q) (in_list rows k.1 j)
+            | false ↦ λ is j. or_more (list_any (is_open_lease m) (map untoken rows)) (is_client_held (w.clients ++ lease_row w token root universal ∷ []) m) _ _ (λ q. or_right (is_open_lease m (untoken row)) (list_any (is_open_lease m) (map untoken rows)) q) (λ q. q) (in_list rows k.1 j)
           ]) refl e
         where
-          first : (is_open_lease m (untoken row) ≡ true) ⊎ (is_client_held (w.clients ++ lease_row w token root ∷ []) m ≡ true) → ((is_open_lease m (untoken row) || list_any (is_open_lease m) (map untoken rows)) || is_client_held (w.clients ++ lease_row w token root ∷ []) m) ≡ true
-          first (inl q) = or_left (is_open_lease m (untoken row) || list_any (is_open_lease m) (map untoken rows)) (is_client_held (w.clients ++ lease_row w token root ∷ []) m) (or_left (is_open_lease m (untoken row)) (list_any (is_open_lease m) (map untoken rows)) q)
-          first (inr q) = or_right (is_open_lease m (untoken row) || list_any (is_open_lease m) (map untoken rows)) (is_client_held (w.clients ++ lease_row w token root ∷ []) m) q
+          first : (is_open_lease m (untoken row) ≡ true) ⊎ (is_client_held (w.clients ++ lease_row w token root universal ∷ []) m ≡ true) → ((is_open_lease m (untoken row) || list_any (is_open_lease m) (map untoken rows)) || is_client_held (w.clients ++ lease_row w token root universal ∷ []) m) ≡ true
+          first (inl q) = or_left (is_open_lease m (untoken row) || list_any (is_open_lease m) (map untoken rows)) (is_client_held (w.clients ++ lease_row w token root universal ∷ []) m) (or_left (is_open_lease m (untoken row)) (list_any (is_open_lease m) (map untoken rows)) q)
+          first (inr q) = or_right (is_open_lease m (untoken row) || list_any (is_open_lease m) (map untoken rows)) (is_client_held (w.clients ++ lease_row w token root universal ∷ []) m) q
 
 set_leases : (past : List Entry) (w : Rows) (a : StandsBy past w) (c : ℕ) (current master : Bool) → is_open w c ≡ true → is_master w c ≡ master → Held w → LeasesHeld (mastered w c current master)
 unfolding LeasesHeld
@@ -126,13 +127,14 @@ lent_held w c (x ∷ xs) = (
 )
 
 asked_leases : (past : List Entry) (w : Rows) (c : ℕ) (call : Call) → verdict w (Ask c call) ≡ None → StandsBy past w → Held w → LeasesHeld (changed w (Ask c call))
-unfolding LeasesHeld changed meaning with_object with_authenticated ended
+unfolding LeasesHeld changed meaning with_object with_authenticated with_universal ended
 asked_leases past w c Version v a h = h.3
 asked_leases past w c SetMaster v a h = set_leases past w a c (is_current w c) (is_master w c) (caller_open w c SetMaster v) refl h
+asked_leases past w c (SetClientCap cap value) v a h = more_held w (changed w (Ask c (SetClientCap cap value))) (λ m e. e) (λ m e. held_capable (is_client c) (value == 1) w.clients m e) h.3
 asked_leases past w c (AuthMagic magic) v a h = more_held w (changed w (Ask c (AuthMagic magic))) (λ m e. e) (λ m e. held_authenticated (λ row. is_option row.client (magic_client w (own_master w c) magic)) w.clients m e) h.3
 asked_leases past w c (CreateLease ids) v a h =
     let more = record w { masters = w.masters ++ new_lessee w (own_master w c) ∷ [] } in
-    all_append (LeaseHeld more) w.grants (map (grant (birth w)) ids) (more_held w more (λ m e. list_any_left (is_open_lease m) w.masters _ e) (λ m e. e) h.3) (lent_held w c ids)
+    all_append (LeaseHeld more) w.grants (map (grant (birth w)) (leased w c ids)) (more_held w more (λ m e. list_any_left (is_open_lease m) w.masters _ e) (λ m e. e) h.3) (lent_held w c (leased w c ids))
 asked_leases past w c (RevokeLease id) v a h = ended_leases w (lessee_master w (own_master w c) id) w.clients (λ m out e. e) h.3
 asked_leases past w c _ v a h = h.3
 
@@ -158,18 +160,18 @@ module _ (past : List Entry) (w : Rows) (a : StandsBy past w) (c : ℕ) where
 
 leases_held : (past : List Entry) (w : Rows) (event : Event) → IsReached past w → verdict w event ≡ None → Ranked past w → Held w → LeasesHeld (changed w event)
 unfolding LeasesHeld changed opened closed StillHeld
-leases_held past w (Open (Primary root)) r v p h = primary_leases w root w.device_master h
+leases_held past w (Open (Primary root universal)) r v p h = primary_leases w root universal w.device_master h
 leases_held past w (Open Render) r v p h = more_held w (changed w (Open Render)) (λ m e. e) (λ m e. list_any_left (holds m) w.clients _ e) h.3
-leases_held past w (Open (Lease token root)) r v p h =
-    let its = lease_told past w r p.1 p.0 token root v in
-    all_weaker (LeaseHeld w) (LeaseHeld (changed w (Open (Lease token root))))
-    (λ row e. still row.master (spent_held past w token root p.0 its row.master) e) w.grants h.3
+leases_held past w (Open (Lease token root universal)) r v p h =
+    let its = lease_told past w r p.1 p.0 token root universal v in
+    all_weaker (LeaseHeld w) (LeaseHeld (changed w (Open (Lease token root universal))))
+    (λ row e. still row.master (spent_held past w token root universal p.0 its row.master) e) w.grants h.3
   where
-    still : (m : ℕ) → (list_any (is_open_lease m) w.masters ≡ true → is_lease_held (changed w (Open (Lease token root))) m ≡ true) → is_lease_held w m ≡ true → is_lease_held (changed w (Open (Lease token root))) m ≡ true
+    still : (m : ℕ) → (list_any (is_open_lease m) w.masters ≡ true → is_lease_held (changed w (Open (Lease token root universal))) m ≡ true) → is_lease_held w m ≡ true → is_lease_held (changed w (Open (Lease token root universal))) m ≡ true
     still m spent e =
-        elim (list_any (is_open_lease m) w.masters) as (λ b. list_any (is_open_lease m) w.masters ≡ b → (b || is_client_held w.clients m) ≡ true → is_lease_held (changed w (Open (Lease token root))) m ≡ true) [
+        elim (list_any (is_open_lease m) w.masters) as (λ b. list_any (is_open_lease m) w.masters ≡ b → (b || is_client_held w.clients m) ≡ true → is_lease_held (changed w (Open (Lease token root universal))) m ≡ true) [
           | true ↦ λ is k. spent is
-          | false ↦ λ is k. or_right (list_any (is_open_lease m) (changed w (Open (Lease token root))).masters) (is_client_held (changed w (Open (Lease token root))).clients m) (list_any_left (holds m) w.clients _ k)
+          | false ↦ λ is k. or_right (list_any (is_open_lease m) (changed w (Open (Lease token root universal))).masters) (is_client_held (changed w (Open (Lease token root universal))).clients m) (list_any_left (holds m) w.clients _ k)
         ] refl e
 leases_held past w (Ask c call) r v p h = asked_leases past w c call v p.1 h
 leases_held past w (Close c) r v p h = closed_leases past w p.1 c (client_row w c) refl (closer_open w c v) h

@@ -1,9 +1,9 @@
 -- The lessor of each master is that of the history, and the id of each lessee that of the last MODE_CREATE_LEASE that answered it
 -- under its owner.
-use Rattle.std.proofs.Common.{◌≡◌, ℕ, ◌+◌, ◌≤◌, ◌==◌, Bool, true, false, cond, not, ◌&&◌, ◌||◌, List, [], ◌∷◌, length, find, Option, None, Some, refl, sym, ap, ◌∙◌, subst, arith, eq-eqb}
+use Rattle.std.proofs.Common.{◌≡◌, ℕ, ◌+◌, ◌≤◌, ◌==◌, true, false, not, ◌&&◌, List, ◌∷◌, length, Option, None, Some, refl, sym, ap, ◌∙◌, subst, arith, eq-eqb}
 use Rattle.std.specs.Prelude.{if◌then◌else◌, unwrap_or, IfSome}
 use Rattle.std.specs.List.{list_any, AllByRecursion}
-use Rattle.std.specs.Option.{is_some, option_map, option_and_then}
+use Rattle.std.specs.Option.{is_some, option_and_then}
 use Rattle.std.proofs.lemmas.Bool.{eqb-true, and_parts}
 use Rattle.std.proofs.lemmas.Bool.Decides.{nat_tests}
 use Rattle.drm_lists.specs.Numbers.{is_among}
@@ -13,17 +13,16 @@ use Rattle.drm_lists.proofs.Each.{each_fails, some_found}
 use Rattle.drm_lists.proofs.Found.{is_some-find, all_found as of_found}
 use Rattle.drm_lists.proofs.Rising.{found}
 use Rattle.drm_lists.proofs.Chains.{same_chain, top_some}
-use Rattle.drm_lists.proofs.Numbers.{less-differ}
-use Rattle.drm_table.specs.declared.calls.Call.TheVariants.{Version, SetMaster, CreateLease}
+use Rattle.drm_table.specs.declared.calls.Call.TheVariants.{SetMaster, CreateLease}
 use Rattle.drm_table.specs.declared.events.Event.{Event}
 use Rattle.drm_table.specs.declared.events.Event.TheVariants.{Open, Ask, Close}
 use Rattle.drm_table.specs.declared.events.Opening.TheVariants.{Primary, Render, Lease}
 use Rattle.drm_table.specs.declared.rules.Rule.{Rule}
 use Rattle.drm_model.specs.Births.{IsMadeClient}
 use Rattle.drm_model.specs.Rows.{Rows, ClientRow, MasterRow, birth, is_client, client_row, is_open}
-use Rattle.drm_model.specs.Masters.{new_master, master_of, master_row, lessor_of, owner_of, is_under}
-use Rattle.drm_model.specs.Leases.{new_lessee, new_lessee_id, free_lessee, next_lease_token, is_lessee_of}
-use Rattle.drm_model.specs.Magics.{own_master, is_current}
+use Rattle.drm_model.specs.Masters.{master_of, master_row, lessor_of, owner_of, is_under}
+use Rattle.drm_model.specs.Leases.{new_lessee_id, free_lessee, next_lease_token, is_lessee_of}
+use Rattle.drm_model.specs.Magics.{own_master}
 use Rattle.drm_model.specs.Calls.{meaning}
 use Rattle.drm_model.specs.Verdict.{verdict}
 use Rattle.drm_model.specs.Change.{changed, swept, noted}
@@ -113,9 +112,9 @@ new_lessor past w event r = ap (λ b. if b then lessor_by (deed (carried w event
 
 lessor_new : (past : List Entry) (w : Rows) (event : Event) → IsReached past w → verdict w event ≡ None → StandsBy past w → ForMaster (LessorTold (carried w event ∷ past)) w event
 unfolding deed answer_of meaning
-lessor_new past w (Open (Primary root)) r v a = sym (new_lessor past w (Open (Primary root)) r)
+lessor_new past w (Open (Primary root universal)) r v a = sym (new_lessor past w (Open (Primary root universal)) r)
 lessor_new past w (Open Render) r v a = tt
-lessor_new past w (Open (Lease token root)) r v a = tt
+lessor_new past w (Open (Lease token root universal)) r v a = tt
 lessor_new past w (Ask c SetMaster) r v a = sym (new_lessor past w (Ask c SetMaster) r)
 lessor_new past w (Ask c (CreateLease ids)) r v a =
     let opened = caller_open w c (CreateLease ids) v in
@@ -212,9 +211,9 @@ ids_leased past w c ids r v a h told ids_told =
 
 ids_carried : (past : List Entry) (w : Rows) (event : Event) → IsReached past w → verdict w event ≡ None → StandsBy past w → Held w → LessorsTold past w → IdsTold past w → IdsTold (carried w event ∷ past) (noted (swept (changed w event)))
 unfolding lessee_in deed answer_of meaning
-ids_carried past w (Open (Primary root)) r v a h told k = let stays = id_still (carried w (Open (Primary root))) past (λ owner id. refl) in masters_after w (Aged IdTold past) (IdTold (carried w (Open (Primary root)) ∷ past)) stays stays (Open (Primary root)) (aged IdTold past w r k) tt
+ids_carried past w (Open (Primary root universal)) r v a h told k = let stays = id_still (carried w (Open (Primary root universal))) past (λ owner id. refl) in masters_after w (Aged IdTold past) (IdTold (carried w (Open (Primary root universal)) ∷ past)) stays stays (Open (Primary root universal)) (aged IdTold past w r k) tt
 ids_carried past w (Open Render) r v a h told k = let stays = id_still (carried w (Open Render)) past (λ owner id. refl) in masters_after w (Aged IdTold past) (IdTold (carried w (Open Render) ∷ past)) stays stays (Open Render) (aged IdTold past w r k) tt
-ids_carried past w (Open (Lease token root)) r v a h told k = let stays = id_still (carried w (Open (Lease token root))) past (λ owner id. refl) in masters_after w (Aged IdTold past) (IdTold (carried w (Open (Lease token root)) ∷ past)) stays stays (Open (Lease token root)) (aged IdTold past w r k) tt
+ids_carried past w (Open (Lease token root universal)) r v a h told k = let stays = id_still (carried w (Open (Lease token root universal))) past (λ owner id. refl) in masters_after w (Aged IdTold past) (IdTold (carried w (Open (Lease token root universal)) ∷ past)) stays stays (Open (Lease token root universal)) (aged IdTold past w r k) tt
 ids_carried past w (Ask c (CreateLease ids)) r v a h told k = ids_leased past w c ids r v a h told k
 ids_carried past w (Ask c call) r v a h told k = let stays = id_still (carried w (Ask c call)) past (λ owner id. refl) in masters_after w (Aged IdTold past) (IdTold (carried w (Ask c call) ∷ past)) stays stays (Ask c call) (aged IdTold past w r k) tt
 ids_carried past w (Close c) r v a h told k = let stays = id_still (carried w (Close c)) past (λ owner id. refl) in masters_after w (Aged IdTold past) (IdTold (carried w (Close c) ∷ past)) stays stays (Close c) (aged IdTold past w r k) tt

@@ -3,6 +3,8 @@ pub mod Rules
 pub mod Deeds
 pub mod Closed
 pub mod Changes
+pub mod Apart
+pub mod Capable
 pub mod Numbers
 pub mod Tokens
 pub mod Stands

@@ -1,46 +1,34 @@
 -- Each magic is that of the last GET_MAGIC that answered its number under its master, spent or not.
-use Rattle.std.proofs.Common.{◌≡◌, ℕ, ◌+◌, ◌<◌, ◌≤◌, ◌==◌, Bool, true, false, cond, not, ◌&&◌, ◌||◌, List, [], ◌∷◌, ◌++◌, length, filter, map, find, Option, None, Some, refl, sym, ap, ◌∙◌, subst, arith, eq-eqb}
-use Rattle.std.specs.Prelude.{if◌then◌else◌, unwrap_or, nat_lt}
+use Rattle.std.proofs.Common.{◌≡◌, ℕ, ◌≤◌, ◌==◌, Bool, true, false, not, List, [], ◌∷◌, length, map, Option, None, Some, refl, sym, ap, ◌∙◌, subst, arith}
+use Rattle.std.specs.Prelude.{if◌then◌else◌, unwrap_or}
 use Rattle.std.specs.List.{list_any, AllByRecursion}
-use Rattle.std.specs.Option.{is_some, option_map, option_or}
-use Rattle.std.proofs.lemmas.Bool.{eqb-true, ltb-true, and_parts}
-use Rattle.drm_lists.specs.Numbers.{is_among}
+use Rattle.std.specs.Option.{option_map}
+use Rattle.std.proofs.lemmas.Bool.{eqb-true, ltb-true}
 use Rattle.drm_lists.specs.Orders.{InOrder}
-use Rattle.drm_lists.proofs.Lists.{all_weaker, all_each, all_mapped, all_append, all_filter, all_both, filter_true, filter-shorter, list_any_left}
+use Rattle.drm_lists.proofs.Lists.{all_weaker, all_each, all_append, all_filter, all_both, filter_true, filter-shorter, list_any_left}
 use Rattle.drm_lists.proofs.Orders.{in_order_filter, in_order_append}
-use Rattle.drm_lists.proofs.Rising.{found, in_order_kept}
-use Rattle.drm_lists.proofs.Each.{any_filter, any_mapped, each_fails}
-use Rattle.drm_lists.proofs.Found.{is_some-find, none_found, is_among-map_filter}
-use Rattle.drm_lists.proofs.Numbers.{less-differ}
+use Rattle.drm_lists.proofs.Rising.{in_order_kept}
+use Rattle.drm_lists.proofs.Each.{any_filter, any_mapped}
+use Rattle.drm_lists.proofs.Found.{is_some-find, none_found}
 use Rattle.drm_table.specs.declared.calls.Call.{Call}
-use Rattle.drm_table.specs.declared.calls.Call.TheVariants.{Version, GetMagic, AuthMagic, SetMaster}
+use Rattle.drm_table.specs.declared.calls.Call.TheVariants.{Version, GetMagic, SetClientCap, AuthMagic, SetMaster}
 use Rattle.drm_table.specs.declared.events.Event.{Event}
 use Rattle.drm_table.specs.declared.events.Event.TheVariants.{Open, Ask, Close}
 use Rattle.drm_table.specs.declared.events.Opening.{Opening}
 use Rattle.drm_table.specs.declared.events.Opening.TheVariants.{Primary, Render, Lease}
-use Rattle.drm_table.specs.declared.rules.Rule.{Rule}
-use Rattle.drm_model.specs.Rows.{Rows, ClientRow, MagicRow, birth, is_option, is_client, client_row, is_open, magic_row, without, has_client_room}
+use Rattle.drm_model.specs.Rows.{Rows, ClientRow, MagicRow, birth, is_option, is_client, magic_row, without, has_client_room}
 use Rattle.drm_model.specs.Buffers.{with_object}
 use Rattle.drm_model.specs.Leases.{ended}
-use Rattle.drm_model.specs.Magics.{own_master, magic_of, magics_under, free_magic, with_magic, is_open_magic, magic_client, with_spent, with_authenticated, with_master, is_current, is_master, mastered}
-use Rattle.drm_model.specs.Clients.{opening_checks, opened, opened_primary, closed, ended_if, ended_own}
+use Rattle.drm_model.specs.Magics.{own_master, magic_of, free_magic, with_magic, is_open_magic, magic_client, with_spent, with_authenticated, with_master, is_current, is_master, mastered}
+use Rattle.drm_model.specs.Capabilities.{with_universal}
+use Rattle.drm_model.specs.Clients.{opening_checks, opened, opened_primary, closed}
 use Rattle.drm_model.specs.Calls.{meaning}
 use Rattle.drm_model.specs.Verdict.{verdict, checks}
 use Rattle.drm_model.specs.Change.{changed, swept, noted}
-use Rattle.drm_model.specs.Reply.{answer_of}
 use Rattle.drm_model.proofs.Journals.{after_verdict-limits, asked-count, opened-count}
-use Rattle.drm_history.specs.History.{Entry, next_number}
-use Rattle.drm_authority.specs.Deeds.{deed}
-use Rattle.drm_authority.specs.Standing.{Standing, standing, with_client, with_primary, with_set, own_master_in}
-use Rattle.drm_authority.specs.Magics.{magic_by, magic_in}
-use Rattle.drm_authority.proofs.Runs.{IsReached, denied, carried}
 use Rattle.drm_authority.proofs.Rules.{each_holds, caller_open}
-use Rattle.drm_authority.proofs.Deeds.{denied_nothing}
-use Rattle.drm_authority.proofs.Numbers.{least_passes, not_true}
-use Rattle.drm_authority.proofs.Stands.{StandsBy, standing_denied, open_stands, current}
-use Rattle.drm_authority.proofs.Closed.{open_old}
-use Rattle.drm_authority.proofs.Lessors.{own_told}
-use Rattle.drm_authority.proofs.Few.{ClientOpen, AreApart, MagicsFit, magic_free}
+use Rattle.drm_authority.proofs.Numbers.{not_true}
+use Rattle.drm_authority.proofs.Few.{ClientOpen, AreApart, MagicsFit}
 
 -- ---- what an event does to the magics
 
@@ -90,16 +78,16 @@ module _ (w : Rows) (Q R : MagicRow → Type 0) (spends : (row : MagicRow) → R
   asked-magics c SetMaster stays new h = set-magics c (is_current w c) (is_master w c) stays h
   asked-magics c _ stays new h = all_weaker Q R (λ row k. stays row k tt) w.magics h
 
-  primary-magics : (root : Bool) (m : Option ℕ) → AllByRecursion R w.magics → AllByRecursion R (opened_primary w root m).magics
-  primary-magics root None h = h
-  primary-magics root (Some m) h = h
+  primary-magics : (root universal : Bool) (m : Option ℕ) → AllByRecursion R w.magics → AllByRecursion R (opened_primary w root universal m).magics
+  primary-magics root universal None h = h
+  primary-magics root universal (Some m) h = h
 
   -- what is so of all magics after an event
   pub magics_after : (event : Event) → ((row : MagicRow) → Q row → LeftBy w event row → R row) → ForMagic R w event → AllByRecursion Q w.magics → AllByRecursion R (noted (swept (changed w event))).magics
   unfolding swept changed opened closed
-  magics_after (Open (Primary root)) stays new h = primary-magics root w.device_master (all_weaker Q R (λ row k. stays row k tt) w.magics h)
+  magics_after (Open (Primary root universal)) stays new h = primary-magics root universal w.device_master (all_weaker Q R (λ row k. stays row k tt) w.magics h)
   magics_after (Open Render) stays new h = all_weaker Q R (λ row k. stays row k tt) w.magics h
-  magics_after (Open (Lease token root)) stays new h = all_weaker Q R (λ row k. stays row k tt) w.magics h
+  magics_after (Open (Lease token root universal)) stays new h = all_weaker Q R (λ row k. stays row k tt) w.magics h
   magics_after (Ask c call) stays new h = asked-magics c call stays new h
   magics_after (Close c) stays new h = all_but c (λ row k e. stays row k e) h
 
@@ -109,6 +97,13 @@ auth-open : (d : ℕ) (test : ClientRow → Bool) (rows : List ClientRow) → li
 auth-open d test rows h = any_mapped (λ _. Unit {0}) (is_client d) (is_client d) _ (λ (row : ClientRow) _ e. by (test row) row e) rows (all_each (λ (row : ClientRow). Unit {0}) (λ _. tt) rows) h
   where
     by : (b : Bool) (row : ClientRow) → is_client d row ≡ true → is_client d (if b then record row { authenticated = true } else row) ≡ true
+    by true row e = e
+    by false row e = e
+
+capable-open : (d : ℕ) (on : Bool) (test : ClientRow → Bool) (rows : List ClientRow) → list_any (is_client d) rows ≡ true → list_any (is_client d) (map (λ (row : ClientRow). if test row then record row { universal = on } else row) rows) ≡ true
+capable-open d on test rows h = any_mapped (λ _. Unit {0}) (is_client d) (is_client d) _ (λ (row : ClientRow) _ e. by (test row) row e) rows (all_each (λ (row : ClientRow). Unit {0}) (λ _. tt) rows) h
+  where
+    by : (b : Bool) (row : ClientRow) → is_client d row ≡ true → is_client d (if b then record row { universal = on } else row) ≡ true
     by true row e = e
     by false row e = e
 
@@ -126,21 +121,22 @@ set-open w c d false true h = h
 set-open w c d false false h = master-open d (birth w) (is_client c) w.clients h
 
 asked-open : (w : Rows) (c d : ℕ) (call : Call) → list_any (is_client d) w.clients ≡ true → list_any (is_client d) (meaning w c call).rows.clients ≡ true
-unfolding meaning with_object with_authenticated ended
+unfolding meaning with_object with_authenticated with_universal ended
 asked-open w c d Version h = h
+asked-open w c d (SetClientCap cap value) h = capable-open d (value == 1) (is_client c) w.clients h
 asked-open w c d (AuthMagic magic) h = auth-open d (λ row. is_option row.client (magic_client w (own_master w c) magic)) w.clients h
 asked-open w c d SetMaster h = set-open w c d (is_current w c) (is_master w c) h
 asked-open w c d _ h = h
 
-primary-open : (w : Rows) (root : Bool) (m : Option ℕ) (d : ℕ) → list_any (is_client d) w.clients ≡ true → list_any (is_client d) (opened_primary w root m).clients ≡ true
-primary-open w root None d h = list_any_left (is_client d) w.clients _ h
-primary-open w root (Some m) d h = list_any_left (is_client d) w.clients _ h
+primary-open : (w : Rows) (root universal : Bool) (m : Option ℕ) (d : ℕ) → list_any (is_client d) w.clients ≡ true → list_any (is_client d) (opened_primary w root universal m).clients ≡ true
+primary-open w root universal None d h = list_any_left (is_client d) w.clients _ h
+primary-open w root universal (Some m) d h = list_any_left (is_client d) w.clients _ h
 
 still_open : (w : Rows) (event : Event) (row : MagicRow) → ClientOpen w.clients row → LeftBy w event row → ClientOpen (changed w event).clients row
 unfolding changed opened closed
-still_open w (Open (Primary root)) row h left = primary-open w root w.device_master row.client h
+still_open w (Open (Primary root universal)) row h left = primary-open w root universal w.device_master row.client h
 still_open w (Open Render) row h left = list_any_left (is_client row.client) w.clients _ h
-still_open w (Open (Lease token root)) row h left = list_any_left (is_client row.client) w.clients _ h
+still_open w (Open (Lease token root universal)) row h left = list_any_left (is_client row.client) w.clients _ h
 still_open w (Ask c call) row h left = asked-open w c row.client call h
 still_open w (Close c) row h left =
     any_filter (λ _. Unit {0}) (is_client row.client) (λ (client : ClientRow). not (client.client == c)) (λ (client : ClientRow) _ e. ap (λ n. not (n == c)) (eqb-true client.client row.client e) ∙ ap not left) w.clients (all_each (λ (client : ClientRow). Unit {0}) (λ _. tt) w.clients) h
@@ -186,23 +182,23 @@ asked-apart w c (AuthMagic magic) h = spent-apart (own_master w c) magic w.magic
 asked-apart w c SetMaster h = set-apart w c (is_current w c) (is_master w c) h
 asked-apart w c _ h = h
 
-primary-apart : (w : Rows) (root : Bool) (m : Option ℕ) → InOrder AreApart w.magics → InOrder AreApart (opened_primary w root m).magics
-primary-apart w root None h = h
-primary-apart w root (Some m) h = h
+primary-apart : (w : Rows) (root universal : Bool) (m : Option ℕ) → InOrder AreApart w.magics → InOrder AreApart (opened_primary w root universal m).magics
+primary-apart w root universal None h = h
+primary-apart w root universal (Some m) h = h
 
 still_apart : (w : Rows) (event : Event) → InOrder AreApart w.magics → InOrder AreApart (changed w event).magics
 unfolding changed opened closed
-still_apart w (Open (Primary root)) h = primary-apart w root w.device_master h
+still_apart w (Open (Primary root universal)) h = primary-apart w root universal w.device_master h
 still_apart w (Open Render) h = h
-still_apart w (Open (Lease token root)) h = h
+still_apart w (Open (Lease token root universal)) h = h
 still_apart w (Ask c call) h = asked-apart w c call h
 still_apart w (Close c) h = in_order_filter AreApart (λ (row : MagicRow). not (row.client == c)) w.magics h
 
 room : (w : Rows) (opening : Opening) → verdict w (Open opening) ≡ None → has_client_room w ≡ true
 unfolding checks opening_checks
-room w (Primary root) v = (each_holds w (Open (Primary root)) v).0
+room w (Primary root universal) v = (each_holds w (Open (Primary root universal)) v).0
 room w Render v = (each_holds w (Open Render) v).0
-room w (Lease token root) v = (each_holds w (Open (Lease token root)) v).1.0
+room w (Lease token root universal) v = (each_holds w (Open (Lease token root universal)) v).1.0
 
 still_few : (w : Rows) (event : Event) → verdict w event ≡ None → length w.clients ≤ w.limits.clients → length (changed w event).clients ≤ w.limits.clients
 unfolding changed closed

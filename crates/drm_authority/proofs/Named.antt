@@ -1,6 +1,6 @@
 -- Each magic is that of the last GET_MAGIC that answered its number under its master, and a client that AUTH_MAGIC named is of a
 -- step that was made.
-use Rattle.std.proofs.Common.{◌≡◌, ℕ, ◌+◌, ◌<◌, ◌≤◌, ◌==◌, Bool, true, false, cond, not, ◌&&◌, ◌||◌, List, [], ◌∷◌, ◌++◌, length, filter, map, find, Option, None, Some, refl, sym, ap, ◌∙◌, subst, arith, eq-eqb}
+use Rattle.std.proofs.Common.{◌≡◌, ℕ, ◌<◌, ◌≤◌, ◌==◌, Bool, true, false, cond, not, ◌&&◌, ◌||◌, List, [], ◌∷◌, length, filter, map, find, Option, None, Some, refl, sym, ap, ◌∙◌, arith, eq-eqb}
 use Rattle.std.specs.Prelude.{if◌then◌else◌, unwrap_or}
 use Rattle.std.specs.List.{list_any, AllByRecursion}
 use Rattle.std.specs.Option.{is_some, option_map, option_or}
@@ -8,9 +8,8 @@ use Rattle.std.proofs.lemmas.Bool.{eqb-true, and_parts}
 use Rattle.drm_lists.specs.Numbers.{is_among}
 use Rattle.drm_lists.proofs.Lists.{all_weaker, all_both}
 use Rattle.drm_lists.proofs.Rising.{found}
-use Rattle.drm_lists.proofs.Each.{each_fails, some_found}
+use Rattle.drm_lists.proofs.Each.{each_fails}
 use Rattle.drm_lists.proofs.Numbers.{less-differ}
-use Rattle.drm_table.specs.declared.calls.Call.{Call}
 use Rattle.drm_table.specs.declared.calls.Call.TheVariants.{Version, GetMagic, AuthMagic, SetMaster}
 use Rattle.drm_table.specs.declared.events.Event.{Event}
 use Rattle.drm_table.specs.declared.events.Event.TheVariants.{Open, Ask, Close}
@@ -25,7 +24,7 @@ use Rattle.drm_model.specs.Reply.{answer_of}
 use Rattle.drm_model.proofs.Leased.{rules_hold}
 use Rattle.drm_history.specs.History.{Entry, next_number}
 use Rattle.drm_authority.specs.Deeds.{deed}
-use Rattle.drm_authority.specs.Standing.{Standing, standing, with_client, with_primary, with_set, lease_in, own_master_in}
+use Rattle.drm_authority.specs.Standing.{Standing, standing, with_primary, with_set, lease_in, own_master_in}
 use Rattle.drm_authority.specs.Magics.{magic_by, magic_in, is_named_by, is_named_in}
 use Rattle.drm_authority.proofs.Runs.{IsReached, denied, carried}
 use Rattle.drm_authority.proofs.Rules.{caller_open}
@@ -35,7 +34,7 @@ use Rattle.drm_authority.proofs.Stands.{StandsBy, standing_denied, open_stands, 
 use Rattle.drm_authority.proofs.Closed.{open_old}
 use Rattle.drm_authority.proofs.Lessors.{own_told}
 use Rattle.drm_authority.proofs.Few.{MagicsFit, magic_free}
-use Rattle.drm_authority.proofs.Magics.{new_magic, ForMagic, LeftBy, magics_after, none_of, fit_carried}
+use Rattle.drm_authority.proofs.Magics.{LeftBy, magics_after, none_of, fit_carried}
 
 -- the magic is its client's by the history, under the master that its client has
 abbrev pub MagicTold : List Entry → MagicRow → Type 0
@@ -65,9 +64,9 @@ set_left false is_master P is left e = left refl e
 -- the master of a client whose magic stays
 own_still : (past : List Entry) (w : Rows) (event : Event) → verdict w event ≡ None → StandsBy past w → (row : MagicRow) → MagicTold past row → LeftBy w event row → own_master_in (carried w event ∷ past) row.client ≡ own_master_in past row.client
 unfolding standing deed answer_of meaning
-own_still past w (Open (Primary root)) v a row h left = ap (λ o. unwrap_or o 0) (primary_other (next_number past) row.client (standing past).owner (standing past) (older past row.client h.2))
+own_still past w (Open (Primary root universal)) v a row h left = ap (λ o. unwrap_or o 0) (primary_other (next_number past) row.client (standing past).owner (standing past) (older past row.client h.2))
 own_still past w (Open Render) v a row h left = ap (λ b. unwrap_or (cond b None ((standing past).master row.client)) 0) (older past row.client h.2)
-own_still past w (Open (Lease token root)) v a row h left = ap (λ b. unwrap_or (cond b (lease_in past token) ((standing past).master row.client)) 0) (older past row.client h.2)
+own_still past w (Open (Lease token root universal)) v a row h left = ap (λ b. unwrap_or (cond b (lease_in past token) ((standing past).master row.client)) 0) (older past row.client h.2)
 own_still past w (Ask c Version) v a row h left = refl
 own_still past w (Ask c SetMaster) v a row h left =
     let is = (open_stands past w a c (caller_open w c SetMaster v)).0 in
@@ -173,9 +172,9 @@ module _ (past : List Entry) (w : Rows) (r : IsReached past w) (a : StandsBy pas
 -- any other event answers no magic
 magics_told : (past : List Entry) (w : Rows) (event : Event) → IsReached past w → verdict w event ≡ None → StandsBy past w → MagicsFit w → MagicsTold past w → MagicsTold (carried w event ∷ past) (noted (swept (changed w event)))
 unfolding magic_in deed answer_of meaning
-magics_told past w (Open (Primary root)) r v a fit h = let event = Open (Primary root) in magics_after w (MagicTold past) (MagicTold (carried w event ∷ past)) (λ row k. k) event (λ row k left. told_still past (carried w event) (λ m number. refl) row (own_still past w event v a row k left) k) tt h
+magics_told past w (Open (Primary root universal)) r v a fit h = let event = Open (Primary root universal) in magics_after w (MagicTold past) (MagicTold (carried w event ∷ past)) (λ row k. k) event (λ row k left. told_still past (carried w event) (λ m number. refl) row (own_still past w event v a row k left) k) tt h
 magics_told past w (Open Render) r v a fit h = let event = Open Render in magics_after w (MagicTold past) (MagicTold (carried w event ∷ past)) (λ row k. k) event (λ row k left. told_still past (carried w event) (λ m number. refl) row (own_still past w event v a row k left) k) tt h
-magics_told past w (Open (Lease token root)) r v a fit h = let event = Open (Lease token root) in magics_after w (MagicTold past) (MagicTold (carried w event ∷ past)) (λ row k. k) event (λ row k left. told_still past (carried w event) (λ m number. refl) row (own_still past w event v a row k left) k) tt h
+magics_told past w (Open (Lease token root universal)) r v a fit h = let event = Open (Lease token root universal) in magics_after w (MagicTold past) (MagicTold (carried w event ∷ past)) (λ row k. k) event (λ row k left. told_still past (carried w event) (λ m number. refl) row (own_still past w event v a row k left) k) tt h
 magics_told past w (Ask c GetMagic) r v a fit h = get_told past w r a fit c v h
 magics_told past w (Ask c call) r v a fit h = magics_after w (MagicTold past) (MagicTold (carried w (Ask c call) ∷ past)) (λ row k. k) (Ask c call) (λ row k left. told_still past (carried w (Ask c call)) (λ m number. refl) row (own_still past w (Ask c call) v a row k left) k) tt h
 magics_told past w (Close c) r v a fit h = let event = Close c in magics_after w (MagicTold past) (MagicTold (carried w event ∷ past)) (λ row k. k) event (λ row k left. told_still past (carried w event) (λ m number. refl) row (own_still past w event v a row k left) k) tt h
@@ -215,9 +214,9 @@ is_option-other d (Some n) f = less-differ n d (f n refl)
 
 born_carried : (past : List Entry) (w : Rows) (event : Event) → verdict w event ≡ None → StandsBy past w → MagicsTold past w → NamedBorn past → NamedBorn (carried w event ∷ past)
 unfolding is_named_in deed answer_of meaning
-born_carried past w (Open (Primary root)) v a h born d late = born d (omega (arith, late))
+born_carried past w (Open (Primary root universal)) v a h born d late = born d (omega (arith, late))
 born_carried past w (Open Render) v a h born d late = born d (omega (arith, late))
-born_carried past w (Open (Lease token root)) v a h born d late = born d (omega (arith, late))
+born_carried past w (Open (Lease token root universal)) v a h born d late = born d (omega (arith, late))
 born_carried past w (Ask c Version) v a h born d late = born d (omega (arith, late))
 born_carried past w (Ask c (AuthMagic magic)) v a h born d late =
     let told = named_told past w a h c magic v in

@@ -6,7 +6,7 @@ use Rattle.drm_table.specs.Table.{flags_of, row_of, call_row, call_number, call_
 use Rattle.drm_table.specs.declared.calls.Call.{Call}
 use Rattle.drm_table.specs.declared.calls.Call.TheVariants.{CreateLease, RevokeLease}
 use Rattle.drm_table.specs.declared.events.Event.{Event}
-use Rattle.drm_table.specs.declared.events.Event.TheVariants.{Open, Ask, Close}
+use Rattle.drm_table.specs.declared.events.Event.TheVariants.{Ask, Close}
 use Rattle.drm_model.specs.Rows.{Rows, is_open}
 use Rattle.drm_model.specs.Magics.{is_current}
 use Rattle.drm_model.specs.Verdict.{verdict, checks, admission_checks}

@@ -1,9 +1,9 @@
 -- What holds of a device's rows and its history at all times: it holds of the empty ones, and each step keeps it.
-use Rattle.std.proofs.Common.{◌≡◌, ℕ, ◌+◌, List, [], ◌∷◌, length, Option, None, Some, refl, sym, ap, ◌∙◌, arith}
+use Rattle.std.proofs.Common.{◌≡◌, List, [], ◌∷◌, length, Option, None, Some, refl, arith}
 use Rattle.drm_table.specs.declared.answers.Answer.TheVariants.{Denied}
 use Rattle.drm_table.specs.declared.events.Event.{Event}
 use Rattle.drm_table.specs.declared.rules.Rule.{Rule}
-use Rattle.drm_model.specs.Rows.{Rows, empty_rows}
+use Rattle.drm_model.specs.Rows.{Rows}
 use Rattle.drm_model.specs.Births.{BirthsRise, WereMade}
 use Rattle.drm_model.specs.Verdict.{verdict}
 use Rattle.drm_model.specs.Change.{after, after_verdict, changed, swept, noted}

@@ -1,15 +1,14 @@
 -- The device's master, and of each client whether it is a master and which it has, are those of the history.
-use Rattle.std.proofs.Common.{◌≡◌, ℕ, ◌+◌, ◌≤◌, ◌==◌, Bool, true, false, cond, not, ◌&&◌, ◌||◌, List, [], ◌∷◌, length, find, Option, None, Some, refl, sym, ap, ◌∙◌, subst, arith, eq-eqb}
+use Rattle.std.proofs.Common.{◌≡◌, ℕ, ◌+◌, ◌≤◌, ◌==◌, Bool, true, false, cond, ◌||◌, List, ◌∷◌, Option, None, Some, refl, sym, ap, ◌∙◌, subst, arith, eq-eqb}
 use Rattle.std.specs.Prelude.{if◌then◌else◌, IfSome}
 use Rattle.std.specs.List.{AllByRecursion}
 use Rattle.std.specs.Option.{is_some, is_none, option_map, option_map_or, option_and_then, option_or}
 use Rattle.std.proofs.lemmas.Bool.{eqb-true, and_parts}
-use Rattle.drm_lists.proofs.Lists.{all_both, all_weaker}
-use Rattle.drm_lists.proofs.Each.{some_found}
+use Rattle.drm_lists.proofs.Lists.{all_both}
 use Rattle.drm_lists.proofs.Numbers.{less-differ}
 use Rattle.drm_lists.proofs.Rising.{found}
 use Rattle.drm_table.specs.declared.calls.Call.{Call}
-use Rattle.drm_table.specs.declared.calls.Call.TheVariants.{Version, AuthMagic, SetMaster, DropMaster}
+use Rattle.drm_table.specs.declared.calls.Call.TheVariants.{SetClientCap, AuthMagic, SetMaster, DropMaster}
 use Rattle.drm_table.specs.declared.events.Event.{Event}
 use Rattle.drm_table.specs.declared.events.Event.TheVariants.{Open, Ask, Close}
 use Rattle.drm_table.specs.declared.events.Opening.TheVariants.{Primary, Render, Lease}
@@ -28,10 +27,10 @@ use Rattle.drm_model.proofs.Leased.{rules_hold}
 use Rattle.drm_history.specs.History.{Entry, next_number}
 use Rattle.drm_authority.specs.Deeds.{deed}
 use Rattle.drm_authority.specs.Standing.{Standing, standing, stood, put, with_client, with_primary, with_set, owner_without, lease_in}
-use Rattle.drm_authority.proofs.Runs.{IsReached, denied, carried, Keeps, by_verdict}
+use Rattle.drm_authority.proofs.Runs.{IsReached, denied, carried}
 use Rattle.drm_authority.proofs.Deeds.{denied_nothing}
 use Rattle.drm_authority.proofs.Rules.{caller_open, closer_open, each_holds}
-use Rattle.drm_authority.proofs.Changes.{clients_after, client_after, primary_row, render_row, lease_row, set_row}
+use Rattle.drm_authority.proofs.Changes.{clients_after, primary_row, render_row, lease_row, set_row}
 use Rattle.drm_authority.proofs.Tokens.{TokensTold, TokenTold, tokens_carried, tokens_denied}
 
 abbrev pub ClientStands : Standing → ClientRow → Type 0
@@ -87,24 +86,24 @@ module _ (past : List Entry) (w : Rows) (r : IsReached past w) (a : StandsBy pas
   new_stands is_master master row e h k = it_stands (standing past) (next_number past) is_master master row (eq-eqb row.client (next_number past) (e ∙ newest past w r)) h k
 
   -- the device's master is that of a primary client, where there is none
-  primary_stands : (root : Bool) (m : Option ℕ) → (row : ClientRow) → Aged past w row → ClientStands (with_primary (next_number past) m (standing past)) row
-  primary_stands root None row h = old_stands true (Some (next_number past)) row h
-  primary_stands root (Some m) row h = old_stands false (Some m) row h
+  primary_stands : (root universal : Bool) (m : Option ℕ) → (row : ClientRow) → Aged past w row → ClientStands (with_primary (next_number past) m (standing past)) row
+  primary_stands root universal None row h = old_stands true (Some (next_number past)) row h
+  primary_stands root universal (Some m) row h = old_stands false (Some m) row h
 
-  primary_new : (root : Bool) (m : Option ℕ) → ClientStands (with_primary (next_number past) m (standing past)) (primary_row w root m)
-  primary_new root None = new_stands true (Some (next_number past)) (primary_row w root None) refl refl (ap Some (newest past w r))
-  primary_new root (Some m) = new_stands false (Some m) (primary_row w root (Some m)) refl refl refl
+  primary_new : (root universal : Bool) (m : Option ℕ) → ClientStands (with_primary (next_number past) m (standing past)) (primary_row w root universal m)
+  primary_new root universal None = new_stands true (Some (next_number past)) (primary_row w root universal None) refl refl (ap Some (newest past w r))
+  primary_new root universal (Some m) = new_stands false (Some m) (primary_row w root universal (Some m)) refl refl refl
 
-  primary_owner : (root : Bool) (m : Option ℕ) → w.device_master ≡ m → (opened_primary w root m).device_master ≡ (with_primary (next_number past) m (standing past)).owner
-  primary_owner root None e = ap Some (newest past w r)
-  primary_owner root (Some m) e = a.owner
+  primary_owner : (root universal : Bool) (m : Option ℕ) → w.device_master ≡ m → (opened_primary w root universal m).device_master ≡ (with_primary (next_number past) m (standing past)).owner
+  primary_owner root universal None e = ap Some (newest past w r)
+  primary_owner root universal (Some m) e = a.owner
 
-  open_primary : (root : Bool) → StandsBy (carried w (Open (Primary root)) ∷ past) (noted (swept (changed w (Open (Primary root)))))
+  open_primary : (root universal : Bool) → StandsBy (carried w (Open (Primary root universal)) ∷ past) (noted (swept (changed w (Open (Primary root universal)))))
   unfolding standing deed answer_of swept changed opened
-  open_primary root =
-      subst (λ (m : Option ℕ). Stands (with_primary (next_number past) m (standing past)) (noted (swept (changed w (Open (Primary root)))))) a.owner (record {
-        owner = primary_owner root w.device_master refl;
-        clients = clients_after w (ClientStands (with_primary (next_number past) w.device_master (standing past))) (Open (Primary root)) (Aged past w) (primary_stands root w.device_master) (primary_new root w.device_master) (aged past w r a);
+  open_primary root universal =
+      subst (λ (m : Option ℕ). Stands (with_primary (next_number past) m (standing past)) (noted (swept (changed w (Open (Primary root universal)))))) a.owner (record {
+        owner = primary_owner root universal w.device_master refl;
+        clients = clients_after w (ClientStands (with_primary (next_number past) w.device_master (standing past))) (Open (Primary root universal)) (Aged past w) (primary_stands root universal w.device_master) (primary_new root universal w.device_master) (aged past w r a);
       })
 
   open_render : StandsBy (carried w (Open Render) ∷ past) (noted (swept (changed w (Open Render))))
@@ -125,15 +124,15 @@ module _ (past : List Entry) (w : Rows) (r : IsReached past w) (a : StandsBy pas
       by (Some t) is k = sym k ∙ ap (lease_in past) (eqb-true t token is)
 
   -- the client of a token is of the master that it was answered for
-  pub lease_told : TokensTold past w → (token : ℕ) (root : Bool) → verdict w (Open (Lease token root)) ≡ None → option_map (λ (row : MasterRow). row.master) (lease_master w token) ≡ lease_in past token
+  pub lease_told : TokensTold past w → (token : ℕ) (root universal : Bool) → verdict w (Open (Lease token root universal)) ≡ None → option_map (λ (row : MasterRow). row.master) (lease_master w token) ≡ lease_in past token
   unfolding checks opening_checks
-  lease_told told token root v = redeemed told token (lease_master w token) refl (each_holds w (Open (Lease token root)) v).0
+  lease_told told token root universal v = redeemed told token (lease_master w token) refl (each_holds w (Open (Lease token root universal)) v).0
 
-  open_lease : TokensTold past w → (token : ℕ) (root : Bool) → verdict w (Open (Lease token root)) ≡ None → StandsBy (carried w (Open (Lease token root)) ∷ past) (noted (swept (changed w (Open (Lease token root)))))
+  open_lease : TokensTold past w → (token : ℕ) (root universal : Bool) → verdict w (Open (Lease token root universal)) ≡ None → StandsBy (carried w (Open (Lease token root universal)) ∷ past) (noted (swept (changed w (Open (Lease token root universal)))))
   unfolding standing deed answer_of swept changed opened
-  open_lease told token root v = record {
+  open_lease told token root universal v = record {
     owner = a.owner;
-    clients = clients_after w (ClientStands (with_client (next_number past) true (lease_in past token) (standing past))) (Open (Lease token root)) (Aged past w) (old_stands true (lease_in past token)) (new_stands true (lease_in past token) (lease_row w token root) refl refl (lease_told told token root v)) (aged past w r a);
+    clients = clients_after w (ClientStands (with_client (next_number past) true (lease_in past token) (standing past))) (Open (Lease token root universal)) (Aged past w) (old_stands true (lease_in past token)) (new_stands true (lease_in past token) (lease_row w token root universal) refl refl (lease_told told token root universal v)) (aged past w r a);
   }
 
 -- ---- SET_MASTER
@@ -226,6 +225,11 @@ asked past w c (AuthMagic magic) r v a = record {
   owner = a.owner;
   clients = clients_after w (ClientStands (standing past)) (Ask c (AuthMagic magic)) (ClientStands (standing past)) (λ row h. authenticated (standing past) (is_option row.client (magic_client w (own_master w c) magic)) row h) tt a.clients;
 }
+asked past w c (SetClientCap cap value) r v a = record {
+  owner = a.owner;
+  clients = clients_after w (ClientStands (standing past)) (Ask c (SetClientCap cap value)) (ClientStands (standing past))
+      (λ row h. elim (is_client c row) as (λ b. ClientStands (standing past) (if b then record row { universal = value == 1 } else row)) [ true ↦ h | false ↦ h ]) tt a.clients;
+}
 asked past w c call r v a = record { owner = a.owner; clients = clients_after w (ClientStands (standing past)) (Ask c call) (ClientStands (standing past)) (λ row h. h) tt a.clients }
 
 close : (past : List Entry) (w : Rows) (c : ℕ) → verdict w (Close c) ≡ None → StandsBy past w → StandsBy (carried w (Close c) ∷ past) (noted (swept (changed w (Close c))))
@@ -236,9 +240,9 @@ close past w c v a = record {
 }
 
 stands_carried : (past : List Entry) (w : Rows) (event : Event) → IsReached past w → verdict w event ≡ None → TokensTold past w → StandsBy past w → StandsBy (carried w event ∷ past) (noted (swept (changed w event)))
-stands_carried past w (Open (Primary root)) r v told a = open_primary past w r a root
+stands_carried past w (Open (Primary root universal)) r v told a = open_primary past w r a root universal
 stands_carried past w (Open Render) r v told a = open_render past w r a
-stands_carried past w (Open (Lease token root)) r v told a = open_lease past w r a told token root v
+stands_carried past w (Open (Lease token root universal)) r v told a = open_lease past w r a told token root universal v
 stands_carried past w (Ask c call) r v told a = asked past w c call r v a
 stands_carried past w (Close c) r v told a = close past w c v a
 

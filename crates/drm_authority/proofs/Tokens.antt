@@ -7,12 +7,12 @@ use Rattle.std.proofs.lemmas.Bool.{and_parts}
 use Rattle.drm_lists.proofs.Lists.{all_both, all_weaker}
 use Rattle.drm_lists.proofs.Each.{each_fails}
 use Rattle.drm_lists.proofs.Numbers.{flipped}
-use Rattle.drm_table.specs.declared.calls.Call.TheVariants.{Version, GetMagic, CreateLease}
+use Rattle.drm_table.specs.declared.calls.Call.TheVariants.{CreateLease}
 use Rattle.drm_table.specs.declared.events.Event.{Event}
 use Rattle.drm_table.specs.declared.events.Event.TheVariants.{Open, Ask, Close}
 use Rattle.drm_table.specs.declared.events.Opening.TheVariants.{Primary, Render, Lease}
 use Rattle.drm_table.specs.declared.rules.Rule.{Rule}
-use Rattle.drm_model.specs.Rows.{Rows, MasterRow, birth, is_option}
+use Rattle.drm_model.specs.Rows.{Rows, MasterRow, is_option}
 use Rattle.drm_model.specs.Leases.{new_lease_token, next_lease_token, is_free_lease_token, free_lessee}
 use Rattle.drm_model.specs.Magics.{own_master}
 use Rattle.drm_model.specs.Calls.{meaning}
@@ -61,9 +61,9 @@ tokens_leased past w c ids r v h =
 -- any other event answers none
 pub tokens_carried : (past : List Entry) (w : Rows) (event : Event) → IsReached past w → verdict w event ≡ None → TokensTold past w → TokensTold (carried w event ∷ past) (noted (swept (changed w event)))
 unfolding lease_in deed answer_of meaning
-tokens_carried past w (Open (Primary root)) r v h = masters_after w (TokenTold past) (TokenTold (carried w (Open (Primary root)) ∷ past)) (λ row q. q) (λ row q. tt) (Open (Primary root)) h tt
+tokens_carried past w (Open (Primary root universal)) r v h = masters_after w (TokenTold past) (TokenTold (carried w (Open (Primary root universal)) ∷ past)) (λ row q. q) (λ row q. tt) (Open (Primary root universal)) h tt
 tokens_carried past w (Open Render) r v h = masters_after w (TokenTold past) (TokenTold (carried w (Open Render) ∷ past)) (λ row q. q) (λ row q. tt) (Open Render) h tt
-tokens_carried past w (Open (Lease token root)) r v h = masters_after w (TokenTold past) (TokenTold (carried w (Open (Lease token root)) ∷ past)) (λ row q. q) (λ row q. tt) (Open (Lease token root)) h tt
+tokens_carried past w (Open (Lease token root universal)) r v h = masters_after w (TokenTold past) (TokenTold (carried w (Open (Lease token root universal)) ∷ past)) (λ row q. q) (λ row q. tt) (Open (Lease token root universal)) h tt
 tokens_carried past w (Ask c (CreateLease ids)) r v h = tokens_leased past w c ids r v h
 tokens_carried past w (Ask c call) r v h = masters_after w (TokenTold past) (TokenTold (carried w (Ask c call) ∷ past)) (λ row q. q) (λ row q. tt) (Ask c call) h tt
 tokens_carried past w (Close c) r v h = masters_after w (TokenTold past) (TokenTold (carried w (Close c) ∷ past)) (λ row q. q) (λ row q. tt) (Close c) h tt

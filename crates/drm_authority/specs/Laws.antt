@@ -3,7 +3,7 @@ use Rattle.std.specs.Prelude.{◌≡◌, ℕ, true, Some, IfSome}
 use Rattle.std.specs.List.{AllByRecursion}
 use Rattle.drm_model.specs.Rows.{MasterRow, MagicRow, client_has, is_open}
 use Rattle.drm_model.specs.Masters.{master_of, owner_of}
-use Rattle.drm_model.specs.Sees.{is_granted}
+use Rattle.drm_model.specs.Sees.{is_granted, has_universal}
 use Rattle.drm_model.specs.Magics.{is_master}
 use Rattle.drm_model.specs.Run.{History, rows_of}
 use Rattle.drm_history.specs.History.{history_of}
@@ -11,6 +11,7 @@ use Rattle.drm_authority.specs.Deeds.{AllSteps}
 use Rattle.drm_authority.specs.Standing.{lease_in, owner_in, is_master_in, master_in}
 use Rattle.drm_authority.specs.Lessees.{lessor_in, lessee_in, granted}
 use Rattle.drm_authority.specs.Magics.{magic_in, known}
+use Rattle.drm_authority.specs.Shown.{is_universal_in, KeepsToOverlays}
 use Rattle.drm_authority.specs.Closings.{StaysClosed}
 use Rattle.drm_authority.specs.Barren.{StaysBarren}
 
@@ -44,11 +45,19 @@ LesseesFollow h = AllByRecursion (λ (row : MasterRow). IfSome row.lessor (λ _.
 
 -- the grants are those of the history
 abbrev pub GrantsFollow : History → Type 0
-GrantsFollow h = (m x : ℕ) → is_granted (rows_of h) m x ≡ granted (history_of h) m x
+GrantsFollow h = (m x : ℕ) → is_granted (rows_of h) m x ≡ granted h.topology (history_of h) m x
 
 -- a client of a lessee that ended is answered nothing of CRTCs, connectors and planes
 abbrev pub EndedLesseesAreBarren : History → Type 0
 EndedLesseesAreBarren h = AllSteps StaysBarren (history_of h)
+
+-- an open client has universal planes on exactly where the history says so
+abbrev pub CapabilitiesFollow : History → Type 0
+CapabilitiesFollow h = (c : ℕ) → is_open (rows_of h) c ≡ true → has_universal (rows_of h) c ≡ is_universal_in (history_of h) c
+
+-- a client with universal planes off is answered nothing of primary and cursor planes
+abbrev pub OverlaysAlone : History → Type 0
+OverlaysAlone h = AllSteps (KeepsToOverlays h.topology) (history_of h)
 
 -- each magic, spent or not, is that of the last GET_MAGIC that answered its number under its master
 abbrev pub MagicsFollow : History → Type 0

@@ -1,11 +1,14 @@
--- Who lent to whom, what was lent, and what ended it, by the history alone (drm-uapi, leases). Chains of lessors may be of any
--- length.
-use Rattle.std.specs.Prelude.{ℕ, ◌==◌, Bool, true, false, not, ◌&&◌, ◌||◌, List, [], ◌∷◌, Option, None, Some, if◌then◌else◌}
+-- Who lent to whom, what was lent, and what ended it, by the history alone (drm-uapi, leases; what comes along with a CRTC is own).
+-- Chains of lessors may be of any length.
+use Rattle.std.specs.Prelude.{ℕ, ◌==◌, Bool, false, not, ◌&&◌, ◌||◌, List, [], ◌∷◌, Option, None, Some, if◌then◌else◌}
+use Rattle.std.specs.Option.{is_some, option_map_or}
 use Rattle.drm_lists.specs.Numbers.{is_among}
 use Rattle.drm_lists.specs.Chains.{top_of, is_under}
+use Rattle.drm_modes.specs.Topology.{Topology, crtc_of_plane}
 use Rattle.drm_history.specs.History.{Entry, next_number}
 use Rattle.drm_authority.specs.Deeds.{Deed, Leases, Revokes, Closes, deed}
 use Rattle.drm_authority.specs.Standing.{Standing, standing, is_master_in, master_in, own_master_in}
+use Rattle.drm_authority.specs.Shown.{is_universal_in}
 
 abbrev pub lessor_by : Deed → Standing → Option ℕ
 lessor_by (Leases c ids lessee token) s = s.master c
@@ -52,11 +55,23 @@ unfoldable pub has_ended : List Entry → ℕ → Bool
 has_ended [] m = false
 has_ended (step ∷ past) m = ends step past m || has_ended past m
 
-abbrev pub is_lent : Deed → ℕ → Bool
-is_lent (Leases c ids lessee token) x = is_among ids x
-is_lent _ x = false
+-- whether a mode object is a primary or a cursor plane of a CRTC in a list
+abbrev pub is_plane_of : Topology → List ℕ → ℕ → Bool
+is_plane_of t ids x = option_map_or (is_among ids) (crtc_of_plane t x) false
 
--- whether a lease has the mode object: its step is MODE_CREATE_LEASE with it among the ids, and no later one ended it
-unfoldable pub granted : List Entry → ℕ → ℕ → Bool
-granted [] m x = false
-granted (step ∷ past) m x = if m == next_number past then is_lent (deed step) x else not (ends step past m) && granted past m x
+-- whether a master controls what its lease has or not: where it has no lessor, it controls all
+abbrev pub is_controlled : List Entry → Option ℕ → (ℕ → Bool) → Bool
+is_controlled past (Some m) has = not (is_some (lessor_in past m)) || has m
+is_controlled past None has = false
+
+-- what a step lends: the ids that it lists and, where its client has universal planes off, of each listed CRTC the primary and the
+-- cursor plane that the client's master controls, as that of a lease that has the plane does
+abbrev pub is_lent : Topology → Deed → List Entry → ℕ → (ℕ → Bool) → Bool
+is_lent t (Leases c ids lessee token) past x has =
+    is_among ids x || (not (is_universal_in past c) && is_plane_of t ids x && is_controlled past (master_in past c) has)
+is_lent t _ past x has = false
+
+-- whether a lease has the mode object: its step is MODE_CREATE_LEASE that lends it, and no later one ended it
+unfoldable pub granted : Topology → List Entry → ℕ → ℕ → Bool
+granted t [] m x = false
+granted t (step ∷ past) m x = if m == next_number past then is_lent t (deed step) past x (λ n. granted t past n x) else not (ends step past m) && granted t past m x

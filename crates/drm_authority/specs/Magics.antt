@@ -15,8 +15,8 @@ magic_in [] m magic = None
 magic_in (step ∷ past) m magic = magic_by (deed step) past m magic (magic_in past m magic)
 
 abbrev pub is_root_by : Deed → ℕ → ℕ → Bool
-is_root_by (OpensPrimary root) number c = root && (number == c)
-is_root_by (Redeems token root) number c = root && (number == c)
+is_root_by (OpensPrimary root universal) number c = root && (number == c)
+is_root_by (Redeems token root universal) number c = root && (number == c)
 is_root_by _ number c = false
 
 -- whether the client opened as root

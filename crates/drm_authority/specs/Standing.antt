@@ -1,10 +1,10 @@
 -- Who is a master, of which master each client is, and which is the device's, by the history alone (drm(7), masters; drm-uapi,
 -- primary nodes, DRM master and authentication). A master is named by the number of the step that made it (own).
-use Rattle.std.specs.Prelude.{ℕ, ◌==◌, Bool, true, false, ◌&&◌, List, [], ◌∷◌, Option, None, Some, unwrap_or, if◌then◌else◌}
-use Rattle.std.specs.Option.{is_none, option_or}
+use Rattle.std.specs.Prelude.{ℕ, ◌==◌, Bool, true, false, List, [], ◌∷◌, Option, None, Some, unwrap_or, if◌then◌else◌}
+use Rattle.std.specs.Option.{option_or}
 use Rattle.drm_model.specs.Rows.{is_option}
 use Rattle.drm_history.specs.History.{Entry, next_number}
-use Rattle.drm_authority.specs.Deeds.{Deed, Nothing, OpensPrimary, OpensRender, Redeems, Closes, GetsMagic, Authenticates, SetsMaster, DropsMaster, Leases, Revokes, deed}
+use Rattle.drm_authority.specs.Deeds.{Deed, OpensPrimary, OpensRender, Redeems, Closes, SetsMaster, DropsMaster, Leases, deed}
 
 -- the step of this number answered a lease with the token
 abbrev pub leased_by : Deed → ℕ → ℕ → Option ℕ → Option ℕ
@@ -45,9 +45,9 @@ owner_without true None owner = owner
 owner_without false master owner = owner
 
 abbrev pub stood : Deed → ℕ → (ℕ → Option ℕ) → Standing → Standing
-stood (OpensPrimary root) number lease s = with_primary number s.owner s
+stood (OpensPrimary root universal) number lease s = with_primary number s.owner s
 stood OpensRender number lease s = with_client number false None s
-stood (Redeems token root) number lease s = with_client number true (lease token) s
+stood (Redeems token root universal) number lease s = with_client number true (lease token) s
 stood (Closes c) number lease s = record s { owner = owner_without (s.is_master c) (s.master c) s.owner }
 stood (SetsMaster c) number lease s = with_set number c (s.is_master c) s
 stood DropsMaster number lease s = record s { owner = None }

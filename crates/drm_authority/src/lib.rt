@@ -5,6 +5,7 @@
 mod laws;
 
 pub use laws::{
-    authentication_follows_from_history, closings_are_for_good, ended_lessees_are_barren,
-    grants_follow_from_history, lessees_follow_from_history, masters_follow_from_history,
+    authentication_follows_from_history, capabilities_follow_from_history, closings_are_for_good,
+    ended_lessees_are_barren, grants_follow_from_history, lessees_follow_from_history,
+    masters_follow_from_history,
 };

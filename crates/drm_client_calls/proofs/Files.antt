@@ -29,19 +29,19 @@ not_there c (g ∷ gs) h = ap (λ b. is_some (cond b (Some g) (find (is_client c
 
 -- ---- the file of a new client
 
-abbrev opened : FileLists → ℕ → Bool → Bool → Bool → FileLists
-opened files number render root authenticated = record files { clients = files.clients ++ record { client = number; flags = record { render = render; root = root; authenticated = authenticated } } ∷ [] }
+abbrev opened : FileLists → ℕ → Bool → Bool → Bool → Bool → FileLists
+opened files number render root authenticated universal = record files { clients = files.clients ++ record { client = number; flags = record { render = render; root = root; authenticated = authenticated; universal = universal } } ∷ [] }
 
-pub opened_file : (files : FileLists) (number : ℕ) (render root : Bool) → AllByRecursion (λ (g : FileClient). g.client < number) files.clients → with_client files number (new_flags render root) ≡ opened files number render root root
-opened_file files number render root h = ap (λ fs. record files { clients = fs }) (placed_last (record { client = number; flags = new_flags render root }) files.clients h)
+pub opened_file : (files : FileLists) (number : ℕ) (render root universal : Bool) → AllByRecursion (λ (g : FileClient). g.client < number) files.clients → with_client files number (new_flags render root universal) ≡ opened files number render root root universal
+opened_file files number render root universal h = ap (λ fs. record files { clients = fs }) (placed_last (record { client = number; flags = new_flags render root universal }) files.clients h)
 
-pub opened_present : (files new : FileLists) (number : ℕ) (render root : Bool) → AllByRecursion (λ (g : FileClient). g.client < number) files.clients → new ≡ with_client files number (new_flags render root) → is_present new number ≡ true
-opened_present files new number render root h e =
-    ap (λ (l : FileLists). is_present l number) (e ∙ opened_file files number render root h) ∙ found_last (record { client = number; flags = new_flags render root }) files.clients
+pub opened_present : (files new : FileLists) (number : ℕ) (render root universal : Bool) → AllByRecursion (λ (g : FileClient). g.client < number) files.clients → new ≡ with_client files number (new_flags render root universal) → is_present new number ≡ true
+opened_present files new number render root universal h e =
+    ap (λ (l : FileLists). is_present l number) (e ∙ opened_file files number render root universal h) ∙ found_last (record { client = number; flags = new_flags render root universal }) files.clients
 
-pub opened_authenticated : (files new : FileLists) (number : ℕ) (render root : Bool) → AllByRecursion (λ (g : FileClient). g.client < number) files.clients → new ≡ with_client files number (new_flags render root) → with_authenticated new number ≡ opened files number render root true
-opened_authenticated files new number render root h e =
-    let f : FileClient = record { client = number; flags = new_flags render root } in
+pub opened_authenticated : (files new : FileLists) (number : ℕ) (render root universal : Bool) → AllByRecursion (λ (g : FileClient). g.client < number) files.clients → new ≡ with_client files number (new_flags render root universal) → with_authenticated new number ≡ opened files number render root true universal
+opened_authenticated files new number render root universal h e =
+    let f : FileClient = record { client = number; flags = new_flags render root universal } in
     let change = λ (row : FileClient). if is_client number row then authenticated row else row in
-    ap (λ (l : FileLists). with_authenticated l number) (e ∙ opened_file files number render root h)
+    ap (λ (l : FileLists). with_authenticated l number) (e ∙ opened_file files number render root universal h)
     ∙ ap (λ fs. record files { clients = fs }) (map-append change files.clients (f ∷ []) ∙ ap (λ l. l ++ change f ∷ []) (authenticated_last f files.clients h) ∙ ap (λ b. files.clients ++ (if b then authenticated f else f) ∷ []) (eq-eqb number number refl))

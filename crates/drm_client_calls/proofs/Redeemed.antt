@@ -154,12 +154,12 @@ of_lessee tokens ms t m h e =
 
 -- ---- its client
 
-abbrev pub lease_flags : Bool → FileFlags
-lease_flags root = record { render = false; root = root; authenticated = true }
+abbrev pub lease_flags : Bool → Bool → FileFlags
+lease_flags root universal = record { render = false; root = root; authenticated = true; universal = universal }
 
 -- the state with the client that spent the token
-abbrev pub with_redeemer : State → ℕ → ℕ → ℕ → Bool → State
-with_redeemer s b t m root = joined s b (lease_flags root) (redeemed b m s.masters) (without_token t s.leases)
+abbrev pub with_redeemer : State → ℕ → ℕ → ℕ → Bool → Bool → State
+with_redeemer s b t m root universal = joined s b (lease_flags root universal) (redeemed b m s.masters) (without_token t s.leases)
 
 module _ (s : State) (t m : ℕ) (tied : IsTied s) (is : token_master s.leases.tokens t ≡ Some m) where
   abbrev row : LeaseToken
@@ -180,10 +180,10 @@ module _ (s : State) (t m : ℕ) (tied : IsTied s) (is : token_master s.leases.t
   spent_is : filter (λ (r : LeaseToken). not (is_token t r)) s.leases.tokens ≡ filter (λ (r : LeaseToken). not (r.master == m)) s.leases.tokens
   spent_is = spent s.leases.tokens t row found_row (leases_so s tied).tokens_differ (leases_so s tied).tokens_rise ∙ (λ i. filter (λ (r : LeaseToken). not (r.master == its_master i)) s.leases.tokens)
 
-  pub redeemed_tied : (b : ℕ) (root : Bool) → AreMasters (redeemed b m s.masters) → AreLeases (without_token t s.leases) → IsTied (with_redeemer s b t m root)
-  redeemed_tied b root are leases =
+  pub redeemed_tied : (b : ℕ) (root universal : Bool) → AreMasters (redeemed b m s.masters) → AreLeases (without_token t s.leases) → IsTied (with_redeemer s b t m root universal)
+  redeemed_tied b root universal are leases =
       let below : ℕ → Bool = λ n. n == m in
-      joined_tied s (lease_flags root) (redeemer b m) (redeemed b m s.masters) (without_token t s.leases) tied refl are leases
+      joined_tied s (lease_flags root universal) (redeemer b m) (redeemed b m s.masters) (without_token t s.leases) tied refl are leases
       (subst (λ l. AreOfLessees l (released below s.masters.masters)) (sym spent_is) (of_lessees_ended below s.leases.tokens s.masters.masters (tokens_of_lessees s tied)))
       (subst (λ l. AreKeptBy l (released below s.masters.masters)) (sym spent_is) (kept_ended below s.leases.tokens s.masters.masters (kept_have_tokens s tied))) refl refl
 
@@ -196,11 +196,11 @@ module _ (s : State) (t m : ℕ) (tied : IsTied s) (is : token_master s.leases.t
     number : x.birth ≡ m
     number = eqb-true x.birth m (found (is_birth m) (λ _. Unit {0}) x s.masters.masters (all_each (λ _. Unit {0}) (λ _. tt) s.masters.masters) there).0
 
-    client_is : (b : ℕ) (root : Bool) → w.steps + 1 ≡ b → client_row_by (record { client = b; flags = lease_flags root }) (Some (redeemer b m)) ≡
-        record { client = birth w; render = false; root = root; authenticated = true; once_master = false; is_master = true; master = option_map (λ (r : MasterRow). r.master) (lease_master w t) }
-    client_is b root e =
+    client_is : (b : ℕ) (root universal : Bool) → w.steps + 1 ≡ b → client_row_by (record { client = b; flags = lease_flags root universal }) (Some (redeemer b m)) ≡
+        record { client = birth w; render = false; root = root; authenticated = true; once_master = false; is_master = true; master = option_map (λ (r : MasterRow). r.master) (lease_master w t); universal = universal }
+    client_is b root universal e =
         let named : Some m ≡ option_map (λ (r : MasterRow). r.master) (lease_master w t) = ap Some (sym number) ∙ sym (ap (option_map (λ (r : MasterRow). r.master)) its_row) in
-        λ i. record { client = sym e i; render = false; root = root; authenticated = true; once_master = false; is_master = true; master = named i }
+        λ i. record { client = sym e i; render = false; root = root; authenticated = true; once_master = false; is_master = true; master = named i; universal = universal }
 
     masters_now : map (λ (r : MasterRow). if is_option t r.lease_token then record r { lease_token = None } else r) w.masters ≡ map (master_row_of (without_token t s.leases).tokens) (released (λ n. n == m) s.masters.masters)
     masters_now =
@@ -208,10 +208,10 @@ module _ (s : State) (t m : ℕ) (tied : IsTied s) (is : token_master s.leases.t
         ∙ rows_spent s.leases.tokens t row found_row (leases_so s tied).tokens_differ (leases_so s tied).tokens_rise s.masters.masters
         ∙ (λ i. map (master_row_of (without_token t s.leases).tokens) (released (λ n. n == its_master i) s.masters.masters))
 
-    pub redeemed_represents : (b : ℕ) (root : Bool) → IsLater s b → w.steps + 1 ≡ b → (part : Part) → stands_for part (with_redeemer s b t m root) (opened_lease w t root)
+    pub redeemed_represents : (b : ℕ) (root universal : Bool) → IsLater s b → w.steps + 1 ≡ b → (part : Part) → stands_for part (with_redeemer s b t m root universal) (opened_lease w t root universal)
     unfolding stands_for
-    redeemed_represents b root later e Clients =
-        (λ i. clients_are s w h i ++ sym (client_is b root e) i ∷ []) ∙ sym (client_pushed (lease_flags root) (redeemer b m) s.files.clients s.masters.members later.clients (members_open s tied))
-    redeemed_represents b root later e Masters = masters_now
-    redeemed_represents b root later e Magics = subst (SameRows w.magics) (sym (no_magic_more (redeemer b m) refl s.masters.members)) (magics_are s w h)
-    redeemed_represents b root later e part = h part
+    redeemed_represents b root universal later e Clients =
+        (λ i. clients_are s w h i ++ sym (client_is b root universal e) i ∷ []) ∙ sym (client_pushed (lease_flags root universal) (redeemer b m) s.files.clients s.masters.members later.clients (members_open s tied))
+    redeemed_represents b root universal later e Masters = masters_now
+    redeemed_represents b root universal later e Magics = subst (SameRows w.magics) (sym (no_magic_more (redeemer b m) refl s.masters.members)) (magics_are s w h)
+    redeemed_represents b root universal later e part = h part

@@ -107,7 +107,8 @@ fn client_row(file: FileClient, member: Option<Member>) -> AuditRow
             + flag(file.flags.authenticated, 4)
             + flag(was_master(member), 8)
             + flag(is_master(member), 16)
-            + flag(is_spent(magic), 32),
+            + flag(is_spent(magic), 32)
+            + flag(!file.flags.universal, 64),
         c: or_zero(master_of(member)),
         d: number_of(magic),
     }

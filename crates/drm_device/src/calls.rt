@@ -8,11 +8,12 @@ ghost use Rattle.drm_model.specs.Verdict as model;
 ghost use Rattle.drm_state.specs.Refinement.{Owes, OwesCall, IsAdmission};
 
 use crate::audits::audit;
-use crate::capabilities::{get_cap, set_client_cap, version};
+use crate::capabilities::{get_cap, version};
 use crate::mode_calls::mode_call;
 use drm_buffer_calls::{
     Pixels, buf_create, create_dumb, gem_close, list_handles, stamp_read, stamp_write,
 };
+use drm_client_calls::set_client_cap;
 use drm_lease_calls::{create_lease, get_lease, list_lessees, revoke_lease};
 use drm_master_calls::{auth_magic, drop_master, get_magic, set_master};
 use drm_share_calls::{gem_flink, gem_open, prime_export, prime_import, token_close};

@@ -1,7 +1,7 @@
 //! What the device tells of itself.
 
 ghost use Rattle.std.specs.Prelude.{◌≡◌};
-ghost use Rattle.drm_table.specs.declared.calls.Call.TheVariants.{GetCap, SetClientCap};
+ghost use Rattle.drm_table.specs.declared.calls.Call.TheVariants.{GetCap};
 ghost use Rattle.drm_model.specs.Capabilities.{version_answer};
 ghost use Rattle.drm_state.specs.Ties.{IsTied};
 ghost use Rattle.drm_state.specs.Refinement.{OwesReply};
@@ -36,11 +36,4 @@ pub fn get_cap(state: &State, client: u32, cap: u64) -> Answer
         PRIME => Answer::Number { value: 3 },
         _ => Answer::Denied(Rule::BadCap),
     }
-}
-
-/// SET_CLIENT_CAP: there is none that a client may set (own). It takes no memory and asks for no limit.
-pub fn set_client_cap(state: &State, client: u32, cap: u64, value: u64) -> Answer
-    ensures { OwesReply state.now client (SetClientCap cap value) result state.now }
-{
-    Answer::Denied(Rule::BadCap)
 }

@@ -10,6 +10,6 @@ mod mode_calls;
 mod replays;
 
 pub use device::{Device, NewFault};
-pub use drm_modes::Topology;
+pub use drm_modes::{PlaneKind, Topology};
 pub use drm_table::Limits;
 pub use replays::{ReplayFault, replay};

@@ -6,11 +6,11 @@ use Rattle.drm_files.specs.declared.files.FileRecord.{FileRecord}
 use Rattle.drm_files.specs.declared.files.Held.{Held}
 use Rattle.drm_files.specs.declared.rows.FileClient.{FileClient}
 use Rattle.drm_files.specs.declared.rows.FileHold.{FileHold}
-use Rattle.drm_files.specs.Files.{FileLists, is_client, is_hold, client, hold, authenticated, with_client, without_client, with_hold, without_hold, with_place, with_authenticated}
+use Rattle.drm_files.specs.Files.{FileLists, is_client, is_hold, client, hold, with_client, without_client, with_hold, without_hold, with_place, with_change}
 use Rattle.drm_files.specs.Records.{clients_in, holds_in, lists_of, rows_in}
 use Rattle.drm_files.proofs.Flat.{held}
 use Rattle.drm_index_array.proofs.Keyed.{row_at, rows_length}
-use Rattle.drm_files.proofs.Changes.{client_of, clients_opened, clients_closed, clients_kept, clients_authenticated, holds_kept, holds_added, holds_placed, holds_dropped, holds_closed, held_here, find_client, find_hold}
+use Rattle.drm_files.proofs.Changes.{client_of, clients_opened, clients_closed, clients_kept, clients_changed, holds_kept, holds_added, holds_placed, holds_dropped, holds_closed, held_here, find_client, find_hold}
 
 module _ (limit last : ℕ) (m : fin.FinMap nat_cmp FileRecord) (c : ℕ) where
   pub length_clients : length (clients_in (fin.entries m)) ≡ fin.len m
@@ -39,9 +39,9 @@ module _ (limit last : ℕ) (m : fin.FinMap nat_cmp FileRecord) (c : ℕ) where
   given r s h x place found here flags slots =
       by_rows (fin.insert m c s) (with_place (lists_of limit last m) c h place) (clients_kept m c r s found flags) (holds_placed m c r s h x place found here slots)
 
-  pub let_in : (r s : FileRecord) → fin.get m c ≡ Some r → ((k : ℕ) → client k s.flags ≡ authenticated (client k r.flags)) → s.handles.slots ≡ r.handles.slots → lists_of limit last (fin.insert m c s) ≡ with_authenticated (lists_of limit last m) c
-  let_in r s found flags slots =
-      by_rows (fin.insert m c s) (with_authenticated (lists_of limit last m) c) (clients_authenticated m c r s found flags)
+  pub changed : (change : FileClient → FileClient) (r s : FileRecord) → fin.get m c ≡ Some r → ((k : ℕ) → client k s.flags ≡ change (client k r.flags)) → s.handles.slots ≡ r.handles.slots → lists_of limit last (fin.insert m c s) ≡ with_change change (lists_of limit last m) c
+  changed change r s found flags slots =
+      by_rows (fin.insert m c s) (with_change change (lists_of limit last m) c) (clients_changed m c change r s found flags)
       (holds_kept m c s (λ b. ap (λ t. fin.get t b) slots ∙ sym (held_here m c r found c b refl)))
 
   -- a client's record that has the same flags and the same behind each handle

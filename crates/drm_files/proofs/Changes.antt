@@ -13,7 +13,7 @@ use Rattle.drm_files.specs.declared.files.FileRecord.{FileRecord}
 use Rattle.drm_files.specs.declared.files.Held.{Held}
 use Rattle.drm_files.specs.declared.rows.FileClient.{FileClient}
 use Rattle.drm_files.specs.declared.rows.FileHold.{FileHold}
-use Rattle.drm_files.specs.Files.{client, hold, hold_before, client_before, is_client, is_hold, of_client, authenticated, given_place}
+use Rattle.drm_files.specs.Files.{client, hold, hold_before, client_before, is_client, is_hold, of_client, given_place}
 use Rattle.drm_index_array.specs.Rows.{placed}
 use Rattle.drm_files.specs.Records.{rows_in, holds_in, clients_in}
 use Rattle.drm_index_array.proofs.Keyed.{rows_where, find_rows, rows_put, rows_put_found, entries_removed}
@@ -56,14 +56,13 @@ module _ (m : fin.FinMap nat_cmp FileRecord) (c : ℕ) where
   pub clients_kept : (r s : FileRecord) → fin.get m c ≡ Some r → s.flags ≡ r.flags → clients_in (fin.entries (fin.insert m c s)) ≡ clients_in (fin.entries m)
   clients_kept r s found same = clients_put (λ row. row) r s found (λ k at. ap (client k) same) (λ k t no. refl) ∙ map-id (clients_in (fin.entries m))
 
-  abbrev noted : FileClient → FileClient
-  noted row = if is_client c row then authenticated row else row
-
-  pub clients_authenticated : (r s : FileRecord) → fin.get m c ≡ Some r → ((k : ℕ) → client k s.flags ≡ authenticated (client k r.flags)) → clients_in (fin.entries (fin.insert m c s)) ≡ map noted (clients_in (fin.entries m))
-  clients_authenticated r s found same =
-      clients_put noted r s found
-      (λ k at. same k ∙ ap (λ b. cond b (authenticated (client k r.flags)) (client k r.flags)) (sym (same_test c k ∙ at)))
-      (λ k t no. ap (λ b. cond b (authenticated (client k t.flags)) (client k t.flags)) (same_test c k ∙ no))
+  -- the client's row is changed alone
+  pub clients_changed : (change : FileClient → FileClient) (r s : FileRecord) → fin.get m c ≡ Some r → ((k : ℕ) → client k s.flags ≡ change (client k r.flags)) →
+      clients_in (fin.entries (fin.insert m c s)) ≡ map (λ row. if is_client c row then change row else row) (clients_in (fin.entries m))
+  clients_changed change r s found same =
+      clients_put (λ row. if is_client c row then change row else row) r s found
+      (λ k at. same k ∙ ap (λ b. cond b (change (client k r.flags)) (client k r.flags)) (sym (same_test c k ∙ at)))
+      (λ k t no. ap (λ b. cond b (change (client k t.flags)) (client k t.flags)) (same_test c k ∙ no))
 
 -- holds
 

@@ -45,11 +45,15 @@ abbrev pub hold : ℕ → ℕ → ℕ → Option ℕ → FileHold
 hold c h object place = record { client = c; handle = h; object = object; place = place }
 
 -- a new client is authenticated where it is root
-abbrev pub new_flags : Bool → Bool → FileFlags
-new_flags render root = record { render = render; root = root; authenticated = root }
+abbrev pub new_flags : Bool → Bool → Bool → FileFlags
+new_flags render root universal = record { render = render; root = root; authenticated = root; universal = universal }
 
 abbrev pub authenticated : FileClient → FileClient
 authenticated row = record row { flags = record row.flags { authenticated = true } }
+
+-- its universal planes are on or off (drm-uapi, client capabilities)
+abbrev pub universal : Bool → FileClient → FileClient
+universal on row = record row { flags = record row.flags { universal = on } }
 
 -- the handles of a client, rising
 abbrev pub handles_of : FileLists → ℕ → List ℕ
@@ -81,8 +85,15 @@ with_hold files row = record files { holds = placed hold_before row files.holds 
 abbrev pub without_hold : FileLists → ℕ → ℕ → FileLists
 without_hold files c h = record files { holds = filter (λ row. not (is_hold c h row)) files.holds }
 
+-- what the client's row is made into
+abbrev pub with_change : (FileClient → FileClient) → FileLists → ℕ → FileLists
+with_change change files c = record files { clients = map (λ row. if is_client c row then change row else row) files.clients }
+
 abbrev pub with_authenticated : FileLists → ℕ → FileLists
-with_authenticated files c = record files { clients = map (λ row. if is_client c row then authenticated row else row) files.clients }
+with_authenticated files c = with_change authenticated files c
+
+abbrev pub with_universal : FileLists → ℕ → Bool → FileLists
+with_universal files c on = with_change (universal on) files c
 
 -- a handle of the client for the object
 abbrev pub is_hold_of : ℕ → ℕ → FileHold → Bool

@@ -1,7 +1,7 @@
 //! The open clients and their handles.
 
 ghost use Rattle.std.specs.Prelude.{◌≡◌, ◌≤◌, ◌<◌, ◌↔◌, true, false, nat_le, length, find, is_some, OnOk, OnErr, IfOk, IfErr, IfNone, Some, None, option_map};
-ghost use Rattle.drm_files.specs.Files.{AreFiles, empty_files, is_client, is_hold, is_present, free_handle, with_client, without_client, left_by, with_hold, without_hold, with_authenticated, new_flags, hold};
+ghost use Rattle.drm_files.specs.Files.{AreFiles, empty_files, is_client, is_hold, is_present, free_handle, with_client, without_client, left_by, with_hold, without_hold, with_authenticated, with_universal, new_flags, hold};
 ghost use Rattle.drm_files.specs.FileFault.{IsFull};
 
 use crate::by_object::ByObject;
@@ -65,12 +65,18 @@ impl Files {
         }
     }
 
-    /// Opens a client that isn't open, without handles. It is authenticated exactly where it is
-    /// root. It is refused as full where as many clients are open as may be, and then, as without
-    /// memory, nothing changes.
-    pub fn open(&mut self, client: u32, render: bool, root: bool) -> Result<(), FileFault>
+    /// Opens a client that isn't open, without handles, with universal planes on or off. It is
+    /// authenticated exactly where it is root. It is refused as full where as many clients are open
+    /// as may be, and then, as without memory, nothing changes.
+    pub fn open(
+        &mut self,
+        client: u32,
+        render: bool,
+        root: bool,
+        universal: bool,
+    ) -> Result<(), FileFault>
         requires absent { is_present self.old client ≡ false }
-        ensures ok { OnOk result (self.new ≡ with_client self.old client (new_flags render root)) }
+        ensures ok { OnOk result (self.new ≡ with_client self.old client (new_flags render root universal)) }
         ensures err { OnErr result (self.new ≡ self.old) }
         ensures room { OnOk result (length self.old.clients < self.old.limit) }
         ensures full { IfErr result (λ fault. IsFull fault ↔ (self.old.limit ≤ length self.old.clients)) }
@@ -83,6 +89,7 @@ impl Files {
                 render,
                 root,
                 authenticated: root,
+                universal,
             },
             handles: IdTable::new(self.alloc, 1, self.last_handle),
             by_object: ByObject::new(self.alloc),
@@ -208,5 +215,17 @@ impl Files {
             unreachable!();
         };
         record.flags.authenticated = true;
+    }
+
+    /// Turns universal planes of an open client on or off (drm-uapi, client capabilities). It takes
+    /// no memory.
+    pub fn set_universal(&mut self, client: u32, on: bool)
+        requires present { is_present self.old client ≡ true }
+        ensures { self.new ≡ with_universal self.old client on }
+    {
+        let Some(record) = self.clients.get_mut(client) else {
+            unreachable!();
+        };
+        record.flags.universal = on;
     }
 }

@@ -11,6 +11,9 @@ pub struct FileFlags {
     pub root: bool,
     /// It is authenticated. A root client is from the start.
     pub authenticated: bool,
+    /// It has universal planes on: it sees primary and cursor planes, and not overlay planes alone (drm-uapi, client
+    /// capabilities).
+    pub universal: bool,
 }
 
 /// An open client.

@@ -1,12 +1,12 @@
 -- Which hello a frame is, both ways.
 use Rattle.std.proofs.Common.{◌≡◌, ℕ, ◌^◌, ◌<◌, ◌⊎◌, inl, inr, Bool, true, false, cond, ◌++◌, length, drop, Option, Some, None, refl, sym, ap, ◌∙◌, subst, arith}
-use Rattle.std.specs.Prelude.{◌&&◌, nat_eq}
-use Rattle.std.proofs.lemmas.Bool.{eqb-true}
+use Rattle.std.specs.Prelude.{◌&&◌, ◌||◌, nat_eq}
+use Rattle.std.proofs.lemmas.Bool.{false≢true, eqb-true}
 use Rattle.std.proofs.lemmas.Option.{none-some}
 use Rattle.drm_frames.specs.declared.hello.Hello.{Hello}
 use Rattle.drm_frames.specs.Number.{u32, u32_in, AreBytes}
 use Rattle.drm_frames.specs.Grammar.{Packet, packet, IsPacket}
-use Rattle.drm_frames.specs.Hellos.{first_version, hello_packet, IsToken, IsHello, Greets, lease_in, hello_in}
+use Rattle.drm_frames.specs.Hellos.{is_version, hello as greeting, hello_fields, hello_packet, IsToken, IsHello, Greets, lease_in, hello_in}
 use Rattle.drm_frames.proofs.Numbers.{AreBytes-drop}
 use Rattle.drm_frames.proofs.FieldLaws.{three-bytes, u32_in-alone, u32_in-below, length-three, first-is, second-is, behind-is, three-again}
 use Rattle.drm_frames.proofs.Sizes.{cond-some, some-is, both-true, packet-is}
@@ -18,63 +18,71 @@ three-fits a b c = record {
   bytes = three-bytes a b c;
 }
 
-pub hello-fits : (lease : Option ℕ) → IsPacket (hello_packet lease)
-hello-fits None = three-fits 1 0 0
-hello-fits (Some token) = three-fits 1 1 token
+pub hello-fits : (hello : Hello) → IsPacket (hello_packet hello)
+hello-fits hello = by_lease hello.version hello.lease
+  where
+    by_lease : (version : ℕ) (lease : Option ℕ) → IsPacket (packet 0x0100 (hello_fields version lease))
+    by_lease version None = three-fits version 0 0
+    by_lease version (Some token) = three-fits version 1 token
 
-three-found : (what token : ℕ) → what < 2 ^ 32 → token < 2 ^ 32 → hello_in (packet 0x0100 (u32 1 ++ u32 what ++ u32 token)) ≡ lease_in what token
+version-fits : (version : ℕ) → is_version version ≡ true → version < 2 ^ 32
+version-fits version h = either (nat_eq version 1) (nat_eq version 2) refl refl h
+  where
+    either : (one two : Bool) → nat_eq version 1 ≡ one → nat_eq version 2 ≡ two → (one || two) ≡ true → version < 2 ^ 32
+    either true two e f h = let is = eqb-true version 1 e in omega (arith, is)
+    either false true e f h = let is = eqb-true version 2 f in omega (arith, is)
+    either false false e f h = absurd (false≢true h)
+
+three-found : (version what token : ℕ) → is_version version ≡ true → what < 2 ^ 32 → token < 2 ^ 32 → hello_in (packet 0x0100 (u32 version ++ u32 what ++ u32 token)) ≡ lease_in version what token
 unfolding hello_in
-three-found what token w t =
-    let len : length (u32 1 ++ u32 what ++ u32 token) ≡ 12 = length-three 1 what token in
-    let version : u32_in (u32 1 ++ u32 what ++ u32 token) ≡ 1 = first-is 1 what (u32 token) (omega arith) in
-    let second = second-is 1 what (u32 token) w in
-    let third : u32_in (drop 8 (u32 1 ++ u32 what ++ u32 token)) ≡ token = ap u32_in (behind-is 1 what (u32 token)) ∙ u32_in-alone token t in
-    rw (len, version, second, third) refl
+three-found version what token v w t =
+    let len : length (u32 version ++ u32 what ++ u32 token) ≡ 12 = length-three version what token in
+    let first : u32_in (u32 version ++ u32 what ++ u32 token) ≡ version = first-is version what (u32 token) (version-fits version v) in
+    let second = second-is version what (u32 token) w in
+    let third : u32_in (drop 8 (u32 version ++ u32 what ++ u32 token)) ≡ token = ap u32_in (behind-is version what (u32 token)) ∙ u32_in-alone token t in
+    rw (len, first, v, second, third) refl
 
-packet-found : (lease : Option ℕ) → IsToken lease → hello_in (hello_packet lease) ≡ Some (first_version lease)
-packet-found None h = three-found 0 0 (omega arith) (omega arith)
-packet-found (Some token) h = three-found 1 token (omega arith) h
-
-hello-is : (hello : Hello) → hello.version ≡ 1 → hello ≡ first_version hello.lease
-hello-is hello e = ap (λ (n : ℕ). let h : Hello = record { version = n; lease = hello.lease } in h) e
-
-pub written-found : (hello : Hello) → hello.version ≡ 1 → IsToken hello.lease → hello_in (hello_packet hello.lease) ≡ Some hello
-written-found hello v t = packet-found hello.lease t ∙ ap (λ (h : Hello). Some h) (sym (hello-is hello v))
+pub written-found : (hello : Hello) → is_version hello.version ≡ true → IsToken hello.lease → hello_in (hello_packet hello) ≡ Some hello
+written-found hello v t = by_lease hello.lease t
+  where
+    by_lease : (lease : Option ℕ) → IsToken lease → hello_in (packet 0x0100 (hello_fields hello.version lease)) ≡ Some (greeting hello.version lease)
+    by_lease None h = three-found hello.version 0 0 v (omega arith) (omega arith)
+    by_lease (Some token) h = three-found hello.version 1 token v (omega arith) h
 
 pub hello-found : (f : Packet) (hello : Hello) → IsHello f hello → hello_in f ≡ Some hello
 hello-found f hello h = ap hello_in h.2 ∙ written-found hello h.0 h.1
 
 -- ---- what is found is a hello
 
-node-or-lease : (what token : ℕ) (hello : Hello) (node lease : Bool) → nat_eq what 0 && nat_eq token 0 ≡ node → nat_eq what 1 ≡ lease
-    → cond node (Some (first_version None)) (cond lease (Some (first_version (Some token))) None) ≡ Some hello
-    → ((what ≡ 0) × (token ≡ 0) × (first_version None ≡ hello)) ⊎ ((what ≡ 1) × (first_version (Some token) ≡ hello))
-node-or-lease what token hello true lease n l e =
+node-or-lease : (version what token : ℕ) (hello : Hello) (node lease : Bool) → nat_eq what 0 && nat_eq token 0 ≡ node → nat_eq what 1 ≡ lease
+    → cond node (Some (greeting version None)) (cond lease (Some (greeting version (Some token))) None) ≡ Some hello
+    → ((what ≡ 0) × (token ≡ 0) × (greeting version None ≡ hello)) ⊎ ((what ≡ 1) × (greeting version (Some token) ≡ hello))
+node-or-lease version what token hello true lease n l e =
     let t = both-true (nat_eq what 0) (nat_eq token 0) n in
-    inl (eqb-true what 0 t.0, eqb-true token 0 t.1, some-is (first_version None) hello e)
-node-or-lease what token hello false true n l e = inr (eqb-true what 1 l, some-is (first_version (Some token)) hello e)
-node-or-lease what token hello false false n l e = absurd cc
+    inl (eqb-true what 0 t.0, eqb-true token 0 t.1, some-is (greeting version None) hello e)
+node-or-lease version what token hello false true n l e = inr (eqb-true what 1 l, some-is (greeting version (Some token)) hello e)
+node-or-lease version what token hello false false n l e = absurd cc
 
-as-hello : (f : Packet) (hello : Hello) (what token : ℕ) → f ≡ packet 0x0100 (u32 1 ++ u32 what ++ u32 token) → token < 2 ^ 32
-    → ((what ≡ 0) × (token ≡ 0) × (first_version None ≡ hello)) ⊎ ((what ≡ 1) × (first_version (Some token) ≡ hello)) → IsHello f hello
-as-hello f hello what token same small (inl (w, t, h)) =
-    subst (λ (k : Hello). IsHello f k) h (refl, tt, same ∙ ap (λ (n : ℕ). packet 0x0100 (u32 1 ++ u32 n ++ u32 token)) w ∙ ap (λ (n : ℕ). packet 0x0100 (u32 1 ++ u32 0 ++ u32 n)) t)
-as-hello f hello what token same small (inr (w, h)) =
-    subst (λ (k : Hello). IsHello f k) h (refl, small, same ∙ ap (λ (n : ℕ). packet 0x0100 (u32 1 ++ u32 n ++ u32 token)) w)
+as-hello : (f : Packet) (hello : Hello) (version what token : ℕ) → is_version version ≡ true → f ≡ packet 0x0100 (u32 version ++ u32 what ++ u32 token) → token < 2 ^ 32
+    → ((what ≡ 0) × (token ≡ 0) × (greeting version None ≡ hello)) ⊎ ((what ≡ 1) × (greeting version (Some token) ≡ hello)) → IsHello f hello
+as-hello f hello version what token v same small (inl (w, t, h)) =
+    subst (λ (k : Hello). IsHello f k) h (v, tt, same ∙ ap (λ (n : ℕ). packet 0x0100 (u32 version ++ u32 n ++ u32 token)) w ∙ ap (λ (n : ℕ). packet 0x0100 (u32 version ++ u32 0 ++ u32 n)) t)
+as-hello f hello version what token v same small (inr (w, h)) =
+    subst (λ (k : Hello). IsHello f k) h (v, small, same ∙ ap (λ (n : ℕ). packet 0x0100 (u32 version ++ u32 n ++ u32 token)) w)
 
 found-hello : (f : Packet) (hello : Hello) → AreBytes f.fields → hello_in f ≡ Some hello → IsHello f hello
 unfolding hello_in
 found-hello f hello b e =
+    let version : ℕ = u32_in f.fields in
     let what : ℕ = u32_in (drop 4 f.fields) in
     let token : ℕ = u32_in (drop 8 f.fields) in
-    let test : Bool = nat_eq f.number 0x0100 && nat_eq (length f.fields) 12 && nat_eq (u32_in f.fields) 1 in
-    let passed = cond-some test (lease_in what token) hello e in
-    let front = both-true (nat_eq f.number 0x0100 && nat_eq (length f.fields) 12) (nat_eq (u32_in f.fields) 1) passed.0 in
+    let test : Bool = nat_eq f.number 0x0100 && nat_eq (length f.fields) 12 && is_version version in
+    let passed = cond-some test (lease_in version what token) hello e in
+    let front = both-true (nat_eq f.number 0x0100 && nat_eq (length f.fields) 12) (is_version version) passed.0 in
     let sized = both-true (nat_eq f.number 0x0100) (nat_eq (length f.fields) 12) front.0 in
-    let fields : f.fields ≡ u32 1 ++ u32 what ++ u32 token =
-    three-again f.fields (eqb-true (length f.fields) 12 sized.1) b ∙ ap (λ (n : ℕ). u32 n ++ u32 what ++ u32 token) (eqb-true (u32_in f.fields) 1 front.1) in
-    as-hello f hello what token (packet-is f 0x0100 (u32 1 ++ u32 what ++ u32 token) (eqb-true f.number 0x0100 sized.0) fields)
-    (u32_in-below (drop 8 f.fields) (AreBytes-drop 8 f.fields b)) (node-or-lease what token hello _ _ refl refl passed.1)
+    let fields : f.fields ≡ u32 version ++ u32 what ++ u32 token = three-again f.fields (eqb-true (length f.fields) 12 sized.1) b in
+    as-hello f hello version what token front.1 (packet-is f 0x0100 (u32 version ++ u32 what ++ u32 token) (eqb-true f.number 0x0100 sized.0) fields)
+    (u32_in-below (drop 8 f.fields) (AreBytes-drop 8 f.fields b)) (node-or-lease version what token hello _ _ refl refl passed.1)
 
 greets-by : (f : Packet) (found : Option Hello) → hello_in f ≡ found → ((hello : Hello) → found ≡ Some hello → IsHello f hello) → Greets f found
 greets-by f None e each = λ hello h. none-some hello (sym e ∙ hello-found f hello h)

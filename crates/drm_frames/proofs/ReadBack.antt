@@ -1,11 +1,11 @@
 -- What is encoded is read back.
-use Rattle.std.proofs.Common.{◌≡◌, ℕ, List, Some, sym, subst}
+use Rattle.std.proofs.Common.{◌≡◌, true, ℕ, List, Some, sym, subst}
 use Rattle.drm_table.specs.declared.calls.Call.{Call}
 use Rattle.drm_frames.specs.declared.hello.Hello.{Hello}
 use Rattle.drm_frames.specs.Grammar.{Packet}
 use Rattle.drm_frames.specs.Decoding.{ReadsAs}
 use Rattle.drm_frames.specs.Requests.{WritesCall, request_of}
-use Rattle.drm_frames.specs.Hellos.{IsToken, hello_packet, hello_text, hello_in}
+use Rattle.drm_frames.specs.Hellos.{IsToken, is_version, hello_packet, hello_text, hello_in}
 use Rattle.drm_frames.specs.Answers.{Outcome, FitsFields, answer_packet, answer_text, answer_in}
 use Rattle.drm_frames.proofs.DecodingLaws.{text-reads}
 use Rattle.drm_frames.proofs.CallTexts.{row-found}
@@ -16,9 +16,9 @@ pub call-back : (call : Call) (text : List ℕ) → WritesCall call text → (f 
 call-back call text w =
     (w.frame, subst (λ (t : List ℕ). ReadsAs t w.frame) (sym w.whole) (text-reads w.frame w.fits), row-found w.frame call w.asks)
 
-pub hello-back : (hello : Hello) → hello.version ≡ 1 → IsToken hello.lease → ReadsAs (hello_text hello) (hello_packet hello.lease) × (hello_in (hello_packet hello.lease) ≡ Some hello)
+pub hello-back : (hello : Hello) → is_version hello.version ≡ true → IsToken hello.lease → ReadsAs (hello_text hello) (hello_packet hello) × (hello_in (hello_packet hello) ≡ Some hello)
 unfolding hello_text
-hello-back hello version token = (text-reads (hello_packet hello.lease) (hellos.hello-fits hello.lease), hellos.written-found hello version token)
+hello-back hello version token = (text-reads (hello_packet hello) (hellos.hello-fits hello), hellos.written-found hello version token)
 
 pub answer-back : (outcome : Outcome) → FitsFields outcome → ReadsAs (answer_text outcome) (answer_packet outcome) × (answer_in (answer_packet outcome) ≡ Some outcome)
 unfolding answer_text

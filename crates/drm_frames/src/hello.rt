@@ -1,6 +1,6 @@
 //! The first frame of a session.
-ghost use Rattle.std.specs.Prelude.{◌≡◌, ◌<◌, ◌≤◌, length};
-ghost use Rattle.drm_frames.specs.Hellos.{IsToken, hello_in, hello_text};
+ghost use Rattle.std.specs.Prelude.{◌≡◌, ◌<◌, ◌≤◌, true, length};
+ghost use Rattle.drm_frames.specs.Hellos.{IsToken, is_version, hello_in, hello_text};
 
 use crate::frame::Frame;
 use crate::number::u32_in;
@@ -9,7 +9,7 @@ use crate::text::{FrameBytes, framed};
 /// What a client is that connects (own).
 #[derive(Clone, Copy, Debug, PartialEq, Eq)]
 pub struct Hello {
-    /// The version that the client speaks: 1.
+    /// The version that the client speaks: 1, or 2, which opens with universal planes off.
     pub version: u32,
     /// The lease token that it shows; none for the node itself.
     pub lease: Option<u32>,
@@ -27,24 +27,28 @@ pub fn hello_of(frame: &Frame) -> Option<Hello>
     }
     let (_, after_version) = fields.split_at(4);
     let (_, after_what) = fields.split_at(8);
+    let version = u32_in(fields);
+    if version != 1 && version != 2 {
+        return None;
+    }
     let token = u32_in(after_what);
-    match (u32_in(fields), u32_in(after_version)) {
-        (1, 0) if token == 0 => Some(Hello {
-            version: 1,
+    match u32_in(after_version) {
+        0 if token == 0 => Some(Hello {
+            version,
             lease: None,
         }),
-        (1, 1) => Some(Hello {
-            version: 1,
+        1 => Some(Hello {
+            version,
             lease: Some(token),
         }),
         _ => None,
     }
 }
 
-/// The bytes of a hello's frame, of version 1 (own).
+/// The bytes of a hello's frame, of version 1 or 2 (own).
 #[tactic(auto, unfolding(crate::specs::Hellos::hello_text))]
 pub fn encode_hello(hello: Hello) -> FrameBytes
-    requires { hello.version ≡ 1 }
+    requires { is_version hello.version ≡ true }
     ensures text { result ≡ hello_text hello }
     ensures fits { IsToken hello.lease }
     ensures some { 0 < length result }

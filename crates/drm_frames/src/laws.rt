@@ -4,7 +4,7 @@ ghost use Rattle.std.specs.List.{flat_map, AllByRecursion};
 ghost use Rattle.drm_frames.specs.Answers.{FitsFields, IsAnswer, Outcome, Tells, answer_in, answer_packet, answer_text};
 ghost use Rattle.drm_frames.specs.Decoding.{Decodes, ReadsAs};
 ghost use Rattle.drm_frames.specs.Grammar.{Packet, frame_text, IsPacket, IsPart};
-ghost use Rattle.drm_frames.specs.Hellos.{Greets, IsHello, IsToken, hello_in, hello_packet, hello_text};
+ghost use Rattle.drm_frames.specs.Hellos.{Greets, IsHello, IsToken, is_version, hello_in, hello_packet, hello_text};
 ghost use Rattle.drm_frames.specs.Number.{AreBytes, u16, u16_in, u32, u32_in, u64, u64_in};
 ghost use Rattle.drm_frames.specs.Requests.{Asks, HasRow, IsRowCall, WritesCall, request_of};
 ghost use Rattle.drm_table.specs.Table.{call_number, row_of};
@@ -106,9 +106,9 @@ pub fn calls_read_back()
 
 /// A hello that is encoded is read back.
 pub fn hellos_read_back()
-    ensures { (hello : AHello) → hello.version ≡ 1 → IsToken hello.lease
-        → ReadsAs (hello_text hello) (hello_packet hello.lease)
-        × (hello_in (hello_packet hello.lease) ≡ Some hello) }
+    ensures { (hello : AHello) → is_version hello.version ≡ true → IsToken hello.lease
+        → ReadsAs (hello_text hello) (hello_packet hello)
+        × (hello_in (hello_packet hello) ≡ Some hello) }
 {}
 
 /// A result that is encoded is read back.

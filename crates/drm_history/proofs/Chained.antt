@@ -5,13 +5,13 @@ use Rattle.drm_history.specs.Steps.{Key, Source}
 use Rattle.drm_history.specs.Holds.{WasGiven, WasPublished, Has, made, passed}
 use Rattle.drm_history.specs.Chains.{Link, IsChain, Chain}
 
-given_within : (history past : List Entry) (c h : ℕ) (source : Source) → WasGiven history c h source past → next_number past ≤ length history
+pub given_within : (history past : List Entry) (c h : ℕ) (source : Source) → WasGiven history c h source past → next_number past ≤ length history
 given_within history past c h source g = let all = length-append g.later (g.step ∷ past) in let same = ap length g.steps in omega (arith, all, same)
 
-published_within : (history past : List Entry) (key : Key) (c h : ℕ) → WasPublished history key c h past → next_number past ≤ length history
+pub published_within : (history past : List Entry) (key : Key) (c h : ℕ) → WasPublished history key c h past → next_number past ≤ length history
 published_within history past key c h p = let all = length-append p.later (p.step ∷ past) in let same = ap length p.steps in omega (arith, all, same)
 
-link_within : (history : List Entry) (o : ℕ) (link : Link) (links : List Link) → IsChain history o (link ∷ links) → link.step ≤ length history
+pub link_within : (history : List Entry) (o : ℕ) (link : Link) (links : List Link) → IsChain history o (link ∷ links) → link.step ≤ length history
 unfolding IsChain
 link_within history o link [] k = let within = given_within history k.0 link.client link.handle _ k.1 in omega (arith, within, k.2)
 link_within history o link (before ∷ links) k = let within = given_within history k.0 link.client link.handle _ k.3 in omega (arith, within, k.4)

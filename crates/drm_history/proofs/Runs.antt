@@ -73,9 +73,9 @@ module _ (w : Rows) (past : List Entry) (c : ℕ) where
   each_call Version = λ s v f. silent past w.names w.tokens w.framebuffers (asked_step w c Version) w.holds (record { gives = λ d k. refl; takes_none = λ d k. refl; publishes = λ key. refl }) f
   each_call call = λ s v f. silent past w.names w.tokens w.framebuffers (asked_step w c call) w.holds (record { gives = λ d k. refl; takes_none = λ d k. refl; publishes = λ key. refl }) f
 
-opened_stays : (w : Rows) (past : List Entry) (root : Bool) (m : Option ℕ) → FactsOf past w → FactsOf past (opened_primary w root m)
-opened_stays w past root None f = f
-opened_stays w past root (Some m) f = f
+opened_stays : (w : Rows) (past : List Entry) (root universal : Bool) (m : Option ℕ) → FactsOf past w → FactsOf past (opened_primary w root universal m)
+opened_stays w past root universal None f = f
+opened_stays w past root universal (Some m) f = f
 
 an_opening : (w : Rows) (past : List Entry) (opening : Opening) → FactsOf past w → FactsOf (record { event = Open opening; answer = Opened (birth w) } ∷ past) w
 unfolding gift given takes holder_under published
@@ -110,9 +110,9 @@ a_closing w past c f =
 
 accepted : (w : Rows) (past : List Entry) (event : Event) → w.steps ≡ length past → verdict w event ≡ None → FactsOf past w → FactsOf (record { event = event; answer = answer_of w event } ∷ past) (changed w event)
 unfolding changed opened answer_of
-accepted w past (Open (Primary root)) s v f = opened_stays w _ root w.device_master (an_opening w past (Primary root) f)
+accepted w past (Open (Primary root universal)) s v f = opened_stays w _ root universal w.device_master (an_opening w past (Primary root universal) f)
 accepted w past (Open Render) s v f = an_opening w past Render f
-accepted w past (Open (Lease token root)) s v f = an_opening w past (Lease token root) f
+accepted w past (Open (Lease token root universal)) s v f = an_opening w past (Lease token root universal) f
 accepted w past (Ask c call) s v f = each_call w past c call s (rules_hold w c call v) f
 accepted w past (Close c) s v f = a_closing w past c f
 
@@ -169,7 +169,7 @@ none_yet h = record {
   };
 }
 
-agrees : (h : History) → Agrees (history_of h) (rows_of h)
+pub agrees : (h : History) → Agrees (history_of h) (rows_of h)
 unfolding history_of rows_of
 agrees h = run_agrees h.journal (start_of h) [] (none_yet h)
 

@@ -127,18 +127,18 @@ Kept (step ∷ past) = Keeps step past × Kept past
 
 -- ---- what is told is so
 
-given_now : (step : Entry) (past : List Entry) (c h : ℕ) (source : Source) → gift step c h ≡ Some source → WasGiven (step ∷ past) c h source past
+pub given_now : (step : Entry) (past : List Entry) (c h : ℕ) (source : Source) → gift step c h ≡ Some source → WasGiven (step ∷ past) c h source past
 unfolding gift
 given_now step past c h source e = record { later = []; step = step; steps = refl; gives = gift_given c h (given step) source e; kept = tt }
 
-given_before : (step : Entry) (history past : List Entry) (c h : ℕ) (source : Source) → takes step c h ≡ false → WasGiven history c h source past → WasGiven (step ∷ history) c h source past
+pub given_before : (step : Entry) (history past : List Entry) (c h : ℕ) (source : Source) → takes step c h ≡ false → WasGiven history c h source past → WasGiven (step ∷ history) c h source past
 given_before step history past c h source t g = record { later = step ∷ g.later; step = g.step; steps = ap (λ l. step ∷ l) g.steps; gives = g.gives; kept = (t, g.kept) }
 
-published_now : (step : Entry) (past : List Entry) (key : Key) (holder : Holder) → holder_under step key ≡ Some holder → WasPublished (step ∷ past) key holder.client holder.handle past
+pub published_now : (step : Entry) (past : List Entry) (key : Key) (holder : Holder) → holder_under step key ≡ Some holder → WasPublished (step ∷ past) key holder.client holder.handle past
 unfolding holder_under
 published_now step past key holder e = record { later = []; step = step; steps = refl; under_key = holder_published key (published step) holder e; last = tt }
 
-published_before : (step : Entry) (history past : List Entry) (key : Key) (c h : ℕ) → holder_under step key ≡ None → WasPublished history key c h past → WasPublished (step ∷ history) key c h past
+pub published_before : (step : Entry) (history past : List Entry) (key : Key) (c h : ℕ) → holder_under step key ≡ None → WasPublished history key c h past → WasPublished (step ∷ history) key c h past
 unfolding holder_under
 published_before step history past key c h e p =
     record { later = step ∷ p.later; step = p.step; steps = ap (λ l. step ∷ l) p.steps; under_key = p.under_key; last = (nobody_published key (published step) e, p.last) }

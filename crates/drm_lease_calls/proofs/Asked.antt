@@ -1,6 +1,6 @@
 -- What CREATE_LEASE asks of a caller, and the numbers of a new lessee, by rows and by what the device keeps.
-use Rattle.std.proofs.Common.{◌≡◌, ℕ, ◌+◌, ◌==◌, true, false, not, ◌&&◌, ◌||◌, List, [], ◌∷◌, find, Option, None, Some, refl, sym, ap, ◌∙◌}
-use Rattle.std.specs.Prelude.{nat_lt, unwrap_or}
+use Rattle.std.proofs.Common.{◌≡◌, ℕ, ◌+◌, ◌==◌, true, false, not, ◌&&◌, ◌||◌, List, [], ◌∷◌, ◌++◌, filter, find, Option, None, Some, refl, sym, ap, ◌∙◌}
+use Rattle.std.specs.Prelude.{nat_lt, unwrap_or, if◌then◌else◌}
 use Rattle.std.specs.Cmp.{both_ways}
 use Rattle.std.specs.List.{list_any, list_all, AllByRecursion}
 use Rattle.std.specs.Option.{is_some, option_map, option_map_or, option_and_then, option_or}
@@ -15,7 +15,7 @@ use Rattle.drm_table.specs.declared.calls.Call.TheVariants.{CreateLease}
 use Rattle.drm_table.specs.declared.events.Event.TheVariants.{Ask}
 use Rattle.drm_table.specs.declared.rules.Rule.TheVariants.{SubLease, NoModeObject, NotLeasable, Repeated, LeaseShape, LeasedOut, Full}
 use Rattle.drm_table.specs.Permit.{check, first_failing}
-use Rattle.drm_modes.specs.Topology.{is_encoder, kind_of}
+use Rattle.drm_modes.specs.Topology.{is_encoder, kind_of, planes_of}
 use Rattle.drm_modes.specs.Modes.{has_framebuffer}
 use Rattle.drm_masters.specs.declared.rows.Master.{Master}
 use Rattle.drm_masters.specs.declared.rows.Member.{Member}
@@ -31,17 +31,19 @@ use Rattle.drm_model.specs.Rows.{Rows, MasterRow, GrantRow}
 use Rattle.drm_model.specs.Masters.{lessor_of, owner_of}
 use Rattle.drm_model.specs.Magics.{own_master}
 use Rattle.drm_model.specs.Leases as model
+use Rattle.drm_model.specs.Sees.{controls}
 use Rattle.drm_model.specs.Calls.{meaning}
 use Rattle.drm_model.specs.Verdict.{admission_checks, verdict}
 use Rattle.drm_state.specs.declared.state.State.{State}
 use Rattle.drm_state.specs.Parts.{master_row_of, masters_of, grant_row_of, grants_of}
 use Rattle.drm_state.specs.Ties.{IsTied, AreOfLessees}
 use Rattle.drm_state.specs.Refinement.{Represents}
+use Rattle.drm_state.specs.Seeing.{has_universal}
 use Rattle.drm_state.proofs.Represented.{bounds_are, masters_are, grants_are, last_lease_token_is, leases_so, tokens_of_lessees}
 use Rattle.drm_state.proofs.Living.{above_is}
 use Rattle.drm_state.proofs.Framing.{framebuffer_is}
 use Rattle.drm_state.proofs.Outcomes.{call_verdict}
-use Rattle.drm_state.proofs.Seeing.{topology_is, seen_is}
+use Rattle.drm_state.proofs.Seeing.{topology_is, controls_is, universal_is, seen_is}
 use Rattle.drm_state.proofs.SharedLookups.{or_else_is}
 
 -- ---- open tokens
@@ -112,10 +114,17 @@ module _ (s : State) (w : Rows) (t : IsTied s) (h : Represents s w) where
   -- ---- the ids
 
   module _ (c : ℕ) (x : Member) (present : is_present s.files c ≡ true) (look : member_of s.masters.members c ≡ Some x) where
-    seen_here : (k : ℕ) → model.is_seen w c k ≡ rules.is_seen s.leases.grants ms s.modes x.master k
+    seen_here : (k : ℕ) → model.is_seen w c k ≡ rules.is_seen s.leases.grants ms s.modes x.master (has_universal s c) k
     seen_here k =
         (λ i. (is_some (kind_of (topology_is s w h i) k) && seen_is s w c present h k i) || framebuffer_is s w t h k i)
-        ∙ ap (λ o. (is_some (kind_of s.modes.topology k) && (is_encoder s.modes.topology k || option_map_or (λ (y : Member). leases.controls s.leases.grants ms y.master k) o false)) || has_framebuffer s.modes k) look
+        ∙ ap (λ o. (is_some (kind_of s.modes.topology k) && (is_encoder s.modes.topology k || (option_map_or (λ (y : Member). leases.controls s.leases.grants ms y.master k) o false && rules.is_shown s.modes.topology (has_universal s c) k))) || has_framebuffer s.modes k) look
+
+    controlled_here : (k : ℕ) → controls w c k ≡ leases.controls s.leases.grants ms x.master k
+    controlled_here k = controls_is s w c present h k ∙ ap (λ o. option_map_or (λ (y : Member). leases.controls s.leases.grants ms y.master k) o false) look
+
+    -- what is listed, and what comes along
+    pub leased_is : (ids : List ℕ) → model.leased w c ids ≡ rules.leased s.leases s.masters s.modes x.master (has_universal s c) ids
+    leased_is ids = λ i. ids ++ (if universal_is s w c present h i then [] else filter (λ k. controlled_here k i) (planes_of (topology_is s w h i) ids))
 
     leasable_is : (k : ℕ) → model.is_leasable w k ≡ rules.is_leasable s.modes k
     leasable_is k = λ i. not (is_encoder (topology_is s w h i) k || framebuffer_is s w t h k i)
@@ -129,7 +138,7 @@ module _ (s : State) (w : Rows) (t : IsTied s) (h : Represents s w) where
 
     -- what is asked of the caller and of the ids
     pub create_verdict : (ids : List ℕ) → own_master w c ≡ x.master → first_failing (admission_checks w c (CreateLease ids)) ≡ None →
-        verdict w (Ask c (CreateLease ids)) ≡ first_failing (lease_checks s.leases s.masters s.modes x.master ids)
+        verdict w (Ask c (CreateLease ids)) ≡ first_failing (lease_checks s.leases s.masters s.modes x.master (has_universal s c) ids)
     unfolding meaning lease_checks
     create_verdict ids own admitted =
         call_verdict w c (CreateLease ids) admitted
@@ -139,7 +148,7 @@ module _ (s : State) (w : Rows) (t : IsTied s) (h : Represents s w) where
         ∷ check NoModeObject (list_all (λ k. seen_here k i) ids)
         ∷ check NotLeasable (list_all (λ k. leasable_is k i) ids)
         ∷ check Repeated (list_all (rules.stands_once ids) ids)
-        ∷ check LeaseShape (rules.is_lease (topology_is s w h i) ids)
-        ∷ check LeasedOut (not (list_any (λ k. leased_out_is x.master k i) ids))
+        ∷ check LeaseShape (rules.is_lease (topology_is s w h i) (universal_is s w c present h i) ids)
+        ∷ check LeasedOut (not (list_any (λ k. leased_out_is x.master k i) (leased_is ids i)))
         ∷ check Full (is_some (free_lessee_is x.master i) && is_some (next_is i))
         ∷ []))

@@ -8,12 +8,13 @@ ghost use Rattle.drm_state.specs.Ties.{IsTied, IsReady};
 ghost use Rattle.drm_state.specs.Refinement.{OwesCall, OwesReply};
 
 use drm_leases::LeaseFault;
-use drm_state::State;
+use drm_state::{State, has_universal};
 use drm_table::{Answer, IdList, Rule};
 use std::alloc::AllocError;
 
 /// MODE_CREATE_LEASE (drm-uapi, leases; the order of the rules and the token are own): a new lessee of the caller's master, by
-/// the step of this number, with a lease of these mode objects, and the token that opens it. Where memory is refused nothing
+/// the step of this number, with a lease of these mode objects, and the token that opens it. With universal planes off, each
+/// listed CRTC brings along its primary and its cursor plane, where the caller controls it (own). Where memory is refused nothing
 /// changes.
 pub fn create_lease(
     state: &mut State,
@@ -30,10 +31,15 @@ pub fn create_lease(
         // a render client, whose call is not admitted
         return Ok(Answer::Denied(Rule::RenderAllow));
     };
-    match state
-        .leases
-        .create(&mut state.masters, &state.modes, client, ids.ids(), birth)
-    {
+    let universal = has_universal(state, client);
+    match state.leases.create(
+        &mut state.masters,
+        &state.modes,
+        client,
+        universal,
+        ids.ids(),
+        birth,
+    ) {
         Ok(made) => {
             state.masters.laws();
             state.leases.laws();

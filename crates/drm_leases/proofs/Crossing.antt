@@ -2,16 +2,17 @@
 use denote.Struct.Declared.{shape}
 use denote.Param.Send.{IsSend, sendable, view_send, recorded_send, struct_send}
 use Rattle.std.proofs.Crossing.{Vec-send}
-use Rattle.drm_leases.specs.contracts.rows.Grant as grant
+use Rattle.drm_index_array.proofs.Crossing.{array_send}
 use Rattle.drm_leases.specs.contracts.rows.LeaseToken as token
+use Rattle.drm_leases.specs.contracts.granted.Granted as granted
 use Rattle.drm_leases.specs.contracts.leases.Leases as leases
 use Rattle.drm_leases.specs.contracts.leases.Leases.TheInside as inside
 
-grant_send : IsSend grant.the_row
-grant_send = recorded_send grant.the_field.row _ _ grant.the_type.to_one (struct_send (shape grant.the_type) (search sendable depth 20, (search sendable depth 20, tt)))
-
 token_send : IsSend token.the_row
 token_send = recorded_send token.the_field.row _ _ token.the_type.to_one (struct_send (shape token.the_type) (search sendable depth 20, (search sendable depth 20, tt)))
+
+granted_send : IsSend granted.the_field.row
+granted_send = struct_send (shape granted.the_type) (search (array_send, sendable) depth 20, tt)
 
 inside_send : IsSend inside.the_row
 inside_send =
@@ -20,7 +21,7 @@ inside_send =
     _
     _
     inside.the_type.to_one
-    (struct_send (shape inside.the_type) (search (Vec-send, grant_send, sendable) depth 20, (search (Vec-send, token_send, sendable) depth 20, (search sendable depth 20, (search sendable depth 20, tt)))))
+    (struct_send (shape inside.the_type) (granted_send, (search (Vec-send, token_send, sendable) depth 20, (search sendable depth 20, (search sendable depth 20, tt)))))
 
 pub leases_send : IsSend leases.the_row
 leases_send = view_send inside.the_row _ _ _ _ inside_send

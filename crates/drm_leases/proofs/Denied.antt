@@ -1,15 +1,25 @@
 -- What the rules of CREATE_LEASE tell of a master that they deny nothing.
-use Rattle.std.proofs.Common.{◌≡◌, ℕ, Bool, true, false, ◌&&◌, List, [], ◌∷◌, Option, None, Some, refl}
-use Rattle.std.specs.Prelude.{if◌then◌else◌}
-use Rattle.std.specs.List.{AllByRecursion}
+use Rattle.std.proofs.Common.{◌≡◌, ℕ, ◌+◌, ◌==◌, nat_lt, Bool, true, false, not, ◌&&◌, ◌||◌, List, [], ◌∷◌, ◌++◌, length, Option, None, Some, refl, sym, ap, ◌∙◌, eq-eqb, arith}
+use Rattle.std.specs.Prelude.{if◌then◌else◌, nat_le}
+use Rattle.std.specs.List.{list_any, AllByRecursion}
+use Rattle.std.proofs.lemmas.Bool.{or_right}
+use Rattle.std.proofs.lemmas.Bool.Decides.{nat_tests}
+use Rattle.drm_lists.specs.Numbers.{is_among}
 use Rattle.std.specs.Option.{is_some}
 use Rattle.drm_table.specs.Permit.{Check, first_failing}
 use Rattle.drm_modes.specs.Modes.{ModeSet}
+use Rattle.drm_modes.specs.Numbers.{numbers_from}
+use Rattle.drm_modes.specs.Topology.{Topology, is_crtc, is_plane, is_connector, object_count}
+use Rattle.drm_modes.proofs.Ids.{is_among-numbers_from}
+use Rattle.drm_lists.proofs.Numbers.{among-left}
 use Rattle.drm_lists.proofs.Rising.{found}
 use Rattle.drm_masters.specs.declared.rows.Member.{Member}
 use Rattle.drm_masters.specs.Masters.{MasterSet, AreMasters, is_client, member_of, master_at, free_lessee}
 use Rattle.drm_leases.specs.Leases.{LeaseSet, next_token}
-use Rattle.drm_leases.specs.Rules.{lease_checks}
+use Rattle.drm_leases.specs.Calls.{listed_objects}
+use Rattle.drm_leases.specs.Masks.{is_empty}
+use Rattle.drm_leases.specs.Rules.{lease_checks, is_lease}
+use Rattle.drm_leases.proofs.Bits.{among_passing}
 
 both : (a b : Bool) → (a && b) ≡ true → (a ≡ true) × (b ≡ true)
 both true b h = (refl, h)
@@ -34,6 +44,34 @@ each_holds (c ∷ cs) h =
 
 module _ (l : LeaseSet) (v : MasterSet) (s : ModeSet) (m : ℕ) where
   -- an id and a token are free
-  pub passed : (ids : List ℕ) → first_failing (lease_checks l v s m ids) ≡ None → (is_some (free_lessee v m) ≡ true) × (is_some (next_token l) ≡ true)
+  pub passed : (universal : Bool) (ids : List ℕ) → first_failing (lease_checks l v s m universal ids) ≡ None → (is_some (free_lessee v m) ≡ true) × (is_some (next_token l) ≡ true)
   unfolding lease_checks
-  passed ids h = both (is_some (free_lessee v m)) (is_some (next_token l)) (each_holds (lease_checks l v s m ids) h).1.1.1.1.1.1.0
+  passed universal ids h = both (is_some (free_lessee v m)) (is_some (next_token l)) (each_holds (lease_checks l v s m universal ids) h).1.1.1.1.1.1.0
+
+  -- it is a lease
+  pub shaped : (universal : Bool) (ids : List ℕ) → first_failing (lease_checks l v s m universal ids) ≡ None → is_lease s.topology universal ids ≡ true
+  unfolding lease_checks
+  shaped universal ids h = (each_holds (lease_checks l v s m universal ids) h).1.1.1.1.0
+
+-- one that passes, and stands in the list
+passing : (p : ℕ → Bool) → (ids : List ℕ) → list_any p ids ≡ true → (x : ℕ) × (p x ≡ true) × (is_among ids x ≡ true)
+passing p [] h = absurd (let e : false ≡ true = h in cc)
+passing p (id ∷ ids) h =
+    (elim (p id) as (λ b. p id ≡ b → (b || list_any p ids) ≡ true → (x : ℕ) × (p x ≡ true) × (((id == x) || is_among ids x) ≡ true)) [
+      | true ↦ λ e k. (id, e, ap (λ b. b || is_among ids id) (eq-eqb id id refl))
+      | false ↦ λ e k. let w = passing p ids k in (w.0, w.1, or_right (id == w.0) (is_among ids w.0) w.2)
+    ]) refl h
+
+filled : (xs : List ℕ) (x : ℕ) → is_among xs x ≡ true → is_empty xs ≡ false
+filled [] x h = absurd (let e : false ≡ true = h in cc)
+filled (y ∷ ys) x h = refl
+
+-- a lease has a mode object, whatever comes along
+pub lease_filled : (t : Topology) (universal : Bool) (ids along : List ℕ) → is_lease t universal ids ≡ true → is_empty (listed_objects t (ids ++ along)) ≡ false
+lease_filled t universal ids along h =
+    let w = passing (is_crtc t) ids (both (list_any (is_crtc t) ids) (list_any (is_connector t) ids) (both (list_any (is_crtc t) ids && list_any (is_connector t) ids) (not universal || list_any (is_plane t) ids) h).0).0 in
+    filled (listed_objects t (ids ++ along)) w.0
+    (among_passing (is_among (ids ++ along)) w.0 (numbers_from 1 (object_count t)) ∙ ap (λ b. b && is_among (numbers_from 1 (object_count t)) w.0) (among-left ids along w.0 w.2) ∙ is_among-numbers_from 1 (object_count t) w.0 ∙ low w.0 t.crtcs (length t.planes) (length t.encoders) (length t.connectors) (sym (is_among-numbers_from 1 t.crtcs w.0) ∙ w.1))
+  where
+    low : (x a b c d : ℕ) → (nat_le 1 x && nat_lt x (1 + a)) ≡ true → (nat_le 1 x && nat_lt x (1 + (a + b + c + d))) ≡ true
+    low x a b c d e = grind (arith, nat_tests)

@@ -1,3 +1,6 @@
+mod Bits
+mod Granting
+mod Left
 mod Told
 mod Denied
 mod Sound

@@ -1,6 +1,7 @@
 -- What is so of the leases at all times is so after each change.
-use Rattle.std.proofs.Common.{◌≡◌, ℕ, ◌+◌, ◌<◌, ◌≤◌, ◌==◌, inl, inr, Bool, true, false, cond, not, ◌||◌, List, [], ◌∷◌, ◌++◌, map, filter, length, Option, None, Some, refl, sym, ap, subst, ◌∙◌, arith, eq-eqb}
-use Rattle.std.specs.Prelude.{unwrap_or}
+use Rattle.std.proofs.Common.{◌≡◌, ℕ, ◌+◌, ◌<◌, ◌≤◌, ◌==◌, inl, inr, Bool, true, false, cond, not, ◌||◌, List, [], ◌∷◌, ◌++◌, map, filter, find, length, Option, None, Some, refl, sym, ap, subst, ◌∙◌, arith, eq-eqb}
+use Rattle.std.specs.Prelude.{unwrap_or, IfNone}
+use Rattle.std.specs.Option.{option_map}
 use Rattle.std.specs.List.{list_any, AllByRecursion}
 use Rattle.std.proofs.lemmas.List.{length-map}
 use Rattle.std.proofs.lemmas.Bool.{eqb-true}
@@ -15,12 +16,13 @@ use Rattle.drm_leases.specs.declared.rows.Grant.{Grant}
 use Rattle.drm_leases.specs.declared.rows.LeaseToken.{LeaseToken}
 use Rattle.drm_leases.specs.declared.leases.Leases.TheInside.{Inside}
 use Rattle.drm_leases.specs.Fields.{set_of, IsSound}
-use Rattle.drm_leases.specs.Leases.{LeaseSet, AreLeases, is_token, is_free, is_grant_of, grant_before, next_token}
-use Rattle.drm_leases.specs.Calls.{IsNewLessee, grant, lease_token, with_lease}
+use Rattle.drm_leases.specs.Leases.{LeaseSet, AreLeases, is_token, is_free, is_grant_of, grant_before, next_token, token_master}
+use Rattle.drm_leases.specs.Masks.{AreFull}
+use Rattle.drm_leases.specs.Calls.{IsNewLessee, grant, lease_token, with_lease, without_token}
 
 -- the fields stand for a set of which all of it is so
-pub sound : (a : Inside) (l : LeaseSet) → set_of a ≡ l → AreLeases l → IsSound a
-sound a l e are = record { are = subst AreLeases (sym e) are }
+pub sound : (a : Inside) (l : LeaseSet) → set_of a ≡ l → AreLeases l → AreFull a.granted.masks.items → IsSound a
+sound a l e are full = record { are = subst AreLeases (sym e) are; full = full }
 
 -- ---- rows go
 
@@ -132,3 +134,31 @@ module _ (l : LeaseSet) (a : AreLeases l) (t m : ℕ) (objects : List ℕ) (new 
         (all_weaker (λ (g : Grant). g.master < m) (λ g. AllByRecursion (grant_before g) grants) (λ g lt. all_mapped (grant_before g) (grant m) objects (all_each (λ x. grant_before g (grant m x)) (λ x. inl lt) objects)) l.grants new.grants);
     few = λ k. let e = length-map (filter (is_grant_of k) (l.grants ++ grants)) (λ (g : Grant). g.mode_object) in let less = few_of k (k == m) refl in omega (arith, e, less);
   }
+
+-- a lease that is taken back
+pub taken_back : (grants : List Grant) (m : ℕ) (objects : List ℕ) → AllByRecursion (λ (g : Grant). g.master < m) grants → filter (λ (g : Grant). not (g.master == m)) (grants ++ map (grant m) objects) ≡ grants
+taken_back [] m objects h = none objects
+  where
+    none : (ids : List ℕ) → filter (λ (g : Grant). not (g.master == m)) (map (grant m) ids) ≡ []
+    none [] = refl
+    none (id ∷ ids) = ap (λ b. cond (not b) (grant m id ∷ filter (λ (g : Grant). not (g.master == m)) (map (grant m) ids)) (filter (λ (g : Grant). not (g.master == m)) (map (grant m) ids))) (eq-eqb m m refl) ∙ none ids
+taken_back (g ∷ gs) m objects h =
+    ap (λ b. cond (not b) (g ∷ filter (λ (g : Grant). not (g.master == m)) (gs ++ map (grant m) objects)) (filter (λ (g : Grant). not (g.master == m)) (gs ++ map (grant m) objects))) (less-differ g.master m h.0)
+    ∙ ap (λ l. g ∷ l) (taken_back gs m objects h.1)
+
+-- a token that isn't open is none that goes
+pub none_spent : (l new : LeaseSet) (t : ℕ) (o : Option ℕ) → new ≡ without_token t l → o ≡ token_master l.tokens t → IfNone o (new ≡ l)
+none_spent l new t (Some m) is e = tt
+none_spent l new t None is e = is ∙ ap (λ rows. record l { tokens = rows }) (stays l.tokens (absent (find (is_token t) l.tokens) (sym e)))
+  where
+    absent : (o : Option LeaseToken) → option_map (λ (row : LeaseToken). row.master) o ≡ None → o ≡ None
+    absent None h = refl
+    absent (Some row) h = absurd (let n : Some row.master ≡ None = h in cc)
+
+    stays : (rows : List LeaseToken) → find (is_token t) rows ≡ None → filter (λ (row : LeaseToken). not (is_token t row)) rows ≡ rows
+    stays [] h = refl
+    stays (row ∷ rows) h =
+        (elim (is_token t row) as (λ b. is_token t row ≡ b → cond b (Some row) (find (is_token t) rows) ≡ None → filter (λ (row : LeaseToken). not (is_token t row)) (row ∷ rows) ≡ row ∷ rows) [
+          | true ↦ λ k n. absurd (let j : Some row ≡ None = n in cc)
+          | false ↦ λ k n. ap (λ b. cond (not b) (row ∷ filter (λ (row : LeaseToken). not (is_token t row)) rows) (filter (λ (row : LeaseToken). not (is_token t row)) rows)) k ∙ ap (λ l. row ∷ l) (stays rows n)
+        ]) refl h

@@ -1,5 +1,5 @@
 -- What each call does.
-use Rattle.std.specs.Prelude.{◌≡◌, ℕ, ◌<◌, not, List, [], ◌∷◌, ◌++◌, None, Some, Result, Ok, Err, map, filter}
+use Rattle.std.specs.Prelude.{◌≡◌, ℕ, ◌<◌, not, Bool, List, [], ◌∷◌, ◌++◌, None, Some, Result, Ok, Err, map, filter}
 use Rattle.std.specs.List.{AllByRecursion}
 use Rattle.drm_lists.specs.Chains.{is_under}
 use Rattle.drm_lists.specs.Numbers.{is_among}
@@ -16,7 +16,7 @@ use Rattle.drm_leases.specs.declared.rows.Grant.{Grant}
 use Rattle.drm_leases.specs.declared.rows.LeaseToken.{LeaseToken}
 use Rattle.drm_leases.specs.declared.rows.Leased.{Leased}
 use Rattle.drm_leases.specs.Leases.{LeaseSet, is_token, next_token}
-use Rattle.drm_leases.specs.Rules.{lease_checks}
+use Rattle.drm_leases.specs.Rules.{lease_checks, leased}
 
 -- each lessee that has a token or a grant is older
 pub record IsNewLessee (l : LeaseSet) (birth : ℕ) : Type 0 where
@@ -48,12 +48,12 @@ ended masters top l = record l {
 }
 
 -- what making a lease of a master comes to
-abbrev pub Created : LeaseSet → MasterSet → ModeSet → ℕ → List ℕ → ℕ → Result Leased LeaseFault → LeaseSet → MasterSet → Type 0
-Created l v s m ids birth (Ok made) l2 v2 =
-    (first_failing (lease_checks l v s m ids) ≡ None)
+abbrev pub Created : LeaseSet → MasterSet → ModeSet → ℕ → Bool → List ℕ → ℕ → Result Leased LeaseFault → LeaseSet → MasterSet → Type 0
+Created l v s m universal ids birth (Ok made) l2 v2 =
+    (first_failing (lease_checks l v s m universal ids) ≡ None)
     × (free_lessee v m ≡ Some made.id)
     × (next_token l ≡ Some made.token)
-    × (l2 ≡ with_lease made.token birth (listed_objects s.topology ids) l)
-    × ((key : ℕ) × IsFreeKey v key × (v2 ≡ with_master (lessee key birth m made.id) v))
-Created l v s m ids birth (Err (Denied rule)) l2 v2 = (first_failing (lease_checks l v s m ids) ≡ Some rule) × (l2 ≡ l) × (v2 ≡ v)
-Created l v s m ids birth (Err NoMemory) l2 v2 = (first_failing (lease_checks l v s m ids) ≡ None) × (l2 ≡ l) × (v2 ≡ v)
+    × (l2 ≡ with_lease made.token birth (listed_objects s.topology (leased l v s m universal ids)) l)
+    × ((key : ℕ) × IsFreeKey v key × (v2 ≡ with_master (lessee key birth m made.id) v) × (made.master ≡ key))
+Created l v s m universal ids birth (Err (Denied rule)) l2 v2 = (first_failing (lease_checks l v s m universal ids) ≡ Some rule) × (l2 ≡ l) × (v2 ≡ v)
+Created l v s m universal ids birth (Err NoMemory) l2 v2 = (first_failing (lease_checks l v s m universal ids) ≡ None) × (l2 ≡ l) × (v2 ≡ v)

@@ -2,3 +2,4 @@ pub mod Leases
 pub mod Rules
 pub mod Calls
 pub mod Fields
+pub mod Masks

@@ -10,15 +10,14 @@ ghost use Rattle.drm_leases.specs.Rules as rules;
 ghost use Rattle.drm_table.specs.Permit.{first_failing};
 
 use crate::faults::LeaseFault;
+use crate::granted::Granted;
 use crate::rows::{Grant, LeaseToken, Leased};
-use crate::rules::{are_leasable, are_seen, is_lease, may_lease, stand_once};
+use crate::rules::{are_leasable, are_seen, is_lease, may_lease, planes_along, stand_once};
 use crate::searches::{
-    any_leased_out, find_token, find_token_of, has_lease, is_granted, is_leased_out, next_token,
+    any_leased_out, find_token, find_token_of, has_lease, is_leased_out, next_token,
 };
-use crate::writes::{
-    listed_objects, push_grants, remove_grants_under, remove_token, remove_tokens_under,
-};
-use drm_masters::Masters;
+use crate::writes::{listed_mask, remove_token, remove_tokens_under};
+use drm_masters::{Masters, NoMemory};
 use drm_modes::Modes;
 use drm_table::{Rule, ShownList};
 use std::alloc::Global;
@@ -28,7 +27,7 @@ use std::marker::Model;
 /// step that made it, since a key may be given again. Contracts see flat lists, in the order of the lessees.
 #[derive(Drop)]
 pub struct Leases {
-    grants: Vec<Grant>,
+    granted: Granted,
     tokens: Vec<LeaseToken>,
     last_given: Option<u32>,
     last: u32,
@@ -52,7 +51,7 @@ impl Leases {
         ensures { result ≡ sets.no_leases last }
     {
         Leases {
-            grants: Vec::new(alloc),
+            granted: Granted::new(alloc),
             tokens: Vec::new(alloc),
             last_given: None,
             last,
@@ -67,64 +66,68 @@ impl Leases {
     }
 
     /// CREATE_LEASE (drm-uapi, leases): makes a lessee of a client's master, by the step of this number, a lease of the listed
-    /// mode objects, and the token that opens it. Rules deny it in the order 35, 30 to 34, 43, each over all ids. A refusal
-    /// changes nothing.
+    /// mode objects, and the token that opens it. Where the client has universal planes off, each listed CRTC brings along its
+    /// primary and its cursor plane, if the master controls it (own). Rules deny it in the order 35, 30 to 34, 43, each over all
+    /// ids, and 34 over what comes along too. A refusal changes nothing.
     pub fn create(
         &mut self,
         masters: &mut Masters,
         modes: &Modes,
         client: u32,
+        universal: bool,
         ids: &[u32],
         birth: u32,
     ) -> Result<Leased, LeaseFault>
         requires present { is_some (masters_sets.member_of masters.old.members client) ≡ true }
         requires new_birth { masters_calls.IsNewBirth masters.old birth }
         requires new_lessee { calls.IsNewLessee self.old birth }
-        ensures { IfSome (masters_sets.member_of masters.old.members client) (λ x. calls.Created self.old masters.old modes.now x.master ids.now birth result self.new masters.new) }
+        ensures { IfSome (masters_sets.member_of masters.old.members client) (λ x. calls.Created self.old masters.old modes.now x.master universal ids.now birth result self.new masters.new) }
     {
         let Some(member) = masters.member(client) else {
             unreachable!()
         };
-        if let Some(rule) = self.denied(masters, modes, member.master, ids) {
+        let planes = self.brought_along(masters, modes, member.master, universal, ids);
+        let along = planes.ids();
+        if let Some(rule) = self.denied(masters, modes, member.master, universal, ids, along) {
             return Err(LeaseFault::Denied(rule));
         }
         let Some(token) = next_token(&self.tokens, self.last_given, self.last) else {
             unreachable!()
         };
-        let Some(master) = masters.master(member.master) else {
+        let Some(lessor) = masters.master(member.master) else {
             unreachable!()
         };
-        let objects = listed_objects(modes, ids);
+        let objects = listed_mask(modes, ids, along);
         if self.tokens.reserve(1).is_err() {
             return Err(LeaseFault::NoMemory);
         }
-        if self.grants.reserve(objects.ids().len()).is_err() {
+        if let Err(NoMemory) = self.granted.add(birth, objects) {
             return Err(LeaseFault::NoMemory);
         }
-        let Ok((_key, id)) = masters.make_lessee(master.key, birth) else {
+        let Ok((master, id)) = masters.make_lessee(lessor.key, birth) else {
+            self.granted.remove(birth);
             return Err(LeaseFault::NoMemory);
         };
         self.tokens.push_reserved(LeaseToken {
             token,
             master: birth,
         });
-        push_grants(&mut self.grants, birth, objects.ids());
         self.last_given = Some(token);
-        Ok(Leased { id, token })
+        Ok(Leased { master, id, token })
     }
 
     /// Whether the lease of a lessee has a mode object. It takes no memory.
     pub fn holds(&self, master: u32, mode_object: u32) -> bool
         ensures { result ≡ sets.is_granted self.now.grants master mode_object }
     {
-        is_granted(&self.grants, master, mode_object)
+        self.granted.has(master, mode_object)
     }
 
     /// Whether the lease of a direct lessee of the master has a mode object. It takes no memory.
     pub fn leased_out(&self, masters: &Masters, master: u32, mode_object: u32) -> bool
         ensures { result ≡ sets.is_leased_out self.now.grants masters.now.masters master mode_object }
     {
-        is_leased_out(&self.grants, masters, master, mode_object)
+        is_leased_out(&self.granted, masters, master, mode_object)
     }
 
     /// The ids of the direct lessees of the master whose lease isn't empty, rising (drm-uapi, leases; that they rise is own). It
@@ -136,7 +139,7 @@ impl Leases {
         let mut list = ShownList::new();
         let last = masters.last_lessee();
         for id in 1..=last {
-            if has_lease(&self.grants, masters, master, id) {
+            if has_lease(&self.granted, masters, master, id) {
                 list.push(id);
             }
         }
@@ -147,13 +150,7 @@ impl Leases {
     pub fn objects_of(&self, master: u32) -> ShownList
         ensures { result ≡ sets.granted_objects self.now.grants master }
     {
-        let mut list = ShownList::new();
-        for grant in &self.grants {
-            if grant.master == master {
-                list.push(grant.mode_object);
-            }
-        }
-        list
+        self.granted.objects_of(master)
     }
 
     /// The lessee that a token opens, if the token is open. It takes no memory.
@@ -174,6 +171,7 @@ impl Leases {
     pub fn redeem(&mut self, token: u32) -> Option<u32>
         ensures master { result ≡ sets.token_master self.old.tokens token }
         ensures spent { self.new ≡ calls.without_token token self.old }
+        ensures none { IfNone result (self.new ≡ self.old) }
     {
         let master = self.token_master(token);
         remove_token(&mut self.tokens, token);
@@ -187,7 +185,7 @@ impl Leases {
         ensures masters { masters.new ≡ masters_sets.swept (masters_calls.released_under master masters.old) }
     {
         remove_tokens_under(&mut self.tokens, masters, master);
-        remove_grants_under(&mut self.grants, masters, master);
+        self.granted.remove_under(masters, master);
         masters.release_under(master);
     }
 
@@ -202,18 +200,41 @@ impl Leases {
     pub fn nth_grant(&self, place: usize) -> Option<Grant>
         ensures { result ≡ slice_get self.now.grants place }
     {
-        self.grants.get(place).copied()
+        self.granted.nth_grant(place)
+    }
+
+    // the planes that come along with the CRTCs of a lease
+    fn brought_along(
+        &self,
+        masters: &Masters,
+        modes: &Modes,
+        master: u32,
+        universal: bool,
+        ids: &[u32],
+    ) -> ShownList
+        ensures { result ≡ rules.brought_along self.now.grants masters.now.masters modes.now.topology master universal ids.now }
+    {
+        planes_along(&self.granted, masters, modes, master, universal, ids)
     }
 
     // the first rule that denies a lease to a master
     #[tactic(auto, unfolding(crate::specs::Rules::lease_checks))]
-    fn denied(&self, masters: &Masters, modes: &Modes, master: u32, ids: &[u32]) -> Option<Rule>
-        ensures { result ≡ first_failing (rules.lease_checks self.now masters.now modes.now master ids.now) }
+    fn denied(
+        &self,
+        masters: &Masters,
+        modes: &Modes,
+        master: u32,
+        universal: bool,
+        ids: &[u32],
+        along: &[u32],
+    ) -> Option<Rule>
+        requires { along.now ≡ rules.brought_along self.now.grants masters.now.masters modes.now.topology master universal ids.now }
+        ensures { result ≡ first_failing (rules.lease_checks self.now masters.now modes.now master universal ids.now) }
     {
         if !may_lease(masters, master) {
             return Some(Rule::SubLease);
         }
-        if !are_seen(&self.grants, masters, modes, master, ids) {
+        if !are_seen(&self.granted, masters, modes, master, universal, ids) {
             return Some(Rule::NoModeObject);
         }
         if !are_leasable(modes, ids) {
@@ -222,10 +243,12 @@ impl Leases {
         if !stand_once(ids) {
             return Some(Rule::Repeated);
         }
-        if !is_lease(modes, ids) {
+        if !is_lease(modes, universal, ids) {
             return Some(Rule::LeaseShape);
         }
-        if any_leased_out(&self.grants, masters, master, ids) {
+        if any_leased_out(&self.granted, masters, master, ids)
+            || any_leased_out(&self.granted, masters, master, along)
+        {
             return Some(Rule::LeasedOut);
         }
         if masters.free_lessee(master).is_none()

@@ -2,7 +2,9 @@
 #![tactic(auto)]
 
 mod faults;
+mod granted;
 mod leases;
+mod masks;
 mod rows;
 mod rules;
 mod searches;

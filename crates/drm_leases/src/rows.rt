@@ -1,5 +1,7 @@
 //! What is kept of a lease.
 
+use drm_masters::MasterKey;
+
 /// A fixed mode object in the lease of a lessee (drm-uapi, leases).
 #[derive(Clone, Copy, PartialEq, Eq, Debug)]
 pub struct Grant {
@@ -21,6 +23,8 @@ pub struct LeaseToken {
 /// A lease that was made.
 #[derive(Clone, Copy, PartialEq, Eq, Debug)]
 pub struct Leased {
+    /// The lessee.
+    pub master: MasterKey,
     /// The id of the lessee among all of its owner, from 1.
     pub id: u32,
     /// The token that opens its client.

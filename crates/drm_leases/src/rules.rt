@@ -1,15 +1,18 @@
 //! The rules of CREATE_LEASE (drm-uapi, leases), each over all ids.
 
-ghost use Rattle.std.specs.Prelude.{◌≡◌, ◌==◌, ◌+◌, drop};
+ghost use Rattle.std.specs.Prelude.{◌≡◌, ◌==◌, ◌+◌, ◌≤◌, drop, filter, length};
 ghost use Rattle.std.specs.List.{list_any, list_all};
 ghost use Rattle.drm_lists.specs.Numbers as numbers;
 ghost use Rattle.drm_modes.specs.Topology as topology;
+ghost use Rattle.drm_leases.specs.Leases as sets;
+ghost use Rattle.drm_leases.specs.Masks.{grants_in};
 ghost use Rattle.drm_leases.specs.Rules as rules;
 
-use crate::rows::Grant;
+use crate::granted::Granted;
 use crate::searches::controls;
 use drm_masters::Masters;
 use drm_modes::{Kind, Modes};
+use drm_table::ShownList;
 
 /// A lessee of this depth makes no lease (own).
 const LAST_DEPTH: u32 = 8;
@@ -21,30 +24,79 @@ pub fn may_lease(masters: &Masters, master: u32) -> bool
     masters.depth(master) < LAST_DEPTH
 }
 
-/// Whether each id is that of a fixed mode object that the clients of a master see, or of a framebuffer, whosever it is.
+/// Whether each id is that of a fixed mode object that a client of a master sees, with universal planes on or off, or of a
+/// framebuffer, whosever it is.
 pub fn are_seen(
-    grants: &[Grant],
+    granted: &Granted,
     masters: &Masters,
     modes: &Modes,
     master: u32,
+    universal: bool,
     ids: &[u32],
 ) -> bool
-    ensures { result ≡ list_all (rules.is_seen grants.now masters.now.masters modes.now master) ids.now }
+    ensures { result ≡ list_all (rules.is_seen (grants_in granted.now.masks.items) masters.now.masters modes.now master universal) ids.now }
 {
     for id in ids {
-        if !is_seen(grants, masters, modes, master, *id) {
+        if !is_seen(granted, masters, modes, master, universal, *id) {
             return false;
         }
     }
     true
 }
 
-fn is_seen(grants: &[Grant], masters: &Masters, modes: &Modes, master: u32, id: u32) -> bool
-    ensures { result ≡ rules.is_seen grants.now masters.now.masters modes.now master id }
+fn is_seen(
+    granted: &Granted,
+    masters: &Masters,
+    modes: &Modes,
+    master: u32,
+    universal: bool,
+    id: u32,
+) -> bool
+    ensures { result ≡ rules.is_seen (grants_in granted.now.masks.items) masters.now.masters modes.now master universal id }
 {
     (modes.kind(id).is_some()
-        && (modes.is_of_kind(Kind::Encoder, id) || controls(grants, masters, master, id)))
+        && (modes.is_of_kind(Kind::Encoder, id)
+            || (controls(granted, masters, master, id) && is_shown(modes, universal, id))))
         || modes.fb(id).is_some()
+}
+
+/// Whether a mode object is shown to who controls it: primary and cursor planes with universal planes on alone.
+fn is_shown(modes: &Modes, universal: bool, id: u32) -> bool
+    ensures { result ≡ rules.is_shown modes.now.topology universal id }
+{
+    modes.crtc_of_plane(id).is_none() || universal
+}
+
+/// What comes along: with universal planes off, of each listed CRTC the primary and the cursor plane that the master controls.
+pub fn planes_along(
+    granted: &Granted,
+    masters: &Masters,
+    modes: &Modes,
+    master: u32,
+    universal: bool,
+    ids: &[u32],
+) -> ShownList
+    ensures { result ≡ rules.brought_along (grants_in granted.now.masks.items) masters.now.masters modes.now.topology master universal ids.now }
+{
+    if universal {
+        return ShownList::new();
+    }
+    let planes = modes.planes_of(ids);
+    controlled(granted, masters, master, planes.ids())
+}
+
+/// The planes that a master controls.
+fn controlled(granted: &Granted, masters: &Masters, master: u32, planes: &[u32]) -> ShownList
+    requires { length planes.now ≤ 64 }
+    ensures { result ≡ filter (sets.controls (grants_in granted.now.masks.items) masters.now.masters master) planes.now }
+{
+    let mut list = ShownList::new();
+    for plane in planes {
+        if controls(granted, masters, master, *plane) {
+            list.push(*plane);
+        }
+    }
+    list
 }
 
 /// Whether each may be leased: an encoder and a framebuffer may not.
@@ -89,13 +141,13 @@ fn count(ids: &[u32], number: u32) -> usize
     found
 }
 
-/// Whether they are a lease: a CRTC, a connector and a plane are among them.
-pub fn is_lease(modes: &Modes, ids: &[u32]) -> bool
-    ensures { result ≡ rules.is_lease modes.now.topology ids.now }
+/// Whether they are a lease: a CRTC and a connector are among them, and with universal planes on a plane.
+pub fn is_lease(modes: &Modes, universal: bool, ids: &[u32]) -> bool
+    ensures { result ≡ rules.is_lease modes.now.topology universal ids.now }
 {
     has_kind(modes, Kind::Crtc, ids)
         && has_kind(modes, Kind::Connector, ids)
-        && has_kind(modes, Kind::Plane, ids)
+        && (!universal || has_kind(modes, Kind::Plane, ids))
 }
 
 fn has_kind(modes: &Modes, kind: Kind, ids: &[u32]) -> bool

@@ -7,8 +7,11 @@ ghost use Rattle.drm_index_array.specs.Least.{least};
 ghost use Rattle.drm_id_alloc.specs.Table.{or_else};
 ghost use Rattle.drm_masters.specs.Masters as masters_sets;
 ghost use Rattle.drm_leases.specs.Leases as sets;
+ghost use Rattle.drm_leases.specs.Masks.{has_object, grants_in, AreFull};
 
-use crate::rows::{Grant, LeaseToken};
+use crate::granted::{Granted, Lease};
+use crate::masks;
+use crate::rows::LeaseToken;
 use drm_masters::Masters;
 
 /// The row of an open token.
@@ -57,31 +60,19 @@ fn free_above(tokens: &[LeaseToken], given: u32, last: u32) -> Option<u32>
     None
 }
 
-/// Whether the lease of a lessee has the mode object.
-pub fn is_granted(grants: &[Grant], master: u32, mode_object: u32) -> bool
-    ensures { result ≡ sets.is_granted grants.now master mode_object }
-{
-    for grant in grants {
-        if grant.master == master && grant.mode_object == mode_object {
-            return true;
-        }
-    }
-    false
-}
-
 /// Whether a master controls a mode object: one without a lessor all, a lessee what its lease has.
-pub fn controls(grants: &[Grant], masters: &Masters, master: u32, mode_object: u32) -> bool
-    ensures { result ≡ sets.controls grants.now masters.now.masters master mode_object }
+pub fn controls(granted: &Granted, masters: &Masters, master: u32, mode_object: u32) -> bool
+    ensures { result ≡ sets.controls (grants_in granted.now.masks.items) masters.now.masters master mode_object }
 {
-    lessor_of(masters, master).is_none() || is_granted(grants, master, mode_object)
+    lessor_of(masters, master).is_none() || granted.has(master, mode_object)
 }
 
 /// Whether one of the mode objects is in the lease of a direct lessee of the master.
-pub fn any_leased_out(grants: &[Grant], masters: &Masters, master: u32, ids: &[u32]) -> bool
-    ensures { result ≡ list_any (sets.is_leased_out grants.now masters.now.masters master) ids.now }
+pub fn any_leased_out(granted: &Granted, masters: &Masters, master: u32, ids: &[u32]) -> bool
+    ensures { result ≡ list_any (sets.is_leased_out (grants_in granted.now.masks.items) masters.now.masters master) ids.now }
 {
     for id in ids {
-        if is_leased_out(grants, masters, master, *id) {
+        if is_leased_out(granted, masters, master, *id) {
             return true;
         }
     }
@@ -89,15 +80,24 @@ pub fn any_leased_out(grants: &[Grant], masters: &Masters, master: u32, ids: &[u
 }
 
 /// Whether the lease of a direct lessee of the master has the mode object.
-pub fn is_leased_out(grants: &[Grant], masters: &Masters, master: u32, mode_object: u32) -> bool
-    ensures { result ≡ sets.is_leased_out grants.now masters.now.masters master mode_object }
+pub fn is_leased_out(granted: &Granted, masters: &Masters, master: u32, mode_object: u32) -> bool
+    ensures { result ≡ sets.is_leased_out (grants_in granted.now.masks.items) masters.now.masters master mode_object }
 {
-    for grant in grants {
-        if grant.mode_object == mode_object && is_below(masters, master, grant.master) {
+    for place in 0..granted.len() {
+        let Some(lease) = granted.nth(place) else {
+            unreachable!()
+        };
+        if is_lent(masters, master, lease, mode_object) {
             return true;
         }
     }
     false
+}
+
+fn is_lent(masters: &Masters, master: u32, lease: Lease, mode_object: u32) -> bool
+    ensures { result ≡ (has_object lease.objects mode_object && masters_sets.is_option master (masters_sets.lessor_of masters.now.masters lease.lessee)) }
+{
+    masks::has(lease.objects, mode_object) && is_below(masters, master, lease.lessee)
 }
 
 fn is_below(masters: &Masters, master: u32, lessee: u32) -> bool
@@ -120,11 +120,15 @@ pub fn lessor_of(masters: &Masters, master: u32) -> Option<u32>
 }
 
 /// Whether the direct lessee of the master with this id has a lease that isn't empty.
-pub fn has_lease(grants: &[Grant], masters: &Masters, master: u32, id: u32) -> bool
-    ensures { result ≡ sets.has_lease grants.now masters.now.masters master id }
+pub fn has_lease(granted: &Granted, masters: &Masters, master: u32, id: u32) -> bool
+    requires { AreFull granted.now.masks.items }
+    ensures { result ≡ sets.has_lease (grants_in granted.now.masks.items) masters.now.masters master id }
 {
-    for grant in grants {
-        if is_direct_lessee(masters, master, id, grant.master) {
+    for place in 0..granted.len() {
+        let Some(lease) = granted.nth(place) else {
+            unreachable!()
+        };
+        if is_direct_lessee(masters, master, id, lease.lessee) {
             return true;
         }
     }

@@ -1,20 +1,19 @@
 -- That masters may cross threads.
 use denote.Struct.Declared.{shape}
 use denote.Param.Send.{IsSend, sendable, view_send, recorded_send, struct_send}
-use Rattle.std.proofs.Crossing.{Vec-send}
-use Rattle.drm_masters.specs.contracts.rows.Member as member
+use Rattle.std.proofs.Crossing.{send, frees}
+use Rattle.slab.proofs.Slab.TheSendSync as slab
+use Rattle.slab.specs.contracts.Slab as slabs
+use Rattle.std.specs.contracts.alloc.Global as heap
+use Rattle.std.specs.contracts.impls.GlobalAllocator.TheImpl as heap_impl
+use Rattle.drm_index_array.proofs.Crossing.{array_send}
 use Rattle.drm_masters.specs.contracts.rows.Master as master
+use Rattle.drm_masters.specs.contracts.members.Membership as membership
+use Rattle.drm_masters.specs.contracts.members.Members as members
+use Rattle.drm_masters.specs.contracts.table.MasterTable as table
+use Rattle.drm_masters.specs.contracts.table.MasterTable.TheInside as table_inside
 use Rattle.drm_masters.specs.contracts.masters.Masters as masters
 use Rattle.drm_masters.specs.contracts.masters.Masters.TheInside as inside
-
-member_send : IsSend member.the_row
-member_send =
-    recorded_send
-    member.the_field.row
-    _
-    _
-    member.the_type.to_one
-    (struct_send (shape member.the_type) (search sendable depth 20, (search sendable depth 20, (search sendable depth 20, (search sendable depth 20, (search sendable depth 20, tt))))))
 
 master_send : IsSend master.the_row
 master_send =
@@ -25,6 +24,23 @@ master_send =
     master.the_type.to_one
     (struct_send (shape master.the_type) (search sendable depth 20, (search sendable depth 20, (search sendable depth 20, (search sendable depth 20, (search sendable depth 20, tt))))))
 
+membership_send : IsSend membership.the_row
+membership_send =
+    recorded_send membership.the_field.row _ _ membership.the_type.to_one (struct_send (shape membership.the_type) (search sendable depth 20, (search sendable depth 20, (search sendable depth 20, (search sendable depth 20, tt)))))
+
+members_send : IsSend members.the_field.row
+members_send = struct_send (shape members.the_type) (search (array_send, membership_send, sendable) depth 20, tt)
+
+slab_send : IsSend (slabs.the_row master.the_row heap.the_row heap_impl.ghosts)
+slab_send = slab.the_send master.the_row heap.the_row heap_impl.ghosts master_send send frees
+
+table_inside_send : IsSend table_inside.the_row
+table_inside_send =
+    recorded_send table_inside.the_field.row _ _ table_inside.the_type.to_one (struct_send (shape table_inside.the_type) (search (array_send, sendable) depth 20, (search (slab_send, sendable) depth 20, tt)))
+
+table_send : IsSend table.the_row
+table_send = view_send table_inside.the_row _ _ _ _ table_inside_send
+
 inside_send : IsSend inside.the_row
 inside_send =
     recorded_send
@@ -32,7 +48,7 @@ inside_send =
     _
     _
     inside.the_type.to_one
-    (struct_send (shape inside.the_type) (search (Vec-send, member_send, sendable) depth 20, (search (Vec-send, master_send, sendable) depth 20, (search sendable depth 20, (search sendable depth 20, (search sendable depth 20, tt))))))
+    (struct_send (shape inside.the_type) (members_send, (table_send, (search sendable depth 20, (search sendable depth 20, (search sendable depth 20, tt))))))
 
 pub masters_send : IsSend masters.the_row
 masters_send = view_send inside.the_row _ _ _ _ inside_send

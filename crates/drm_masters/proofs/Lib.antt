@@ -1,9 +1,14 @@
+pub mod Looked
+mod Listed
+mod Kept
 mod Living
-mod Rewritten
+pub mod Rewritten
 mod Settled
+mod Upward
 mod Pushed
 mod Released
 mod Swept
 mod Numbered
+mod Flagged
 mod Sound
 pub mod Crossing

@@ -1,21 +1,23 @@
 -- What stays so as a master comes, or is kept or not: lessors, and which masters stay.
-use Rattle.std.proofs.Common.{◌≡◌, ℕ, ◌<◌, ◌==◌, Bool, true, false, ◌&&◌, List, [], ◌∷◌, ◌++◌, map, Option, None, Some, refl, sym, ap, subst, ◌∙◌, eq-eqb, arith}
+use Rattle.std.proofs.Common.{◌≡◌, ℕ, ◌<◌, ◌==◌, Bool, true, false, not, cond, ◌&&◌, List, [], ◌∷◌, ◌++◌, map, filter, find, Option, None, Some, refl, sym, ap, subst, ◌∙◌, eq-eqb, arith}
 use Rattle.std.specs.Prelude.{if◌then◌else◌}
 use Rattle.std.specs.List.{AllByRecursion}
 use Rattle.std.specs.Option.{is_some, option_map, option_and_then}
+use Rattle.drm_lists.specs.Orders.{InOrder}
 use Rattle.std.proofs.lemmas.Bool.{eqb-true, or_left}
 use Rattle.drm_lists.specs.Chains.{is_under}
 use Rattle.drm_lists.proofs.Lists.{all_weaker, all_each, all_append, all_mapped, list_any-map, list_any_left, list_any_right}
 use Rattle.drm_lists.proofs.Found.{is_some-find, is_some-map, find-map, find-same}
 use Rattle.drm_lists.proofs.Numbers.{less-differ, flipped}
 use Rattle.drm_lists.proofs.Chains.{itself, same_chain}
-use Rattle.drm_lists.proofs.Rising.{found, any_more, find_more, in_order_kept}
+use Rattle.drm_lists.proofs.Rising.{found, any_more, find_more, all_found_apart, in_order_kept}
 use Rattle.drm_lists.specs.Numbers.{is_among}
 use Rattle.drm_masters.specs.declared.rows.Member.{Member}
 use Rattle.drm_masters.specs.declared.rows.Master.{Master}
-use Rattle.drm_masters.specs.Masters.{is_birth, is_key, IsKeyOf, master_at, lessor_of, is_held, is_living, HasOlderLessor}
+use Rattle.drm_masters.specs.Masters.{is_birth, is_key, IsKeyOf, master_at, lessor_of, owner_of, is_held, is_living, HasOlderLessor}
 use Rattle.drm_masters.specs.Calls.{kept_as}
 use Rattle.drm_masters.proofs.Living.{Rise, Older, falls, both_true, and_true}
+use Rattle.drm_masters.proofs.Flagged.{owner_stays}
 
 -- the masters with those of a birth kept, or not
 abbrev pub kept_at : ℕ → Bool → Master → Master
@@ -58,8 +60,8 @@ module _ (g : Master → Master) (births : (x : Master) → (g x).birth ≡ x.bi
       let k = h l (sym (lessors x) ∙ e) in
       (over_there l ∙ k.0, subst (λ b. l < b) (sym (births x)) k.1)) ms older)
 
-  pub over_keyed : ((x : Master) → (g x).key ≡ x.key) → AllByRecursion (λ (x : Master). x.key ≡ x.birth) ms → AllByRecursion (λ (x : Master). x.key ≡ x.birth) over
-  over_keyed keys h = all_mapped (λ (x : Master). x.key ≡ x.birth) g ms (all_weaker (λ (x : Master). x.key ≡ x.birth) (λ x. (g x).key ≡ (g x).birth) (λ x e. keys x ∙ e ∙ sym (births x)) ms h)
+  pub over_keyed : ((x : Master) → (g x).key ≡ x.key) → InOrder (λ (x y : Master). (x.key == y.key) ≡ false) ms → InOrder (λ (x y : Master). (x.key == y.key) ≡ false) over
+  over_keyed keys h = in_order_kept (λ (x y : Master). (x.key == y.key) ≡ false) g (λ x y differ. (λ i. keys x i == keys y i) ∙ differ) ms h
 
 module _ (m : ℕ) (kept : Bool) (ms : List Master) where
   abbrev now : List Master
@@ -72,12 +74,12 @@ module _ (m : ℕ) (kept : Bool) (ms : List Master) where
   kept_lessors n = over_lessors (kept_at m kept) (birth_stays m kept) (lessor_stays m kept) ms n
 
   -- it has its key yet
-  pub kept_key : AllByRecursion (λ (x : Master). x.key ≡ x.birth) ms → (x : Master) → master_at ms x.birth ≡ Some x → IsKeyOf now x.birth x.key
+  pub kept_key : InOrder (λ (x y : Master). (x.key == y.key) ≡ false) ms → (x : Master) → master_at ms x.birth ≡ Some x → IsKeyOf now x.birth x.key
   kept_key keyed x here =
-      let same = found (is_birth x.birth) (λ (y : Master). y.key ≡ y.birth) x ms keyed here in
+      let own = (found (is_birth x.birth) (λ (y : Master). find (is_key y.key) ms ≡ Some y) x ms (all_found_apart (λ (y : Master). y.key) ms keyed) here).1 in
       ap (λ o. option_map (λ (y : Master). y.birth) o)
       (find-map (is_key x.key) (kept_at m kept) ms
-      ∙ ap (option_map (kept_at m kept)) (find-same (λ y. is_key x.key (kept_at m kept y)) (is_birth x.birth) ms (all_weaker (λ (y : Master). y.key ≡ y.birth) (λ y. is_key x.key (kept_at m kept y) ≡ is_birth x.birth y) (λ y e. ap (λ k. k == x.key) (key_stays m kept y ∙ e) ∙ ap (λ k. y.birth == k) same.1) ms keyed) ∙ here)
+      ∙ ap (option_map (kept_at m kept)) (find-same (λ y. is_key x.key (kept_at m kept y)) (is_key x.key) ms (all_each (λ y. is_key x.key (kept_at m kept y) ≡ is_key x.key y) (λ y. ap (λ k. k == x.key) (key_stays m kept y)) ms) ∙ own)
       ) ∙ ap Some (birth_stays m kept x)
 
   pub kept_rise : Rise ms → Rise now
@@ -86,7 +88,7 @@ module _ (m : ℕ) (kept : Bool) (ms : List Master) where
   pub kept_older : Older ms → Older now
   kept_older older = over_older (kept_at m kept) (birth_stays m kept) (lessor_stays m kept) ms older
 
-  pub kept_keyed : AllByRecursion (λ (x : Master). x.key ≡ x.birth) ms → AllByRecursion (λ (x : Master). x.key ≡ x.birth) now
+  pub kept_keyed : InOrder (λ (x y : Master). (x.key == y.key) ≡ false) ms → InOrder (λ (x y : Master). (x.key == y.key) ≡ false) now
   kept_keyed h = over_keyed (kept_at m kept) (birth_stays m kept) (lessor_stays m kept) ms (key_stays m kept) h
 
   -- who stays, where all that were held are
@@ -123,18 +125,22 @@ module _ (ms : List Master) (y : Master) (newest : AllByRecursion (λ (x : Maste
   older_lessors : (n : ℕ) → n < y.birth → lessor_of (ms ++ y ∷ []) n ≡ lessor_of ms n
   older_lessors n lt = ap (option_and_then (λ (x : Master). x.lessor)) (find_more (λ (x : Master). x.birth) y n (flipped n y.birth (less-differ n y.birth lt)) ms)
 
+  birth_below : (l : ℕ) → is_some (master_at ms l) ≡ true → l < y.birth
+  birth_below l h = by_row (master_at ms l) refl h
+    where
+      by_row : (o : Option Master) → master_at ms l ≡ o → is_some o ≡ true → l < y.birth
+      by_row None e k = absurd (let n : false ≡ true = k in cc)
+      by_row (Some x) e k = let w = found (is_birth l) (λ (z : Master). z.birth < y.birth) x ms newest e in subst (λ n. n < y.birth) (eqb-true x.birth l w.0) w.1
+
+  -- a master that is there has its owner yet
+  pub pushed_owner : Older ms → (n : ℕ) → is_some (master_at ms n) ≡ true → owner_of (ms ++ y ∷ []) n ≡ owner_of ms n
+  pushed_owner older n there = owner_stays (λ k. k < y.birth) ms (ms ++ y ∷ []) older_lessors (λ k l p e. let less = falls ms older k l e in omega (arith, less, p)) n (birth_below n there)
+
   -- a new master has no lessor, or one that is there
   pub pushed_older : ((l : ℕ) → y.lessor ≡ Some l → is_some (master_at ms l) ≡ true) → Older ms → Older (ms ++ y ∷ [])
   pushed_older there older =
       all_append (HasOlderLessor (ms ++ y ∷ [])) ms (y ∷ []) (all_weaker (HasOlderLessor ms) (HasOlderLessor (ms ++ y ∷ [])) (λ x h l e. let k = h l e in (there_too l k.0, k.1)) ms older)
-      ((λ l e. (there_too l (there l e), is_older l (there l e))), tt)
-    where
-      is_older : (l : ℕ) → is_some (master_at ms l) ≡ true → l < y.birth
-      is_older l h = by_row (master_at ms l) refl h
-        where
-          by_row : (o : Option Master) → master_at ms l ≡ o → is_some o ≡ true → l < y.birth
-          by_row None e k = absurd (let n : false ≡ true = k in cc)
-          by_row (Some x) e k = let w = found (is_birth l) (λ (z : Master). z.birth < y.birth) x ms newest e in subst (λ n. n < y.birth) (eqb-true x.birth l w.0) w.1
+      ((λ l e. (there_too l (there l e), birth_below l (there l e))), tt)
 
   pub pushed_used : (members others : List Member) → Older ms → ((x : Master) → is_held members x ≡ true → is_held others x ≡ true) → is_held others y ≡ true → AllByRecursion (λ (x : Master). is_living members ms x.birth ≡ true) ms → AllByRecursion (λ (x : Master). is_living others (ms ++ y ∷ []) x.birth ≡ true) (ms ++ y ∷ [])
   pushed_used members others older held new h =
@@ -155,3 +161,11 @@ module _ (ms : List Master) (y : Master) (newest : AllByRecursion (λ (x : Maste
           (any_more (λ (x : Master). x.birth < y.birth) (λ (x : Master). is_held members x && is_under (lessor_of ms) b x.birth) (λ (x : Master). is_held others x && is_under (lessor_of (ms ++ y ∷ [])) b x.birth) (λ x lt t.
           let w = both_true (is_held members x) (is_under (lessor_of ms) b x.birth) t in
           and_true (is_held others x) (is_under (lessor_of (ms ++ y ∷ [])) b x.birth) (held x w.0) (same_under b x.birth lt ∙ w.1)) ms newest e)
+
+  -- it is taken back
+  pub taken_back : filter (λ (x : Master). not (is_birth y.birth x)) (ms ++ y ∷ []) ≡ ms
+  taken_back = back ms newest
+    where
+      back : (xs : List Master) → AllByRecursion (λ (x : Master). x.birth < y.birth) xs → filter (λ (x : Master). not (is_birth y.birth x)) (xs ++ y ∷ []) ≡ xs
+      back [] h = ap (λ b. cond (not b) (y ∷ []) []) (eq-eqb y.birth y.birth refl)
+      back (x ∷ xs) h = ap (λ b. cond (not b) (x ∷ filter (λ (z : Master). not (is_birth y.birth z)) (xs ++ y ∷ [])) (filter (λ (z : Master). not (is_birth y.birth z)) (xs ++ y ∷ []))) (less-differ x.birth y.birth h.0) ∙ ap (λ l. x ∷ l) (back xs h.1)

@@ -1,12 +1,11 @@
 -- A master and all below it are kept no more: those before a place are released, those from it on are as they were.
-use Rattle.std.proofs.Common.{◌≡◌, ℕ, ◌+◌, ◌<◌, ◌≤◌, Bool, true, false, List, [], ◌∷◌, ◌++◌, map, length, get_or, Some, refl, sym, ap, subst, ◌∙◌, arith, append-nil, length-append}
+use Rattle.std.proofs.Common.{◌≡◌, ℕ, ◌+◌, ◌<◌, ◌≤◌, Bool, true, false, List, [], ◌∷◌, ◌++◌, map, length, Some, refl, sym, ap, subst, ◌∙◌, arith, append-nil, length-append}
 use Rattle.std.specs.Prelude.{slice_get, slice_set, if◌then◌else◌}
 use Rattle.std.proofs.lemmas.List.{length-map}
-use Rattle.std.proofs.lemmas.Option.{get_or_from_slice_get}
 use Rattle.drm_lists.specs.Chains.{is_under}
 use Rattle.drm_lists.proofs.Rising.{set_at}
 use Rattle.drm_masters.specs.declared.rows.Master.{Master}
-use Rattle.drm_masters.specs.Masters.{lessor_of}
+use Rattle.drm_masters.specs.Masters.{is_birth, lessor_of}
 use Rattle.drm_masters.specs.Calls.{kept_as}
 use Rattle.drm_masters.proofs.Living.{Rise, Older}
 use Rattle.drm_masters.proofs.Pushed.{kept_lessors, kept_rise, kept_older}
@@ -73,8 +72,8 @@ module _ (ms : List Master) (top : ℕ) where
         h.is ∙ ap (λ l. map (released ms top) h.front ++ l) none ∙ append-nil (map (released ms top) h.front) ∙ ap (map (released ms top)) (sym (h.all ∙ ap (λ l. h.front ++ l) none ∙ append-nil h.front))
 
     -- one master more is looked at
-    pub one_released : n < length ms → (x : Master) → x ≡ get_or items n x → (under : Bool) → under ≡ is_under (lessor_of items) top x.birth →
-        (under ≡ true → Releasing ms top (n + 1) (slice_set items n (kept_as false x))) × (under ≡ false → Releasing ms top (n + 1) items)
+    pub one_released : n < length ms → (x : Master) → slice_get items n ≡ Some x → (under : Bool) → under ≡ is_under (lessor_of items) top x.birth →
+        (under ≡ true → Releasing ms top (n + 1) (map (λ (z : Master). if is_birth x.birth z then kept_as false z else z) items)) × (under ≡ false → Releasing ms top (n + 1) items)
     one_released lt x at under is =
         let w = next_of h.front h.rest n h.so_far (let e = ap length h.all in omega (arith, e, lt)) in
         let y = w.0 in
@@ -83,13 +82,14 @@ module _ (ms : List Master) (top : ℕ) where
         let here : items ≡ told ++ y ∷ zs = h.is ∙ ap (λ l. told ++ l) w.2 in
         let place : length told ≡ n = length-map h.front (released ms top) ∙ h.so_far in
         let found : slice_get items n ≡ Some y = ap (slice_get items) (sym place) ∙ ap (λ l. slice_get l (length told)) here ∙ get_behind told y zs in
-        let same : x ≡ y = at ∙ get_or_from_slice_get items n y x found in
+        let one : Some x ≡ Some y = sym at ∙ found in
+        let same : x ≡ y = cc in
         let test : under ≡ is_under (lessor_of ms) top y.birth = is ∙ ap (λ (above : ℕ → _). is_under above top x.birth) (λ i k. h.lessors k i) ∙ ap (λ (z : Master). is_under (lessor_of ms) top z.birth) same in
         let all : ms ≡ (h.front ++ y ∷ []) ++ zs = h.all ∙ ap (λ l. h.front ++ l) w.2 ∙ one_over y zs h.front in
         let more : length (h.front ++ y ∷ []) ≡ n + 1 = let e = length-append h.front (y ∷ []) in omega (arith, e, h.so_far) in (
           (λ t.
-              let new : slice_set items n (kept_as false x) ≡ slice_set items n (kept_as false y) = ap (λ z. slice_set items n (kept_as false z)) same in
-              let over = new ∙ set_at (λ (z : Master). z.birth) y.birth (kept_as false) items n y h.rise found refl in
+              let over : map (λ (z : Master). if is_birth x.birth z then kept_as false z else z) items ≡ map (λ (z : Master). if is_birth y.birth z then kept_as false z else z) items = ap (λ (u : Master). map (λ (z : Master). if is_birth u.birth z then kept_as false z else z) items) same in
+              let new = over ∙ sym (set_at (λ (z : Master). z.birth) y.birth (kept_as false) items n y h.rise found refl) in
               record {
                 front = h.front ++ y ∷ [];
                 rest = zs;

@@ -1,16 +1,17 @@
 -- A sweep goes from the youngest master to the oldest: those behind a master are settled when it is looked at.
-use Rattle.std.proofs.Common.{◌≡◌, ℕ, suc, ◌<◌, Bool, true, false, cond, ◌&&◌, ◌||◌, List, [], ◌∷◌, ◌++◌, filter, length, get_or, Option, None, Some, refl, sym, ap, subst, ◌∙◌, arith}
+use Rattle.std.proofs.Common.{◌≡◌, ℕ, suc, ◌<◌, Bool, true, false, cond, ◌&&◌, ◌||◌, List, [], ◌∷◌, ◌++◌, not, filter, length, Option, None, Some, refl, sym, ap, subst, ◌∙◌, arith, length-append, append-nil}
 use Rattle.std.specs.List.{list_any, AllByRecursion, remove, slice_get}
-use Rattle.std.proofs.lemmas.Option.{get_or_from_slice_get}
 use Rattle.std.proofs.Math.Bool.{and-false}
 use Rattle.std.proofs.lemmas.List.Folds.{list_any-append}
 use Rattle.drm_lists.specs.Orders.{InOrder}
-use Rattle.drm_lists.proofs.Lists.{all_both, all_weaker}
+use Rattle.drm_lists.proofs.Lists.{all_both, all_weaker, all_append, all_filter}
+use Rattle.drm_lists.proofs.Orders.{in_order_filter}
+use Rattle.drm_keys.proofs.KeyLemmas.{removed_at}
 use Rattle.drm_lists.proofs.Numbers.{less-differ}
 use Rattle.drm_lists.proofs.Rising.{all_found}
 use Rattle.drm_masters.specs.declared.rows.Member.{Member}
 use Rattle.drm_masters.specs.declared.rows.Master.{Master}
-use Rattle.drm_masters.specs.Masters.{is_option, master_at, is_held, is_living, HasOlderLessor}
+use Rattle.drm_masters.specs.Masters.{is_option, is_birth, master_at, is_held, is_living, HasOlderLessor}
 use Rattle.drm_masters.proofs.Living.{Rise, Older, living_is}
 use Rattle.drm_masters.proofs.Rewritten.{last_one, get_behind, remove_behind}
 
@@ -37,6 +38,10 @@ before_it R x zs (y ∷ ys) h = (it ys h.0, before_it R x zs ys h.1)
 all_left : {X : Type 0} (P : X → Type 0) (zs : List X) → (ys : List X) → AllByRecursion P (ys ++ zs) → AllByRecursion P ys
 all_left P zs [] h = tt
 all_left P zs (y ∷ ys) h = (h.0, all_left P zs ys h.1)
+
+all_right : {X : Type 0} (P : X → Type 0) (zs : List X) → (ys : List X) → AllByRecursion P (ys ++ zs) → AllByRecursion P zs
+all_right P zs [] h = h
+all_right P zs (y ∷ ys) h = all_right P zs ys h.1
 
 all_here : {X : Type 0} (P : X → Type 0) (x : X) (zs : List X) → (ys : List X) → AllByRecursion P (ys ++ x ∷ zs) → P x
 all_here P x zs [] h = h.0
@@ -102,9 +107,32 @@ module _ (members : List Member) (ms : List Master) (rise : Rise ms) (older : Ol
       (sym e)
       (λ r o. used_is members ys y zs r o)) rise older
 
+  -- births rise among those that are left
+  left_rise : (ys zs : List Master) → Rise (ys ++ zs) → Rise (ys ++ filter stays zs)
+  left_rise [] zs h = in_order_filter (λ (a b : Master). a.birth < b.birth) stays zs h
+  left_rise (y ∷ ys) zs h = (all_append (λ (z : Master). y.birth < z.birth) ys (filter stays zs) (all_left (λ (z : Master). y.birth < z.birth) zs ys h.0) (all_filter (λ (z : Master). y.birth < z.birth) stays zs (all_right (λ (z : Master). y.birth < z.birth) zs ys h.0)), left_rise ys zs h.1)
+
+  -- at first, and at last
+  pub none_looked : (n : ℕ) → n ≡ length ms → Settled members ms n ms
+  none_looked n e = (ms, [], sym (append-nil ms), sym e, sym (append-nil ms))
+
+  pub all_looked : (n : ℕ) (now : List Master) → Settled members ms n now → n ≡ 0 → now ≡ filter stays ms
+  all_looked n now h e = by_front h.0 (h.3 ∙ e) h.2 h.4
+    where
+      by_front : (ys : List Master) → length ys ≡ 0 → ms ≡ ys ++ h.1 → now ≡ ys ++ filter stays h.1 → now ≡ filter stays ms
+      by_front [] z all is = is ∙ ap (filter stays) (sym all)
+      by_front (y ∷ ys) z all is = absurd (omega (arith, z))
+
+  -- there is one more to be looked at
+  pub one_there : (n : ℕ) (now : List Master) → Settled members ms (suc n) now → n < length now
+  one_there n now h =
+      let e = ap length h.4 ∙ length-append h.0 (filter stays h.1) in
+      let front = h.3 in
+      omega (arith, e, front)
+
   -- one master more is looked at
-  pub looked : (n : ℕ) (now : List Master) → Settled members ms (suc n) now → (x : Master) → x ≡ get_or now n x → (b : Bool) → b ≡ (is_held members x || list_any (λ (z : Master). is_option x.birth z.lessor) now) →
-      (b ≡ true → Settled members ms n now) × (b ≡ false → Settled members ms n (remove now n))
+  pub looked : (n : ℕ) (now : List Master) → Settled members ms (suc n) now → (x : Master) → slice_get now n ≡ Some x → (b : Bool) → b ≡ (is_held members x || list_any (λ (z : Master). is_option x.birth z.lessor) now) →
+      (b ≡ true → Settled members ms n now) × (b ≡ false → Settled members ms n (filter (λ (z : Master). not (is_birth x.birth z)) now))
   looked n now h x at b is =
       let w = last_one n h.0 h.3 in
       let ys = w.0 in
@@ -113,8 +141,11 @@ module _ (members : List Member) (ms : List Master) (rise : Rise ms) (older : Ol
       let all : ms ≡ ys ++ y ∷ zs = h.2 ∙ ap (λ l. l ++ zs) w.2 ∙ append_one y zs ys in
       let here : now ≡ ys ++ y ∷ filter stays zs = h.4 ∙ ap (λ l. l ++ filter stays zs) w.2 ∙ append_one y (filter stays zs) ys in
       let found : slice_get now n ≡ Some y = ap (slice_get now) (sym w.3) ∙ ap (λ l. slice_get l (length ys)) here ∙ get_behind ys y (filter stays zs) in
-      let same : x ≡ y = at ∙ get_or_from_slice_get now n y x found in
+      let one : Some x ≡ Some y = sym at ∙ found in
+      let same : x ≡ y = cc in
+      let now_rise : Rise now = subst Rise (sym h.4) (left_rise h.0 h.1 (subst Rise h.2 rise)) in
+      let gone : filter (λ (z : Master). not (is_birth x.birth z)) now ≡ remove now n = removed_at (λ (z : Master). z.birth) now n x now_rise at in
       let used : b ≡ stays y = is ∙ ap (λ (z : Master). is_held members z || list_any (λ (u : Master). is_option z.birth u.lessor) now) same ∙ ap (λ l. is_held members y || list_any (λ (u : Master). is_option y.birth u.lessor) l) here ∙ look ys y zs all in (
         (λ t. (ys, y ∷ zs, all, w.3, here ∙ ap (λ c. ys ++ cond c (y ∷ filter stays zs) (filter stays zs)) (sym t ∙ used))),
-        (λ f. (ys, y ∷ zs, all, w.3, ap (remove now) (sym w.3) ∙ ap (λ l. remove l (length ys)) here ∙ remove_behind ys y (filter stays zs) ∙ ap (λ c. ys ++ cond c (y ∷ filter stays zs) (filter stays zs)) (sym f ∙ used))),
+        (λ f. (ys, y ∷ zs, all, w.3, gone ∙ ap (remove now) (sym w.3) ∙ ap (λ l. remove l (length ys)) here ∙ remove_behind ys y (filter stays zs) ∙ ap (λ c. ys ++ cond c (y ∷ filter stays zs) (filter stays zs)) (sym f ∙ used))),
       )

@@ -3,30 +3,35 @@ use Rattle.std.proofs.Common.{◌≡◌, ℕ, ◌<◌, ◌≤◌, ◌==◌, Bool
 use Rattle.std.specs.Prelude.{if◌then◌else◌, IfSome}
 use Rattle.std.specs.List.{list_any, AllByRecursion}
 use Rattle.std.specs.Option.{is_some, option_map, option_map_or}
+use Rattle.std.specs.FinSet as set
 use Rattle.std.proofs.Math.Bool.{and-false}
 use Rattle.std.proofs.lemmas.List.{length-map}
 use Rattle.std.proofs.lemmas.Bool.{eqb-true, or_left, or_right}
 use Rattle.drm_lists.specs.Orders.{InOrder}
-use Rattle.drm_lists.proofs.Lists.{all_weaker, all_both, all_each, all_append, all_filter, all_mapped, filter-shorter, list_any-map, list_any_left, list_any_right, some_passing}
-use Rattle.drm_lists.proofs.Found.{is_some-find, find_none, find-same}
-use Rattle.drm_lists.proofs.Numbers.{less-differ}
+use Rattle.drm_lists.proofs.Lists.{all_weaker, all_both, all_each, all_append, all_filter, all_mapped, filter-shorter, list_any-map, list_any_agree, list_any_left, list_any_right, some_passing}
+use Rattle.drm_lists.proofs.Found.{is_some-find, none_found}
 use Rattle.drm_lists.proofs.Orders.{in_order_append, in_order_filter}
-use Rattle.drm_lists.proofs.Rising.{found, any_found, any_more, any_left, all_found, in_order_kept, in_order_mapped, in_order_both, each_is_there}
+use Rattle.drm_lists.proofs.Rising.{found, any_found, any_more, any_left, all_found, all_found_apart, in_order_kept, in_order_mapped, in_order_both, each_is_there}
 use Rattle.drm_masters.specs.declared.rows.Magic.{Magic}
 use Rattle.drm_masters.specs.declared.rows.Member.{Member}
 use Rattle.drm_masters.specs.declared.rows.Master.{Master}
-use Rattle.drm_masters.specs.Masters.{MasterSet, AreMasters, HaveOtherMagics, HasOlderLessor, is_client, is_birth, is_key, is_option, IsKeyOf, birth_at, member_of, master_at, is_held, is_living, has_magic, has_open_magic, swept}
+use Rattle.drm_masters.specs.Masters.{MasterSet, AreMasters, HaveOtherMagics, HasOlderLessor, is_client, is_birth, is_key, is_option, IsKeyOf, birth_at, member_of, master_at, owner_of, is_held, is_used, is_living, is_current, has_magic, has_open_magic, swept}
 use Rattle.drm_masters.specs.declared.masters.Masters.TheInside.{Inside}
 use Rattle.drm_masters.specs.Fields.{set_of, IsSound}
 use Rattle.drm_masters.specs.Calls.{with_member, with_master, with_device, without_member, changed_member, with_kept, with_magic, closed_own, released_under}
 use Rattle.drm_masters.proofs.Living.{both_true, and_true}
-use Rattle.drm_masters.proofs.Pushed.{kept_at, kept_there, kept_rise, kept_older, kept_used, same_used, there_too, new_there, pushed_older, pushed_used, over_there, over_rise, over_older}
+use Rattle.drm_masters.proofs.Pushed.{birth_stays, lessor_stays, kept_at, kept_there, kept_rise, kept_older, kept_used, same_used, there_too, new_there, pushed_older, pushed_used, over_there, over_lessors, over_rise, over_older, kept_lessors, pushed_owner}
 use Rattle.drm_masters.proofs.Released.{released, released_birth, released_lessor}
-use Rattle.drm_masters.proofs.Swept.{swept_older, swept_used, named_there}
+use Rattle.drm_masters.proofs.Upward.{OthersUsed, all_living_used}
+use Rattle.drm_masters.proofs.Flagged.{same_owners, under_same, one_more}
+use Rattle.drm_masters.proofs.Swept.{swept_older, swept_used, swept_owner, named_lives, named_there}
 use Rattle.drm_masters.proofs.Numbered.{no_magic, other_none, given_before, given_behind, spent_same}
 
 abbrev pub Keyed : List Master → Type 0
-Keyed ms = AllByRecursion (λ (x : Master). x.key ≡ x.birth) ms
+Keyed ms = InOrder (λ (x y : Master). (x.key == y.key) ≡ false) ms
+
+abbrev pub Flags : Inside → MasterSet → Type 0
+Flags a v = (c : ℕ) → set.contains a.members.clients.m0 c ≡ is_current v c
 
 abbrev MembersRise : List Member → Type 0
 MembersRise xs = InOrder (λ (x y : Member). x.client < y.client) xs
@@ -224,6 +229,25 @@ module _ (v : MasterSet) (a : AreMasters v) where
       few = gone_few;
     }
 
+    -- all masters are used yet, but it may be its own
+    pub gone_used : OthersUsed (filter (λ (y : Member). not (is_client x.client y)) v.members) v.masters x.master
+    gone_used =
+        all_weaker (λ (z : Master). is_used v.members v.masters z ≡ true) (λ (z : Master). (z.birth == x.master) ≡ false → is_used (filter (λ (y : Member). not (is_client x.client y)) v.members) v.masters z ≡ true)
+        (λ z used differs. still_used z differs used) v.masters (all_living_used v.members v.masters a.masters_rise a.lessors_older a.used)
+      where
+        flipped : (m n : ℕ) → (m == n) ≡ false → (n == m) ≡ false
+        flipped m n e = (elim (n == m) as (λ b. (n == m) ≡ b → b ≡ false) [ true ↦ λ k. absurd (let j : false ≡ true = sym e ∙ eq-eqb m n (sym (eqb-true n m k)) in cc) | false ↦ λ k. refl ]) refl
+
+        either : (a b c d : Bool) → (b ≡ true → d ≡ true) → ((a || b) || c) ≡ true → ((a || d) || c) ≡ true
+        either true b c d f h = h
+        either false true c d f h = ap (λ e. e || c) (f refl)
+        either false false c d f h = or_right d c h
+
+        still_used : (z : Master) → (z.birth == x.master) ≡ false → is_used v.members v.masters z ≡ true → is_used (filter (λ (y : Member). not (is_client x.client y)) v.members) v.masters z ≡ true
+        still_used z differs used =
+            either z.kept (list_any (λ (y : Member). y.master == z.birth) v.members) (list_any (λ (y : Master). is_option z.birth y.lessor) v.masters) (list_any (λ (y : Member). y.master == z.birth) (filter (λ (y : Member). not (is_client x.client y)) v.members))
+            (still_there (λ (y : Member). y.master == z.birth) (flipped z.birth x.master differs)) used
+
     -- whose own master stays
     pub own_are : AreMasters (closed_own x.client x.master v)
     own_are = record {
@@ -377,26 +401,78 @@ module _ (v : MasterSet) (a : AreMasters v) where
             (λ ux. by_row x new here refl (HaveOtherMagics new) w aw (λ wx. absurd (let one : u.client ≡ w.client = ap (λ (b : Member). b.client) (ux ∙ sym wx) in omega (arith, lt, one))) (λ k e. subst (λ (b : Member). HaveOtherMagics b w) ux h k (sym (as_it x.master k) ∙ e)))
             (by_row x new here refl (HaveOtherMagics u) w aw (λ wx k e. as_it u.master k ∙ ap (has_magic u.master k) (sym wx) ∙ h k e) h)
 
+-- a master that is kept no more is the one that may be unused
+pub released_used : (v : MasterSet) → AreMasters v → (m : ℕ) → OthersUsed v.members (with_kept m false v).masters m
+released_used v a m =
+    all_mapped (λ (z : Master). (z.birth == m) ≡ false → is_used v.members (with_kept m false v).masters z ≡ true) (kept_at m false) v.masters
+    (all_weaker (λ (z : Master). is_used v.members v.masters z ≡ true) (λ (z : Master). ((kept_at m false z).birth == m) ≡ false → is_used v.members (with_kept m false v).masters (kept_at m false z) ≡ true)
+    (λ z used differs.
+    let other : (z.birth == m) ≡ false = ap (λ n. n == m) (sym (birth_stays m false z)) ∙ differs in
+    let same : kept_at m false z ≡ z = ap (λ b. if b then record z { kept = false } else z) other in
+    ap (λ (u : Master). is_used v.members (with_kept m false v).masters u) same ∙ ap (λ b. is_held v.members z || b) (list_any-map (λ (y : Master). is_option z.birth y.lessor) (kept_at m false) v.masters ∙ list_any_agree (λ (y : Master). is_option z.birth (kept_at m false y).lessor) (λ (y : Master). is_option z.birth y.lessor) (λ y. ap (is_option z.birth) (lessor_stays m false y)) v.masters) ∙ used
+    ) v.masters (all_living_used v.members v.masters a.masters_rise a.lessors_older a.used))
+
+-- ---- who is current
+
+-- a sweep makes nobody current, and takes it from nobody
+pub swept_same : (v : MasterSet) → AreTied v → (c : ℕ) → is_current (swept v) c ≡ is_current v c
+swept_same v t =
+    same_owners v.members v.masters (swept v).masters v.device_master
+    (all_both (λ (x : Member). is_some (master_at v.masters x.master) ≡ true) (λ (x : Member). list_any (λ (y : Member). y.master == x.master) v.members ≡ true) (λ (x : Member). owner_of (swept v).masters x.master ≡ owner_of v.masters x.master)
+    (λ x there named. swept_owner v.members v.masters t.masters_rise t.lessors_older x.master (named_lives v.members v.masters t.masters_rise t.lessors_older x there named)) v.members t.masters_there (each_is_there (λ (x : Member). x.master) v.members))
+
+-- nor does a new master
+pub pushed_same : (v : MasterSet) → AreMasters v → (z : Master) → AllByRecursion (λ (x : Master). x.birth < z.birth) v.masters → (c : ℕ) → is_current (with_master z v) c ≡ is_current v c
+pushed_same v a z newest =
+    same_owners v.members v.masters (v.masters ++ z ∷ []) v.device_master
+    (all_weaker (λ (x : Member). is_some (master_at v.masters x.master) ≡ true) (λ (x : Member). owner_of (v.masters ++ z ∷ []) x.master ≡ owner_of v.masters x.master) (λ x there. pushed_owner v.masters z newest a.lessors_older x.master there) v.members a.masters_there)
+
+-- nor whether masters are kept
+pub kept_same : (v : MasterSet) (m : ℕ) (kept : Bool) → (c : ℕ) → is_current (with_kept m kept v) c ≡ is_current v c
+kept_same v m kept = under_same v.members v.masters (with_kept m kept v).masters v.device_master (kept_lessors m kept v.masters)
+
+pub released_same : (v : MasterSet) (top : ℕ) → (c : ℕ) → is_current (released_under top v) c ≡ is_current v c
+released_same v top = under_same v.members v.masters (released_under top v).masters v.device_master (over_lessors (released v.masters top) (released_birth v.masters top) (released_lessor v.masters top) v.masters)
+
+-- a client that is no master is not current
+pub guest_same : (v : MasterSet) (y : Member) → y.is_master ≡ false → AllByRecursion (λ (x : Member). x.client < y.client) v.members → (c : ℕ) → is_current (with_member y v) c ≡ is_current v c
+guest_same v y own newest c =
+    one_more v.members y v.masters v.device_master newest c
+    ∙ ap (λ b. ((c == y.client) && (b && is_option (owner_of v.masters y.master) v.device_master)) || is_current v c) own ∙ ap (λ b. b || is_current v c) (and-false (c == y.client))
+
 -- ---- the fields
 
 -- the fields stand for a set of which all of it is so
-pub sound : (a : Inside) (v : MasterSet) → set_of a ≡ v → AreMasters v → Keyed v.masters → IsSound a
-sound a v e are keyed = record { are = subst AreMasters (sym e) are; keyed = subst (λ (w : MasterSet). Keyed w.masters) (sym e) keyed }
+pub sound : (a : Inside) (v : MasterSet) → set_of a ≡ v → AreMasters v → Keyed v.masters → Flags a v → IsSound a
+sound a v e are keyed flags = record {
+  are = subst AreMasters (sym e) are;
+  keyed = subst (λ (w : MasterSet). Keyed w.masters) (sym e) keyed;
+  flagged = λ c. flags c ∙ ap (λ (w : MasterSet). is_current w c) (sym e);
+}
 
 -- a master is found by its key
+each_keyed : (ms : List Master) → Keyed ms → AllByRecursion (λ (x : Master). find (is_key x.key) ms ≡ Some x) ms
+each_keyed ms keyed = all_found_apart (λ (x : Master). x.key) ms keyed
+
 pub keyed_found : (ms : List Master) (n : ℕ) (x : Master) → Keyed ms → master_at ms n ≡ Some x → IsKeyOf ms n x.key
 keyed_found ms n x keyed e =
-    let is = found (is_birth n) (λ (y : Master). y.key ≡ y.birth) x ms keyed e in
-    let num : x.birth ≡ n = eqb-true x.birth n is.0 in
-    ap (option_map (λ (y : Master). y.birth)) (ap (λ k. find (is_key k) ms) (is.1 ∙ num) ∙ find-same (is_key n) (is_birth n) ms (all_weaker (λ (y : Master). y.key ≡ y.birth) (λ y. is_key n y ≡ is_birth n y) (λ y k. ap (λ j. j == n) k) ms keyed) ∙ e) ∙ ap Some num
+    let is = found (is_birth n) (λ (y : Master). find (is_key y.key) ms ≡ Some y) x ms (each_keyed ms keyed) e in
+    ap (option_map (λ (y : Master). y.birth)) is.1 ∙ ap Some (eqb-true x.birth n is.0)
 
 pub keyed_at : (ms : List Master) (n : ℕ) → Keyed ms → (o : Option Master) → o ≡ master_at ms n → IfSome o (λ x. IsKeyOf ms n x.key)
 keyed_at ms n keyed None e = tt
 keyed_at ms n keyed (Some x) e = keyed_found ms n x keyed (sym e)
 
-pub keyed_each : (ms : List Master) → Keyed ms → InOrder (λ (x y : Master). x.birth < y.birth) ms → (p : Master → Bool) (o : Option Master) → o ≡ find p ms → IfSome o (λ x. IsKeyOf ms x.birth x.key)
-keyed_each ms keyed rise p None e = tt
-keyed_each ms keyed rise p (Some x) e = keyed_found ms x.birth x keyed (found p (λ (y : Master). master_at ms y.birth ≡ Some y) x ms (all_found (λ (y : Master). y.birth) ms rise) (sym e)).1
+pub keyed_each : (ms : List Master) → Keyed ms → (p : Master → Bool) (o : Option Master) → o ≡ find p ms → IfSome o (λ x. IsKeyOf ms x.birth x.key)
+keyed_each ms keyed p None e = tt
+keyed_each ms keyed p (Some x) e = ap (option_map (λ (y : Master). y.birth)) (found p (λ (y : Master). find (is_key y.key) ms ≡ Some y) x ms (each_keyed ms keyed) (sym e)).1
+
+-- a master comes under a key that none has
+pub keyed_more : (ms : List Master) (z : Master) (k : ℕ) → Keyed ms → find (is_key k) ms ≡ None → z.key ≡ k → Keyed (ms ++ z ∷ [])
+keyed_more ms z k keyed free is = in_order_append (λ (x y : Master). (x.key == y.key) ≡ false) ms z keyed (all_weaker (λ (x : Master). is_key k x ≡ false) (λ (x : Master). (x.key == z.key) ≡ false) (λ x e. ap (λ n. x.key == n) is ∙ e) ms (none_found (is_key k) ms free))
+
+pub keyed_fewer : (ms : List Master) (p : Master → Bool) → Keyed ms → Keyed (filter p ms)
+keyed_fewer ms p keyed = in_order_filter (λ (x y : Master). (x.key == y.key) ≡ false) p ms keyed
 
 -- what is found has the number, and is found by it
 pub client_found : (xs : List Member) (c : ℕ) (x : Member) → member_of xs c ≡ Some x → (x.client ≡ c) × (member_of xs x.client ≡ Some x)
@@ -409,15 +485,12 @@ pub some_is : {X : Type 0} (o : Option X) → is_some o ≡ true → (x : X) × 
 some_is {X = X} None h = absurd (let e : false ≡ true = h in cc)
 some_is (Some x) h = (x, refl)
 
--- a new birth is a new key
-pub free_key : (ms : List Master) (b : ℕ) → Keyed ms → AllByRecursion (λ (x : Master). x.birth < b) ms → find (is_key b) ms ≡ None
-free_key ms b keyed newest = find_none (is_key b) ms (all_both (λ (x : Master). x.key ≡ x.birth) (λ (x : Master). x.birth < b) (λ x. is_key b x ≡ false) (λ x e lt. ap (λ k. k == b) e ∙ less-differ x.birth b lt) ms keyed newest)
-
--- the master of a key, which is its birth
-pub of_key : (ms : List Master) (key : ℕ) (x : Master) → Keyed ms → find (is_key key) ms ≡ Some x → (x.key ≡ x.birth) × (birth_at ms key ≡ x.birth) × (is_some (master_at ms x.birth) ≡ true)
-of_key ms key x keyed e =
-    let w = found (is_key key) (λ (y : Master). y.key ≡ y.birth) x ms keyed e in
-    (w.1, ap (λ o. option_map_or (λ (y : Master). y.birth) o 0) e, is_some-find (is_birth x.birth) ms ∙ any_found (is_key key) (is_birth x.birth) x ms e (eq-eqb x.birth x.birth refl))
+-- the master of a key
+pub of_key : (ms : List Master) (key : ℕ) (x : Master) → find (is_key key) ms ≡ Some x → (birth_at ms key ≡ x.birth) × (is_some (master_at ms x.birth) ≡ true)
+of_key ms key x e = (
+  ap (λ o. option_map_or (λ (y : Master). y.birth) o 0) e,
+  is_some-find (is_birth x.birth) ms ∙ any_found (is_key key) (is_birth x.birth) x ms e (eq-eqb x.birth x.birth refl),
+)
 
 -- what a birth finds has it
 pub at_birth : (ms : List Master) (m : ℕ) (x : Master) → master_at ms m ≡ Some x → (x.birth ≡ m) × (master_at ms x.birth ≡ Some x)

@@ -10,8 +10,9 @@ use Rattle.drm_lists.proofs.Chains.{itself, same_chain}
 use Rattle.drm_lists.proofs.Rising.{found, all_found, find_where}
 use Rattle.drm_masters.specs.declared.rows.Member.{Member}
 use Rattle.drm_masters.specs.declared.rows.Master.{Master}
-use Rattle.drm_masters.specs.Masters.{is_birth, master_at, lessor_of, is_held, is_living, HasOlderLessor}
+use Rattle.drm_masters.specs.Masters.{is_birth, master_at, lessor_of, owner_of, is_held, is_living, HasOlderLessor}
 use Rattle.drm_masters.proofs.Living.{Rise, Older, living_by, held_below, lessor_lives}
+use Rattle.drm_masters.proofs.Flagged.{owner_stays}
 
 module _ (members : List Member) (ms : List Master) (rise : Rise ms) (older : Older ms) where
   abbrev left : List Master
@@ -40,9 +41,13 @@ module _ (members : List Member) (ms : List Master) (rise : Rise ms) (older : Ol
       (ap is_some (at_is l (lessor_lives ms members rise older x.birth l lives (ap (option_and_then (λ (z : Master). z.lessor)) h.1 ∙ e))) ∙ k.0, k.1)) left (all_filter WithLessor (λ (x : Master). is_living members ms x.birth) ms with_lessors)
       (filter_true (λ (x : Master). is_living members ms x.birth) ms)
 
+  -- a master that stays has its owner yet
+  pub swept_owner : (n : ℕ) → is_living members ms n ≡ true → owner_of left n ≡ owner_of ms n
+  swept_owner n lives = owner_stays (λ k. is_living members ms k ≡ true) ms left lessors_are (λ k l p e. lessor_lives ms members rise older k l p e) n lives
+
   -- a master that a client names stays
-  pub named_there : (y : Member) → is_some (master_at ms y.master) ≡ true → list_any (λ (z : Member). z.master == y.master) members ≡ true → is_some (master_at left y.master) ≡ true
-  named_there y there named = ap is_some (at_is y.master (lives (master_at ms y.master) refl there)) ∙ there
+  pub named_lives : (y : Member) → is_some (master_at ms y.master) ≡ true → list_any (λ (z : Member). z.master == y.master) members ≡ true → is_living members ms y.master ≡ true
+  named_lives y there named = lives (master_at ms y.master) refl there
     where
       lives : (o : Option Master) → master_at ms y.master ≡ o → is_some o ≡ true → is_living members ms y.master ≡ true
       lives None e h = absurd (let n : false ≡ true = h in cc)
@@ -51,6 +56,9 @@ module _ (members : List Member) (ms : List Master) (rise : Rise ms) (older : Ol
           let here : master_at ms x.birth ≡ Some x = ap (master_at ms) num ∙ e in
           let held : is_held members x ≡ true = or_right x.kept (list_any (λ (z : Member). z.master == x.birth) members) (ap (λ n. list_any (λ (z : Member). z.master == n) members) num ∙ named) in
           subst (λ n. is_living members ms n ≡ true) num (living_by ms members x.birth x here held (itself (lessor_of ms) x.birth x.birth))
+
+  pub named_there : (y : Member) → is_some (master_at ms y.master) ≡ true → list_any (λ (z : Member). z.master == y.master) members ≡ true → is_some (master_at left y.master) ≡ true
+  named_there y there named = ap is_some (at_is y.master (named_lives y there named)) ∙ there
 
   pub swept_used : AllByRecursion (λ (x : Master). is_living members left x.birth ≡ true) left
   swept_used = all_weaker (λ (x : Master). is_living members ms x.birth ≡ true) (λ (x : Master). is_living members left x.birth ≡ true) (λ x e. stays x.birth e) left (filter_true (λ (x : Master). is_living members ms x.birth) ms)

@@ -49,6 +49,9 @@ guest c m = record { client = c; once_master = false; is_master = false; master 
 abbrev pub redeemer : ℕ → ℕ → Member
 redeemer c m = record { client = c; once_master = false; is_master = true; master = m; magic = None }
 
+abbrev pub keyed_as : ℕ → Master → Master
+keyed_as key x = record x { key = key }
+
 -- changes
 
 abbrev pub with_member : Member → MasterSet → MasterSet

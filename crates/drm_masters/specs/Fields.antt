@@ -1,20 +1,23 @@
 -- What the fields of the masters stand for.
-use Rattle.std.specs.Prelude.{◌≡◌}
-use Rattle.std.specs.List.{AllByRecursion}
+use Rattle.std.specs.Prelude.{◌≡◌, ◌==◌, ℕ, false}
+use Rattle.std.specs.FinSet as set
+use Rattle.drm_lists.specs.Orders.{InOrder}
 use Rattle.drm_masters.specs.declared.rows.Master.{Master}
 use Rattle.drm_masters.specs.declared.masters.Masters.TheInside.{Inside}
-use Rattle.drm_masters.specs.Masters.{MasterSet, AreMasters}
+use Rattle.drm_masters.specs.Masters.{MasterSet, AreMasters, is_current}
+use Rattle.drm_masters.specs.Tables.{members_in}
 
 abbrev pub set_of : Inside → MasterSet
 set_of a = record {
-  members = a.members.items;
+  members = members_in a.members.clients.items;
   masters = a.masters.items;
   device_master = a.device_master;
   last_magic = a.last_magic;
   last_lessee = a.last_lessee;
 }
 
--- a master's key is its birth yet
+-- no two masters have one key, and those clients are flagged that are current
 pub record IsSound (a : Inside) : Type 0 where
   pub are : AreMasters (set_of a)
-  pub keyed : AllByRecursion (λ (x : Master). x.key ≡ x.birth) a.masters.items
+  pub keyed : InOrder (λ (x y : Master). (x.key == y.key) ≡ false) a.masters.items
+  pub flagged : (c : ℕ) → set.contains a.members.clients.m0 c ≡ is_current (set_of a) c

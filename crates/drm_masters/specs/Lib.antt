@@ -1,3 +1,5 @@
 pub mod Masters
 pub mod Calls
 pub mod Fields
+pub mod Tables
+pub mod Records

@@ -73,8 +73,11 @@ abbrev pub depth_of : List Master → ℕ → ℕ
 depth_of masters m = chains.depth_of (lessor_of masters) m
 
 -- current: a client that is a master, whose master's owner is the device's
+abbrev pub is_current_among : List Master → Option ℕ → Member → Bool
+is_current_among masters device x = x.is_master && is_option (owner_of masters x.master) device
+
 abbrev pub is_current_member : MasterSet → Member → Bool
-is_current_member v x = x.is_master && is_option (owner_of v.masters x.master) v.device_master
+is_current_member v x = is_current_among v.masters v.device_master x
 
 abbrev pub is_current : MasterSet → ℕ → Bool
 is_current v c = option_map_or (is_current_member v) (member_of v.members c) false
@@ -84,6 +87,10 @@ is_current v c = option_map_or (is_current_member v) (member_of v.members c) fal
 -- whether it is kept, or a client names it
 abbrev pub is_held : List Member → Master → Bool
 is_held members x = x.kept || list_any (λ (y : Member). y.master == x.birth) members
+
+-- whether it is held, or some master's lessor
+abbrev pub is_used : List Member → List Master → Master → Bool
+is_used members masters x = is_held members x || list_any (λ (y : Master). is_option x.birth y.lessor) masters
 
 -- whether the master or one below it is held
 abbrev pub is_living : List Member → List Master → ℕ → Bool

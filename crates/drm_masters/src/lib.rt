@@ -1,11 +1,14 @@
 //! Clients, the masters that they stand to, and magics: who may set modes (drm(7), masters; drm-uapi, leases).
 #![tactic(auto)]
 
+mod current;
 mod faults;
 mod masters;
+mod members;
 mod rows;
 mod searches;
 mod sweeps;
+mod table;
 mod writes;
 
 pub use faults::{LesseeFault, NoMemory, SetDone, SetFault};

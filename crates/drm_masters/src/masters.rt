@@ -6,17 +6,17 @@ ghost use Rattle.drm_lists.specs.Chains as chains;
 ghost use Rattle.drm_masters.specs.Masters as sets;
 ghost use Rattle.drm_masters.specs.Calls as calls;
 
+use crate::current::{flag_current, flag_if_current, unflag_where_device};
 use crate::faults::{LesseeFault, NoMemory, SetDone, SetFault};
+use crate::members::Members;
 use crate::rows::{Master, MasterKey, Member};
 use crate::searches::{
     depth_of, find_lessee, find_open_magic, free_lessee, free_magic, is_option, is_under,
-    lessor_of, master_at, master_of_key, member_of, owner_of,
+    lessor_of, owner_of,
 };
-use crate::sweeps::{release_all_under, sweep};
-use crate::writes::{
-    device_without, guest, lessee, own_master, owner, redeemer, remove_member, set_kept,
-    set_member, with_magic,
-};
+use crate::sweeps::{release_all_under, sweep, sweep_up};
+use crate::table::MasterTable;
+use crate::writes::{device_without, guest, lessee, own_master, owner, redeemer, with_magic};
 use drm_table::Rule;
 use std::alloc::Global;
 use std::marker::Model;
@@ -25,8 +25,8 @@ use std::marker::Model;
 /// master stays while it, or one below it, is kept or named by a client. Contracts see flat lists, in the order of births.
 #[derive(Drop)]
 pub struct Masters {
-    members: Vec<Member>,
-    masters: Vec<Master>,
+    members: Members,
+    masters: MasterTable,
     device_master: Option<u32>,
     last_magic: u32,
     last_lessee: u32,
@@ -51,8 +51,8 @@ impl Masters {
         ensures { result ≡ record { members = []; masters = []; device_master = None; last_magic = clients; last_lessee = lessees } }
     {
         Masters {
-            members: Vec::new(alloc),
-            masters: Vec::new(alloc),
+            members: Members::new(alloc),
+            masters: MasterTable::new(alloc),
             device_master: None,
             last_magic: clients,
             last_lessee: lessees,
@@ -71,15 +71,15 @@ impl Masters {
         ensures member { result ≡ sets.member_of self.now.members client }
         ensures are { sets.AreMasters self.now }
     {
-        member_of(&self.members, client)
+        self.members.get(client)
     }
 
     /// The key of a client's master, if it stands to one.
     pub fn master_of(&self, client: u32) -> Option<MasterKey>
         ensures { result ≡ option_and_then (λ x. sets.key_of self.now.masters x.master) (sets.member_of self.now.members client) }
     {
-        let member = member_of(&self.members, client)?;
-        let master = master_at(&self.masters, member.master)?;
+        let member = self.members.get(client)?;
+        let master = self.masters.at(member.master)?;
         Some(master.key)
     }
 
@@ -88,7 +88,7 @@ impl Masters {
         ensures master { result ≡ sets.master_at self.now.masters birth }
         ensures keyed { IfSome result (λ x. sets.IsKeyOf self.now.masters birth x.key) }
     {
-        master_at(&self.masters, birth)
+        self.masters.at(birth)
     }
 
     /// Whether a master is the one named top, or below it. Masters are named by the numbers of the steps that made them. It
@@ -112,9 +112,9 @@ impl Masters {
         requires { sets.is_there self.now.masters master ≡ true }
         ensures { result ≡ option_and_then (sets.key_of self.now.masters) (sets.lessor_of self.now.masters (sets.birth_at self.now.masters master)) }
     {
-        let birth = master_of_key(&self.masters, master)?.birth;
+        let birth = self.masters.of_key(master)?.birth;
         let lessor = lessor_of(&self.masters, birth)?;
-        Some(master_at(&self.masters, lessor)?.key)
+        Some(self.masters.at(lessor)?.key)
     }
 
     /// Whether a client's master has a lessor (drm-uapi, leases). It is false of a client that stands to no master. It takes
@@ -122,7 +122,7 @@ impl Masters {
     pub fn is_lessee(&self, client: u32) -> bool
         ensures { result ≡ option_map_or (λ x. sets.is_lessee self.now.masters x.master) (sets.member_of self.now.members client) false }
     {
-        match member_of(&self.members, client) {
+        match self.members.get(client) {
             Some(member) => lessor_of(&self.masters, member.master).is_some(),
             None => false,
         }
@@ -140,16 +140,7 @@ impl Masters {
     pub fn is_current(&self, client: u32) -> bool
         ensures { result ≡ sets.is_current self.now client }
     {
-        match member_of(&self.members, client) {
-            Some(member) => self.is_current_member(member),
-            None => false,
-        }
-    }
-
-    fn is_current_member(&self, member: Member) -> bool
-        ensures { result ≡ sets.is_current_member self.now member }
-    {
-        member.is_master && is_option(owner_of(&self.masters, member.master), self.device_master)
+        self.members.is_flagged(client)
     }
 
     /// Adds a client that opened the primary node. While the device has no master the client gets a new one, made by the
@@ -163,19 +154,21 @@ impl Masters {
         ensures ok { OnOk result (calls.Opened self.old client birth self.old.device_master self.new) }
         ensures err { OnErr result (self.new ≡ self.old) }
     {
-        if self.members.reserve(1).is_err() {
-            return Err(NoMemory);
-        }
         if let Some(master) = self.device_master {
-            self.members.push_reserved(guest(client, master));
+            if let Err(NoMemory) = self.members.add(guest(client, master)) {
+                return Err(NoMemory);
+            }
             return Ok(false);
         }
-        if self.masters.reserve(1).is_err() {
+        if let Err(NoMemory) = self.masters.insert(own_master(birth)) {
             return Err(NoMemory);
         }
-        self.masters.push_reserved(own_master(birth));
-        self.members.push_reserved(owner(client, birth));
+        if let Err(NoMemory) = self.members.add(owner(client, birth)) {
+            self.masters.remove(birth);
+            return Err(NoMemory);
+        }
         self.device_master = Some(birth);
+        flag_current(&mut self.members, &self.masters, self.device_master);
         Ok(true)
     }
 
@@ -188,14 +181,15 @@ impl Masters {
         ensures ok { OnOk result (self.new ≡ calls.redeemed client (sets.birth_at self.old.masters master) self.old) }
         ensures err { OnErr result (self.new ≡ self.old) }
     {
-        let Some(redeemed) = master_of_key(&self.masters, master) else {
+        let Some(redeemed) = self.masters.of_key(master) else {
             unreachable!()
         };
-        if self.members.reserve(1).is_err() {
+        let member = redeemer(client, redeemed.birth);
+        if let Err(NoMemory) = self.members.add(member) {
             return Err(NoMemory);
         }
-        self.members.push_reserved(redeemer(client, redeemed.birth));
-        set_kept(&mut self.masters, redeemed.birth, false);
+        self.masters.set_kept(redeemed.birth, false);
+        flag_if_current(&mut self.members, &self.masters, self.device_master, member);
         Ok(())
     }
 
@@ -209,13 +203,13 @@ impl Masters {
         requires new_birth { calls.IsNewBirth self.old birth }
         ensures { IfSome (sets.member_of self.old.members client) (λ x. calls.SetOf self.old x root birth result self.new) }
     {
-        let Some(member) = member_of(&self.members, client) else {
+        let Some(member) = self.members.get(client) else {
             unreachable!()
         };
         if !is_permitted(member, root) {
             return Err(SetFault::Denied(Rule::MasterPerm));
         }
-        if self.is_current_member(member) {
+        if self.members.is_flagged(client) {
             return Ok(SetDone::Already);
         }
         if self.device_master.is_some() {
@@ -231,6 +225,7 @@ impl Masters {
             return Err(SetFault::Denied(Rule::IsLessee));
         }
         self.device_master = Some(member.master);
+        flag_current(&mut self.members, &self.masters, self.device_master);
         Ok(SetDone::Again)
     }
 
@@ -242,19 +237,20 @@ impl Masters {
         requires { is_some (sets.member_of self.old.members client) ≡ true }
         ensures { IfSome (sets.member_of self.old.members client) (λ x. calls.DroppedBy self.old x root result self.new) }
     {
-        let Some(member) = member_of(&self.members, client) else {
+        let Some(member) = self.members.get(client) else {
             unreachable!()
         };
         if !is_permitted(member, root) {
             return Err(Rule::MasterPerm);
         }
-        if !self.is_current_member(member) {
+        if !self.members.is_flagged(client) {
             return Err(Rule::NotCurrent);
         }
         if lessor_of(&self.masters, member.master).is_some() {
             return Err(Rule::IsLessee);
         }
         self.device_master = None;
+        self.members.unflag_all();
         Ok(())
     }
 
@@ -265,7 +261,7 @@ impl Masters {
         ensures given { IfOk result (λ n. IfSome (sets.member_of self.old.members client) (λ x. calls.GaveMagic self.old x x.magic n self.new)) }
         ensures always { IsOk result }
     {
-        let Some(member) = member_of(&self.members, client) else {
+        let Some(member) = self.members.get(client) else {
             unreachable!()
         };
         if let Some(magic) = member.magic {
@@ -274,7 +270,7 @@ impl Masters {
         let Some(number) = free_magic(&self.members, member.master, self.last_magic) else {
             unreachable!()
         };
-        set_member(&mut self.members, with_magic(member, number, false));
+        self.members.set(with_magic(member, number, false));
         Ok(number)
     }
 
@@ -284,13 +280,13 @@ impl Masters {
         requires { is_some (sets.member_of self.old.members client) ≡ true }
         ensures { IfSome (sets.member_of self.old.members client) (λ x. calls.AuthenticatedBy self.old x.master number result self.new) }
     {
-        let Some(member) = member_of(&self.members, client) else {
+        let Some(member) = self.members.get(client) else {
             unreachable!()
         };
         let Some(found) = find_open_magic(&self.members, member.master, number) else {
             return Err(Rule::NoMagic);
         };
-        set_member(&mut self.members, with_magic(found, number, true));
+        self.members.set(with_magic(found, number, true));
         Ok(found.client)
     }
 
@@ -300,16 +296,17 @@ impl Masters {
     pub fn on_close(&mut self, client: u32) -> Option<MasterKey>
         ensures { calls.ClosedBy self.old (sets.member_of self.old.members client) result self.new }
     {
-        let member = member_of(&self.members, client)?;
-        remove_member(&mut self.members, client);
+        let member = self.members.get(client)?;
+        self.members.remove(client);
         if !member.is_master {
-            sweep(&self.members, &mut self.masters);
+            sweep_up(&self.members, &mut self.masters, member.master);
             return None;
         }
-        let Some(master) = master_at(&self.masters, member.master) else {
+        let Some(master) = self.masters.at(member.master) else {
             unreachable!()
         };
-        set_kept(&mut self.masters, member.master, true);
+        self.masters.set_kept(member.master, true);
+        unflag_where_device(&mut self.members, self.device_master, member.master);
         self.device_master = device_without(self.device_master, member.master);
         Some(master.key)
     }
@@ -326,17 +323,17 @@ impl Masters {
         requires new_birth { calls.IsNewBirth self.old birth }
         ensures { calls.MadeLessee self.old (sets.birth_at self.old.masters master) birth result self.new }
     {
-        let Some(lessor) = master_of_key(&self.masters, master) else {
+        let Some(lessor) = self.masters.of_key(master) else {
             unreachable!()
         };
         let Some(id) = self.free_lessee(lessor.birth) else {
             return Err(LesseeFault::Full);
         };
-        if self.masters.reserve(1).is_err() {
-            return Err(LesseeFault::NoMemory);
-        }
-        self.masters.push_reserved(lessee(birth, lessor.birth, id));
-        Ok((MasterKey::from_number(birth), id))
+        let key = match self.masters.insert(lessee(birth, lessor.birth, id)) {
+            Ok(key) => key,
+            Err(NoMemory) => return Err(LesseeFault::NoMemory),
+        };
+        Ok((key, id))
     }
 
     /// The lessee of this id among all of the master's owner. It takes no memory.
@@ -345,7 +342,7 @@ impl Masters {
         ensures lessee { result ≡ find (sets.is_lessee_of self.now.masters (sets.owner_of self.now.masters (sets.birth_at self.now.masters master)) id) self.now.masters }
         ensures keyed { IfSome result (λ x. sets.IsKeyOf self.now.masters x.birth x.key) }
     {
-        let birth = master_of_key(&self.masters, master)?.birth;
+        let birth = self.masters.of_key(master)?.birth;
         let owner = owner_of(&self.masters, birth);
         find_lessee(&self.masters, owner, id)
     }
@@ -370,11 +367,11 @@ impl Masters {
         requires { sets.is_there self.old.masters master ≡ true }
         ensures { self.new ≡ sets.swept (calls.with_kept (sets.birth_at self.old.masters master) false self.old) }
     {
-        let Some(released) = master_of_key(&self.masters, master) else {
+        let Some(released) = self.masters.of_key(master) else {
             unreachable!()
         };
-        set_kept(&mut self.masters, released.birth, false);
-        sweep(&self.members, &mut self.masters);
+        self.masters.set_kept(released.birth, false);
+        sweep_up(&self.members, &mut self.masters, released.birth);
     }
 
     /// Ends the stay of a master and of all below it, where they are kept. Each goes, and those above it, as far as nothing
@@ -391,32 +388,34 @@ impl Masters {
     pub fn nth_member(&self, place: usize) -> Option<Member>
         ensures { result ≡ slice_get self.now.members place }
     {
-        self.members.get(place).copied()
+        self.members.nth(place)
     }
 
     /// The master at a place, from 0, in the order of births; none past the last. It takes no memory.
     pub fn nth_master(&self, place: usize) -> Option<Master>
         ensures { result ≡ slice_get self.now.masters place }
     {
-        self.masters.get(place).copied()
+        self.masters.nth(place)
     }
 
-    // a new master of a client that is no master; the device has none
-    fn found(&mut self, client: u32, birth: u32) -> Result<(), NoMemory>
+    // a new master of a client that is no master, under this key; the device has none
+    fn found(&mut self, client: u32, birth: u32) -> Result<MasterKey, NoMemory>
+        requires none { self.old.device_master ≡ None }
         requires new_birth { calls.IsNewBirth self.old birth }
         requires present { is_some (sets.member_of self.old.members client) ≡ true }
-        ensures ok { OnOk result (self.new ≡ calls.remade client birth birth self.old) }
-        ensures free { OnOk result (calls.IsFreeKey self.old birth) }
+        ensures ok { IfOk result (λ key. self.new ≡ calls.remade client key birth self.old) }
+        ensures free { IfOk result (λ key. calls.IsFreeKey self.old key) }
         ensures err { OnErr result (self.new ≡ self.old) }
     {
-        if self.masters.reserve(1).is_err() {
-            return Err(NoMemory);
-        }
-        self.masters.push_reserved(own_master(birth));
-        set_member(&mut self.members, owner(client, birth));
+        let key = match self.masters.insert(own_master(birth)) {
+            Ok(key) => key,
+            Err(NoMemory) => return Err(NoMemory),
+        };
+        self.members.set(owner(client, birth));
         self.device_master = Some(birth);
         sweep(&self.members, &mut self.masters);
-        Ok(())
+        flag_current(&mut self.members, &self.masters, self.device_master);
+        Ok(key)
     }
 }
 

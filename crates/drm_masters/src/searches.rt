@@ -5,59 +5,26 @@ ghost use Rattle.std.specs.List.{list_any, AllByRecursion};
 ghost use Rattle.drm_index_array.specs.Least.{least};
 ghost use Rattle.drm_lists.specs.Chains as chains;
 ghost use Rattle.drm_masters.specs.Masters as sets;
+ghost use Rattle.drm_masters.specs.Tables.{members_in};
 
-use crate::rows::{Master, MasterKey, Member};
-
-/// How a client stands to masters, if it does.
-pub fn member_of(members: &[Member], client: u32) -> Option<Member>
-    ensures { result ≡ sets.member_of members.now client }
-{
-    for member in members {
-        if member.client == client {
-            return Some(*member);
-        }
-    }
-    None
-}
-
-/// The master of a birth, if it is there.
-pub fn master_at(masters: &[Master], birth: u32) -> Option<Master>
-    ensures { result ≡ sets.master_at masters.now birth }
-{
-    for master in masters {
-        if master.birth == birth {
-            return Some(*master);
-        }
-    }
-    None
-}
-
-/// The master of a key, if it is there.
-pub fn master_of_key(masters: &[Master], key: MasterKey) -> Option<Master>
-    ensures { result ≡ find (sets.is_key key) masters.now }
-{
-    for master in masters {
-        if master.key == key {
-            return Some(*master);
-        }
-    }
-    None
-}
+use crate::members::Members;
+use crate::rows::{Master, Member};
+use crate::table::MasterTable;
 
 /// The lessor of a master, if it is a lessee.
-pub fn lessor_of(masters: &[Master], birth: u32) -> Option<u32>
-    ensures { result ≡ sets.lessor_of masters.now birth }
+pub fn lessor_of(masters: &MasterTable, birth: u32) -> Option<u32>
+    ensures { result ≡ sets.lessor_of masters.now.items birth }
 {
-    match master_at(masters, birth) {
+    match masters.at(birth) {
         Some(master) => master.lessor,
         None => None,
     }
 }
 
 /// The top of a master's chain of lessors.
-pub fn owner_of(masters: &[Master], birth: u32) -> u32
-    requires older { AllByRecursion (sets.HasOlderLessor masters.now) masters.now }
-    ensures { result ≡ sets.owner_of masters.now birth }
+pub fn owner_of(masters: &MasterTable, birth: u32) -> u32
+    requires older { AllByRecursion (sets.HasOlderLessor masters.now.items) masters.now.items }
+    ensures { result ≡ sets.owner_of masters.now.items birth }
 {
     match lessor_of(masters, birth) {
         Some(lessor) => owner_of(masters, lessor),
@@ -66,9 +33,9 @@ pub fn owner_of(masters: &[Master], birth: u32) -> u32
 }
 
 /// How many lessors stand above a master. There are no more than its birth comes to, since each is older.
-pub fn depth_of(masters: &[Master], birth: u32) -> u32
-    requires older { AllByRecursion (sets.HasOlderLessor masters.now) masters.now }
-    ensures { result ≡ sets.depth_of masters.now birth }
+pub fn depth_of(masters: &MasterTable, birth: u32) -> u32
+    requires older { AllByRecursion (sets.HasOlderLessor masters.now.items) masters.now.items }
+    ensures { result ≡ sets.depth_of masters.now.items birth }
 {
     match lessor_of(masters, birth) {
         Some(lessor) => depth_of(masters, lessor) + 1,
@@ -77,9 +44,9 @@ pub fn depth_of(masters: &[Master], birth: u32) -> u32
 }
 
 /// Whether a master is the one named top, or below it.
-pub fn is_under(masters: &[Master], top: u32, birth: u32) -> bool
-    requires older { AllByRecursion (sets.HasOlderLessor masters.now) masters.now }
-    ensures { result ≡ chains.is_under (sets.lessor_of masters.now) top birth }
+pub fn is_under(masters: &MasterTable, top: u32, birth: u32) -> bool
+    requires older { AllByRecursion (sets.HasOlderLessor masters.now.items) masters.now.items }
+    ensures { result ≡ chains.is_under (sets.lessor_of masters.now.items) top birth }
 {
     if birth == top {
         return true;
@@ -91,10 +58,13 @@ pub fn is_under(masters: &[Master], top: u32, birth: u32) -> bool
 }
 
 /// Whether a client names the master.
-pub fn is_named(members: &[Member], master: u32) -> bool
-    ensures { result ≡ list_any (λ x. x.master == master) members.now }
+pub fn is_named(members: &Members, master: u32) -> bool
+    ensures { result ≡ list_any (λ x. x.master == master) (members_in members.now.clients.items) }
 {
-    for member in members {
+    for place in 0..members.len() {
+        let Some(member) = members.nth(place) else {
+            unreachable!()
+        };
         if member.master == master {
             return true;
         }
@@ -103,10 +73,13 @@ pub fn is_named(members: &[Member], master: u32) -> bool
 }
 
 /// Whether a master names it as its lessor.
-pub fn has_lessee(masters: &[Master], lessor: u32) -> bool
-    ensures { result ≡ list_any (λ x. sets.is_option lessor x.lessor) masters.now }
+pub fn has_lessee(masters: &MasterTable, lessor: u32) -> bool
+    ensures { result ≡ list_any (λ x. sets.is_option lessor x.lessor) masters.now.items }
 {
-    for master in masters {
+    for place in 0..masters.len() {
+        let Some(master) = masters.nth(place) else {
+            unreachable!()
+        };
         if is_option(lessor, master.lessor) {
             return true;
         }
@@ -125,12 +98,15 @@ pub fn is_option(number: u32, option: Option<u32>) -> bool
 }
 
 /// The client that has the number under the master, unspent.
-pub fn find_open_magic(members: &[Member], master: u32, number: u32) -> Option<Member>
-    ensures { result ≡ find (sets.has_open_magic master number) members.now }
+pub fn find_open_magic(members: &Members, master: u32, number: u32) -> Option<Member>
+    ensures { result ≡ find (sets.has_open_magic master number) (members_in members.now.clients.items) }
 {
-    for member in members {
-        if has_open_magic(*member, master, number) {
-            return Some(*member);
+    for place in 0..members.len() {
+        let Some(member) = members.nth(place) else {
+            unreachable!()
+        };
+        if has_open_magic(member, master, number) {
+            return Some(member);
         }
     }
     None
@@ -155,11 +131,14 @@ fn has_magic(member: Member, master: u32, number: u32) -> bool
 }
 
 /// Whether a client has the number under the master.
-pub fn is_magic(members: &[Member], master: u32, number: u32) -> bool
-    ensures { result ≡ list_any (sets.has_magic master number) members.now }
+pub fn is_magic(members: &Members, master: u32, number: u32) -> bool
+    ensures { result ≡ list_any (sets.has_magic master number) (members_in members.now.clients.items) }
 {
-    for member in members {
-        if has_magic(*member, master, number) {
+    for place in 0..members.len() {
+        let Some(member) = members.nth(place) else {
+            unreachable!()
+        };
+        if has_magic(member, master, number) {
             return true;
         }
     }
@@ -167,8 +146,8 @@ pub fn is_magic(members: &[Member], master: u32, number: u32) -> bool
 }
 
 /// The least number up to the last that no client has under the master.
-pub fn free_magic(members: &[Member], master: u32, last: u32) -> Option<u32>
-    ensures { result ≡ least (λ n. not (list_any (sets.has_magic master n) members.now)) 1 last }
+pub fn free_magic(members: &Members, master: u32, last: u32) -> Option<u32>
+    ensures { result ≡ least (λ n. not (list_any (sets.has_magic master n) (members_in members.now.clients.items))) 1 last }
 {
     for number in 1..=last {
         if !is_magic(members, master, number) {
@@ -179,29 +158,32 @@ pub fn free_magic(members: &[Member], master: u32, last: u32) -> Option<u32>
 }
 
 /// The lessee of this id under the owner.
-pub fn find_lessee(masters: &[Master], owner: u32, id: u32) -> Option<Master>
-    requires older { AllByRecursion (sets.HasOlderLessor masters.now) masters.now }
-    ensures { result ≡ find (sets.is_lessee_of masters.now owner id) masters.now }
+pub fn find_lessee(masters: &MasterTable, owner: u32, id: u32) -> Option<Master>
+    requires older { AllByRecursion (sets.HasOlderLessor masters.now.items) masters.now.items }
+    ensures { result ≡ find (sets.is_lessee_of masters.now.items owner id) masters.now.items }
 {
-    for master in masters {
-        if is_lessee_of(masters, *master, owner, id) {
-            return Some(*master);
+    for place in 0..masters.len() {
+        let Some(master) = masters.nth(place) else {
+            unreachable!()
+        };
+        if is_lessee_of(masters, master, owner, id) {
+            return masters.nth(place);
         }
     }
     None
 }
 
-fn is_lessee_of(masters: &[Master], master: Master, owner: u32, id: u32) -> bool
-    requires older { AllByRecursion (sets.HasOlderLessor masters.now) masters.now }
-    ensures { result ≡ sets.is_lessee_of masters.now owner id master }
+fn is_lessee_of(masters: &MasterTable, master: Master, owner: u32, id: u32) -> bool
+    requires older { AllByRecursion (sets.HasOlderLessor masters.now.items) masters.now.items }
+    ensures { result ≡ sets.is_lessee_of masters.now.items owner id master }
 {
     master.lessor.is_some() && master.lessee_id == id && owner_of(masters, master.birth) == owner
 }
 
 /// The least id up to the last that no lessee has under the owner.
-pub fn free_lessee(masters: &[Master], owner: u32, last: u32) -> Option<u32>
-    requires older { AllByRecursion (sets.HasOlderLessor masters.now) masters.now }
-    ensures { result ≡ least (λ id. not (list_any (sets.is_lessee_of masters.now owner id) masters.now)) 1 last }
+pub fn free_lessee(masters: &MasterTable, owner: u32, last: u32) -> Option<u32>
+    requires older { AllByRecursion (sets.HasOlderLessor masters.now.items) masters.now.items }
+    ensures { result ≡ least (λ id. not (list_any (sets.is_lessee_of masters.now.items owner id) masters.now.items)) 1 last }
 {
     for id in 1..=last {
         let Some(_taken) = find_lessee(masters, owner, id) else {

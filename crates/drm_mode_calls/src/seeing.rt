@@ -6,17 +6,27 @@ ghost use Rattle.drm_modes.specs.declared.kinds.Kind.TheVariants.{Crtc};
 ghost use Rattle.drm_state.specs.Seeing as views;
 
 use drm_modes::Kind;
-use drm_state::State;
+use drm_state::{State, has_universal};
 use drm_table::ShownList;
 
-/// Whether a client sees a fixed mode object (drm-uapi, leases): all see an encoder, and of the rest a client sees what its
-/// master controls: without a lessor all, else what its lease has. It takes no memory.
+/// Whether a client sees a fixed mode object (drm-uapi, leases and universal planes): all see an encoder, and of the rest a
+/// client sees what it controls, but primary and cursor planes with universal planes on alone. It takes no memory.
 pub(crate) fn sees(state: &State, client: u32, id: u32) -> bool
     ensures { result ≡ views.sees state.now client id }
 {
     if state.modes.is_of_kind(Kind::Encoder, id) {
         return true;
     }
+    if !controls(state, client, id) {
+        return false;
+    }
+    state.modes.crtc_of_plane(id).is_none() || has_universal(state, client)
+}
+
+/// Whether a client's master controls a fixed mode object: one without a lessor all, a lessee what its lease has.
+fn controls(state: &State, client: u32, id: u32) -> bool
+    ensures { result ≡ views.controls state.now client id }
+{
     match state.masters.member(client) {
         Some(member) => !state.masters.is_lessee(client) || state.leases.holds(member.master, id),
         None => false,

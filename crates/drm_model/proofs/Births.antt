@@ -6,7 +6,7 @@ use Rattle.drm_lists.specs.Orders.{InOrder}
 use Rattle.drm_lists.proofs.Lists.{all_weaker, all_append, all_filter}
 use Rattle.drm_lists.proofs.Orders.{in_order_filter, in_order_append}
 use Rattle.drm_table.specs.declared.calls.Call.{Call}
-use Rattle.drm_table.specs.declared.calls.Call.TheVariants.{AuthMagic, SetMaster, BufCreate, StampWrite, CreateDumb, CreateLease, RevokeLease}
+use Rattle.drm_table.specs.declared.calls.Call.TheVariants.{SetClientCap, AuthMagic, SetMaster, BufCreate, StampWrite, CreateDumb, CreateLease, RevokeLease}
 use Rattle.drm_table.specs.declared.events.Event.{Event}
 use Rattle.drm_table.specs.declared.events.Event.TheVariants.{Open, Ask, Close}
 use Rattle.drm_table.specs.declared.events.Opening.TheVariants.{Primary, Render, Lease}
@@ -17,6 +17,7 @@ use Rattle.drm_model.specs.Masters.{is_under}
 use Rattle.drm_model.specs.Magics.{own_master, magic_client, is_current, is_master, mastered, with_authenticated, with_master}
 use Rattle.drm_model.specs.Leases.{ended, lessee_master}
 use Rattle.drm_model.specs.Buffers.{with_object, with_stamp}
+use Rattle.drm_model.specs.Capabilities.{with_universal}
 use Rattle.drm_model.specs.Clients.{opened, opened_primary, closed, ended_own, ended_if}
 use Rattle.drm_model.specs.Calls.{meaning}
 use Rattle.drm_model.specs.Verdict.{verdict}
@@ -86,9 +87,9 @@ closed-births w c h =
     let u = ended_own w (client_row w c) in
     (turn-later client_birth w.steps _ (turn-filter client_birth _ w.steps w.clients h.0), turn-later master_birth w.steps u.masters k.1, turn-later object_birth w.steps u.objects k.2)
 
-opened_primary-births : (w : Rows) (root : Bool) (m : Option ℕ) → BirthsRise w.steps w → BirthsRise (birth w) (opened_primary w root m)
-opened_primary-births w root None h = (turn-push client_birth w.steps w.clients _ refl h.0, turn-push master_birth w.steps w.masters _ refl h.1, (later w h).2)
-opened_primary-births w root (Some m) h = (turn-push client_birth w.steps w.clients _ refl h.0, (later w h).1, (later w h).2)
+opened_primary-births : (w : Rows) (root universal : Bool) (m : Option ℕ) → BirthsRise w.steps w → BirthsRise (birth w) (opened_primary w root universal m)
+opened_primary-births w root universal None h = (turn-push client_birth w.steps w.clients _ refl h.0, turn-push master_birth w.steps w.masters _ refl h.1, (later w h).2)
+opened_primary-births w root universal (Some m) h = (turn-push client_birth w.steps w.clients _ refl h.0, (later w h).1, (later w h).2)
 
 -- another stamp is no other object
 stamped : (b : Bool) (row : ObjectRow) (stamp : ℕ) → (if b then record row { stamp = stamp } else row).object ≡ row.object
@@ -99,6 +100,10 @@ stamped false row stamp = refl
 authenticated : (b : Bool) (row : ClientRow) → client_birth (if b then record row { authenticated = true } else row) ≡ client_birth row
 authenticated true row = refl
 authenticated false row = refl
+
+capable : (b on : Bool) (row : ClientRow) → client_birth (if b then record row { universal = on } else row) ≡ client_birth row
+capable true on row = refl
+capable false on row = refl
 
 mastering : (b : Bool) (row : ClientRow) (m : ℕ) → client_birth (if b then record row { authenticated = true; once_master = true; is_master = true; master = Some m } else row) ≡ client_birth row
 mastering true row m = refl
@@ -116,10 +121,11 @@ mastered-births w c false false h = (
 
 -- a call that is not told here makes and takes no client, master or object
 asked-births : (w : Rows) (c : ℕ) (call : Call) → BirthsRise w.steps w → BirthsRise (birth w) (meaning w c call).rows
-unfolding meaning with_object with_stamp with_authenticated ended
+unfolding meaning with_object with_stamp with_authenticated with_universal ended
 asked-births w c (BufCreate size) h = ((later w h).0, (later w h).1, turn-push object_birth w.steps w.objects _ refl h.2)
 asked-births w c (CreateDumb width height bpp) h = ((later w h).0, (later w h).1, turn-push object_birth w.steps w.objects _ refl h.2)
 asked-births w c (StampWrite handle stamp) h = ((later w h).0, (later w h).1, turn-map object_birth _ (λ row. stamped (row.object == object_of w c handle) row stamp) (birth w) w.objects (later w h).2)
+asked-births w c (SetClientCap cap value) h = (turn-map client_birth _ (λ row. capable (is_client c row) (value == 1) row) (birth w) w.clients (later w h).0, (later w h).1, (later w h).2)
 asked-births w c (AuthMagic magic) h = (turn-map client_birth _ (λ row. authenticated (is_option row.client (magic_client w (own_master w c) magic)) row) (birth w) w.clients (later w h).0, (later w h).1, (later w h).2)
 asked-births w c SetMaster h = mastered-births w c (is_current w c) (is_master w c) h
 asked-births w c (CreateLease ids) h = ((later w h).0, turn-push master_birth w.steps w.masters _ refl h.1, (later w h).2)
@@ -132,9 +138,9 @@ asked-births w c call h = later w h
 
 pub changed-births : (w : Rows) (event : Event) → BirthsRise w.steps w → BirthsRise (birth w) (changed w event)
 unfolding changed opened
-changed-births w (Open (Primary root)) h = opened_primary-births w root w.device_master h
+changed-births w (Open (Primary root universal)) h = opened_primary-births w root universal w.device_master h
 changed-births w (Open Render) h = (turn-push client_birth w.steps w.clients _ refl h.0, (later w h).1, (later w h).2)
-changed-births w (Open (Lease token root)) h = (
+changed-births w (Open (Lease token root universal)) h = (
   turn-push client_birth w.steps w.clients _ refl h.0,
   turn-later master_birth w.steps _ (turn-map master_birth _ (λ row. untoken row (is_option token row.lease_token)) w.steps w.masters h.1),
   (later w h).2,

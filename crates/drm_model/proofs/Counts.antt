@@ -6,7 +6,7 @@ use Rattle.drm_lists.proofs.Lists.{filter-shorter}
 use Rattle.drm_table.specs.declared.audits.AuditKind.{AuditKind}
 use Rattle.drm_table.specs.declared.audits.AuditKind.TheVariants as kinds
 use Rattle.drm_table.specs.declared.calls.Call.{Call}
-use Rattle.drm_table.specs.declared.calls.Call.TheVariants.{GetMagic, GemClose, GemFlink, GemOpen, AuthMagic, SetMaster, DropMaster, PrimeHandleToFd, PrimeFdToHandle, BufCreate, StampWrite, TokenClose, SetCrtc, GetFb, AddFb, RmFb, CreateDumb, DestroyDumb, SetPlane, CreateLease, RevokeLease}
+use Rattle.drm_table.specs.declared.calls.Call.TheVariants.{SetClientCap, GetMagic, GemClose, GemFlink, GemOpen, AuthMagic, SetMaster, DropMaster, PrimeHandleToFd, PrimeFdToHandle, BufCreate, StampWrite, TokenClose, SetCrtc, GetFb, AddFb, RmFb, CreateDumb, DestroyDumb, SetPlane, CreateLease, RevokeLease}
 use Rattle.drm_table.specs.declared.events.Event.{Event}
 use Rattle.drm_table.specs.declared.events.Event.TheVariants.{Open, Ask, Close}
 use Rattle.drm_table.specs.declared.events.Opening.TheVariants.{Primary, Render, Lease}
@@ -16,11 +16,12 @@ use Rattle.drm_model.specs.Parts.{Part, Clients, Masters, Magics, Holds, Objects
 use Rattle.drm_model.specs.Births.{FewRows, most_in}
 use Rattle.drm_model.specs.Audit.{audit_rows}
 use Rattle.drm_model.specs.Rows.{Rows, ClientRow, birth, empty_rows, client_row, object_of, with_hold}
-use Rattle.drm_model.specs.Leases.{ended, grant, lessee_master}
+use Rattle.drm_model.specs.Leases.{ended, grant, leased, lessee_master}
 use Rattle.drm_model.specs.Buffers.{with_object, with_stamp}
 use Rattle.drm_model.specs.Sharing.{name_of, named, exported_object, prime_handle, imported, with_place}
 use Rattle.drm_model.specs.Magics.{own_master, magic_of, with_magic, is_current, is_master, mastered, with_authenticated, with_spent, with_master}
 use Rattle.drm_model.specs.Modes.{gives_handle, framebuffer_object}
+use Rattle.drm_model.specs.Capabilities.{with_universal}
 use Rattle.drm_model.specs.Clients.{opened, opened_primary, opened_lease, closed, ended_own, ended_if}
 use Rattle.drm_model.specs.Calls.{meaning}
 use Rattle.drm_model.specs.Verdict.{verdict}
@@ -80,12 +81,12 @@ unfolding count_in
 with_client-few w most row h Clients = few-push w.clients row most (h Clients)
 with_client-few w most row h part = later w most h part
 
-opened_primary-few : (w : Rows) (root : Bool) (m : Option ℕ) → FewRows w.steps w → (part : Part) → count_in part (opened_primary w root m) ≤ most_in part (birth w)
+opened_primary-few : (w : Rows) (root universal : Bool) (m : Option ℕ) → FewRows w.steps w → (part : Part) → count_in part (opened_primary w root universal m) ≤ most_in part (birth w)
 unfolding count_in
-opened_primary-few w root None h Clients = few-push w.clients _ w.steps (h Clients)
-opened_primary-few w root None h Masters = few-push w.masters _ w.steps (h Masters)
-opened_primary-few w root None h part = later w w.steps h part
-opened_primary-few w root (Some m) h part = with_client-few w w.steps _ h part
+opened_primary-few w root universal None h Clients = few-push w.clients _ w.steps (h Clients)
+opened_primary-few w root universal None h Masters = few-push w.masters _ w.steps (h Masters)
+opened_primary-few w root universal None h part = later w w.steps h part
+opened_primary-few w root universal (Some m) h part = with_client-few w w.steps _ h part
 
 named-few : (w : Rows) (o : ℕ) (name : Option ℕ) → length w.names ≤ w.steps → length (named w o name) ≤ birth w
 named-few w o (Some name) h = more _ w.steps h
@@ -127,8 +128,9 @@ ended-few w most m h part = h part
 
 -- a call that is not told here makes no list longer or shorter
 asked-few : (w : Rows) (c : ℕ) (call : Call) → IsTopology w.topology → verdict w (Ask c call) ≡ None → FewRows w.steps w → (part : Part) → count_in part (meaning w c call).rows ≤ most_in part (birth w)
-unfolding meaning with_object with_stamp with_place with_authenticated with_spent count_in
+unfolding meaning with_object with_stamp with_place with_authenticated with_universal with_spent count_in
 asked-few w c GetMagic topology accepted h Magics = with_magic-few w c (own_master w c) (magic_of w c) (h Magics)
+asked-few w c (SetClientCap cap value) topology accepted h Clients = more _ w.steps (few-map _ w.clients w.steps (h Clients))
 asked-few w c (AuthMagic magic) topology accepted h Clients = more _ w.steps (few-map _ w.clients w.steps (h Clients))
 asked-few w c (AuthMagic magic) topology accepted h Magics = more _ w.steps (few-map _ w.magics w.steps (h Magics))
 asked-few w c SetMaster topology accepted h part = mastered-few w c (is_current w c) (is_master w c) h part
@@ -152,21 +154,21 @@ asked-few w c (GetFb f) topology accepted h Holds = given-few w c (framebuffer_o
 asked-few w c (AddFb width height pitch bpp handle) topology accepted h Framebuffers = few-push w.framebuffers _ w.steps (h Framebuffers)
 asked-few w c (RmFb f) topology accepted h Framebuffers = more _ w.steps (few-filter _ w.framebuffers w.steps (h Framebuffers))
 asked-few w c (CreateLease ids) topology accepted h Masters = few-push w.masters _ w.steps (h Masters)
-asked-few w c (CreateLease ids) topology accepted h Grants = granted-few w ids (h Grants) (few_leased w c ids topology accepted)
+asked-few w c (CreateLease ids) topology accepted h Grants = granted-few w (leased w c ids) (h Grants) (few_leased w c ids topology accepted)
 asked-few w c (RevokeLease lessee) topology accepted h part = more_in part _ w.steps (ended-few w w.steps (lessee_master w (own_master w c) lessee) h part)
 asked-few w c call topology accepted h part = later w w.steps h part
 
-leased-few : (w : Rows) (token : ℕ) (root : Bool) → FewRows w.steps w → (part : Part) → count_in part (opened_lease w token root) ≤ most_in part (birth w)
+leased-few : (w : Rows) (token : ℕ) (root universal : Bool) → FewRows w.steps w → (part : Part) → count_in part (opened_lease w token root universal) ≤ most_in part (birth w)
 unfolding count_in
-leased-few w token root h Clients = few-push w.clients _ w.steps (h Clients)
-leased-few w token root h Masters = more _ w.steps (few-map _ w.masters w.steps (h Masters))
-leased-few w token root h part = later w w.steps h part
+leased-few w token root universal h Clients = few-push w.clients _ w.steps (h Clients)
+leased-few w token root universal h Masters = more _ w.steps (few-map _ w.masters w.steps (h Masters))
+leased-few w token root universal h part = later w w.steps h part
 
 changed-few : (w : Rows) (event : Event) → IsTopology w.topology → verdict w event ≡ None → FewRows w.steps w → FewRows (birth w) (changed w event)
 unfolding changed opened
-changed-few w (Open (Primary root)) topology accepted h = opened_primary-few w root w.device_master h
+changed-few w (Open (Primary root universal)) topology accepted h = opened_primary-few w root universal w.device_master h
 changed-few w (Open Render) topology accepted h = with_client-few w w.steps _ h
-changed-few w (Open (Lease token root)) topology accepted h = leased-few w token root h
+changed-few w (Open (Lease token root universal)) topology accepted h = leased-few w token root universal h
 changed-few w (Ask c call) topology accepted h = asked-few w c call topology accepted h
 changed-few w (Close c) topology accepted h = closed-few w (birth w) c (later w w.steps h)
 

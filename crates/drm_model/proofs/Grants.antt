@@ -12,7 +12,7 @@ use Rattle.drm_model.specs.Births.{GrantsMade}
 use Rattle.drm_model.specs.Rows.{Rows, ClientRow, GrantRow, birth, empty_rows, client_row}
 use Rattle.drm_model.specs.Buffers.{with_object, with_stamp}
 use Rattle.drm_model.specs.Magics.{own_master, is_current, is_master, mastered, with_authenticated}
-use Rattle.drm_model.specs.Leases.{ended, grant, lessee_master}
+use Rattle.drm_model.specs.Leases.{ended, grant, lessee_master, leased}
 use Rattle.drm_model.specs.Clients.{opened, opened_primary, closed, ended_own, ended_if}
 use Rattle.drm_model.specs.Calls.{meaning}
 use Rattle.drm_model.specs.Verdict.{verdict}
@@ -40,9 +40,9 @@ closed-made : (w : Rows) (last c : ℕ) → GrantsMade last w → GrantsMade las
 unfolding closed
 closed-made w last c h = ended_own-made w last (client_row w c) h
 
-opened_primary-made : (w : Rows) (root : Bool) (m : Option ℕ) → GrantsMade w.steps w → GrantsMade (birth w) (opened_primary w root m)
-opened_primary-made w root None h = later w h
-opened_primary-made w root (Some m) h = later w h
+opened_primary-made : (w : Rows) (root universal : Bool) (m : Option ℕ) → GrantsMade w.steps w → GrantsMade (birth w) (opened_primary w root universal m)
+opened_primary-made w root universal None h = later w h
+opened_primary-made w root universal (Some m) h = later w h
 
 mastered-made : (w : Rows) (c : ℕ) (current master : Bool) → GrantsMade w.steps w → GrantsMade (birth w) (mastered w c current master)
 mastered-made w c true master h = later w h
@@ -57,15 +57,15 @@ of_one m last h (x ∷ xs) = (h, of_one m last h xs)
 asked-made : (w : Rows) (c : ℕ) (call : Call) → GrantsMade w.steps w → GrantsMade (birth w) (meaning w c call).rows
 unfolding meaning with_object with_stamp with_authenticated
 asked-made w c SetMaster h = mastered-made w c (is_current w c) (is_master w c) h
-asked-made w c (CreateLease ids) h = all_append (λ (row : GrantRow). row.master ≤ birth w) w.grants (map (grant (birth w)) ids) (later w h) (of_one (birth w) (birth w) (omega arith) ids)
+asked-made w c (CreateLease ids) h = all_append (λ (row : GrantRow). row.master ≤ birth w) w.grants (map (grant (birth w)) (leased w c ids)) (later w h) (of_one (birth w) (birth w) (omega arith) (leased w c ids))
 asked-made w c (RevokeLease lessee) h = ended-made w (birth w) (lessee_master w (own_master w c) lessee) (later w h)
 asked-made w c call h = later w h
 
 changed-made : (w : Rows) (event : Event) → GrantsMade w.steps w → GrantsMade (birth w) (changed w event)
 unfolding changed opened
-changed-made w (Open (Primary root)) h = opened_primary-made w root w.device_master h
+changed-made w (Open (Primary root universal)) h = opened_primary-made w root universal w.device_master h
 changed-made w (Open Render) h = later w h
-changed-made w (Open (Lease token root)) h = later w h
+changed-made w (Open (Lease token root universal)) h = later w h
 changed-made w (Ask c call) h = asked-made w c call h
 changed-made w (Close c) h = closed-made w (birth w) c (later w h)
 

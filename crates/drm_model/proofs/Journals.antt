@@ -5,7 +5,7 @@ use Rattle.std.proofs.lemmas.Bool.{ltb-false}
 use Rattle.std.proofs.lemmas.List.{length-map}
 use Rattle.drm_lists.proofs.Lists.{filter-shorter}
 use Rattle.drm_table.specs.declared.calls.Call.{Call}
-use Rattle.drm_table.specs.declared.calls.Call.TheVariants.{Version, AuthMagic, SetMaster}
+use Rattle.drm_table.specs.declared.calls.Call.TheVariants.{Version, SetClientCap, AuthMagic, SetMaster}
 use Rattle.drm_table.specs.declared.events.Event.{Event}
 use Rattle.drm_table.specs.declared.events.Event.TheVariants.{Open, Ask, Close}
 use Rattle.drm_table.specs.declared.events.Opening.{Opening}
@@ -16,6 +16,7 @@ use Rattle.drm_model.specs.Rows.{Rows, ClientRow, empty_rows, client_row, is_cli
 use Rattle.drm_model.specs.Calls.{meaning}
 use Rattle.drm_model.specs.Verdict.{verdict}
 use Rattle.drm_model.specs.Change.{after, after_verdict, changed, swept}
+use Rattle.drm_model.specs.Capabilities.{with_universal}
 use Rattle.drm_model.specs.Clients.{opened, opened_primary, closed, ended_own, ended_if}
 use Rattle.drm_model.specs.Run.{FoundRoom, no_room, places_left, run, rows_of, History, noted_in}
 use Rattle.drm_model.specs.Leases.{ended}
@@ -54,9 +55,9 @@ ended_own-kept : (w : Rows) (row : Option ClientRow) → IsKept w (ended_own w r
 ended_own-kept w None = record { topology = refl; limits = refl; steps = refl }
 ended_own-kept w (Some row) = ended_if-kept w row.is_master row.master
 
-opened_primary-kept : (w : Rows) (root : Bool) (m : Option ℕ) → IsKept w (opened_primary w root m)
-opened_primary-kept w root None = record { topology = refl; limits = refl; steps = refl }
-opened_primary-kept w root (Some m) = record { topology = refl; limits = refl; steps = refl }
+opened_primary-kept : (w : Rows) (root universal : Bool) (m : Option ℕ) → IsKept w (opened_primary w root universal m)
+opened_primary-kept w root universal None = record { topology = refl; limits = refl; steps = refl }
+opened_primary-kept w root universal (Some m) = record { topology = refl; limits = refl; steps = refl }
 
 mastered-kept : (w : Rows) (c : ℕ) (current master : Bool) → IsKept w (mastered w c current master)
 mastered-kept w c true master = record { topology = refl; limits = refl; steps = refl }
@@ -71,9 +72,9 @@ asked-kept w c _ = record { topology = refl; limits = refl; steps = refl }
 
 changed-kept : (w : Rows) (event : Event) → IsKept w (changed w event)
 unfolding changed opened closed
-changed-kept w (Open (Primary root)) = opened_primary-kept w root w.device_master
+changed-kept w (Open (Primary root universal)) = opened_primary-kept w root universal w.device_master
 changed-kept w (Open Render) = record { topology = refl; limits = refl; steps = refl }
-changed-kept w (Open (Lease token root)) = record { topology = refl; limits = refl; steps = refl }
+changed-kept w (Open (Lease token root universal)) = record { topology = refl; limits = refl; steps = refl }
 changed-kept w (Ask c call) = asked-kept w c call
 changed-kept w (Close c) = let k = ended_own-kept w (client_row w c) in record { topology = k.topology; limits = k.limits; steps = k.steps }
 
@@ -132,15 +133,15 @@ unfolding rows_of
 rows_of-steps h = let a = run-steps (empty_rows h.topology h.limits) h.journal in omega arith
 
 -- how many clients are open afterwards
-opened_primary-count : (w : Rows) (root : Bool) (m : Option ℕ) → length (opened_primary w root m).clients ≡ length w.clients + 1
-opened_primary-count w root None = length-append w.clients _
-opened_primary-count w root (Some m) = length-append w.clients _
+opened_primary-count : (w : Rows) (root universal : Bool) (m : Option ℕ) → length (opened_primary w root universal m).clients ≡ length w.clients + 1
+opened_primary-count w root universal None = length-append w.clients _
+opened_primary-count w root universal (Some m) = length-append w.clients _
 
 pub opened-count : (w : Rows) (opening : Opening) → length (opened w opening).clients ≡ length w.clients + 1
 unfolding opened
-opened-count w (Primary root) = opened_primary-count w root w.device_master
+opened-count w (Primary root universal) = opened_primary-count w root universal w.device_master
 opened-count w Render = length-append w.clients _
-opened-count w (Lease token root) = length-append w.clients _
+opened-count w (Lease token root universal) = length-append w.clients _
 
 map-count : (f : ClientRow → ClientRow) (rows : List ClientRow) → length (map f rows) ≡ length rows
 map-count f rows = let l = length-map rows f in omega (arith, l)
@@ -152,8 +153,9 @@ mastered-count w c false true = refl
 mastered-count w c false false = map-count _ w.clients
 
 pub asked-count : (w : Rows) (c : ℕ) (call : Call) → length (meaning w c call).rows.clients ≡ length w.clients
-unfolding meaning with_object with_authenticated ended
+unfolding meaning with_object with_authenticated with_universal ended
 asked-count w c Version = refl
+asked-count w c (SetClientCap cap value) = map-count _ w.clients
 asked-count w c (AuthMagic magic) = map-count _ w.clients
 asked-count w c SetMaster = mastered-count w c (is_current w c) (is_master w c)
 asked-count w c _ = refl

@@ -15,7 +15,7 @@ use Rattle.drm_model.specs.Rows.{Rows, ClientRow, MasterRow, birth, client_row, 
 use Rattle.drm_model.specs.Masters.{is_under}
 use Rattle.drm_model.specs.Magics.{own_master, is_current, is_master, mastered}
 use Rattle.drm_model.specs.Buffers.{with_object}
-use Rattle.drm_model.specs.Leases.{ended, grant, lessee_master}
+use Rattle.drm_model.specs.Leases.{ended, grant, lessee_master, leased}
 use Rattle.drm_model.specs.Clients.{opened, opened_primary, closed, ended_own, ended_if}
 use Rattle.drm_model.specs.Calls.{meaning}
 use Rattle.drm_model.specs.Verdict.{verdict}
@@ -51,9 +51,9 @@ ended_own-still : (w : Rows) (row : Option ClientRow) (m : ℕ) → HaveEnded m 
 ended_own-still w None m h = h
 ended_own-still w (Some row) m h = ended_if-still w row.is_master row.master m h
 
-opened_primary-still : (w : Rows) (root : Bool) (device : Option ℕ) (m : ℕ) → HaveEnded m w → HaveEnded m (opened_primary w root device)
-opened_primary-still w root None m h = (h.0, none_added (is_open_lease m) w.masters _ h.1 (untokened_new m (birth w)))
-opened_primary-still w root (Some device) m h = h
+opened_primary-still : (w : Rows) (root universal : Bool) (device : Option ℕ) (m : ℕ) → HaveEnded m w → HaveEnded m (opened_primary w root universal device)
+opened_primary-still w root universal None m h = (h.0, none_added (is_open_lease m) w.masters _ h.1 (untokened_new m (birth w)))
+opened_primary-still w root universal (Some device) m h = h
 
 mastered-still : (w : Rows) (c : ℕ) (current master : Bool) (m : ℕ) → HaveEnded m w → HaveEnded m (mastered w c current master)
 mastered-still w c true master m h = h
@@ -67,7 +67,7 @@ asked-still w c Version m old h = h
 asked-still w c SetMaster m old h = mastered-still w c (is_current w c) (is_master w c) m h
 asked-still w c (CreateLease ids) m old h =
     let new = other m w.steps old in (
-      none_added (is_grant_of m) w.grants _ h.0 (list_any-map (is_grant_of m) (grant (birth w)) ids ∙ none_each (λ x. birth w == m) (λ x. new) ids),
+      none_added (is_grant_of m) w.grants _ h.0 (list_any-map (is_grant_of m) (grant (birth w)) (leased w c ids) ∙ none_each (λ x. birth w == m) (λ x. new) (leased w c ids)),
       none_added (is_open_lease m) w.masters _ h.1 (ap (λ b. b && true || false) new),
     )
 asked-still w c (RevokeLease lessee) m old h = ended-still w (lessee_master w (own_master w c) lessee) m h
@@ -75,9 +75,9 @@ asked-still w c call m old h = h
 
 changed-still : (w : Rows) (event : Event) (m : ℕ) → m ≤ w.steps → HaveEnded m w → HaveEnded m (changed w event)
 unfolding changed opened closed
-changed-still w (Open (Primary root)) m old h = opened_primary-still w root w.device_master m h
+changed-still w (Open (Primary root universal)) m old h = opened_primary-still w root universal w.device_master m h
 changed-still w (Open Render) m old h = h
-changed-still w (Open (Lease token root)) m old h = (h.0, none_changed (is_open_lease m) _ (λ row k. untokened m (is_option token row.lease_token) row k) w.masters h.1)
+changed-still w (Open (Lease token root universal)) m old h = (h.0, none_changed (is_open_lease m) _ (λ row k. untokened m (is_option token row.lease_token) row k) w.masters h.1)
 changed-still w (Ask c call) m old h = asked-still w c call m old h
 changed-still w (Close c) m old h = ended_own-still w (client_row w c) m h
 

@@ -1,22 +1,24 @@
--- An accepted MODE_CREATE_LEASE names fixed objects, each once, so that they are few.
-use Rattle.std.proofs.Common.{◌≡◌, ℕ, ◌≤◌, Bool, true, false, cond, not, ◌&&◌, ◌||◌, List, [], ◌∷◌, ◌++◌, length, None, Some, refl, arith}
+-- An accepted MODE_CREATE_LEASE leases fixed objects, each once, so that they are few.
+use Rattle.std.proofs.Common.{◌≡◌, ℕ, ◌≤◌, Bool, true, false, cond, not, ◌&&◌, ◌||◌, List, [], ◌∷◌, ◌++◌, filter, length, Option, None, Some, refl, sym, ◌∙◌, arith}
 use Rattle.std.specs.Prelude.{if◌then◌else◌}
 use Rattle.std.specs.List.{list_all, AllByRecursion}
-use Rattle.std.specs.Option.{is_some}
-use Rattle.drm_lists.specs.Numbers.{is_among}
-use Rattle.drm_lists.proofs.Numbers.{all_among, few_once}
+use Rattle.std.specs.Option.{is_some, option_map_or}
+use Rattle.std.proofs.lemmas.Bool.{false≢true}
+use Rattle.drm_lists.specs.Numbers.{is_among, count}
+use Rattle.drm_lists.proofs.Numbers.{all_among, among-append, few_once}
 use Rattle.drm_table.specs.Permit.{Check, first_failing}
 use Rattle.drm_table.specs.declared.calls.Call.{Call}
 use Rattle.drm_table.specs.declared.calls.Call.TheVariants.{CreateLease}
 use Rattle.drm_table.specs.declared.events.Event.TheVariants.{Ask}
 use Rattle.drm_modes.specs.declared.kinds.Kind.TheVariants.{Crtc, Plane, Encoder, Connector}
-use Rattle.drm_modes.specs.Topology.{Topology, IsTopology, first_plane, first_encoder, first_connector, is_crtc, is_plane, is_encoder, is_connector, kind_of, object_count}
+use Rattle.drm_modes.specs.Topology.{Topology, IsTopology, first_plane, first_encoder, first_connector, is_crtc, is_plane, is_encoder, is_connector, kind_of, plane_ids, crtc_of_plane, is_primary_or_cursor, planes_of, object_count}
 use Rattle.drm_modes.proofs.Fixed.{within}
 use Rattle.drm_model.specs.Rows.{Rows, is_framebuffer}
-use Rattle.drm_model.specs.Sees.{sees}
-use Rattle.drm_model.specs.Leases.{is_seen, is_leasable, stands_once}
+use Rattle.drm_model.specs.Sees.{controls, has_universal, sees}
+use Rattle.drm_model.specs.Leases.{is_seen, is_leasable, stands_once, brought_along, leased}
 use Rattle.drm_model.specs.Calls.{meaning}
 use Rattle.drm_model.specs.Verdict.{verdict, checks, admission_checks}
+use Rattle.drm_model.proofs.Once.{passes_and_was, picked_once, each_once}
 
 -- ---- what an accepted call was tested for
 
@@ -58,19 +60,82 @@ of_kind t x false false false false e f g h known = absurd (let no : false ≡ t
 known_within : (t : Topology) (x : ℕ) → is_some (kind_of t x) ≡ true → (1 ≤ x) × (x ≤ object_count t)
 known_within t x known = of_kind t x (is_crtc t x) (is_plane t x) (is_encoder t x) (is_connector t x) refl refl refl refl known
 
--- each id of an accepted lease is that of a fixed object
-pub leased_within : (w : Rows) (c : ℕ) (ids : List ℕ) → verdict w (Ask c (CreateLease ids)) ≡ None → (x : ℕ) → is_among ids x ≡ true → (1 ≤ x) × (x ≤ object_count w.topology)
+-- ---- the ids that an accepted MODE_CREATE_LEASE names, and what comes along
+
+named_within : (w : Rows) (c : ℕ) (ids : List ℕ) → verdict w (Ask c (CreateLease ids)) ≡ None → (x : ℕ) → is_among ids x ≡ true → (1 ≤ x) × (x ≤ object_count w.topology)
 unfolding meaning
-leased_within w c ids accepted x among =
+named_within w c ids accepted x among =
     let hold = rules_hold w c (CreateLease ids) accepted in
     known_within w.topology x (fixed _ (sees w c x) (is_encoder w.topology x) (is_framebuffer w x) (all_among (is_seen w c) x ids hold.1.0 among) (all_among (is_leasable w) x ids hold.1.1.0 among))
 
--- and stands once
-pub leased_once : (w : Rows) (c : ℕ) (ids : List ℕ) → verdict w (Ask c (CreateLease ids)) ≡ None → list_all (stands_once ids) ids ≡ true
-unfolding meaning
-leased_once w c ids accepted = (rules_hold w c (CreateLease ids) accepted).1.1.1.0
+-- what comes along: planes for a CRTC that the client controls, where it has universal planes off
+pub record ComesAlong (w : Rows) (c x : ℕ) : Type 0 where
+  pub off : has_universal w c ≡ false
+  pub controlled : controls w c x ≡ true
+  pub hidden : is_primary_or_cursor w.topology x ≡ true
+  pub plane : is_among (plane_ids w.topology) x ≡ true
 
-pub few_leased : (w : Rows) (c : ℕ) (ids : List ℕ) → IsTopology w.topology → verdict w (Ask c (CreateLease ids)) ≡ None → length ids ≤ 64
+for_a_crtc : (crtcs : List ℕ) (o : Option ℕ) → option_map_or (is_among crtcs) o false ≡ true → is_some o ≡ true
+for_a_crtc crtcs (Some crtc) h = refl
+for_a_crtc crtcs None h = h
+
+pub comes_along : (w : Rows) (c : ℕ) (ids : List ℕ) (x : ℕ) → is_among (brought_along w c ids) x ≡ true → ComesAlong w c x
+comes_along w c ids x =
+    elim (has_universal w c) as (λ b. has_universal w c ≡ b → is_among (if b then [] else filter (controls w c) (planes_of w.topology ids)) x ≡ true → ComesAlong w c x) [
+      | true ↦ λ e h. absurd (false≢true h)
+      | false ↦ λ e h.
+          let seen = passes_and_was (controls w c) (planes_of w.topology ids) x h in
+          let of_crtcs = λ (y : ℕ). option_map_or (is_among ids) (crtc_of_plane w.topology y) false in
+          let picked = passes_and_was of_crtcs (plane_ids w.topology) x seen.1 in
+          record { off = e; controlled = seen.0; hidden = for_a_crtc ids (crtc_of_plane w.topology x) picked.0; plane = picked.1 }
+    ] refl
+
+-- each object of an accepted lease is a fixed one
+pub leased_within : (w : Rows) (c : ℕ) (ids : List ℕ) → verdict w (Ask c (CreateLease ids)) ≡ None → (x : ℕ) → is_among (leased w c ids) x ≡ true → (1 ≤ x) × (x ≤ object_count w.topology)
+leased_within w c ids accepted x among =
+    elim (is_among ids x) as (λ b. is_among ids x ≡ b → (b || is_among (brought_along w c ids) x) ≡ true → (1 ≤ x) × (x ≤ object_count w.topology)) [
+      | true ↦ λ e h. named_within w c ids accepted x e
+      | false ↦ λ e h.
+          let along = comes_along w c ids x h in
+          let ends = within (first_plane w.topology) (length w.topology.planes) x along.plane in
+          (omega (arith, ends), omega (arith, ends))
+    ] refl (sym (among-append ids (brought_along w c ids) x) ∙ among)
+
+-- what the client names, it sees, and what comes along it doesn't
+unseen : (encoder controlled hidden universal : Bool) → encoder ≡ false → hidden ≡ true → universal ≡ false → (encoder || (controlled && (not hidden || universal))) ≡ false
+unseen encoder true hidden universal e h u = rw (e, h, u) refl
+unseen encoder false hidden universal e h u = rw e refl
+
+seen_named : (known sees encoder framebuffer : Bool) → ((known && sees) || framebuffer) ≡ true → not (encoder || framebuffer) ≡ true → (sees ≡ true) × (encoder ≡ false)
+seen_named known sees true framebuffer seen leasable = absurd (false≢true leasable)
+seen_named known sees false true seen leasable = absurd (false≢true leasable)
+seen_named true true false false seen leasable = (refl, refl)
+seen_named true false false false seen leasable = absurd (false≢true seen)
+seen_named false sees false false seen leasable = absurd (false≢true seen)
+
+apart : (w : Rows) (c : ℕ) (ids : List ℕ) → verdict w (Ask c (CreateLease ids)) ≡ None → (x : ℕ) → is_among ids x ≡ true → is_among (brought_along w c ids) x ≡ false
+unfolding meaning sees
+apart w c ids accepted x named =
+    elim (is_among (brought_along w c ids) x) as (λ b. is_among (brought_along w c ids) x ≡ b → b ≡ false) [
+      | true ↦ λ e.
+          let hold = rules_hold w c (CreateLease ids) accepted in
+          let along = comes_along w c ids x e in
+          let its = seen_named _ (sees w c x) (is_encoder w.topology x) (is_framebuffer w x) (all_among (is_seen w c) x ids hold.1.0 named) (all_among (is_leasable w) x ids hold.1.1.0 named) in
+          sym its.0 ∙ unseen (is_encoder w.topology x) (controls w c x) (is_primary_or_cursor w.topology x) (has_universal w c) its.1 along.hidden along.off
+      | false ↦ λ e. refl
+    ] refl
+
+along_once : (w : Rows) (c : ℕ) (ids : List ℕ) (k : ℕ) → count (brought_along w c ids) k ≤ 1
+along_once w c ids k =
+    elim (has_universal w c) as (λ b. count (if b then [] else filter (controls w c) (planes_of w.topology ids)) k ≤ 1)
+    [ true ↦ omega arith | false ↦ picked_once (controls w c) (λ x. option_map_or (is_among ids) (crtc_of_plane w.topology x) false) (first_plane w.topology) (length w.topology.planes) k ]
+
+-- and stands once
+pub leased_once : (w : Rows) (c : ℕ) (ids : List ℕ) → verdict w (Ask c (CreateLease ids)) ≡ None → list_all (stands_once (leased w c ids)) (leased w c ids) ≡ true
+unfolding meaning
+leased_once w c ids accepted = each_once ids (brought_along w c ids) (rules_hold w c (CreateLease ids) accepted).1.1.1.0 (along_once w c ids) (apart w c ids accepted)
+
+pub few_leased : (w : Rows) (c : ℕ) (ids : List ℕ) → IsTopology w.topology → verdict w (Ask c (CreateLease ids)) ≡ None → length (leased w c ids) ≤ 64
 few_leased w c ids topology accepted =
-    let few = few_once (object_count w.topology) ids (leased_once w c ids accepted) (leased_within w c ids accepted) in
+    let few = few_once (object_count w.topology) (leased w c ids) (leased_once w c ids accepted) (leased_within w c ids accepted) in
     omega (arith, few, topology.few)

@@ -7,7 +7,7 @@ use Rattle.std.proofs.lemmas.Bool.{eqb-true}
 use Rattle.drm_lists.proofs.Lists.{all_weaker, all_append, all_filter, all_mapped}
 use Rattle.drm_lists.proofs.Found.{all_found, found_passes}
 use Rattle.drm_table.specs.declared.calls.Call.{Call}
-use Rattle.drm_table.specs.declared.calls.Call.TheVariants.{AuthMagic, SetMaster, DropMaster, BufCreate, StampWrite, CreateDumb, CreateLease, RevokeLease}
+use Rattle.drm_table.specs.declared.calls.Call.TheVariants.{SetClientCap, AuthMagic, SetMaster, DropMaster, BufCreate, StampWrite, CreateDumb, CreateLease, RevokeLease}
 use Rattle.drm_table.specs.declared.events.Event.{Event}
 use Rattle.drm_table.specs.declared.events.Event.TheVariants.{Open, Ask, Close}
 use Rattle.drm_table.specs.declared.events.Opening.TheVariants.{Primary, Render, Lease}
@@ -18,6 +18,7 @@ use Rattle.drm_model.specs.Masters.{is_under, master_of, master_row, lessor_of}
 use Rattle.drm_model.specs.Magics.{own_master, magic_client, is_current, is_master, mastered, with_authenticated, with_master}
 use Rattle.drm_model.specs.Leases.{ended, lease_master, lessee_master}
 use Rattle.drm_model.specs.Buffers.{with_object, with_stamp}
+use Rattle.drm_model.specs.Capabilities.{with_universal}
 use Rattle.drm_model.specs.Clients.{opened, opened_primary, closed, ended_own, ended_if}
 use Rattle.drm_model.specs.Calls.{meaning}
 use Rattle.drm_model.specs.Verdict.{verdict}
@@ -76,6 +77,10 @@ authenticated : (last : ℕ) (b : Bool) (row : ClientRow) → IsMadeClient last 
 authenticated last true row h = h
 authenticated last false row h = h
 
+capable : (last : ℕ) (b on : Bool) (row : ClientRow) → IsMadeClient last row → IsMadeClient last (if b then record row { universal = on } else row)
+capable last true on row h = h
+capable last false on row h = h
+
 mastering : (last m : ℕ) (b : Bool) (row : ClientRow) → m ≤ last → IsMadeClient last row → IsMadeClient last (if b then record row { authenticated = true; once_master = true; is_master = true; master = Some m } else row)
 mastering last m true row old h = (h.0, old)
 mastering last m false row old h = h
@@ -107,11 +112,11 @@ closed-made : (w : Rows) (last c : ℕ) → WereMade last w → WereMade last (c
 unfolding closed ended
 closed-made w last c h = let own = ended_own-made w last (client_row w c) h in (all_filter (IsMadeClient last) _ w.clients h.0, own.1, own.2, own.3)
 
-opened_primary-made : (w : Rows) (root : Bool) (m : Option ℕ) → IfSome m (λ m. m ≤ w.steps) → WereMade w.steps w → WereMade (birth w) (opened_primary w root m)
-opened_primary-made w root None old h =
+opened_primary-made : (w : Rows) (root universal : Bool) (m : Option ℕ) → IfSome m (λ m. m ≤ w.steps) → WereMade w.steps w → WereMade (birth w) (opened_primary w root universal m)
+opened_primary-made w root universal None old h =
     let k = later w h in
     (all_push (IsMadeClient (birth w)) w.clients _ k.0 (omega arith, omega arith), all_push (IsMadeMaster (birth w)) w.masters _ k.1 (omega arith, omega arith, tt), k.2, omega arith)
-opened_primary-made w root (Some m) old h =
+opened_primary-made w root universal (Some m) old h =
     let k = later w h in
     (all_push (IsMadeClient (birth w)) w.clients _ k.0 (omega arith, omega (arith, old)), k.1, k.2, k.3)
 
@@ -132,10 +137,11 @@ not_later last n h = omega (arith, h)
 
 -- a call that is not told here makes and takes no client, master or object
 asked-made : (w : Rows) (c : ℕ) (call : Call) → WereMade w.steps w → WereMade (birth w) (meaning w c call).rows
-unfolding meaning with_object with_stamp with_authenticated
+unfolding meaning with_object with_stamp with_authenticated with_universal
 asked-made w c (BufCreate size) h = let k = later w h in (k.0, k.1, all_push (λ (row : ObjectRow). 1 ≤ row.object) w.objects _ k.2 (omega arith), k.3)
 asked-made w c (CreateDumb width height bpp) h = let k = later w h in (k.0, k.1, all_push (λ (row : ObjectRow). 1 ≤ row.object) w.objects _ k.2 (omega arith), k.3)
 asked-made w c (StampWrite handle stamp) h = let k = later w h in (k.0, k.1, all_changed (λ (row : ObjectRow). 1 ≤ row.object) _ (λ row. stamped (row.object == object_of w c handle) row stamp) w.objects k.2, k.3)
+asked-made w c (SetClientCap cap value) h = let k = later w h in (all_changed (IsMadeClient (birth w)) _ (λ row. capable (birth w) (is_client c row) (value == 1) row) w.clients k.0, k.1, k.2, k.3)
 asked-made w c (AuthMagic magic) h = let k = later w h in (all_changed (IsMadeClient (birth w)) _ (λ row. authenticated (birth w) (is_option row.client (magic_client w (own_master w c) magic)) row) w.clients k.0, k.1, k.2, k.3)
 asked-made w c SetMaster h = mastered-made w c (is_current w c) (is_master w c) h
 asked-made w c DropMaster h = let k = later w h in (k.0, k.1, k.2, tt)
@@ -148,9 +154,9 @@ asked-made w c call h = later w h
 
 pub changed-made : (w : Rows) (event : Event) → WereMade w.steps w → WereMade (birth w) (changed w event)
 unfolding changed opened
-changed-made w (Open (Primary root)) h = opened_primary-made w root w.device_master h.3 h
+changed-made w (Open (Primary root universal)) h = opened_primary-made w root universal w.device_master h.3 h
 changed-made w (Open Render) h = let k = later w h in (all_push (IsMadeClient (birth w)) w.clients _ k.0 (omega arith, tt), k.1, k.2, k.3)
-changed-made w (Open (Lease token root)) h =
+changed-made w (Open (Lease token root universal)) h =
     let k = later w h in
     let its_master = redeemed (birth w) (lease_master w token) (all_found (IsMadeMaster (birth w)) (λ row. is_option token row.lease_token) w.masters k.1) in (
       all_push (IsMadeClient (birth w)) w.clients _ k.0 (omega arith, its_master),

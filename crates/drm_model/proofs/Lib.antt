@@ -3,6 +3,7 @@ pub mod Endings
 pub mod Journals
 pub mod Orders
 pub mod Births
+pub mod Once
 pub mod Leased
 pub mod Lessors
 pub mod Grants
@@ -82,3 +83,6 @@ pub mod WorkedLesseeIdsAreLimited
 pub mod WorkedLeaseTokensAreLimited
 pub mod WorkedLeasesGoWithTheirOwner
 pub mod WorkedAuditsOfLeasesAndRootLessees
+pub mod WorkedPlanesSeenAndBroughtAlong
+pub mod WorkedPlanesBroughtAlongAreLeasedOut
+pub mod WorkedUniversalPlanesOfEachClient

@@ -8,7 +8,7 @@ use Rattle.std.proofs.lemmas.List.Folds.{list_any-append}
 use Rattle.drm_lists.specs.Chains.{is_under}
 use Rattle.drm_lists.specs.Chains as chains
 use Rattle.drm_lists.proofs.Chains.{IsFalling, same_chain, depth_none, depth_some, depth_fewer, under_some}
-use Rattle.drm_lists.proofs.Lists.{all_both, all_weaker, all_each, filter_true, list_any-map, list_any_left, some_passing, none_each, none_filtered}
+use Rattle.drm_lists.proofs.Lists.{all_append, all_both, all_weaker, all_each, filter_true, list_any-map, list_any_left, some_passing, none_each, none_filtered}
 use Rattle.drm_lists.proofs.Found.{all_found, find-map, find-same, find_last}
 use Rattle.drm_lists.proofs.Rising.{any_left, find_more, find_where}
 use Rattle.drm_lists.proofs.Numbers.{less-differ, flipped}
@@ -18,14 +18,14 @@ use Rattle.drm_table.specs.declared.events.Event.{Event}
 use Rattle.drm_table.specs.declared.events.Event.TheVariants.{Open, Ask, Close}
 use Rattle.drm_table.specs.declared.events.Opening.TheVariants.{Primary, Render, Lease}
 use Rattle.drm_table.specs.declared.rules.Rule.{Rule}
-use Rattle.drm_modes.specs.Topology.{is_encoder, kind_of}
+use Rattle.drm_modes.specs.Topology.{is_encoder, kind_of, is_primary_or_cursor, planes_of}
 use Rattle.drm_model.specs.Births.{IsMadeMaster, WereMade, GrantsMade}
 use Rattle.drm_model.specs.Rows.{Rows, ClientRow, MasterRow, GrantRow, birth, empty_rows, client_row, is_option, is_framebuffer}
 use Rattle.drm_model.specs.Masters.{new_master, master_of, lessor_of}
-use Rattle.drm_model.specs.Sees.{is_granted, controls, sees}
+use Rattle.drm_model.specs.Sees.{is_granted, master_controls, controls, has_universal, sees}
 use Rattle.drm_model.specs.Magics.{own_master, is_current, is_master, mastered}
 use Rattle.drm_model.specs.Buffers.{with_object}
-use Rattle.drm_model.specs.Leases.{last_depth, may_lease, ended, grant, lessee_master, is_seen, is_leasable, new_lessee_id, new_lease_token}
+use Rattle.drm_model.specs.Leases.{last_depth, may_lease, ended, grant, lessee_master, is_seen, is_leasable, brought_along, leased, new_lessee_id, new_lease_token}
 use Rattle.drm_model.specs.Clients.{opened, opened_primary, closed, ended_own, ended_if}
 use Rattle.drm_model.specs.Calls.{meaning}
 use Rattle.drm_model.specs.Verdict.{verdict}
@@ -279,16 +279,30 @@ controlled false seen false false h k = absurd (let no : false ≡ true = h in c
 controlled true true false false h k = (refl, refl)
 controlled true false false false h k = absurd (let no : false ≡ true = h in cc)
 
-of_lessee : (w : Rows) (x : ℕ) (o : Option ℕ) → controls w o x ≡ true → is_some (lessor_of w.masters (unwrap_or o 0)) ≡ true → is_granted w (unwrap_or o 0) x ≡ true
+of_lessee : (w : Rows) (x : ℕ) (o : Option ℕ) → master_controls w o x ≡ true → is_some (lessor_of w.masters (unwrap_or o 0)) ≡ true → is_granted w (unwrap_or o 0) x ≡ true
 of_lessee w x None h lessee = absurd (let no : false ≡ true = h in cc)
 of_lessee w x (Some m) h lessee = sym (ap (λ b. not b || is_granted w m x) lessee) ∙ h
 
--- what a lessee's client sees and can lease, its lease has
+-- what a lessee's client controls, its lease has
+controlled_granted : (w : Rows) (c x : ℕ) → is_some (lessor_of w.masters (own_master w c)) ≡ true → controls w c x ≡ true → is_granted w (own_master w c) x ≡ true
+unfolding controls
+controlled_granted w c x lessee controlled = of_lessee w x (master_of w c) controlled lessee
+
+-- and what it sees and can lease
 seen_granted : (w : Rows) (c x : ℕ) → is_some (lessor_of w.masters (own_master w c)) ≡ true → is_seen w c x ≡ true → is_leasable w x ≡ true → is_granted w (own_master w c) x ≡ true
 unfolding sees
 seen_granted w c x lessee seen leasable =
     let it = controlled (is_some (kind_of w.topology x)) (sees w c x) (is_encoder w.topology x) (is_framebuffer w x) seen leasable in
-    of_lessee w x (master_of w c) (the_second (is_encoder w.topology x) (controls w (master_of w c) x) it.1 it.0) lessee
+    let shown = not (is_primary_or_cursor w.topology x) || has_universal w c in
+    controlled_granted w c x lessee (both_true (controls w c x) shown (the_second (is_encoder w.topology x) (controls w c x && shown) it.1 it.0)).0
+
+-- and what comes along
+along_granted : (w : Rows) (c : ℕ) (ids : List ℕ) → is_some (lessor_of w.masters (own_master w c)) ≡ true → AllByRecursion (λ x. is_granted w (own_master w c) x ≡ true) (brought_along w c ids)
+along_granted w c ids lessee =
+    elim (has_universal w c) as (λ b. AllByRecursion (λ x. is_granted w (own_master w c) x ≡ true) (if b then [] else filter (controls w c) (planes_of w.topology ids))) [
+      | true ↦ tt
+      | false ↦ all_weaker (λ x. controls w c x ≡ true) (λ x. is_granted w (own_master w c) x ≡ true) (λ x e. controlled_granted w c x lessee e) (filter (controls w c) (planes_of w.topology ids)) (filter_true (controls w c) (planes_of w.topology ids))
+    ]
 
 each_of : (p : ℕ → Bool) (xs : List ℕ) → list_all p xs ≡ true → AllByRecursion (λ x. p x ≡ true) xs
 each_of p [] h = tt
@@ -315,9 +329,9 @@ ended_own-nest w (Some row) made h = ended_if-nest w row.is_master row.master ma
 founded-nest : (w : Rows) (b : ℕ) → NestIn w → Nest (lessor_of (w.masters ++ new_master b ∷ [])) w.grants
 founded-nest w b h = subst (λ (other : ℕ → Option ℕ). Nest other w.grants) (sym (λ i n. lessors_yet b n w.masters i)) h
 
-opened_primary-nest : (w : Rows) (root : Bool) (device : Option ℕ) → NestIn w → NestIn (opened_primary w root device)
-opened_primary-nest w root None h = founded-nest w (birth w) h
-opened_primary-nest w root (Some m) h = h
+opened_primary-nest : (w : Rows) (root universal : Bool) (device : Option ℕ) → NestIn w → NestIn (opened_primary w root universal device)
+opened_primary-nest w root universal None h = founded-nest w (birth w) h
+opened_primary-nest w root universal (Some m) h = h
 
 mastered-nest : (w : Rows) (c : ℕ) (current master : Bool) → NestIn w → NestIn (mastered w c current master)
 mastered-nest w c true master h = h
@@ -329,8 +343,10 @@ unfolding meaning
 leased-nest w c ids accepted made granted h =
     let hold = rules_hold w c (CreateLease ids) accepted in
     let m = own_master w c in
-    nest_more w.masters w.grants w.steps m (new_lessee_id w m) (Some (new_lease_token w)) ids made.1 granted (own_master_made w c made) hold.0
-    (λ lessee. all_both (λ x. is_seen w c x ≡ true) (λ x. is_leasable w x ≡ true) (λ x. is_granted w m x ≡ true) (λ x seen leasable. seen_granted w c x lessee seen leasable) ids (each_of (is_seen w c) ids hold.1.0) (each_of (is_leasable w) ids hold.1.1.0)) h
+    nest_more w.masters w.grants w.steps m (new_lessee_id w m) (Some (new_lease_token w)) (leased w c ids) made.1 granted (own_master_made w c made) hold.0
+    (λ lessee. all_append (λ x. is_granted w m x ≡ true) ids (brought_along w c ids)
+    (all_both (λ x. is_seen w c x ≡ true) (λ x. is_leasable w x ≡ true) (λ x. is_granted w m x ≡ true) (λ x seen leasable. seen_granted w c x lessee seen leasable) ids (each_of (is_seen w c) ids hold.1.0) (each_of (is_leasable w) ids hold.1.1.0))
+    (along_granted w c ids lessee)) h
 
 -- a call that is not told here changes no master and no grant
 asked-nest : (w : Rows) (c : ℕ) (call : Call) → verdict w (Ask c call) ≡ None → WereMade w.steps w → GrantsMade w.steps w → NestIn w → NestIn (meaning w c call).rows
@@ -343,9 +359,9 @@ asked-nest w c call accepted made granted h = h
 
 changed-nest : (w : Rows) (event : Event) → verdict w event ≡ None → WereMade w.steps w → GrantsMade w.steps w → NestIn w → NestIn (changed w event)
 unfolding changed opened closed
-changed-nest w (Open (Primary root)) accepted made granted h = opened_primary-nest w root w.device_master h
+changed-nest w (Open (Primary root universal)) accepted made granted h = opened_primary-nest w root universal w.device_master h
 changed-nest w (Open Render) accepted made granted h = h
-changed-nest w (Open (Lease token root)) accepted made granted h = subst (λ (other : ℕ → Option ℕ). Nest other w.grants) (sym (λ i n. lessors_stay (λ row. is_option token row.lease_token) w.masters n i)) h
+changed-nest w (Open (Lease token root universal)) accepted made granted h = subst (λ (other : ℕ → Option ℕ). Nest other w.grants) (sym (λ i n. lessors_stay (λ row. is_option token row.lease_token) w.masters n i)) h
 changed-nest w (Ask c call) accepted made granted h = asked-nest w c call accepted made granted h
 changed-nest w (Close c) accepted made granted h = ended_own-nest w (client_row w c) made h
 

@@ -20,6 +20,7 @@ use Rattle.drm_table.specs.Table.{kind_row, call_row, call_with, call_kind_of, c
 use Rattle.drm_model.specs.Audit.{audit_rows, audit_page}
 use Rattle.drm_model.specs.Buffers.{dumb_pitch, dumb_size, buffer_size, with_object, with_stamp}
 use Rattle.drm_model.specs.Calls.{meaning}
+use Rattle.drm_model.specs.Capabilities.{with_universal}
 use Rattle.drm_model.specs.Change.{changed, swept, after}
 use Rattle.drm_model.specs.Clients.{opening_checks, opened, closed}
 use Rattle.drm_model.specs.Leases.{ended}
@@ -28,23 +29,24 @@ use Rattle.drm_model.specs.Parts.{count_in}
 use Rattle.drm_model.specs.Reply.{answer_of, reply}
 use Rattle.drm_model.specs.Results.{results}
 use Rattle.drm_model.specs.Run.{no_room, run, rows_of}
-use Rattle.drm_model.specs.Sees.{sees}
+use Rattle.drm_model.specs.Sees.{controls, sees}
 use Rattle.drm_model.specs.Sharing.{with_place, prime_handle}
 use Rattle.drm_model.specs.Verdict.{admission_checks, checks, verdict}
 use Rattle.drm_model.specs.Rows.{empty_rows}
+use Rattle.drm_modes.specs.declared.kinds.PlaneKind.TheVariants.{Overlay as OverlayPlane, Primary as PrimaryPlane}
 use Rattle.drm_modes.specs.Topology.{Topology}
 
 abbrev test_topology : Topology
-test_topology = record { crtcs = 2; planes = 1 ∷ 2 ∷ []; encoders = 3 ∷ 2 ∷ []; connectors = 5 ∷ 6 ∷ [] }
+test_topology = record { crtcs = 2; planes = 1 ∷ 2 ∷ []; kinds = PrimaryPlane 1 ∷ OverlayPlane ∷ []; encoders = 3 ∷ 2 ∷ []; connectors = 5 ∷ 6 ∷ [] }
 
 abbrev limits : Limits
 limits = record { clients = 64; handles = 65535; names = 65535; tokens = 65535; objects = 65535; framebuffers = 64; lessees = 64; journal = 100000 }
 
 abbrev events : List Event
 events =
-    Open (Primary false) ∷
-    Open (Primary false) ∷
-    Open (Primary true) ∷
+    Open (Primary false true) ∷
+    Open (Primary false true) ∷
+    Open (Primary true true) ∷
     Ask 2 (CreateDumb 1 1 32) ∷
     Ask 2 (StampWrite 1 5) ∷
     Ask 2 (AddFb 1 1 4 32 1) ∷
@@ -81,5 +83,5 @@ answers =
     []
 
 pub framebuffers_give_handles_to_current_and_root_clients : results (empty_rows test_topology limits) events ≡ answers
-unfolding first_passing least chain_within sorted_by numbers_from answer_kind_row told answer_with answer_kind_of kind_number kind_of kind_name are_in_range rule_of_number apart_of_number kind_row call_row call_with call_kind_of call_kind_of_word row_of call_number flags_of audit_rows audit_page dumb_pitch dumb_size buffer_size with_object with_stamp meaning changed swept after opening_checks opened closed ended with_spent with_authenticated with_master count_in answer_of reply results no_room run rows_of sees with_place prime_handle admission_checks checks verdict
+unfolding first_passing least chain_within sorted_by numbers_from answer_kind_row told answer_with answer_kind_of kind_number kind_of kind_name are_in_range rule_of_number apart_of_number kind_row call_row call_with call_kind_of call_kind_of_word row_of call_number flags_of audit_rows audit_page dumb_pitch dumb_size buffer_size with_object with_stamp meaning with_universal changed swept after opening_checks opened closed ended with_spent with_authenticated with_master count_in answer_of reply results no_room run rows_of controls sees with_place prime_handle admission_checks checks verdict
 framebuffers_give_handles_to_current_and_root_clients = refl

@@ -1,5 +1,5 @@
 -- AUDIT: the rows of a kind, in pages (all of it is this project's own).
-use Rattle.std.specs.Prelude.{ℕ, ◌+◌, ◌==◌, nat_lt, nat_le, Bool, false, ◌&&◌, ◌||◌, List, [], ◌∷◌, length, Option, unwrap_or, map, filter, take, drop, if◌then◌else◌}
+use Rattle.std.specs.Prelude.{ℕ, ◌+◌, ◌==◌, nat_lt, nat_le, Bool, false, not, ◌&&◌, ◌||◌, List, [], ◌∷◌, length, Option, unwrap_or, map, filter, take, drop, if◌then◌else◌}
 use Rattle.std.specs.Option.{option_map_or}
 use Rattle.drm_lists.specs.Orders.{sorted_by}
 use Rattle.drm_table.specs.declared.answers.Answer.TheVariants as answers
@@ -23,6 +23,7 @@ abbrev pub client_flags : Rows → ClientRow → ℕ
 client_flags w row =
     flag row.render 1 + flag row.root 2 + flag row.authenticated 4 + flag row.once_master 8 + flag row.is_master 16
     + flag (option_map_or (λ (magic : MagicRow). magic.spent) (magic_row w row.client) false) 32
+    + flag (not row.universal) 64
 
 abbrev pub client_audit : Rows → ClientRow → AuditRow
 client_audit w row =

@@ -1,4 +1,5 @@
--- Openings and closings of clients (drm-uapi, drm(7); births, root by opening and lease tokens are this project's own).
+-- Openings and closings of clients (drm-uapi, drm(7); births, root and universal planes by opening, and lease tokens are this
+-- project's own).
 use Rattle.std.specs.Prelude.{ℕ, ◌==◌, Bool, true, false, List, [], ◌∷◌, ◌++◌, Option, None, Some, map, if◌then◌else◌}
 use Rattle.std.specs.Option.{is_some, option_map}
 use Rattle.drm_table.specs.declared.events.Opening.{Opening}
@@ -11,47 +12,47 @@ use Rattle.drm_model.specs.Leases.{lease_master, ended}
 
 -- the rules of an opening, in order (limits and lease tokens are own)
 unfoldable pub opening_checks : Rows → Opening → List Check
-opening_checks w (Primary root) = check Full (has_client_room w) ∷ []
+opening_checks w (Primary root universal) = check Full (has_client_room w) ∷ []
 opening_checks w Render = check Full (has_client_room w) ∷ []
-opening_checks w (Lease token root) = check NoLeaseToken (is_some (lease_master w token)) ∷ check Full (has_client_room w) ∷ []
+opening_checks w (Lease token root universal) = check NoLeaseToken (is_some (lease_master w token)) ∷ check Full (has_client_room w) ∷ []
 
 -- the first master of a device without one: its client is a master
-abbrev pub founded : Rows → Bool → Rows
-founded w root = record w {
+abbrev pub founded : Rows → Bool → Bool → Rows
+founded w root universal = record w {
   masters = w.masters ++ new_master (birth w) ∷ [];
   device_master = Some (birth w);
-  clients = w.clients ++ record { client = birth w; render = false; root = root; authenticated = true; once_master = true; is_master = true; master = Some (birth w) } ∷ [];
+  clients = w.clients ++ record { client = birth w; render = false; root = root; authenticated = true; once_master = true; is_master = true; master = Some (birth w); universal = universal } ∷ [];
 }
 
 -- a client of the device's master, which isn't one itself; root is authenticated from its opening (own)
-abbrev pub joined : Rows → Bool → ℕ → Rows
-joined w root m = record w {
-  clients = w.clients ++ record { client = birth w; render = false; root = root; authenticated = root; once_master = false; is_master = false; master = Some m } ∷ [];
+abbrev pub joined : Rows → Bool → Bool → ℕ → Rows
+joined w root universal m = record w {
+  clients = w.clients ++ record { client = birth w; render = false; root = root; authenticated = root; once_master = false; is_master = false; master = Some m; universal = universal } ∷ [];
 }
 
 -- the first primary client of a device without a master founds one (drm(7))
-abbrev pub opened_primary : Rows → Bool → Option ℕ → Rows
-opened_primary w root None = founded w root
-opened_primary w root (Some m) = joined w root m
+abbrev pub opened_primary : Rows → Bool → Bool → Option ℕ → Rows
+opened_primary w root universal None = founded w root universal
+opened_primary w root universal (Some m) = joined w root universal m
 
--- a render client has no master (drm-uapi)
+-- a render client has no master (drm-uapi), and universal planes on (own)
 abbrev pub opened_render : Rows → Rows
 opened_render w = record w {
-  clients = w.clients ++ record { client = birth w; render = true; root = false; authenticated = false; once_master = false; is_master = false; master = None } ∷ [];
+  clients = w.clients ++ record { client = birth w; render = true; root = false; authenticated = false; once_master = false; is_master = false; master = None; universal = true } ∷ [];
 }
 
 -- the token is spent, and the client is a master of the lessee
-abbrev pub opened_lease : Rows → ℕ → Bool → Rows
-opened_lease w token root = record w {
+abbrev pub opened_lease : Rows → ℕ → Bool → Bool → Rows
+opened_lease w token root universal = record w {
   masters = map (λ (row : MasterRow). if is_option token row.lease_token then record row { lease_token = None } else row) w.masters;
-  clients = w.clients ++ record { client = birth w; render = false; root = root; authenticated = true; once_master = false; is_master = true; master = option_map (λ (row : MasterRow). row.master) (lease_master w token) } ∷ [];
+  clients = w.clients ++ record { client = birth w; render = false; root = root; authenticated = true; once_master = false; is_master = true; master = option_map (λ (row : MasterRow). row.master) (lease_master w token); universal = universal } ∷ [];
 }
 
 -- what an accepted opening does
 unfoldable pub opened : Rows → Opening → Rows
-opened w (Primary root) = opened_primary w root w.device_master
+opened w (Primary root universal) = opened_primary w root universal w.device_master
 opened w Render = opened_render w
-opened w (Lease token root) = opened_lease w token root
+opened w (Lease token root universal) = opened_lease w token root universal
 
 -- a closing client that is a master: what its master gave goes, and the device's master if it was that one
 abbrev pub ended_if : Rows → Bool → Option ℕ → Rows

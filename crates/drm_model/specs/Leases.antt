@@ -1,6 +1,6 @@
 -- MODE_CREATE_LEASE, MODE_LIST_LESSEES, MODE_GET_LEASE and MODE_REVOKE_LEASE (drm-uapi, leases). Lease tokens, the limits, how
--- deep lessees may lease, that each rule is tested of all ids before the next, and that an owner has a lease of all, are this
--- project's own.
+-- deep lessees may lease, that each rule is tested of all ids before the next, which planes come along with a CRTC, and that an
+-- owner has a lease of all, are this project's own.
 use Rattle.std.specs.Prelude.{ℕ, ◌==◌, nat_lt, Bool, false, not, ◌&&◌, ◌||◌, List, [], ◌∷◌, ◌++◌, Option, None, Some, unwrap_or, find, map, filter, if◌then◌else◌}
 use Rattle.std.specs.List.{list_any, list_all}
 use Rattle.std.specs.Option.{is_some, option_map, option_map_or}
@@ -10,11 +10,11 @@ use Rattle.drm_table.specs.declared.answers.Answer.TheVariants.{Lease, List as L
 use Rattle.drm_table.specs.declared.rules.Rule.TheVariants.{NoModeObject, NotLeasable, Repeated, LeaseShape, LeasedOut, SubLease, NoLessee, NotYourLessee, Full}
 use Rattle.drm_table.specs.Permit.{check}
 use Rattle.drm_modes.specs.Numbers.{numbers_from}
-use Rattle.drm_modes.specs.Topology.{Topology, crtc_ids, plane_ids, connector_ids, is_crtc, is_plane, is_encoder, is_connector, kind_of}
+use Rattle.drm_modes.specs.Topology.{Topology, crtc_ids, plane_ids, connector_ids, is_crtc, is_plane, is_encoder, is_connector, kind_of, planes_of}
 use Rattle.drm_model.specs.Numbers.{rising, next_in_turn}
 use Rattle.drm_model.specs.Rows.{Rows, MasterRow, GrantRow, birth, without, is_option, is_framebuffer}
 use Rattle.drm_model.specs.Masters.{master_row, lessor_of, is_lessee, owner_of, depth_of, is_under}
-use Rattle.drm_model.specs.Sees.{sees}
+use Rattle.drm_model.specs.Sees.{controls, has_universal, sees}
 use Rattle.drm_model.specs.Magics.{own_master}
 use Rattle.drm_model.specs.Meaning.{Meaning, nothing}
 
@@ -51,9 +51,17 @@ is_leasable w x = not (is_encoder w.topology x || is_framebuffer w x)
 abbrev pub stands_once : List ℕ → ℕ → Bool
 stands_once ids x = count ids x == 1
 
--- a CRTC, a connector and a plane at least (that an empty list is refused is own)
-abbrev pub is_lease : Topology → List ℕ → Bool
-is_lease t ids = list_any (is_crtc t) ids && list_any (is_connector t) ids && list_any (is_plane t) ids
+-- a CRTC and a connector at least, and a plane where the caller has universal planes on (that an empty list is refused is own)
+abbrev pub is_lease : Topology → Bool → List ℕ → Bool
+is_lease t universal ids = list_any (is_crtc t) ids && list_any (is_connector t) ids && (not universal || list_any (is_plane t) ids)
+
+-- what comes along: with universal planes off, of each listed CRTC the primary and the cursor plane that the client controls
+abbrev pub brought_along : Rows → ℕ → List ℕ → List ℕ
+brought_along w c ids = if has_universal w c then [] else filter (controls w c) (planes_of w.topology ids)
+
+-- all that is leased
+abbrev pub leased : Rows → ℕ → List ℕ → List ℕ
+leased w c ids = ids ++ brought_along w c ids
 
 -- whether a direct lessee of the master has it, redeemed or not
 abbrev pub is_leased_out : Rows → ℕ → ℕ → Bool
@@ -101,19 +109,19 @@ create_lease_of w c m ids = record {
       ∷ check NoModeObject (list_all (is_seen w c) ids)
       ∷ check NotLeasable (list_all (is_leasable w) ids)
       ∷ check Repeated (list_all (stands_once ids) ids)
-      ∷ check LeaseShape (is_lease w.topology ids)
-      ∷ check LeasedOut (not (list_any (is_leased_out w m) ids))
+      ∷ check LeaseShape (is_lease w.topology (has_universal w c) ids)
+      ∷ check LeasedOut (not (list_any (is_leased_out w m) (leased w c ids)))
       ∷ check Full (is_some (free_lessee w m) && is_some (next_lease_token w))
       ∷ [];
   rows = record w {
     masters = w.masters ++ new_lessee w m ∷ [];
-    grants = w.grants ++ map (grant (birth w)) ids;
+    grants = w.grants ++ map (grant (birth w)) (leased w c ids);
     last_lease_token = new_lease_token w;
   };
   answer = Lease (new_lessee_id w m) (new_lease_token w);
 }
 
--- MODE_CREATE_LEASE: a new lessee of the caller's master, which has these mode objects
+-- MODE_CREATE_LEASE: a new lessee of the caller's master, which has these mode objects and what comes along
 abbrev pub create_lease : Rows → ℕ → List ℕ → Meaning
 create_lease w c ids = create_lease_of w c (own_master w c) ids
 

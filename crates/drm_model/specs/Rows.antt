@@ -7,7 +7,7 @@ use Rattle.drm_table.specs.declared.limits.Limits.{Limits}
 use Rattle.drm_index_array.specs.Least.{least}
 use Rattle.drm_modes.specs.Topology.{Topology}
 
--- an open client; a render client's master is none (drm-uapi: primary and render nodes)
+-- an open client; a render client's master is none (drm-uapi: primary and render nodes, universal planes)
 pub record ClientRow : Type 0 where
   pub client : ℕ
   pub render : Bool
@@ -16,6 +16,7 @@ pub record ClientRow : Type 0 where
   pub once_master : Bool
   pub is_master : Bool
   pub master : Option ℕ
+  pub universal : Bool
 
 -- a master; a lessee has a lessor, and the lease token where nobody redeemed it (drm-uapi, leases; the token own)
 pub record MasterRow : Type 0 where

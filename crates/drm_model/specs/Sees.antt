@@ -1,10 +1,11 @@
--- What a client sees of the fixed mode objects (drm-uapi, leases), and the lists and masks that show it.
+-- What a client controls and sees of the fixed mode objects (drm-uapi, leases and universal planes), and the lists and masks
+-- that show it.
 use Rattle.std.specs.Prelude.{ℕ, ◌==◌, Bool, false, not, ◌&&◌, ◌||◌, List, Option, None, Some, map, filter}
 use Rattle.std.specs.List.{list_any}
 use Rattle.std.specs.Option.{is_some}
-use Rattle.drm_modes.specs.Topology.{crtc_ids, plane_ids, connector_ids, is_crtc, is_plane, is_encoder, is_connector, mask_over}
+use Rattle.drm_modes.specs.Topology.{crtc_ids, plane_ids, connector_ids, is_crtc, is_plane, is_encoder, is_connector, is_primary_or_cursor, mask_over}
 use Rattle.drm_model.specs.Numbers.{rising}
-use Rattle.drm_model.specs.Rows.{Rows, GrantRow, FramebufferRow}
+use Rattle.drm_model.specs.Rows.{Rows, GrantRow, FramebufferRow, client_has}
 use Rattle.drm_model.specs.Masters.{master_of, lessor_of}
 
 -- whether the lease of a master has the mode object
@@ -12,13 +13,22 @@ abbrev pub is_granted : Rows → ℕ → ℕ → Bool
 is_granted w m x = list_any (λ (row : GrantRow). (row.master == m) && (row.mode_object == x)) w.grants
 
 -- a master without a lessor controls all, a lessee what its lease has, and who has no master nothing
-abbrev pub controls : Rows → Option ℕ → ℕ → Bool
-controls w None x = false
-controls w (Some m) x = not (is_some (lessor_of w.masters m)) || is_granted w m x
+abbrev pub master_controls : Rows → Option ℕ → ℕ → Bool
+master_controls w None x = false
+master_controls w (Some m) x = not (is_some (lessor_of w.masters m)) || is_granted w m x
 
--- whether the client sees a fixed mode object: all see an encoder, and of the rest each client what its master controls
+-- whether the client controls a fixed mode object: its master does
+unfoldable pub controls : Rows → ℕ → ℕ → Bool
+controls w c x = master_controls w (master_of w c) x
+
+-- whether the client has universal planes on
+abbrev pub has_universal : Rows → ℕ → Bool
+has_universal w c = client_has (λ row. row.universal) w c
+
+-- whether the client sees a fixed mode object: all see an encoder, and of the rest each client what it controls, but primary
+-- and cursor planes with universal planes on alone
 unfoldable pub sees : Rows → ℕ → ℕ → Bool
-sees w c x = is_encoder w.topology x || controls w (master_of w c) x
+sees w c x = is_encoder w.topology x || (controls w c x && (not (is_primary_or_cursor w.topology x) || has_universal w c))
 
 abbrev pub sees_crtc : Rows → ℕ → ℕ → Bool
 sees_crtc w c x = is_crtc w.topology x && sees w c x

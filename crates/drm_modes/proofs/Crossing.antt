@@ -13,7 +13,7 @@ pub topology_send : IsSend topology.the_row
 topology_send =
     view_send topology_inside.the_row _ _ _ _
     (recorded_send topology_inside.the_field.row _ _ topology_inside.the_type.to_one
-    (struct_send (shape topology_inside.the_type) (search sendable depth 20, (search (list.the_send, sendable) depth 20, (search (list.the_send, sendable) depth 20, (search (list.the_send, sendable) depth 20, tt))))))
+    (struct_send (shape topology_inside.the_type) (search sendable depth 20, (search (list.the_send, sendable) depth 20, (search (list.the_send, sendable) depth 20, (search (list.the_send, sendable) depth 20, (search (list.the_send, sendable) depth 20, tt)))))))
 
 pixels_send : IsSend pixels.the_row
 pixels_send =

@@ -1,6 +1,7 @@
 pub mod Ids
 pub mod Fixed
 pub mod Listed
+mod PlanesAre
 mod Masks
 mod Mapped
 mod Numbered

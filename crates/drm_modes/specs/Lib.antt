@@ -1,4 +1,5 @@
 pub mod Numbers
+pub mod PlaneKinds
 pub mod Topology
 pub mod Topologies
 pub mod Modes

@@ -1,6 +1,6 @@
 -- The fixed mode objects (drm-uapi, mode setting): CRTCs, planes, encoders and connectors, with ids from 1 in that order.
-use Rattle.std.specs.Prelude.{◌≡◌, ℕ, ◌+◌, ◌-◌, ◌*◌, ◌^◌, ◌≤◌, ◌==◌, Bool, true, false, ◌&&◌, nat_le, nat_lt, if◌then◌else◌, List, [], ◌∷◌, length, slice_get, slice_index_or, Option, None, Some}
-use Rattle.std.specs.Option.{option_map_or}
+use Rattle.std.specs.Prelude.{◌≡◌, ℕ, ◌+◌, ◌-◌, ◌*◌, ◌^◌, ◌≤◌, ◌==◌, Bool, true, false, ◌&&◌, nat_le, nat_lt, if◌then◌else◌, List, [], ◌∷◌, length, filter, slice_get, slice_index_or, Option, None, Some, is_some}
+use Rattle.std.specs.Option.{option_map_or, option_and_then}
 use Rattle.std.specs.Int.{bit_at}
 use Rattle.std.specs.List.{list_all, AllByRecursion}
 use Rattle.drm_index_array.specs.Rows.{InOrder}
@@ -8,11 +8,15 @@ use Rattle.drm_lists.specs.Numbers.{is_among}
 use Rattle.drm_modes.specs.Numbers.{numbers_from}
 use Rattle.drm_modes.specs.declared.kinds.Kind.{Kind}
 use Rattle.drm_modes.specs.declared.kinds.Kind.TheVariants.{Crtc, Plane, Encoder, Connector}
+use Rattle.drm_modes.specs.declared.kinds.PlaneKind.{PlaneKind}
+use Rattle.drm_modes.specs.PlaneKinds.{is_possible, crtc_of_kind, are_kinds}
 
--- so many CRTCs; of each plane and encoder the mask of possible CRTCs, whose bit i is CRTC i + 1; of each connector its encoder
+-- so many CRTCs; of each plane and encoder the mask of possible CRTCs, whose bit i is CRTC i + 1; of each plane what it is for;
+-- of each connector its encoder
 pub record Topology : Type 0 where
   pub crtcs : ℕ
   pub planes : List ℕ
+  pub kinds : List PlaneKind
   pub encoders : List ℕ
   pub connectors : List ℕ
 
@@ -75,8 +79,8 @@ abbrev pub is_mask : Topology → ℕ → Bool
 is_mask t mask = nat_lt mask (2 ^ t.crtcs)
 
 -- 1 to 8 CRTCs and at most 64 objects (own); each mask and each encoder names what is there
-unfoldable pub is_topology : Topology → Bool
-is_topology t =
+unfoldable pub are_objects : Topology → Bool
+are_objects t =
     nat_le 1 t.crtcs
     && nat_le t.crtcs 8
     && nat_le (object_count t) 64
@@ -84,9 +88,14 @@ is_topology t =
     && list_all (is_mask t) t.encoders
     && list_all (is_encoder t) t.connectors
 
+-- and each plane is for something that fits it (drm-uapi, universal planes)
+abbrev pub is_topology : Topology → Bool
+is_topology t = are_objects t && are_kinds t.crtcs t.kinds t.planes
+
 -- what is so of each topology
 pub record IsTopology (t : Topology) : Type 0 where
   pub is : is_topology t ≡ true
+  pub one_kind_each : length t.kinds ≡ length t.planes
   pub some : 1 ≤ t.crtcs
   pub few_crtcs : t.crtcs ≤ 8
   pub few : object_count t ≤ 64
@@ -100,7 +109,23 @@ possible_crtcs t x =
 
 -- whether the CRTC is a possible one of the plane or the encoder
 abbrev pub drives : Topology → ℕ → ℕ → Bool
-drives t x crtc = is_crtc t crtc && (bit_at (possible_crtcs t x) (crtc - 1) == 1)
+drives t x crtc = is_possible t.crtcs (possible_crtcs t x) crtc
+
+-- what a plane is for, if the id is a plane's
+abbrev pub plane_kind : Topology → ℕ → Option PlaneKind
+plane_kind t x = if is_plane t x then slice_get t.kinds (x - first_plane t) else None
+
+-- the CRTC whose primary or cursor plane it is
+abbrev pub crtc_of_plane : Topology → ℕ → Option ℕ
+crtc_of_plane t x = option_and_then crtc_of_kind (plane_kind t x)
+
+-- a plane, and no overlay plane
+abbrev pub is_primary_or_cursor : Topology → ℕ → Bool
+is_primary_or_cursor t x = is_some (crtc_of_plane t x)
+
+-- the primary and cursor planes of the CRTCs in a list, rising
+abbrev pub planes_of : Topology → List ℕ → List ℕ
+planes_of t crtcs = filter (λ x. option_map_or (is_among crtcs) (crtc_of_plane t x) false) (plane_ids t)
 
 -- the encoder of a connector
 abbrev pub encoder_of : Topology → ℕ → Option ℕ

@@ -12,3 +12,30 @@ pub enum Kind {
     /// Where a display is connected.
     Connector,
 }
+
+/// What a plane is for (drm-uapi, universal planes).
+#[derive(Clone, Copy, PartialEq, Eq, Debug, Default)]
+pub enum PlaneKind {
+    /// Beside what a CRTC shows: clients see it with universal planes on and off.
+    #[default]
+    Overlay,
+    /// What the CRTC of this id shows by itself. Clients see it with universal planes on alone.
+    Primary(u32),
+    /// The cursor of the CRTC of this id. Clients see it with universal planes on alone.
+    Cursor(u32),
+}
+
+impl PlaneKind {
+    ghost use Rattle.std.specs.Prelude.{◌≡◌};
+    ghost use Rattle.drm_modes.specs.PlaneKinds.{crtc_of_kind};
+
+    /// The CRTC of a primary or a cursor plane; none of an overlay plane.
+    pub fn crtc(self) -> Option<u32>
+        ensures { result ≡ crtc_of_kind self }
+    {
+        match self {
+            PlaneKind::Overlay => None,
+            PlaneKind::Primary(crtc) | PlaneKind::Cursor(crtc) => Some(crtc),
+        }
+    }
+}

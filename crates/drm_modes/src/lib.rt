@@ -5,12 +5,13 @@
 mod faults;
 mod kinds;
 mod modes;
+mod planes;
 mod rows;
 mod screens;
 mod topologies;
 
 pub use faults::AddFbFault;
-pub use kinds::Kind;
+pub use kinds::{Kind, PlaneKind};
 pub use modes::Modes;
 pub use rows::{Framebuffer, Shape, Shown};
 pub use topologies::Topology;

@@ -3,13 +3,13 @@
 ghost use Rattle.std.specs.Prelude.{◌≡◌, ℕ, ◌==◌, false, ◌≤◌, ◌+◌, ◌↔◌, Some, None, find, slice_get, is_some, true, IsTrue, OnSome, OnErr, IfOk, IfErr, IfSome, IfNone, option_map};
 ghost use Rattle.std.specs.Int.{bit_at};
 ghost use Rattle.std.specs.Option.{option_map_or};
-ghost use Rattle.drm_modes.specs.Topology.{kind_of, ids_of_kind, is_of_kind, encoder_of, reaches, drives, possible_crtcs, mask_over, is_crtc, is_plane, is_encoder, object_count, AreCrtcs};
+ghost use Rattle.drm_modes.specs.Topology.{kind_of, ids_of_kind, is_of_kind, encoder_of, reaches, drives, possible_crtcs, plane_kind, crtc_of_plane, planes_of, mask_over, is_crtc, is_plane, is_encoder, object_count, AreCrtcs};
 ghost use Rattle.drm_modes.specs.Modes.{AreModes, empty_modes, has_framebuffer, is_framebuffer, is_framebuffer_of, is_made_by, framebuffers_of, framebuffer, free_framebuffer, with_framebuffer, without_framebuffer, can_show, shown_by, with_shown, shown_rows, screen_count, first_framebuffer};
 ghost use Rattle.drm_modes.specs.AddFbFault.{IsFull};
 ghost use Rattle.drm_modes.specs.Tables.{framebuffer_row, framebuffers_in};
 
 use crate::faults::AddFbFault;
-use crate::kinds::Kind;
+use crate::kinds::{Kind, PlaneKind};
 use crate::rows::{Framebuffer, Shape, Shown};
 use crate::screens;
 use crate::topologies::Topology;
@@ -112,6 +112,28 @@ impl Modes {
         ensures { result ≡ encoder_of self.now.topology connector }
     {
         self.topology.encoder_of(connector)
+    }
+
+    /// What a plane is for; none where the id is no plane's (drm-uapi, universal planes). It takes no memory.
+    pub fn plane_kind(&self, id: u32) -> Option<PlaneKind>
+        ensures { result ≡ plane_kind self.now.topology id }
+    {
+        self.topology.plane_kind(id)
+    }
+
+    /// The CRTC whose primary or cursor plane it is; none of anything else (drm-uapi, universal planes). It takes no memory.
+    pub fn crtc_of_plane(&self, id: u32) -> Option<u32>
+        ensures { result ≡ crtc_of_plane self.now.topology id }
+    {
+        self.topology.crtc_of_plane(id)
+    }
+
+    /// The primary and cursor planes of the CRTCs in a list, rising (drm-uapi, universal planes; that they rise is own). It
+    /// takes no memory.
+    pub fn planes_of(&self, crtcs: &[u32]) -> ShownList
+        ensures { result ≡ planes_of self.now.topology crtcs.now }
+    {
+        self.topology.planes_of(crtcs)
     }
 
     /// The possible CRTCs of a plane or an encoder: bit i is CRTC i + 1. It is 0 where the id is neither. It takes no

@@ -9,10 +9,11 @@ ghost use Rattle.drm_modes.specs.Topology as fixed;
 ghost use Rattle.drm_modes.specs.Topology.{IsTopology, AreCrtcs};
 ghost use Rattle.drm_modes.specs.Numbers.{numbers_from};
 ghost use Rattle.drm_lists.specs.Numbers.{is_among};
-ghost use Rattle.drm_modes.specs.Topologies.{topology_of};
+ghost use Rattle.drm_modes.specs.Topologies.{topology_of, topology_with};
 ghost use Rattle.drm_modes.specs.Modes.{screen_count};
 
-use crate::kinds::Kind;
+use crate::kinds::{Kind, PlaneKind};
+use crate::planes::{are_kinds, is_possible, overlays};
 use arrayvec::ArrayVec;
 use drm_table::ShownList;
 use std::marker::Model;
@@ -22,6 +23,7 @@ use std::marker::Model;
 pub struct Topology {
     crtcs: u32,
     planes: ArrayVec<u32, 64>,
+    kinds: ArrayVec<PlaneKind, 64>,
     encoders: ArrayVec<u32, 64>,
     connectors: ArrayVec<u32, 64>,
 }
@@ -33,11 +35,11 @@ impl Model for Topology {
 
     ghost Value = { Fixed };
 
-    ghost use Rattle.drm_modes.specs.Topologies.{topology_of};
+    ghost use Rattle.drm_modes.specs.Topologies.{topology_with};
 
-    ghost view = { λ t. topology_of t.crtcs t.planes.items t.encoders.items t.connectors.items };
+    ghost view = { λ t. topology_with t.crtcs t.planes.items t.kinds.items t.encoders.items t.connectors.items };
 
-    ghost invariant = { λ t. is_topology (topology_of t.crtcs t.planes.items t.encoders.items t.connectors.items) ≡ true };
+    ghost invariant = { λ t. is_topology (topology_with t.crtcs t.planes.items t.kinds.items t.encoders.items t.connectors.items) ≡ true };
 }
 
 impl Topology {
@@ -48,12 +50,41 @@ impl Topology {
         ensures made { IsSome result ↔ IsTrue (fixed.is_topology (topology_of crtcs planes.now encoders.now connectors.now)) }
         ensures value { IfSome result (λ topology. topology ≡ topology_of crtcs planes.now encoders.now connectors.now) }
     {
-        if !is_topology(crtcs, planes, encoders, connectors) {
+        if !are_objects(crtcs, planes, encoders, connectors) {
             return None;
         }
         Some(Topology {
             crtcs,
             planes: list_of(planes),
+            kinds: overlays(planes.len() as u32),
+            encoders: list_of(encoders),
+            connectors: list_of(connectors),
+        })
+    }
+
+    /// The same, where what each plane is for is said too (drm-uapi, universal planes). None also where there isn't one kind
+    /// for each plane, where the CRTC of a kind isn't a possible one of its plane, and where a CRTC has two primary or two
+    /// cursor planes. Takes no memory.
+    pub fn with_kinds(
+        crtcs: u32,
+        planes: &[u32],
+        kinds: &[PlaneKind],
+        encoders: &[u32],
+        connectors: &[u32],
+    ) -> Option<Topology>
+        ensures made { IsSome result ↔ IsTrue (fixed.is_topology (topology_with crtcs planes.now kinds.now encoders.now connectors.now)) }
+        ensures value { IfSome result (λ topology. topology ≡ topology_with crtcs planes.now kinds.now encoders.now connectors.now) }
+    {
+        if !are_objects(crtcs, planes, encoders, connectors) {
+            return None;
+        }
+        if !are_kinds(crtcs, kinds, planes) {
+            return None;
+        }
+        Some(Topology {
+            crtcs,
+            planes: list_of(planes),
+            kinds: list_of(kinds),
             encoders: list_of(encoders),
             connectors: list_of(connectors),
         })
@@ -182,10 +213,49 @@ impl Topology {
         ensures { result ≡ fixed.drives self.now id crtc }
     {
         self.laws();
-        if !is_in(1, self.crtcs, crtc) {
-            return false;
+        is_possible(self.crtcs, self.possible_crtcs(id), crtc)
+    }
+
+    /// What a plane is for; none where the id is no plane's. Takes no memory.
+    pub fn plane_kind(&self, id: u32) -> Option<PlaneKind>
+        ensures { result ≡ fixed.plane_kind self.now id }
+    {
+        self.laws();
+        let first = self.first_plane();
+        if !is_in(first, self.planes.len() as u32, id) {
+            return None;
         }
-        (self.possible_crtcs(id) >> (crtc - 1)) & 1 == 1
+        Some(self.kinds[(id - first) as usize])
+    }
+
+    /// The CRTC whose primary or cursor plane it is; none of anything else. Takes no memory.
+    pub fn crtc_of_plane(&self, id: u32) -> Option<u32>
+        ensures { result ≡ fixed.crtc_of_plane self.now id }
+    {
+        self.plane_kind(id)?.crtc()
+    }
+
+    /// The primary and cursor planes of the CRTCs in a list, rising. Takes no memory.
+    pub fn planes_of(&self, crtcs: &[u32]) -> ShownList
+        ensures { result ≡ fixed.planes_of self.now crtcs.now }
+    {
+        let planes = self.ids(Kind::Plane);
+        let mut list = ShownList::new();
+        for plane in planes.ids() {
+            if self.is_plane_of(*plane, crtcs) {
+                list.push(*plane);
+            }
+        }
+        list
+    }
+
+    fn is_plane_of(&self, id: u32, crtcs: &[u32]) -> bool
+        ensures { result ≡ option_map_or (is_among crtcs.now) (fixed.crtc_of_plane self.now id) false }
+    {
+        match self.crtc_of_plane(id) {
+            Some(crtc) => crtcs.contains(&crtc),
+            None => false,
+        }
     }
 
     /// The encoder of a connector; none where the id is no connector's. Takes no memory.
@@ -253,7 +323,7 @@ fn ids_from(first: u32, count: u32) -> ShownList
 }
 
 /// Whether an id is one of so many, from the first on.
-fn is_in(first: u32, count: u32, id: u32) -> bool
+pub(crate) fn is_in(first: u32, count: u32, id: u32) -> bool
     ensures test { result ≡ is_among (numbers_from first count) id }
     ensures within { OnTrue result ((first ≤ id) × (id < first + count)) }
 {
@@ -261,10 +331,11 @@ fn is_in(first: u32, count: u32, id: u32) -> bool
 }
 
 /// Whether the counts are in range, and masks and connectors name what is there.
-#[tactic(auto, unfolding(crate::specs::Topology::is_topology))]
-fn is_topology(crtcs: u32, planes: &[u32], encoders: &[u32], connectors: &[u32]) -> bool
-    ensures value { result ≡ fixed.is_topology (topology_of crtcs planes.now encoders.now connectors.now) }
+#[tactic(auto, unfolding(crate::specs::Topology::are_objects))]
+fn are_objects(crtcs: u32, planes: &[u32], encoders: &[u32], connectors: &[u32]) -> bool
+    ensures value { result ≡ fixed.are_objects (topology_of crtcs planes.now encoders.now connectors.now) }
     ensures few { OnTrue result (length planes.now + length encoders.now + length connectors.now ≤ 64) }
+    ensures few_crtcs { OnTrue result (crtcs ≤ 8) }
 {
     if !are_counts(crtcs, planes.len(), encoders.len(), connectors.len()) {
         return false;
@@ -314,14 +385,14 @@ fn are_encoders(first: u32, count: u32, connectors: &[u32]) -> bool
     true
 }
 
-/// The same numbers, in a list of fixed size.
-fn list_of(numbers: &[u32]) -> ArrayVec<u32, 64>
-    requires { length numbers.now ≤ 64 }
-    ensures { result.items ≡ numbers.now }
+/// The same, in a list of fixed size.
+fn list_of<T: Copy + Default>(items: &[T]) -> ArrayVec<T, 64>
+    requires { length items.now ≤ 64 }
+    ensures { result.items ≡ items.now }
 {
     let mut list = ArrayVec::new();
-    for number in numbers {
-        list.push(*number);
+    for item in items {
+        list.push(*item);
     }
     list
 }

@@ -6,6 +6,7 @@ use Rattle.drm_table.specs.declared.apart.Apart.{Apart}
 use Rattle.drm_table.specs.declared.events.Event.{Event}
 use Rattle.drm_table.specs.declared.events.Event.TheVariants as events
 use Rattle.drm_table.specs.declared.limits.Limits.{Limits}
+use Rattle.drm_modes.specs.declared.kinds.PlaneKind.TheVariants.{Overlay as OverlayPlane, Primary as PrimaryPlane}
 use Rattle.drm_modes.specs.Topology.{Topology}
 use Rattle.drm_model.specs.Rows.{Rows, empty_rows}
 use Rattle.drm_model.specs.Run.{Step, Answers}
@@ -18,7 +19,7 @@ use Rattle.drm_runs.specs.Lines.{IsBare}
 
 -- two CRTCs, two planes, two encoders and two connectors
 abbrev pub test_topology : Topology
-test_topology = record { crtcs = 2; planes = 1 ∷ 2 ∷ []; encoders = 3 ∷ 2 ∷ []; connectors = 5 ∷ 6 ∷ [] }
+test_topology = record { crtcs = 2; planes = 1 ∷ 2 ∷ []; kinds = PrimaryPlane 1 ∷ OverlayPlane ∷ []; encoders = 3 ∷ 2 ∷ []; connectors = 5 ∷ 6 ∷ [] }
 
 -- the limits of a script that has no line of them: the greatest, save 64 clients
 abbrev pub program_limits : Limits

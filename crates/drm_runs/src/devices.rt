@@ -4,14 +4,16 @@ ghost use Rattle.std.specs.Prelude.{◌≡◌, true, [], IfSome};
 ghost use Rattle.drm_table.specs.Limits as ranges;
 ghost use Rattle.drm_runs.specs.Script as script;
 
-use drm_device::{Device, Limits, NewFault, Topology};
+use drm_device::{Device, Limits, NewFault, PlaneKind, Topology};
 use std::alloc::Global;
 
-/// The topology of each device: two CRTCs, two planes, two encoders and two connectors.
-fn test_topology() -> Topology
+/// The topology of each device: two CRTCs, two planes, of which the first is the first CRTC's primary plane, two encoders and
+/// two connectors.
+pub fn test_topology() -> Topology
     ensures { result ≡ script.test_topology }
 {
-    match Topology::new(2, &[1, 2], &[3, 2], &[5, 6]) {
+    let kinds = [PlaneKind::Primary(1), PlaneKind::Overlay];
+    match Topology::with_kinds(2, &[1, 2], &kinds, &[3, 2], &[5, 6]) {
         Some(topology) => topology,
         None => unreachable!(),
     }

@@ -39,9 +39,10 @@ impl Model for Interpreter {
 
 impl Interpreter {
     ghost use Rattle.std.specs.Prelude.{◌≡◌, slice_index, IfSome, IfNone, None, Some, true};
+    ghost use Rattle.std.specs.Option.{option_map};
     ghost use Rattle.drm_table.specs.Limits as ranges;
     ghost use Rattle.drm_model.specs.Rows.{Rows};
-    ghost use Rattle.drm_model.specs.Run.{Step};
+    ghost use Rattle.drm_model.specs.Run.{Step, rows_of};
     ghost use Rattle.drm_runs.specs.Script.{made, bound, event_of, label_bound};
     ghost use Rattle.drm_runs.specs.Interpreter.{Asks, Interprets, SetsLimits, at_start};
 
@@ -53,6 +54,20 @@ impl Interpreter {
             device: None,
             labels: [0; 26],
         }
+    }
+
+    /// The device, once a line has made it.
+    pub fn device(&self) -> Option<&Device>
+        ensures { option_map (λ device. rows_of device.now) result ≡ self.now.device }
+    {
+        self.device.as_ref()
+    }
+
+    /// The clients that the labels stand for, the first for `a`; 0 where a label was never bound.
+    pub fn labels(&self) -> &[u32; Label::COUNT]
+        ensures { result.now ≡ self.now.labels }
+    {
+        &self.labels
     }
 
     /// The client that a label stands for; 0 where it was never bound.

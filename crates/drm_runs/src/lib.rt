@@ -10,7 +10,7 @@ mod run;
 mod writing;
 
 pub use causes::cause_of;
-pub use devices::make_device;
+pub use devices::{make_device, test_topology};
 pub use interpreter::{Interpreter, LineResult};
 pub use laws::scripts_are_answered;
 pub use reader::{LineReader, NextLine};

@@ -1,12 +1,12 @@
 -- A command is read from just the words that spell it.
-use Rattle.std.proofs.Common.{◌≡◌, ℕ, List, [], ◌∷◌, refl, Some, codes}
+use Rattle.std.proofs.Common.{◌≡◌, ℕ, Bool, List, [], ◌∷◌, refl, Some, codes}
 use Rattle.drm_table.specs.declared.calls.Call.{Call}
 use Rattle.drm_table.specs.declared.events.Opening.{Opening}
 use Rattle.drm_script.specs.declared.commands.Command.{Command}
 use Rattle.drm_script.specs.declared.commands.Command.TheVariants as commands
 use Rattle.drm_script.specs.Commands.{open_at, close_at, ask_at}
 use Rattle.drm_script.specs.Fields.{Words, label_of}
-use Rattle.drm_script.specs.Grammar.{Spells, SpellEach, opening_parts, SpellsCall, SpellsCommand}
+use Rattle.drm_script.specs.Grammar.{Spells, SpellEach, open_text, Opens, opening_parts, SpellsCall, SpellsCommand}
 use Rattle.drm_script.specs.Grammar.Part.{label}
 use Rattle.drm_script.specs.Openings.{opening_at}
 use Rattle.drm_script.specs.Calls.{call_at}
@@ -14,18 +14,19 @@ use Rattle.drm_script.proofs.FieldLaws.{some_same, bind_some, word_bind, words_b
 use Rattle.drm_script.proofs.OpeningLaws.{opening_reads, opening_read}
 use Rattle.drm_script.proofs.CallLaws.{call_reads, call_read}
 
-pub open_reads : (ws : Words) (command : Command) → open_at ws ≡ Some command → SpellsCommand command (codes "open" ∷ ws)
+pub open_reads : (universal : Bool) (ws : Words) (command : Command) → open_at universal ws ≡ Some command → SpellsCommand command (open_text universal ∷ ws)
 unfolding open_at
-open_reads ws command e =
+open_reads universal ws command e =
     let a = word_bind ws _ command e in
     let b = bind_some (label_of a.w) _ command a.goes_on in
-    let d = bind_some (opening_at a.rest) _ command b.goes_on in
-    same_said SpellsCommand (codes "open") ws (a.w ∷ a.rest) command (commands.Open b.step d.step) a.words (some_same _ _ d.goes_on) (refl, (label_spells a.w b.step b.made, opening_reads a.rest d.step d.made))
+    let d = bind_some (opening_at universal a.rest) _ command b.goes_on in
+    let opens = opening_reads universal a.rest d.step d.made in
+    same_said SpellsCommand (open_text universal) ws (a.w ∷ a.rest) command (commands.Open b.step d.step) a.words (some_same _ _ d.goes_on) (universal, opens.0, (refl, (label_spells a.w b.step b.made, opens.1)))
 
-pub open_read : (ws : Words) (place : ℕ) (opening : Opening) → SpellEach (label place ∷ opening_parts opening) ws → open_at ws ≡ Some (commands.Open place opening)
+pub open_read : (universal : Bool) (ws : Words) (place : ℕ) (opening : Opening) → Opens universal opening → SpellEach (label place ∷ opening_parts opening) ws → open_at universal ws ≡ Some (commands.Open place opening)
 unfolding open_at
-open_read [] place opening s = absurd s
-open_read (w ∷ ws) place opening s = rw (label_read w place s.0) (rw (opening_read ws opening s.1) refl)
+open_read universal [] place opening o s = absurd s
+open_read universal (w ∷ ws) place opening o s = rw (label_read w place s.0) (rw (opening_read universal ws opening o s.1) refl)
 
 pub close_reads : (ws : Words) (command : Command) → close_at ws ≡ Some command → SpellsCommand command (codes "close" ∷ ws)
 unfolding close_at

@@ -6,6 +6,7 @@ use Rattle.std.proofs.Math.Bool.{and-false}
 use Rattle.std.proofs.lemmas.Bool.Decides.{nat_tests}
 use Rattle.std.proofs.lemmas.List.Sums.{AllPass-from_list_all, list_all-from_AllPass}
 use Rattle.std.proofs.lemmas.Str.Ascii.{IsAscii-from_all, All-from_ascii}
+use Rattle.drm_table.specs.declared.events.Opening.{Opening}
 use Rattle.drm_table.specs.declared.limits.Limits.{Limits}
 use Rattle.drm_table.specs.Limits.{are_in_range}
 use Rattle.drm_script.specs.declared.commands.Command.{Command}
@@ -17,7 +18,8 @@ use Rattle.drm_script.specs.declared.reading.LineWord.TheVariants as words
 use Rattle.drm_script.specs.declared.reading.TheConstants.{LINE_WORDS}
 use Rattle.drm_script.specs.Commands.{open_at, close_at, ask_at}
 use Rattle.drm_script.specs.Fields.{Words}
-use Rattle.drm_script.specs.Grammar.{SpellEach, SpellsCommand, limits_parts, IsPlain, IsCommandLine, IsLimitsLine, IsComment, IsSkippedLine, IsOtherLine}
+use Rattle.drm_script.specs.Grammar.{SpellEach, open_text, Opens, opening_parts, SpellsCommand, limits_parts, IsPlain, IsCommandLine, IsLimitsLine, IsComment, IsSkippedLine, IsOtherLine}
+use Rattle.drm_script.specs.Grammar.Part.{word, label}
 use Rattle.drm_script.specs.LimitsLine.{limits_at}
 use Rattle.drm_script.specs.Reading.{line_text, line_word_of, command_said, limits_said, said_behind, words_said, is_comment, reading_of}
 use Rattle.drm_script.specs.Words.{words_of, with_byte, begins_word}
@@ -81,7 +83,10 @@ command_behind : (o : Option LineWord) (w : List ℕ) (ws : Words) (command : Co
 command_behind (Some words.Limits) w ws command t e = absurd (limits_no_command (limits_at ws) command e)
 command_behind (Some words.Open) w ws command t e =
     let P : List ℕ → Type 0 = λ v. SpellsCommand command (v ∷ ws) in
-    subst P (sym (named w words.Open t)) (open_reads ws command (command_said_some (open_at ws) command e))
+    subst P (sym (named w words.Open t)) (open_reads true ws command (command_said_some (open_at true ws) command e))
+command_behind (Some words.Open2) w ws command t e =
+    let P : List ℕ → Type 0 = λ v. SpellsCommand command (v ∷ ws) in
+    subst P (sym (named w words.Open2 t)) (open_reads false ws command (command_said_some (open_at false ws) command e))
 command_behind (Some words.Close) w ws command t e =
     let P : List ℕ → Type 0 = λ v. SpellsCommand command (v ∷ ws) in
     subst P (sym (named w words.Close t)) (close_reads ws command (command_said_some (close_at ws) command e))
@@ -97,7 +102,8 @@ limits_behind (Some words.Limits) w ws limits t e =
     let r = limits_reads ws limits (limits_said_some (limits_at ws) limits e) in
     let P : List ℕ → Type 0 = λ v. SpellEach (limits_parts limits) (v ∷ ws) in
     (subst P (sym (named w words.Limits t)) r.0, r.1)
-limits_behind (Some words.Open) w ws limits t e = absurd (command_no_limits (open_at ws) limits e)
+limits_behind (Some words.Open) w ws limits t e = absurd (command_no_limits (open_at true ws) limits e)
+limits_behind (Some words.Open2) w ws limits t e = absurd (command_no_limits (open_at false ws) limits e)
 limits_behind (Some words.Close) w ws limits t e = absurd (command_no_limits (close_at ws) limits e)
 limits_behind None w ws limits t e = absurd (command_no_limits (ask_at w ws) limits e)
 
@@ -107,7 +113,8 @@ words_limits (w ∷ ws) limits e = limits_behind (line_word_of w) w ws limits re
 
 behind_not_skipped : (o : Option LineWord) (w : List ℕ) (ws : Words) → said_behind o w ws ≡ readings.Skipped → ⊥
 behind_not_skipped (Some words.Limits) w ws e = limits_not_skipped (limits_at ws) e
-behind_not_skipped (Some words.Open) w ws e = command_not_skipped (open_at ws) e
+behind_not_skipped (Some words.Open) w ws e = command_not_skipped (open_at true ws) e
+behind_not_skipped (Some words.Open2) w ws e = command_not_skipped (open_at false ws) e
 behind_not_skipped (Some words.Close) w ws e = command_not_skipped (close_at ws) e
 behind_not_skipped None w ws e = command_not_skipped (ask_at w ws) e
 
@@ -120,9 +127,14 @@ letter_no_word : (b : ℕ) → line_word_of (b ∷ []) ≡ None
 unfolding line_word_of
 letter_no_word b = rw (and-false (eqb 108 b)) (rw (and-false (eqb 111 b)) (rw (and-false (eqb 99 b)) refl))
 
+open_words : (universal : Bool) (w : List ℕ) (ws : Words) (place : ℕ) (opening : Opening) → Opens universal opening → SpellEach (word (open_text universal) ∷ label place ∷ opening_parts opening) (w ∷ ws) → said_behind (line_word_of w) w ws ≡ readings.Says (commands.Open place opening)
+unfolding line_word_of
+open_words true w ws place opening o s = rw s.0 (ap command_said (open_read true ws place opening o s.1))
+open_words false w ws place opening o s = rw s.0 (ap command_said (open_read false ws place opening o s.1))
+
 command_words : (w : List ℕ) (ws : Words) (command : Command) → SpellsCommand command (w ∷ ws) → said_behind (line_word_of w) w ws ≡ readings.Says command
 unfolding line_word_of
-command_words w ws (commands.Open place opening) s = rw s.0 (ap command_said (open_read ws place opening s.1))
+command_words w ws (commands.Open place opening) s = open_words s.0 w ws place opening s.1 s.2
 command_words w ws (commands.Close place) s = rw s.0 (ap command_said (close_read ws place s.1))
 command_words w ws (commands.Ask place call) s =
     let none : line_word_of w ≡ None = ap line_word_of s.0.1 ∙ letter_no_word (97 + place) in
@@ -133,7 +145,7 @@ unfolding line_word_of
 limits_words w ws limits s r = rw s.0 (ap limits_said (limits_read w ws limits s r))
 
 no_command : (command : Command) → SpellsCommand command [] → ⊥
-no_command (commands.Open place opening) s = s
+no_command (commands.Open place opening) s = s.2
 no_command (commands.Close place) s = s
 no_command (commands.Ask place call) s = s
 
@@ -162,7 +174,11 @@ no_hash : (c : ℕ) (bs cs : List ℕ) → (35 ∷ bs) ≡ (c ∷ cs) → 35 < c
 no_hash c bs cs e h = let same : 35 ≡ c = cc in omega arith
 
 no_command_word : (command : Command) (w : List ℕ) (rest : Words) → SpellsCommand command ((35 ∷ w) ∷ rest) → ⊥
-no_command_word (commands.Open place opening) w rest s = no_hash 111 w _ s.0 (lit< tt)
+no_command_word (commands.Open place opening) w rest s = no_open s.0 (s.2).0
+  where
+    no_open : (universal : Bool) → (35 ∷ w) ≡ open_text universal → ⊥
+    no_open true e = no_hash 111 w _ e (lit< tt)
+    no_open false e = no_hash 111 w _ e (lit< tt)
 no_command_word (commands.Close place) w rest s = no_hash 99 w _ s.0 (lit< tt)
 no_command_word (commands.Ask place call) w rest s = no_hash (97 + place) w [] s.0.1 (omega arith)
 

@@ -1,17 +1,17 @@
 -- What a line asks of the device, read from words.
-use Rattle.std.specs.Prelude.{ℕ, List, Option, Some}
+use Rattle.std.specs.Prelude.{ℕ, Bool, List, Option, Some}
 use Rattle.drm_script.specs.declared.commands.Command.{Command}
 use Rattle.drm_script.specs.declared.commands.Command.TheVariants as commands
 use Rattle.drm_script.specs.Fields.{Words, ◌>>=◌, word_at, end_at, label_of}
 use Rattle.drm_script.specs.Openings.{opening_at}
 use Rattle.drm_script.specs.Calls.{call_at}
 
--- a label and an opening, behind the word
-unfoldable pub open_at : Words → Option Command
-open_at ws = do
+-- a label and an opening, behind the word, with universal planes on or off
+unfoldable pub open_at : Bool → Words → Option Command
+open_at universal ws = do
   first ← word_at ws
   label ← label_of first.0
-  opening ← opening_at first.1
+  opening ← opening_at universal first.1
   Some (commands.Open label opening)
 
 -- a label, behind the word

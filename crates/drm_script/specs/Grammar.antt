@@ -1,5 +1,5 @@
 -- The lines of a script, from what they say to how they are spelled: a row for each (own).
-use Rattle.std.specs.Prelude.{◌≡◌, ℕ, ◌+◌, ◌^◌, ◌<◌, ◌≤◌, ◌⊎◌, List, [], ◌∷◌, true, false, Option, Some, None, IsSome, IsTrue, codes, length, map}
+use Rattle.std.specs.Prelude.{Bool, ◌≡◌, ℕ, ◌+◌, ◌^◌, ◌<◌, ◌≤◌, ◌⊎◌, List, [], ◌∷◌, true, false, Option, Some, None, IsSome, IsTrue, codes, length, map}
 use Rattle.std.specs.Str.{IsAscii}
 use Rattle.std.specs.Str.Parse.{IsNumeral, digits_value}
 use Rattle.drm_table.specs.declared.calls.Call.{Call}
@@ -45,13 +45,24 @@ SpellEach (part ∷ parts) (w ∷ ws) = Spells part w × SpellEach parts ws
 SpellEach [] (w ∷ ws) = ⊥
 SpellEach (part ∷ parts) [] = ⊥
 
+-- the first word of an opening, with universal planes on or off
+abbrev pub open_text : Bool → List ℕ
+open_text true = codes "open"
+open_text false = codes "open2"
+
+-- The opening is one with universal planes on or off; a render client's is either.
+abbrev pub Opens : Bool → Opening → Type 0
+Opens on (openings.Primary root universal) = universal ≡ on
+Opens on openings.Render = Unit {0}
+Opens on (openings.Lease token root universal) = universal ≡ on
+
 -- the openings
 abbrev pub opening_parts : Opening → List Part
-opening_parts (openings.Primary false) = word (codes "card") ∷ []
-opening_parts (openings.Primary true) = word (codes "root") ∷ []
+opening_parts (openings.Primary false universal) = word (codes "card") ∷ []
+opening_parts (openings.Primary true universal) = word (codes "root") ∷ []
 opening_parts openings.Render = word (codes "render") ∷ []
-opening_parts (openings.Lease token false) = word (codes "lease") ∷ number 32 token ∷ []
-opening_parts (openings.Lease token true) = word (codes "rootlease") ∷ number 32 token ∷ []
+opening_parts (openings.Lease token false universal) = word (codes "lease") ∷ number 32 token ∷ []
+opening_parts (openings.Lease token true universal) = word (codes "rootlease") ∷ number 32 token ∷ []
 
 -- a field of a call
 abbrev pub field_part : Field → Part
@@ -82,7 +93,7 @@ BeginsWith part Others (w ∷ ws) = Spells part w × Others ws
 
 -- The words spell the command.
 abbrev pub SpellsCommand : Command → List (List ℕ) → Type 0
-SpellsCommand (commands.Open place opening) ws = SpellEach (word (codes "open") ∷ label place ∷ opening_parts opening) ws
+SpellsCommand (commands.Open place opening) ws = (universal : Bool) × Opens universal opening × SpellEach (word (open_text universal) ∷ label place ∷ opening_parts opening) ws
 SpellsCommand (commands.Close place) ws = SpellEach (word (codes "close") ∷ label place ∷ []) ws
 SpellsCommand (commands.Ask place call) ws = BeginsWith (label place) (SpellsCall call) ws
 

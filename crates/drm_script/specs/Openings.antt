@@ -21,23 +21,29 @@ unfoldable pub opening_word_of : List ℕ → Option OpeningWord
 opening_word_of w = find (λ name. bytes_eq (opening_text name) w) OPENING_WORDS
 
 -- a lease, by its token
-unfoldable pub lease_at : Bool → Words → Option Opening
-lease_at root ws = do
+unfoldable pub lease_at : Bool → Bool → Words → Option Opening
+lease_at universal root ws = do
   token ← number_at 32 ws
   end ← end_at token.1
-  Some (openings.Lease token.0 root)
+  Some (openings.Lease token.0 root universal)
 
--- the opening of a word and its fields
-abbrev pub opening_fields_at : OpeningWord → Words → Option Opening
-opening_fields_at words.Card ws = end_at ws >>= (λ _. Some (openings.Primary false))
-opening_fields_at words.Root ws = end_at ws >>= (λ _. Some (openings.Primary true))
-opening_fields_at words.Render ws = end_at ws >>= (λ _. Some openings.Render)
-opening_fields_at words.Lease ws = lease_at false ws
-opening_fields_at words.RootLease ws = lease_at true ws
+-- a primary node
+unfoldable pub primary_at : Bool → Bool → Words → Option Opening
+primary_at universal root ws = do
+  end ← end_at ws
+  Some (openings.Primary root universal)
 
--- the opening that the words spell
-unfoldable pub opening_at : Words → Option Opening
-opening_at ws = do
+-- the opening of a word and its fields; a render client has universal planes on in any case
+abbrev pub opening_fields_at : Bool → OpeningWord → Words → Option Opening
+opening_fields_at universal words.Card ws = primary_at universal false ws
+opening_fields_at universal words.Root ws = primary_at universal true ws
+opening_fields_at universal words.Render ws = end_at ws >>= (λ _. Some openings.Render)
+opening_fields_at universal words.Lease ws = lease_at universal false ws
+opening_fields_at universal words.RootLease ws = lease_at universal true ws
+
+-- the opening that the words spell, with universal planes on or off
+unfoldable pub opening_at : Bool → Words → Option Opening
+opening_at universal ws = do
   first ← word_at ws
   name ← opening_word_of first.0
-  opening_fields_at name first.1
+  opening_fields_at universal name first.1

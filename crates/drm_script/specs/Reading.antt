@@ -1,5 +1,5 @@
 -- What a line is read as.
-use Rattle.std.specs.Prelude.{⊤, ℕ, List, [], ◌∷◌, Bool, false, ◌==◌, nat_lt, not, if◌then◌else◌, Option, Some, None, codes, find, length}
+use Rattle.std.specs.Prelude.{⊤, ℕ, List, [], ◌∷◌, Bool, true, false, ◌==◌, nat_lt, not, if◌then◌else◌, Option, Some, None, codes, find, length}
 use Rattle.std.specs.List.{list_all}
 use Rattle.std.specs.Str.{bytes_eq}
 use Rattle.std.specs.Char.{is_ascii}
@@ -20,6 +20,7 @@ use Rattle.drm_script.specs.Commands.{open_at, close_at, ask_at}
 abbrev pub line_text : LineWord → List ℕ
 line_text words.Limits = codes "limits"
 line_text words.Open = codes "open"
+line_text words.Open2 = codes "open2"
 line_text words.Close = codes "close"
 
 -- what a first word that is no label begins
@@ -39,7 +40,8 @@ limits_said (Some limits) = readings.Limits limits
 -- by the first word, and apart from it the others
 abbrev pub said_behind : Option LineWord → List ℕ → Words → Reading
 said_behind (Some words.Limits) w ws = limits_said (limits_at ws)
-said_behind (Some words.Open) w ws = command_said (open_at ws)
+said_behind (Some words.Open) w ws = command_said (open_at true ws)
+said_behind (Some words.Open2) w ws = command_said (open_at false ws)
 said_behind (Some words.Close) w ws = command_said (close_at ws)
 said_behind None w ws = command_said (ask_at w ws)
 

@@ -21,14 +21,14 @@ pub enum Command {
     Ask { label: Label, call: Call },
 }
 
-/// `open L OPENING`, behind its first word.
+/// `open L OPENING` or `open2 L OPENING`, behind its first word: with universal planes on or off.
 #[tactic(auto, unfolding(crate::specs::Commands::open_at))]
-pub(crate) fn open(text: &[u8]) -> Option<Command>
-    ensures { result ≡ open_at (words_of text.now) }
+pub(crate) fn open(universal: bool, text: &[u8]) -> Option<Command>
+    ensures { result ≡ open_at universal (words_of text.now) }
 {
     let (first, rest) = next_word(text)?;
     let label = label_of_word(first)?;
-    let opening = opening_of(rest)?;
+    let opening = opening_of(universal, rest)?;
     Some(Command::Open { label, opening })
 }
 

@@ -26,9 +26,9 @@ pub enum Malformation {
     #[error("it has a tab, and spaces alone separate words")]
     Tab,
     /// The first word is neither a label nor a word that begins a line.
-    #[error("its first word is no label from a to z, and none of limits, open and close")]
+    #[error("its first word is no label from a to z, and none of limits, open, open2 and close")]
     FirstWord,
-    /// A line of `open` or `close` names no label.
+    /// A line of `open`, `open2` or `close` names no label.
     #[error("its second word is no label from a to z")]
     Label,
     /// There is no such way to open a client.
@@ -150,7 +150,7 @@ fn words(text: &[u8]) -> Result<(), Malformation> {
     };
     match line_word(first) {
         Some(LineWord::Limits) => limits(rest),
-        Some(LineWord::Open) => opening(label(rest)?),
+        Some(LineWord::Open | LineWord::Open2) => opening(label(rest)?),
         Some(LineWord::Close) => end(label(rest)?),
         None => match label_of_word(first) {
             Some(_) => call(rest),

@@ -1,7 +1,7 @@
 //! The words that say how a client is opened.
 
 ghost use Rattle.std.specs.Prelude.{◌≡◌};
-ghost use Rattle.drm_script.specs.Openings.{opening_text, opening_word_of, lease_at, opening_fields_at, opening_at};
+ghost use Rattle.drm_script.specs.Openings.{opening_text, opening_word_of, lease_at, primary_at, opening_fields_at, opening_at};
 ghost use Rattle.drm_script.specs.Words.{words_of};
 
 use crate::numbers::u32_word;
@@ -53,32 +53,45 @@ pub(crate) fn opening_word(word: &[u8]) -> Option<OpeningWord>
 
 /// A lease, by its token.
 #[tactic(auto, unfolding(crate::specs::Openings::lease_at))]
-fn lease(root: bool, text: &[u8]) -> Option<Opening>
-    ensures { result ≡ lease_at root (words_of text.now) }
+fn lease(universal: bool, root: bool, text: &[u8]) -> Option<Opening>
+    ensures { result ≡ lease_at universal root (words_of text.now) }
 {
     let (token, rest) = u32_word(text)?;
     end_of(rest)?;
-    Some(Opening::Lease { token, root })
+    Some(Opening::Lease {
+        token,
+        root,
+        universal,
+    })
+}
+
+/// A primary node.
+#[tactic(auto, unfolding(crate::specs::Openings::primary_at))]
+fn primary(universal: bool, root: bool, text: &[u8]) -> Option<Opening>
+    ensures { result ≡ primary_at universal root (words_of text.now) }
+{
+    end_of(text)?;
+    Some(Opening::Primary { root, universal })
 }
 
 /// The opening of a word and its fields.
-fn opening_fields(word: OpeningWord, text: &[u8]) -> Option<Opening>
-    ensures { result ≡ opening_fields_at word (words_of text.now) }
+fn opening_fields(universal: bool, word: OpeningWord, text: &[u8]) -> Option<Opening>
+    ensures { result ≡ opening_fields_at universal word (words_of text.now) }
 {
     match word {
-        OpeningWord::Card => end_of(text).map(|()| Opening::Primary { root: false }),
-        OpeningWord::Root => end_of(text).map(|()| Opening::Primary { root: true }),
+        OpeningWord::Card => primary(universal, false, text),
+        OpeningWord::Root => primary(universal, true, text),
         OpeningWord::Render => end_of(text).map(|()| Opening::Render),
-        OpeningWord::Lease => lease(false, text),
-        OpeningWord::RootLease => lease(true, text),
+        OpeningWord::Lease => lease(universal, false, text),
+        OpeningWord::RootLease => lease(universal, true, text),
     }
 }
 
-/// The opening that the words of a text spell.
+/// The opening that the words of a text spell, with universal planes on or off.
 #[tactic(auto, unfolding(crate::specs::Openings::opening_at))]
-pub(crate) fn opening_of(text: &[u8]) -> Option<Opening>
-    ensures { result ≡ opening_at (words_of text.now) }
+pub(crate) fn opening_of(universal: bool, text: &[u8]) -> Option<Opening>
+    ensures { result ≡ opening_at universal (words_of text.now) }
 {
     let (first, fields) = next_word(text)?;
-    opening_fields(opening_word(first)?, fields)
+    opening_fields(universal, opening_word(first)?, fields)
 }

@@ -34,10 +34,16 @@ pub enum Reading {
 pub(crate) enum LineWord {
     Limits,
     Open,
+    Open2,
     Close,
 }
 
-pub(crate) const LINE_WORDS: [LineWord; 3] = [LineWord::Limits, LineWord::Open, LineWord::Close];
+pub(crate) const LINE_WORDS: [LineWord; 4] = [
+    LineWord::Limits,
+    LineWord::Open,
+    LineWord::Open2,
+    LineWord::Close,
+];
 
 impl LineWord {
     fn text(self) -> &'static [u8]
@@ -46,6 +52,7 @@ impl LineWord {
         match self {
             LineWord::Limits => b"limits",
             LineWord::Open => b"open",
+            LineWord::Open2 => b"open2",
             LineWord::Close => b"close",
         }
     }
@@ -69,7 +76,8 @@ fn words_reading(text: &[u8]) -> Reading
     };
     match line_word(first) {
         Some(LineWord::Limits) => limits_of(rest).map_or(Reading::Malformed, Reading::Limits),
-        Some(LineWord::Open) => open(rest).map_or(Reading::Malformed, Reading::Says),
+        Some(LineWord::Open) => open(true, rest).map_or(Reading::Malformed, Reading::Says),
+        Some(LineWord::Open2) => open(false, rest).map_or(Reading::Malformed, Reading::Says),
         Some(LineWord::Close) => close(rest).map_or(Reading::Malformed, Reading::Says),
         None => ask(first, rest).map_or(Reading::Malformed, Reading::Says),
     }

@@ -1,5 +1,5 @@
 -- Which opening a hello asks for, and how an opening is answered.
-use Rattle.std.specs.Prelude.{ℕ, Bool, true, false, Option, Some, None, Ok, Err, ⊤}
+use Rattle.std.specs.Prelude.{ℕ, ◌==◌, Bool, true, false, Option, Some, None, Ok, Err, ⊤}
 use Rattle.drm_table.specs.declared.events.Event.{Event}
 use Rattle.drm_table.specs.declared.events.Event.TheVariants.{Open}
 use Rattle.drm_table.specs.declared.events.Opening.{Opening}
@@ -25,20 +25,21 @@ AnswersOpening (Open opening) outcome = IsOpeningAnswer outcome
 AnswersOpening _ outcome = ⊤
 
 -- A primary node, or what a lease token grants.
-abbrev pub node_or_lease : Bool → Option ℕ → Opening
-node_or_lease root None = Primary root
-node_or_lease root (Some token) = Lease token root
+abbrev pub node_or_lease : Bool → Bool → Option ℕ → Opening
+node_or_lease root universal None = Primary root universal
+node_or_lease root universal (Some token) = Lease token root universal
 
--- the opening that a hello asks for on a listener of this class; a render listener has no leases
-abbrev pub opening_for : Class → Option ℕ → Option Opening
-opening_for Card lease = Some (node_or_lease false lease)
-opening_for Root lease = Some (node_or_lease true lease)
-opening_for Render None = Some RenderNode
-opening_for Render (Some token) = None
+-- the opening that a hello asks for on a listener of this class: version 1 with universal planes on, version 2 with them off
+-- (own). A render listener has no leases
+abbrev pub opening_for : Class → Bool → Option ℕ → Option Opening
+opening_for Card universal lease = Some (node_or_lease false universal lease)
+opening_for Root universal lease = Some (node_or_lease true universal lease)
+opening_for Render universal None = Some RenderNode
+opening_for Render universal (Some token) = None
 
 abbrev pub opening_by : Class → Option Hello → Option Opening
 opening_by class None = None
-opening_by class (Some hello) = opening_for class hello.lease
+opening_by class (Some hello) = opening_for class (hello.version == 1) hello.lease
 
 -- the opening that a first frame asks for, if it is a hello that the class allows
 unfoldable pub opening_in : Class → Packet → Option Opening

@@ -17,7 +17,7 @@ use Rattle.drm_masters.specs.Masters.{member_of}
 use Rattle.drm_leases.specs.Leases as leases
 use Rattle.drm_modes.specs.declared.rows.Framebuffer.{Framebuffer}
 use Rattle.drm_modes.specs.declared.kinds.Kind.TheVariants.{Crtc, Plane, Connector}
-use Rattle.drm_modes.specs.Topology.{is_crtc, is_plane, is_connector, is_encoder, crtc_ids, plane_ids, connector_ids, encoder_ids, mask_over}
+use Rattle.drm_modes.specs.Topology.{is_crtc, is_plane, is_connector, is_encoder, is_primary_or_cursor, crtc_ids, plane_ids, connector_ids, encoder_ids, mask_over}
 use Rattle.drm_modes.specs.Modes as modes
 use Rattle.drm_modes.specs.Modes.{framebuffer_before, is_made_by}
 use Rattle.drm_model.specs.Rows.{Rows, ClientRow, GrantRow, FramebufferRow}
@@ -27,7 +27,7 @@ use Rattle.drm_state.specs.declared.state.State.{State}
 use Rattle.drm_state.specs.Parts.{client_row_of, grant_row_of, grants_of, framebuffer_row_of, framebuffers_of}
 use Rattle.drm_state.specs.Ties.{IsTied}
 use Rattle.drm_state.specs.Refinement.{Represents}
-use Rattle.drm_state.specs.Seeing.{controls, sees, sees_object, visible}
+use Rattle.drm_state.specs.Seeing.{controls, has_universal, sees, sees_object, visible}
 use Rattle.drm_state.proofs.Represented.{bounds_are, masters_are, grants_are, framebuffers_are, modes_so}
 use Rattle.drm_state.proofs.Lookups.{client_found}
 use Rattle.drm_state.proofs.Living.{lessors_are}
@@ -53,18 +53,26 @@ module _ (s : State) (w : Rows) (c : ℕ) (present : files.is_present s.files c 
       let has = λ (row : GrantRow). (row.master == m) && (row.mode_object == x) in
       same-any has w.grants (grants_of s) (grants_are s w h) ∙ list_any-map has grant_row_of s.leases.grants
 
-  controls_is : (x : ℕ) → model.controls w (master_of w c) x ≡ controls s c x
-  controls_is x = ap (λ m. model.controls w m x) master_is ∙ by_member (member_of s.masters.members c)
+  pub controls_is : (x : ℕ) → model.controls w c x ≡ controls s c x
+  unfolding model.controls
+  controls_is x = ap (λ m. model.master_controls w m x) master_is ∙ by_member (member_of s.masters.members c)
     where
-      by_member : (o : Option Member) → model.controls w (option_map (λ (y : Member). y.master) o) x ≡ option_map_or (λ (y : Member). leases.controls s.leases.grants s.masters.masters y.master x) o false
+      by_member : (o : Option Member) → model.master_controls w (option_map (λ (y : Member). y.master) o) x ≡ option_map_or (λ (y : Member). leases.controls s.leases.grants s.masters.masters y.master x) o false
       by_member None = refl
       by_member (Some y) =
           (λ i. not (is_some (lessor_of (masters_are s w h i) y.master)) || granted_is y.master x i)
           ∙ ap (λ o. not (is_some o) || leases.is_granted s.leases.grants y.master x) (lessors_are s.leases.tokens s.masters.masters y.master)
 
+  pub universal_is : model.has_universal w c ≡ has_universal s c
+  universal_is = ap (λ o. option_map_or (λ (row : ClientRow). row.universal) o false) (client_found s w h c) ∙ by_file (find (files.is_client c) s.files.clients)
+    where
+      by_file : (o : Option FileClient) → option_map_or (λ (row : ClientRow). row.universal) (option_map (client_row_of s.masters.members) o) false ≡ option_map_or (λ (f : FileClient). f.flags.universal) o false
+      by_file None = refl
+      by_file (Some f) = refl
+
   pub seen_is : (x : ℕ) → model.sees w c x ≡ sees s c x
   unfolding model.sees
-  seen_is x = λ i. is_encoder (topology_is s w h i) x || controls_is x i
+  seen_is x = λ i. is_encoder (topology_is s w h i) x || (controls_is x i && (not (is_primary_or_cursor (topology_is s w h i) x) || universal_is i))
 
   pub crtc_seen : (x : ℕ) → model.sees_crtc w c x ≡ sees_object s c Crtc x
   crtc_seen x = λ i. is_crtc (topology_is s w h i) x && seen_is x i
@@ -89,11 +97,11 @@ module _ (s : State) (w : Rows) (c : ℕ) (present : files.is_present s.files c 
 
 -- an encoder is seen by all
 pub encoder_seen : (s : State) (w : Rows) (c : ℕ) → Represents s w → (x : ℕ) → is_encoder w.topology x ≡ (is_encoder s.modes.topology x && sees s c x)
-encoder_seen s w c h x = ap (λ t. is_encoder t x) (topology_is s w h) ∙ itself (is_encoder s.modes.topology x)
+encoder_seen s w c h x = ap (λ t. is_encoder t x) (topology_is s w h) ∙ itself (is_encoder s.modes.topology x) _
   where
-    itself : (b : Bool) → b ≡ (b && (b || controls s c x))
-    itself true = refl
-    itself false = refl
+    itself : (encoder other : Bool) → encoder ≡ (encoder && (encoder || other))
+    itself true other = refl
+    itself false other = refl
 
 pub encoders_listed : (s : State) (w : Rows) → Represents s w → encoder_ids w.topology ≡ encoder_ids s.modes.topology
 encoders_listed s w h = ap encoder_ids (topology_is s w h)

@@ -35,6 +35,7 @@ client_row_by f m = record {
   once_master = option_map_or (λ (x : Member). x.once_master) m false;
   is_master = option_map_or (λ (x : Member). x.is_master) m false;
   master = option_map (λ (x : Member). x.master) m;
+  universal = f.flags.universal;
 }
 
 abbrev pub client_row_of : List Member → FileClient → ClientRow

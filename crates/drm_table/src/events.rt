@@ -6,12 +6,19 @@ use std::alloc::AllocError;
 /// How a client is opened.
 #[derive(Clone, Copy, PartialEq, Eq, Debug)]
 pub enum Opening {
-    /// A primary node, by root (CAP_SYS_ADMIN) or not (drm-uapi; root by the opening is own).
-    Primary { root: bool },
-    /// A render node (drm-uapi).
+    /// A primary node, by root (CAP_SYS_ADMIN) or not, with universal planes on or off (drm-uapi; both by the opening are own).
+    Primary {
+        root: bool,
+        universal: bool,
+    },
+    /// A render node (drm-uapi), with universal planes on.
     Render,
-    /// A lease is redeemed by its token (drm-uapi, leases; the token in place of a descriptor is own).
-    Lease { token: u32, root: bool },
+    /// A lease is redeemed by its token (drm-uapi, leases; the token in place of a descriptor is own), as a primary node.
+    Lease {
+        token: u32,
+        root: bool,
+        universal: bool,
+    },
 }
 
 /// What one step is of.

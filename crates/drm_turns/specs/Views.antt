@@ -73,7 +73,7 @@ met_of v w = record v { told = w.seen; out = out_after v.number v.out w.parent w
 -- some device, where a view knows none
 abbrev pub no_device : History
 no_device = record {
-  topology = record { crtcs = 0; planes = []; encoders = []; connectors = [] };
+  topology = record { crtcs = 0; planes = []; kinds = []; encoders = []; connectors = [] };
   limits = record { clients = 0; handles = 0; names = 0; tokens = 0; objects = 0; framebuffers = 0; lessees = 0; journal = 0 };
   journal = [];
 }

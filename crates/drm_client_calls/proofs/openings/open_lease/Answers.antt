@@ -29,20 +29,20 @@ use Rattle.drm_client_calls.proofs.Opened.{joined, with_file, not_full, newer, r
 use Rattle.drm_client_calls.proofs.Redeemed.{at_key, not_leased, no_token, of_lessee, lease_flags, opens, its_row, redeemed_tied, redeemed_represents, unredeemed, with_redeemer}
 use Rattle.drm_client_calls.proofs.openings.open_lease.Goals as goal
 
-accepted : (w : Rows) (token : ℕ) (root : Bool) → is_some (lease_master w token) ≡ true → has_client_room w ≡ true → verdict w (Open (Lease token root)) ≡ None
+accepted : (w : Rows) (token : ℕ) (root universal : Bool) → is_some (lease_master w token) ≡ true → has_client_room w ≡ true → verdict w (Open (Lease token root universal)) ≡ None
 unfolding opening_checks
-accepted w token root leased room = opening_verdict w (Lease token root) ∙ rw leased (rw room refl)
+accepted w token root universal leased room = opening_verdict w (Lease token root universal) ∙ rw leased (rw room refl)
 
-longer : (w : Rows) (token : ℕ) (root : Bool) → length w.clients < length (opened_lease w token root).clients
-longer w token root =
-    omega (arith, length-append w.clients (record { client = birth w; render = false; root = root; authenticated = true; once_master = false; is_master = true; master = option_map (λ (row : MasterRow). row.master) (lease_master w token) } ∷ []))
+longer : (w : Rows) (token : ℕ) (root universal : Bool) → length w.clients < length (opened_lease w token root universal).clients
+longer w token root universal =
+    omega (arith, length-append w.clients (record { client = birth w; render = false; root = root; authenticated = true; once_master = false; is_master = true; master = option_map (λ (row : MasterRow). row.master) (lease_master w token); universal = universal } ∷ []))
 
 pub returns-in_default-clause-owes : goal.returns-in_default-clause-owes
 unfolding Owes opening_checks
 returns-in_default-clause-owes c = λ w s.
     let old = c.args.state.now in
     let none : is_some (lease_master w c.args.token) ≡ false = ap is_some (not_leased w old.leases.tokens old.masters.masters c.args.token (masters_are old w s.rows) (no_token old.leases.tokens c.args.token (sym c.token_master.ensures ∙ c.in_default.is))) in
-    denied old w (Open (Lease c.args.token c.args.root)) NoLeaseToken (opening_verdict w (Lease c.args.token c.args.root) ∙ rw none refl) s.rows
+    denied old w (Open (Lease c.args.token c.args.root c.args.universal)) NoLeaseToken (opening_verdict w (Lease c.args.token c.args.root c.args.universal) ∙ rw none refl) s.rows
 
 -- the lessee of a token is there
 lessee_there : (ms : List Master) (m : ℕ) → is_lessee ms m ≡ true → master_at ms m ≡ None → ⊥
@@ -71,7 +71,7 @@ returns-then-is_full-clause-owes c = λ w s.
     let old = c.args.state.now in
     let full = client_room old w s.rows ∙ ap not (sym c.is_full.ensures.full ∙ c.if-is_full.true) in
     let there = leased_yet old w c.args.token c.in-Some.number c.requires.tied (sym c.token_master.ensures ∙ c.in-Some.is) s.rows in
-    denied old w (Open (Lease c.args.token c.args.root)) Full (opening_verdict w (Lease c.args.token c.args.root) ∙ rw there (rw full refl)) s.rows
+    denied old w (Open (Lease c.args.token c.args.root c.args.universal)) Full (opening_verdict w (Lease c.args.token c.args.root c.args.universal) ∙ rw there (rw full refl)) s.rows
 
 pub returns-in_err-open_file-clause-owes : goal.returns-in_err-open_file-clause-owes
 unfolding Owes changed opened
@@ -80,7 +80,7 @@ returns-in_err-open_file-clause-owes c = λ w s.
     let room = client_room old w s.rows ∙ ap not (sym c.is_full.ensures.full ∙ c.if-is_full.false) in
     let there = leased_yet old w c.args.token c.in-Some.number c.requires.tied (sym c.token_master.ensures ∙ c.in-Some.is) s.rows in
     let p = err_from_is_err_and c.from_residual.result c.from_residual.ensures.1 in
-    rw p.1 (refused (record old { files = c.open_file.new.files }) w (Open (Lease c.args.token c.args.root)) p.0 (accepted w c.args.token c.args.root there room) (inl (longer w c.args.token c.args.root))
+    rw p.1 (refused (record old { files = c.open_file.new.files }) w (Open (Lease c.args.token c.args.root c.args.universal)) p.0 (accepted w c.args.token c.args.root c.args.universal there room) (inl (longer w c.args.token c.args.root c.args.universal))
     (subst (λ fs. Represents (record old { files = fs }) w) (sym c.in_err-open_file.ensures.err) s.rows))
 
 pub on_redeem-requires-clause-new_client : goal.on_redeem-requires-clause-new_client
@@ -97,14 +97,14 @@ on_redeem-requires-clause-unredeemed c =
     (of_lessee s.leases.tokens s.masters.masters c.args.token c.in-Some.number (tokens_of_lessees s c.requires.tied) is) c.in-Some-master.ensures.keyed
 
 pub close-rest-requires : goal.close-rest-requires
-close-rest-requires c = record { present = subst (λ fs. is_present fs c.args.birth ≡ true) (sym c.in_ok-open_file.ensures.ok) (found_last (record { client = c.args.birth; flags = lease_flags c.args.root }) c.args.state.now.files.clients) }
+close-rest-requires c = record { present = subst (λ fs. is_present fs c.args.birth ≡ true) (sym c.in_ok-open_file.ensures.ok) (found_last (record { client = c.args.birth; flags = lease_flags c.args.root c.args.universal }) c.args.state.now.files.clients) }
 
 -- the client's file is gone again
-closed_file : (old opened closed : FileLists) (c : ℕ) (root : Bool) → closed ≡ without_client opened c → opened ≡ with_file old c (lease_flags root) → AreFiles old → AllByRecursion (λ (f : FileClient). f.client < c) old.clients → closed ≡ old
-closed_file old opened closed c root is e are newest = is ∙ ap (λ (l : FileLists). without_client l c) e ∙ closed_again old c (lease_flags root) are newest
+closed_file : (old opened closed : FileLists) (c : ℕ) (root universal : Bool) → closed ≡ without_client opened c → opened ≡ with_file old c (lease_flags root universal) → AreFiles old → AllByRecursion (λ (f : FileClient). f.client < c) old.clients → closed ≡ old
+closed_file old opened closed c root universal is e are newest = is ∙ ap (λ (l : FileLists). without_client l c) e ∙ closed_again old c (lease_flags root universal) are newest
 
 pub returns-in-Err-clause-tied : goal.returns-in-Err-clause-tied
-returns-in-Err-clause-tied c = back IsTied c.args.state.now c.close-rest.new.self c.on_redeem.new.self (closed_file c.args.state.now.files c.open_file.new.files c.close-rest.new.self c.args.birth c.args.root c.close-rest.ensures.closed c.in_ok-open_file.ensures.ok c.is_full.ensures.lists c.requires.later.clients) c.in-Err.ensures.err c.requires.tied
+returns-in-Err-clause-tied c = back IsTied c.args.state.now c.close-rest.new.self c.on_redeem.new.self (closed_file c.args.state.now.files c.open_file.new.files c.close-rest.new.self c.args.birth c.args.root c.args.universal c.close-rest.ensures.closed c.in_ok-open_file.ensures.ok c.is_full.ensures.lists c.requires.later.clients) c.in-Err.ensures.err c.requires.tied
 
 pub returns-in-Err-clause-owes : goal.returns-in-Err-clause-owes
 unfolding Owes changed opened
@@ -112,8 +112,8 @@ returns-in-Err-clause-owes c = λ w s.
     let old = c.args.state.now in
     let room = client_room old w s.rows ∙ ap not (sym c.is_full.ensures.full ∙ c.if-is_full.false) in
     let there = leased_yet old w c.args.token c.in-Some.number c.requires.tied (sym c.token_master.ensures ∙ c.in-Some.is) s.rows in
-    refused (record old { files = c.close-rest.new.self; masters = c.on_redeem.new.self }) w (Open (Lease c.args.token c.args.root)) (record {}) (accepted w c.args.token c.args.root there room) (inl (longer w c.args.token c.args.root))
-    (back (λ t. Represents t w) old c.close-rest.new.self c.on_redeem.new.self (closed_file c.args.state.now.files c.open_file.new.files c.close-rest.new.self c.args.birth c.args.root c.close-rest.ensures.closed c.in_ok-open_file.ensures.ok c.is_full.ensures.lists c.requires.later.clients) c.in-Err.ensures.err s.rows)
+    refused (record old { files = c.close-rest.new.self; masters = c.on_redeem.new.self }) w (Open (Lease c.args.token c.args.root c.args.universal)) (record {}) (accepted w c.args.token c.args.root c.args.universal there room) (inl (longer w c.args.token c.args.root c.args.universal))
+    (back (λ t. Represents t w) old c.close-rest.new.self c.on_redeem.new.self (closed_file c.args.state.now.files c.open_file.new.files c.close-rest.new.self c.args.birth c.args.root c.args.universal c.close-rest.ensures.closed c.in_ok-open_file.ensures.ok c.is_full.ensures.lists c.requires.later.clients) c.in-Err.ensures.err s.rows)
 
 -- ---- the client is there
 
@@ -126,13 +126,13 @@ number_is ms m key h = by_row (find (is_key key) ms) h
     by_row (Some x) k = let n : Some x.birth ≡ Some m = k in cc
 
 -- told by the parts as they were
-told : (P : State → Type 0) (s : State) (b t m key : ℕ) (root : Bool) (fs : FileLists) (set : MasterSet) (l : LeaseSet) → IsKeyOf s.masters.masters m key → fs ≡ with_file s.files b (lease_flags root) → set ≡ redeemed b (birth_at s.masters.masters key) s.masters → l ≡ without_token t s.leases →
-    P (with_redeemer s b t m root) → P (record s { files = fs; masters = set; leases = l })
-told P s b t m key root fs set l is e f g h =
+told : (P : State → Type 0) (s : State) (b t m key : ℕ) (root universal : Bool) (fs : FileLists) (set : MasterSet) (l : LeaseSet) → IsKeyOf s.masters.masters m key → fs ≡ with_file s.files b (lease_flags root universal) → set ≡ redeemed b (birth_at s.masters.masters key) s.masters → l ≡ without_token t s.leases →
+    P (with_redeemer s b t m root universal) → P (record s { files = fs; masters = set; leases = l })
+told P s b t m key root universal fs set l is e f g h =
     let number = number_is s.masters.masters m key is in
     subst (λ files. P (record s { files = files; masters = set; leases = l })) (sym e)
-    (subst (λ v. P (joined s b (lease_flags root) v l)) (sym (f ∙ (λ i. redeemed b (number i) s.masters)))
-    (subst (λ ls. P (joined s b (lease_flags root) (redeemed b m s.masters) ls)) (sym g) h))
+    (subst (λ v. P (joined s b (lease_flags root universal) v l)) (sym (f ∙ (λ i. redeemed b (number i) s.masters)))
+    (subst (λ ls. P (joined s b (lease_flags root universal) (redeemed b m s.masters) ls)) (sym g) h))
 
 -- the masters are those that a redeeming leaves
 masters_after : (s : State) (b m key : ℕ) (set : MasterSet) → IsKeyOf s.masters.masters m key → set ≡ redeemed b (birth_at s.masters.masters key) s.masters → AreMasters set → AreMasters (redeemed b m s.masters)
@@ -144,8 +144,8 @@ returns-clause-tied c =
     let m = c.in-Some.number in
     let key = c.in-Some-master.lessee.key in
     let is = sym c.token_master.ensures ∙ c.in-Some.is in
-    told IsTied s c.args.birth c.args.token m key c.args.root c.open_file.new.files c.on_redeem.new.self c.redeem-spent.new.self c.in-Some-master.ensures.keyed c.in_ok-open_file.ensures.ok c.in_default-on_redeem.ensures.ok c.redeem-spent.ensures.spent
-    (redeemed_tied s c.args.token m c.requires.tied is c.args.birth c.args.root (masters_after s c.args.birth m key c.on_redeem.new.self c.in-Some-master.ensures.keyed c.in_default-on_redeem.ensures.ok c.laws.ensures) (subst AreLeases c.redeem-spent.ensures.spent c.laws-2.ensures))
+    told IsTied s c.args.birth c.args.token m key c.args.root c.args.universal c.open_file.new.files c.on_redeem.new.self c.redeem-spent.new.self c.in-Some-master.ensures.keyed c.in_ok-open_file.ensures.ok c.in_default-on_redeem.ensures.ok c.redeem-spent.ensures.spent
+    (redeemed_tied s c.args.token m c.requires.tied is c.args.birth c.args.root c.args.universal (masters_after s c.args.birth m key c.on_redeem.new.self c.in-Some-master.ensures.keyed c.in_default-on_redeem.ensures.ok c.laws.ensures) (subst AreLeases c.redeem-spent.ensures.spent c.laws-2.ensures))
 
 pub returns-clause-owes : goal.returns-clause-owes
 unfolding Owes changed opened answer_of
@@ -157,6 +157,6 @@ returns-clause-owes c = λ w r.
     let found = sym c.master.ensures.master ∙ c.in-Some-master.is in
     let room = client_room s w r.rows ∙ ap not (sym c.is_full.ensures.full ∙ c.if-is_full.false) in
     let there = leased s w c.args.token m c.in-Some-master.lessee c.requires.tied is found r.rows in
-    carried_on (record s { files = c.open_file.new.files; masters = c.on_redeem.new.self; leases = c.redeem-spent.new.self }) w (Open (Lease c.args.token c.args.root)) (Opened c.args.birth) (returns-clause-tied c) (accepted w c.args.token c.args.root there room) (ap Opened (sym r.birth_is))
-    (told (λ t. Represents t (opened_lease w c.args.token c.args.root)) s c.args.birth c.args.token m key c.args.root c.open_file.new.files c.on_redeem.new.self c.redeem-spent.new.self c.in-Some-master.ensures.keyed c.in_ok-open_file.ensures.ok c.in_default-on_redeem.ensures.ok c.redeem-spent.ensures.spent
-    (redeemed_represents s c.args.token m c.requires.tied is w c.in-Some-master.lessee found r.rows c.args.birth c.args.root c.requires.later r.birth_is))
+    carried_on (record s { files = c.open_file.new.files; masters = c.on_redeem.new.self; leases = c.redeem-spent.new.self }) w (Open (Lease c.args.token c.args.root c.args.universal)) (Opened c.args.birth) (returns-clause-tied c) (accepted w c.args.token c.args.root c.args.universal there room) (ap Opened (sym r.birth_is))
+    (told (λ t. Represents t (opened_lease w c.args.token c.args.root c.args.universal)) s c.args.birth c.args.token m key c.args.root c.args.universal c.open_file.new.files c.on_redeem.new.self c.redeem-spent.new.self c.in-Some-master.ensures.keyed c.in_ok-open_file.ensures.ok c.in_default-on_redeem.ensures.ok c.redeem-spent.ensures.spent
+    (redeemed_represents s c.args.token m c.requires.tied is w c.in-Some-master.lessee found r.rows c.args.birth c.args.root c.args.universal c.requires.later r.birth_is))

@@ -30,29 +30,29 @@ use Rattle.drm_client_calls.proofs.Opened.{not_full, newer, room_for, back, clos
 use Rattle.drm_state.proofs.Outcomes.{denied, carried_on, refused, opening_verdict, client_room}
 use Rattle.drm_client_calls.proofs.openings.open_primary.Goals as goal
 
-accepted : (w : Rows) (root : Bool) → has_client_room w ≡ true → verdict w (Open (Primary root)) ≡ None
+accepted : (w : Rows) (root universal : Bool) → has_client_room w ≡ true → verdict w (Open (Primary root universal)) ≡ None
 unfolding opening_checks
-accepted w root room = opening_verdict w (Primary root) ∙ rw room refl
+accepted w root universal room = opening_verdict w (Primary root universal) ∙ rw room refl
 
-longer : (w : Rows) (root : Bool) (m : Option ℕ) → length w.clients < length (opened_primary w root m).clients
-longer w root None = omega (arith, length-append w.clients (record { client = birth w; render = false; root = root; authenticated = true; once_master = true; is_master = true; master = Some (birth w) } ∷ []))
-longer w root (Some m) = omega (arith, length-append w.clients (record { client = birth w; render = false; root = root; authenticated = root; once_master = false; is_master = false; master = Some m } ∷ []))
+longer : (w : Rows) (root universal : Bool) (m : Option ℕ) → length w.clients < length (opened_primary w root universal m).clients
+longer w root universal None = omega (arith, length-append w.clients (record { client = birth w; render = false; root = root; authenticated = true; once_master = true; is_master = true; master = Some (birth w); universal = universal } ∷ []))
+longer w root universal (Some m) = omega (arith, length-append w.clients (record { client = birth w; render = false; root = root; authenticated = root; once_master = false; is_master = false; master = Some m; universal = universal } ∷ []))
 
-abbrev flags : Bool → Bool → FileFlags
-flags root founder = record { render = false; root = root; authenticated = if founder then true else root }
+abbrev flags : Bool → Bool → Bool → FileFlags
+flags root universal founder = record { render = false; root = root; authenticated = if founder then true else root; universal = universal }
 
 pub returns-then-is_full-clause-owes : goal.returns-then-is_full-clause-owes
 unfolding Owes opening_checks
 returns-then-is_full-clause-owes c = λ w s.
     let full = client_room c.args.state.now w s.rows ∙ ap not (sym c.is_full.ensures.full ∙ c.if-is_full.true) in
-    denied c.args.state.now w (Open (Primary c.args.root)) Full (opening_verdict w (Primary c.args.root) ∙ rw full refl) s.rows
+    denied c.args.state.now w (Open (Primary c.args.root c.args.universal)) Full (opening_verdict w (Primary c.args.root c.args.universal) ∙ rw full refl) s.rows
 
 pub returns-in_err-open_file-clause-owes : goal.returns-in_err-open_file-clause-owes
 unfolding Owes changed opened
 returns-in_err-open_file-clause-owes c = λ w s.
     let room = client_room c.args.state.now w s.rows ∙ ap not (sym c.is_full.ensures.full ∙ c.if-is_full.false) in
     let p = err_from_is_err_and c.from_residual.result c.from_residual.ensures.1 in
-    rw p.1 (refused (record c.args.state.now { files = c.open_file.new.files }) w (Open (Primary c.args.root)) p.0 (accepted w c.args.root room) (inl (longer w c.args.root w.device_master))
+    rw p.1 (refused (record c.args.state.now { files = c.open_file.new.files }) w (Open (Primary c.args.root c.args.universal)) p.0 (accepted w c.args.root c.args.universal room) (inl (longer w c.args.root c.args.universal w.device_master))
     (subst (λ fs. Represents (record c.args.state.now { files = fs }) w) (sym c.in_err-open_file.ensures.err) s.rows))
 
 pub on_open-requires-clause-new_client : goal.on_open-requires-clause-new_client
@@ -62,20 +62,20 @@ pub on_open-requires-clause-room : goal.on_open-requires-clause-room
 on_open-requires-clause-room c = room_for c.args.state.now c.requires.tied (not_full c.args.state.now.files.limit (length c.args.state.now.files.clients) (sym c.is_full.ensures.full ∙ c.if-is_full.false))
 
 pub close-rest-requires : goal.close-rest-requires
-close-rest-requires c = record { present = subst (λ fs. is_present fs c.args.birth ≡ true) (sym c.in_ok-open_file.ensures.ok) (found_last (record { client = c.args.birth; flags = flags c.args.root c.is_none-founder.result }) c.args.state.now.files.clients) }
+close-rest-requires c = record { present = subst (λ fs. is_present fs c.args.birth ≡ true) (sym c.in_ok-open_file.ensures.ok) (found_last (record { client = c.args.birth; flags = flags c.args.root c.args.universal c.is_none-founder.result }) c.args.state.now.files.clients) }
 
 pub returns-in-Err-clause-tied : goal.returns-in-Err-clause-tied
 returns-in-Err-clause-tied c =
     back IsTied c.args.state.now c.close-rest.new.self c.on_open.new.self
-    (c.close-rest.ensures.closed ∙ ap (λ l. without_client l c.args.birth) c.in_ok-open_file.ensures.ok ∙ closed_again c.args.state.now.files c.args.birth (flags c.args.root c.is_none-founder.result) c.is_full.ensures.lists c.requires.later.clients) c.in-Err.ensures.err c.requires.tied
+    (c.close-rest.ensures.closed ∙ ap (λ l. without_client l c.args.birth) c.in_ok-open_file.ensures.ok ∙ closed_again c.args.state.now.files c.args.birth (flags c.args.root c.args.universal c.is_none-founder.result) c.is_full.ensures.lists c.requires.later.clients) c.in-Err.ensures.err c.requires.tied
 
 pub returns-in-Err-clause-owes : goal.returns-in-Err-clause-owes
 unfolding Owes changed opened
 returns-in-Err-clause-owes c = λ w s.
     let room = client_room c.args.state.now w s.rows ∙ ap not (sym c.is_full.ensures.full ∙ c.if-is_full.false) in
-    refused (record c.args.state.now { files = c.close-rest.new.self; masters = c.on_open.new.self }) w (Open (Primary c.args.root)) (record {}) (accepted w c.args.root room) (inl (longer w c.args.root w.device_master))
+    refused (record c.args.state.now { files = c.close-rest.new.self; masters = c.on_open.new.self }) w (Open (Primary c.args.root c.args.universal)) (record {}) (accepted w c.args.root c.args.universal room) (inl (longer w c.args.root c.args.universal w.device_master))
     (back (λ t. Represents t w) c.args.state.now c.close-rest.new.self c.on_open.new.self
-    (c.close-rest.ensures.closed ∙ ap (λ l. without_client l c.args.birth) c.in_ok-open_file.ensures.ok ∙ closed_again c.args.state.now.files c.args.birth (flags c.args.root c.is_none-founder.result) c.is_full.ensures.lists c.requires.later.clients) c.in-Err.ensures.err s.rows)
+    (c.close-rest.ensures.closed ∙ ap (λ l. without_client l c.args.birth) c.in_ok-open_file.ensures.ok ∙ closed_again c.args.state.now.files c.args.birth (flags c.args.root c.args.universal c.is_none-founder.result) c.is_full.ensures.lists c.requires.later.clients) c.in-Err.ensures.err s.rows)
 
 -- what an opening leaves of masters is tied
 tied_by : (s : State) (b : ℕ) (g : FileFlags) (new : MasterSet) (d : Option ℕ) → IsTied s → IsNewLessee s.leases b → AreMasters new → masters.Opened s.masters b b d new → IsTied (joined s b g new s.leases)
@@ -92,23 +92,23 @@ tied_by s b g new (Some m) t newest are h =
 pub returns-clause-tied : goal.returns-clause-tied
 returns-clause-tied c =
     let s = c.args.state.now in
-    let g = flags c.args.root c.is_none-founder.result in
+    let g = flags c.args.root c.args.universal c.is_none-founder.result in
     subst (λ fs. IsTied (record s { files = fs; masters = c.on_open.new.self })) (sym c.in_ok-open_file.ensures.ok)
     (tied_by s c.args.birth g c.on_open.new.self s.masters.device_master c.requires.tied c.requires.later.leases c.laws.ensures c.in_default.ensures.ok)
 
 -- and it stands for the rows of an opening
-rows_by : (s : State) (w : Rows) (b : ℕ) (root founder : Bool) (new : MasterSet) (d : Option ℕ) → IsTied s → IsLater s b → w.steps + 1 ≡ b → founder ≡ is_none d → masters.Opened s.masters b b d new → Represents s w → Represents (joined s b (flags root founder) new s.leases) (opened_primary w root d)
-rows_by s w b root founder new None t later is f h r =
-    let row : ClientRow = record { client = birth w; render = false; root = root; authenticated = true; once_master = true; is_master = true; master = Some (birth w) } in
+rows_by : (s : State) (w : Rows) (b : ℕ) (root universal founder : Bool) (new : MasterSet) (d : Option ℕ) → IsTied s → IsLater s b → w.steps + 1 ≡ b → founder ≡ is_none d → masters.Opened s.masters b b d new → Represents s w → Represents (joined s b (flags root universal founder) new s.leases) (opened_primary w root universal d)
+rows_by s w b root universal founder new None t later is f h r =
+    let row : ClientRow = record { client = birth w; render = false; root = root; authenticated = true; once_master = true; is_master = true; master = Some (birth w); universal = universal } in
     let master : MasterRow = record { master = birth w; lessor = None; lessee_id = 0; lease_token = None } in
-    subst (λ n. Represents (joined s b (flags root n) new s.leases) (opened_primary w root None)) (sym f)
-    (subst (λ v. Represents (joined s b (flags root true) v s.leases) (opened_primary w root None)) (sym h.2)
-    (founder_represents s w (flags root true) (masters.owner b b) (masters.own_master h.0 b) row master t later refl (ap (λ n. record row { client = n; master = Some n }) (sym is)) (λ i. record { master = sym is i; lessor = None; lessee_id = 0; lease_token = fresh_token b s.leases.tokens later.leases.tokens i }) r))
-rows_by s w b root founder new (Some m) t later is f h r =
-    let row : ClientRow = record { client = birth w; render = false; root = root; authenticated = root; once_master = false; is_master = false; master = Some m } in
-    subst (λ n. Represents (joined s b (flags root n) new s.leases) (opened_primary w root (Some m))) (sym f)
-    (subst (λ v. Represents (joined s b (flags root false) v s.leases) (opened_primary w root (Some m))) (sym h)
-    (guest_represents s w (flags root false) (masters.guest b m) row t later refl (ap (λ n. record row { client = n }) (sym is)) r))
+    subst (λ n. Represents (joined s b (flags root universal n) new s.leases) (opened_primary w root universal None)) (sym f)
+    (subst (λ v. Represents (joined s b (flags root universal true) v s.leases) (opened_primary w root universal None)) (sym h.2)
+    (founder_represents s w (flags root universal true) (masters.owner b b) (masters.own_master h.0 b) row master t later refl (ap (λ n. record row { client = n; master = Some n }) (sym is)) (λ i. record { master = sym is i; lessor = None; lessee_id = 0; lease_token = fresh_token b s.leases.tokens later.leases.tokens i }) r))
+rows_by s w b root universal founder new (Some m) t later is f h r =
+    let row : ClientRow = record { client = birth w; render = false; root = root; authenticated = root; once_master = false; is_master = false; master = Some m; universal = universal } in
+    subst (λ n. Represents (joined s b (flags root universal n) new s.leases) (opened_primary w root universal (Some m))) (sym f)
+    (subst (λ v. Represents (joined s b (flags root universal false) v s.leases) (opened_primary w root universal (Some m))) (sym h)
+    (guest_represents s w (flags root universal false) (masters.guest b m) row t later refl (ap (λ n. record row { client = n }) (sym is)) r))
 
 flipped : (o : Option ℕ) (b : Bool) → is_some o ≡ not b → b ≡ is_none o
 flipped None true h = refl
@@ -122,7 +122,7 @@ returns-clause-owes c = λ w s.
     let room = client_room c.args.state.now w s.rows ∙ ap not (sym c.is_full.ensures.full ∙ c.if-is_full.false) in
     let device = device_master_is c.args.state.now w s.rows in
     let founder : c.is_none-founder.result ≡ is_none c.args.state.now.masters.device_master = flipped c.args.state.now.masters.device_master c.is_none-founder.result (ap is_some (sym c.device_master.ensures) ∙ c.is_none-founder.ensures) in
-    carried_on (record c.args.state.now { files = c.open_file.new.files; masters = c.on_open.new.self }) w (Open (Primary c.args.root)) (Opened c.args.birth) (returns-clause-tied c) (accepted w c.args.root room) (ap Opened (sym s.birth_is))
-    (subst (λ d. Represents (record c.args.state.now { files = c.open_file.new.files; masters = c.on_open.new.self }) (opened_primary w c.args.root d)) (sym device)
-    (subst (λ fs. Represents (record c.args.state.now { files = fs; masters = c.on_open.new.self }) (opened_primary w c.args.root c.args.state.now.masters.device_master)) (sym c.in_ok-open_file.ensures.ok)
-    (rows_by c.args.state.now w c.args.birth c.args.root c.is_none-founder.result c.on_open.new.self c.args.state.now.masters.device_master c.requires.tied c.requires.later s.birth_is founder c.in_default.ensures.ok s.rows)))
+    carried_on (record c.args.state.now { files = c.open_file.new.files; masters = c.on_open.new.self }) w (Open (Primary c.args.root c.args.universal)) (Opened c.args.birth) (returns-clause-tied c) (accepted w c.args.root c.args.universal room) (ap Opened (sym s.birth_is))
+    (subst (λ d. Represents (record c.args.state.now { files = c.open_file.new.files; masters = c.on_open.new.self }) (opened_primary w c.args.root c.args.universal d)) (sym device)
+    (subst (λ fs. Represents (record c.args.state.now { files = fs; masters = c.on_open.new.self }) (opened_primary w c.args.root c.args.universal c.args.state.now.masters.device_master)) (sym c.in_ok-open_file.ensures.ok)
+    (rows_by c.args.state.now w c.args.birth c.args.root c.args.universal c.is_none-founder.result c.on_open.new.self c.args.state.now.masters.device_master c.requires.tied c.requires.later s.birth_is founder c.in_default.ensures.ok s.rows)))

@@ -16,10 +16,10 @@ use Rattle.drm_state.proofs.Outcomes.{denied, carried_on, refused, opening_verdi
 use Rattle.drm_client_calls.proofs.openings.open_render.Goals as goal
 
 abbrev row : Rows → ClientRow
-row w = record { client = birth w; render = true; root = false; authenticated = false; once_master = false; is_master = false; master = None }
+row w = record { client = birth w; render = true; root = false; authenticated = false; once_master = false; is_master = false; master = None; universal = true }
 
 abbrev flags : FileFlags
-flags = record { render = true; root = false; authenticated = false }
+flags = record { render = true; root = false; authenticated = false; universal = true }
 
 accepted : (w : Rows) → has_client_room w ≡ true → verdict w (Open Render) ≡ None
 unfolding opening_checks

@@ -1,8 +1,9 @@
-use Rattle.std.proofs.Common.{◌≡◌, ℕ, ◌≤◌, List, [], ◌∷◌, Option, Some, Result, Err, sym, ap, subst, ◌∙◌, inl, inr, arith, length-append}
+use Rattle.std.proofs.Common.{◌≡◌, ℕ, ◌≤◌, Bool, List, [], ◌∷◌, Option, Some, Result, Err, sym, ap, subst, ◌∙◌, inl, inr, arith, length-append}
 use Rattle.std.specs.Prelude.{IfSome, unwrap_or}
 use Rattle.drm_table.specs.declared.answers.Answer.TheVariants.{Lease}
 use Rattle.drm_table.specs.declared.calls.Call.TheVariants.{CreateLease}
 use Rattle.drm_table.specs.declared.events.Event.TheVariants.{Ask}
+use Rattle.drm_lists.specs.Orders.{SameRows}
 use Rattle.drm_modes.specs.Topology.{object_count}
 use Rattle.drm_masters.specs.declared.rows.Member.{Member}
 use Rattle.drm_masters.specs.Masters.{MasterSet, AreMasters}
@@ -10,7 +11,9 @@ use Rattle.drm_leases.specs.declared.faults.LeaseFault.{LeaseFault}
 use Rattle.drm_leases.specs.declared.rows.Leased.{Leased}
 use Rattle.drm_leases.specs.Leases.{LeaseSet, AreLeases}
 use Rattle.drm_leases.specs.Calls.{Created, listed_objects, with_lease}
+use Rattle.drm_leases.specs.Rules.{leased}
 use Rattle.drm_model.specs.Magics.{own_master}
+use Rattle.drm_model.specs.Leases as model
 use Rattle.drm_model.specs.Leases.{new_lessee, new_lessee_id, new_lease_token}
 use Rattle.drm_model.specs.Calls.{meaning}
 use Rattle.drm_model.specs.Change.{changed}
@@ -19,22 +22,24 @@ use Rattle.drm_model.proofs.Leased.{leased_within, leased_once}
 use Rattle.drm_state.specs.declared.state.State.{State}
 use Rattle.drm_state.specs.Ties.{IsTied}
 use Rattle.drm_state.specs.Refinement.{OwesCall, Represents}
+use Rattle.drm_state.specs.Seeing.{has_universal}
 use Rattle.drm_state.proofs.Outcomes.{denied, refused, carried_on}
 use Rattle.drm_state.proofs.Seeing.{topology_is}
 use Rattle.drm_state.proofs.Callers.{file_of, never_admitted, own_master_is}
 use Rattle.drm_lease_calls.proofs.Flags.{create_lease_flags}
-use Rattle.drm_lease_calls.proofs.Asked.{create_verdict, free_lessee_is, next_is}
+use Rattle.drm_lease_calls.proofs.Asked.{create_verdict, free_lessee_is, leased_is, next_is}
 use Rattle.drm_lease_calls.proofs.Listed.{same_listed}
 use Rattle.drm_lease_calls.proofs.Leased.{leased_rows, leased_tied, leased_represents}
 use Rattle.drm_lease_calls.proofs.leases.create_lease.Goals as goal
 
 -- what the part came to, of the caller that was found
-came : {r result : Result Leased LeaseFault} {o : Option Member} {given ids : List ℕ} (s : State) (x : Member) (step : ℕ) (l : LeaseSet) (v : MasterSet) → o ≡ Some x → r ≡ result → given ≡ ids → IfSome o (λ y. Created s.leases s.masters s.modes y.master given step r l v) →
-    Created s.leases s.masters s.modes x.master ids step result l v
-came {r = r} {result = result} {given = given} s x step l v look is same h =
-    subst (λ ids. Created s.leases s.masters s.modes x.master ids step result l v) same
-    (subst (λ r. Created s.leases s.masters s.modes x.master given step r l v) is
-    (subst (λ o. IfSome o (λ y. Created s.leases s.masters s.modes y.master given step r l v)) look h))
+came : {r result : Result Leased LeaseFault} {o : Option Member} {given ids : List ℕ} {on universal : Bool} (s : State) (x : Member) (step : ℕ) (l : LeaseSet) (v : MasterSet) → o ≡ Some x → r ≡ result → given ≡ ids → on ≡ universal → IfSome o (λ y. Created s.leases s.masters s.modes y.master on given step r l v) →
+    Created s.leases s.masters s.modes x.master universal ids step result l v
+came {r = r} {result = result} {given = given} {ids = ids} {on = on} s x step l v look is same shown h =
+    subst (λ b. Created s.leases s.masters s.modes x.master b ids step result l v) shown
+    (subst (λ ids. Created s.leases s.masters s.modes x.master on ids step result l v) same
+    (subst (λ r. Created s.leases s.masters s.modes x.master on given step r l v) is
+    (subst (λ o. IfSome o (λ y. Created s.leases s.masters s.modes y.master on given step r l v)) look h)))
 
 pub returns-in_default-clause-owes : goal.returns-in_default-clause-owes
 unfolding OwesCall
@@ -48,8 +53,8 @@ returns-in-Ok-clause-tied c =
     let step = c.args.birth in
     let x = c.in-Some._member in
     let made = c.in-Ok.made in
-    let objects = listed_objects s.modes.topology ids in
-    let by = came s x step c.create.new.self c.create.new.masters (sym c.member.ensures.member ∙ c.in-Some.is) c.in-Ok.is c.ids.ensures.ids c.create.ensures in
+    let objects = listed_objects s.modes.topology (leased s.leases s.masters s.modes x.master (has_universal s c.args.client) ids) in
+    let by = came s x step c.create.new.self c.create.new.masters (sym c.member.ensures.member ∙ c.in-Some.is) c.in-Ok.is c.ids.ensures.ids c.has_universal-universal.ensures c.create.ensures in
     subst (λ (l : LeaseSet). IsTied (record s { masters = c.create.new.masters; leases = l })) (sym by.3)
     (subst (λ (v : MasterSet). IsTied (record s { masters = v; leases = with_lease made.token step objects s.leases })) (sym by.4.2)
     (leased_tied s by.4.0 step x.master made.id made.token objects c.requires.ready.later.masters c.requires.ready.later.leases c.requires.ready.tied (subst AreMasters by.4.2 c.laws.ensures) (subst AreLeases by.3 c.laws-in-Ok.ensures)))
@@ -66,20 +71,21 @@ returns-in-Ok-clause-owes c = λ w r admitted.
     let x = c.in-Some._member in
     let made = c.in-Ok.made in
     let look = sym c.member.ensures.member ∙ c.in-Some.is in
-    let objects = listed_objects s.modes.topology ids in
-    let by = came s x step c.create.new.self c.create.new.masters look c.in-Ok.is c.ids.ensures.ids c.create.ensures in
+    let objects = listed_objects s.modes.topology (leased s.leases s.masters s.modes x.master (has_universal s c.args.client) ids) in
+    let by = came s x step c.create.new.self c.create.new.masters look c.in-Ok.is c.ids.ensures.ids c.has_universal-universal.ensures c.create.ensures in
     let file = file_of s client c.requires.present in
     let own = own_master_is s w client file.0 x h file.1 look in
     let none = create_verdict s w t h client x c.requires.present look ids own admitted ∙ by.0 in
     let id_is : new_lessee_id w (own_master w client) ≡ made.id = ap (new_lessee_id w) own ∙ ap (λ o. unwrap_or o 0) (free_lessee_is s w t h x.master ∙ by.1) in
     let token_is : new_lease_token w ≡ made.token = ap (λ o. unwrap_or o 0) (next_is s w t h ∙ by.2) in
-    let same = same_listed s.modes.topology ids (leased_once w client ids none) (λ k e. subst (λ topology. (1 ≤ k) × (k ≤ object_count topology)) (topology_is s w h) (leased_within w client ids none k e)) in
+    let all = model.leased w client ids in
+    let same = subst (λ l. SameRows all (listed_objects s.modes.topology l)) (leased_is s w t h client x c.requires.present look ids) (same_listed s.modes.topology all (leased_once w client ids none) (λ k e. subst (λ topology. (1 ≤ k) × (k ≤ object_count topology)) (topology_is s w h) (leased_within w client ids none k e))) in
     let new = record s { masters = c.create.new.masters; leases = c.create.new.self } in
     carried_on new w (Ask client (CreateLease ids)) (Lease made.id made.token) (returns-in-Ok-clause-tied c) none (λ i. Lease (sym id_is i) (sym token_is i))
-    (subst (Represents new) (sym (λ i. leased_rows w (own i) (r.birth_is i) (id_is i) (token_is i) ids))
-    (subst (λ (l : LeaseSet). Represents (record s { masters = c.create.new.masters; leases = l }) (leased_rows w x.master step made.id made.token ids)) (sym by.3)
-    (subst (λ (v : MasterSet). Represents (record s { masters = v; leases = with_lease made.token step objects s.leases }) (leased_rows w x.master step made.id made.token ids)) (sym by.4.2)
-    (leased_represents s by.4.0 step x.master made.id made.token objects c.requires.ready.later.masters c.requires.ready.later.leases w h ids same))))
+    (subst (Represents new) (sym (λ i. leased_rows w (own i) (r.birth_is i) (id_is i) (token_is i) all))
+    (subst (λ (l : LeaseSet). Represents (record s { masters = c.create.new.masters; leases = l }) (leased_rows w x.master step made.id made.token all)) (sym by.3)
+    (subst (λ (v : MasterSet). Represents (record s { masters = v; leases = with_lease made.token step objects s.leases }) (leased_rows w x.master step made.id made.token all)) (sym by.4.2)
+    (leased_represents s by.4.0 step x.master made.id made.token objects c.requires.ready.later.masters c.requires.ready.later.leases w h all same))))
 
 pub returns-in-Err-Denied-clause-owes : goal.returns-in-Err-Denied-clause-owes
 unfolding OwesCall
@@ -89,7 +95,7 @@ returns-in-Err-Denied-clause-owes c = λ w r admitted.
     let client = c.args.client in
     let x = c.in-Some._member in
     let look = sym c.member.ensures.member ∙ c.in-Some.is in
-    let by = came s x c.args.birth c.create.new.self c.create.new.masters look (c.in-Err-Denied.is ∙ ap Err c.in-Err-Denied.field-0-is) c.ids.ensures.ids c.create.ensures in
+    let by = came s x c.args.birth c.create.new.self c.create.new.masters look (c.in-Err-Denied.is ∙ ap Err c.in-Err-Denied.field-0-is) c.ids.ensures.ids c.has_universal-universal.ensures c.create.ensures in
     let file = file_of s client c.requires.present in
     let own = own_master_is s w client file.0 x r.rows file.1 look in
     denied (record s { masters = c.create.new.masters; leases = c.create.new.self }) w (Ask client (CreateLease ids)) c.in-Err-Denied.rule
@@ -104,7 +110,7 @@ returns-in-Err-NoMemory-clause-owes c = λ w r admitted.
     let client = c.args.client in
     let x = c.in-Some._member in
     let look = sym c.member.ensures.member ∙ c.in-Some.is in
-    let by = came s x c.args.birth c.create.new.self c.create.new.masters look (c.in-Err-NoMemory.is ∙ ap Err c.in-Err-NoMemory.field-0-is) c.ids.ensures.ids c.create.ensures in
+    let by = came s x c.args.birth c.create.new.self c.create.new.masters look (c.in-Err-NoMemory.is ∙ ap Err c.in-Err-NoMemory.field-0-is) c.ids.ensures.ids c.has_universal-universal.ensures c.create.ensures in
     let file = file_of s client c.requires.present in
     let own = own_master_is s w client file.0 x r.rows file.1 look in
     refused (record s { masters = c.create.new.masters; leases = c.create.new.self }) w (Ask client (CreateLease ids)) _

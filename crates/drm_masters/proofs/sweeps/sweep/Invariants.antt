@@ -1,13 +1,9 @@
-use Rattle.std.proofs.Common.{◌≡◌, List, ◌++◌, filter, length}
-use Rattle.drm_masters.specs.declared.rows.Master.{Master}
-use Rattle.drm_masters.specs.Masters.{is_living}
+use Rattle.drm_masters.specs.Tables.{members_in}
+use Rattle.drm_masters.proofs.Settled.{Settled}
 use Rattle.drm_masters.proofs.sweeps.sweep.Given as goal
 
--- those from the place on are settled, those before it are as they were
 abbrev pub invariant-loop-place : goal.invariant-loop-place
-invariant-loop-place l =
-    (front rest : List Master) × (l.fn.masters.items ≡ front ++ rest) × (length front ≡ l.place)
-    × (l.masters.items ≡ front ++ filter (λ (x : Master). is_living l.members l.fn.masters.items x.birth) rest)
+invariant-loop-place l = Settled (members_in l.members.clients.items) l.fn.masters.items l.place l.masters.items
 
 abbrev pub decreases-loop-place : goal.decreases-loop-place
 decreases-loop-place l = l.place

@@ -32,7 +32,7 @@ returns-clause-ok c =
     let none = absent_none inside.open_limit inside.last_handle inside.clients.items c.args.client absent in
     ap (λ a. lists_of inside.open_limit inside.last_handle a.items) c.in_default.ensures.ok
     ∙ opened inside.open_limit inside.last_handle inside.clients.items c.args.client _ none (ap (λ t. t.slots) c.new.ensures)
-    ∙ ap (λ (l : FileLists). with_client l c.args.client (new_flags c.args.render c.args.root)) c.self.view_is
+    ∙ ap (λ (l : FileLists). with_client l c.args.client (new_flags c.args.render c.args.root c.args.universal)) c.self.view_is
 
 pub returns-clause-room : goal.returns-clause-room
 returns-clause-room c =

@@ -1,7 +1,7 @@
 use Rattle.std.proofs.Common.{true, refl, ap, sym, ◌∙◌}
 use Rattle.drm_files.specs.declared.files.FileRecord.{FileRecord}
-use Rattle.drm_files.specs.Files.{FileLists, with_authenticated}
-use Rattle.drm_files.proofs.Calls.{let_in}
+use Rattle.drm_files.specs.Files.{FileLists, authenticated, with_authenticated}
+use Rattle.drm_files.proofs.Calls.{changed}
 use Rattle.drm_files.proofs.RecordFacts.{nobody, AreRecords-insert}
 use Rattle.drm_files.proofs.files.Files.set_authenticated.Goals as goal
 
@@ -21,5 +21,5 @@ returns c =
     let inside = c.self.inside in
     let old = c.in-Some.record.now in
     let new : FileRecord = record { flags = record old.flags { authenticated = true }; handles = old.handles; by_object = old.by_object } in
-    let_in inside.open_limit inside.last_handle inside.clients.items c.args.client old new (sym c.in-Some.ensures.value) (λ k. refl) refl
+    changed inside.open_limit inside.last_handle inside.clients.items c.args.client authenticated old new (sym c.in-Some.ensures.value) (λ k. refl) refl
     ∙ ap (λ (l : FileLists). with_authenticated l c.args.client) c.self.view_is

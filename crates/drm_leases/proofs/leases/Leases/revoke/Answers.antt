@@ -15,5 +15,5 @@ invariant_of-self c =
     let masters = c.args.masters.now.masters in
     let under = is_under (lessor_of masters) c.args.master in
     let without : LeaseSet = record c.args.self.now { tokens = filter (λ (row : LeaseToken). not (under row.master)) c.args.self.now.tokens } in
-    sound _ (ended masters c.args.master c.args.self.now) ((λ i. record (set_of c.self.inside) { tokens = c.remove_tokens_under.ensures i; grants = c.remove_grants_under.ensures i }) ∙ ap (ended masters c.args.master) c.self.view_is)
-    (fewer_grants without (fewer_tokens c.args.self.now are (λ (row : LeaseToken). not (under row.master))) (λ (g : Grant). not (under g.master)))
+    sound _ (ended masters c.args.master c.args.self.now) ((λ i. record (set_of c.self.inside) { tokens = c.remove_tokens_under.ensures i; grants = c.remove_under.ensures.rows i }) ∙ ap (ended masters c.args.master) c.self.view_is)
+    (fewer_grants without (fewer_tokens c.args.self.now are (λ (row : LeaseToken). not (under row.master))) (λ (g : Grant). not (under g.master))) (c.remove_under.ensures.full c.self.invariant.full)

@@ -1,20 +1,25 @@
-use Rattle.std.proofs.Common.{◌≡◌, true, Some, find, map, sym, ap, subst, ◌∙◌}
+use Rattle.std.proofs.Common.{◌≡◌, ℕ, true, Some, find, map, refl, sym, ap, subst, ◌∙◌, nat_cmp}
 use Rattle.std.specs.Prelude.{if◌then◌else◌}
 use Rattle.drm_masters.specs.declared.rows.Member.{Member}
 use Rattle.drm_masters.specs.Fields.{set_of}
-use Rattle.drm_masters.specs.Masters.{MasterSet, AreMasters, is_client, has_open_magic}
+use Rattle.drm_masters.specs.Masters.{MasterSet, AreMasters, is_client, is_current, has_open_magic}
 use Rattle.drm_masters.specs.Calls as calls
 use Rattle.drm_masters.proofs.Sound.{Keyed, sound, spent_are, open_found}
+use Rattle.std.specs.FinSet as set
+use Rattle.drm_masters.specs.Tables.{members_in}
+use Rattle.drm_masters.proofs.Flagged.{one_changed}
 use Rattle.drm_masters.proofs.masters.Masters.auth.Goals as goal
 
 pub invariant_of-self : goal.invariant_of-self
 invariant_of-self c =
     let are : AreMasters c.args.self.now = subst AreMasters c.self.view_is c.self.invariant.are in
     let keyed : Keyed c.args.self.now.masters = subst (λ (w : MasterSet). Keyed w.masters) c.self.view_is c.self.invariant.keyed in
+    let old : (k : ℕ) → set.contains c.self.inside.members.clients.m0 k ≡ is_current c.args.self.now k = λ k. c.self.invariant.flagged k ∙ ap (λ (w : MasterSet). is_current w k) c.self.view_is in
     let x = c.in-Some-find_open_magic.found in
     let m = c.in-Some.member.master in
     let y = calls.with_magic c.args.number true x in
-    let items : c.set_member.new.members.items ≡ map (λ (x : Member). if is_client y.client x then y else x) c.self.inside.members.items = c.set_member.ensures ∙ ap (λ (z : Member). map (λ (x : Member). if is_client z.client x then z else x) c.self.inside.members.items) c.with_magic.ensures in
-    let found : find (has_open_magic m c.args.number) c.args.self.now.members ≡ Some x = sym (ap (λ (w : MasterSet). find (has_open_magic m c.args.number) w.members) c.self.view_is) ∙ ap (find (has_open_magic m c.args.number)) (sym c.deref-2.ensures.value) ∙ sym c.find_open_magic.ensures ∙ c.in-Some-find_open_magic.is in
+    let items : members_in c.set.new.self.clients.items ≡ map (λ (x : Member). if is_client y.client x then y else x) (members_in c.self.inside.members.clients.items) = c.set.ensures.rows ∙ ap (λ (z : Member). map (λ (x : Member). if is_client z.client x then z else x) (members_in c.self.inside.members.clients.items)) c.with_magic.ensures in
+    let found : find (has_open_magic m c.args.number) c.args.self.now.members ≡ Some x = sym (ap (λ (w : MasterSet). find (has_open_magic m c.args.number) w.members) c.self.view_is) ∙ sym c.find_open_magic.ensures ∙ c.in-Some-find_open_magic.is in
     let is = open_found c.args.self.now are (has_open_magic m c.args.number) x found in
     sound _ (calls.changed_member y c.args.self.now) ((λ i. record (set_of c.self.inside) { members = items i }) ∙ ap (calls.changed_member y) c.self.view_is) (spent_are c.args.self.now are x is.1 c.args.number m is.0) keyed
+    (λ k. ap (λ (t : set.FinSet nat_cmp). set.contains t k) c.set.ensures.flags ∙ old k ∙ sym (one_changed c.args.self.now.members x y c.args.self.now.masters c.args.self.now.device_master is.1 refl refl refl k))

@@ -1,14 +1,14 @@
-use Rattle.std.proofs.Common.{◌≡◌, Some, find, sym, ap, ◌∙◌}
+use Rattle.std.proofs.Common.{◌≡◌, Some, sym, ap, ◌∙◌}
 use Rattle.std.specs.Option.{option_map, option_map_or, option_and_then}
 use Rattle.drm_masters.specs.declared.rows.Master.{Master}
-use Rattle.drm_masters.specs.Masters.{MasterSet, master_at, key_of, lessor_of, birth_at, is_key}
+use Rattle.drm_masters.specs.Masters.{MasterSet, master_at, key_of, lessor_of, birth_at}
 use Rattle.drm_masters.proofs.masters.Masters.lessor_of.Goals as goal
 
 pub returns : goal.returns
 returns c =
     let x = c.in_ok-birth.field-0 in
     let l = c.in_ok-lessor.lessor in
-    let key : birth_at c.args.self.now.masters c.args.master ≡ x.birth = ap (λ (w : MasterSet). birth_at w.masters c.args.master) (sym c.self.view_is) ∙ ap (λ o. option_map_or (λ (y : Master). y.birth) o 0) (ap (find (is_key c.args.master)) (sym c.deref.ensures.value) ∙ sym c.master_of_key.ensures ∙ c.in_ok-birth.was) in
-    let above : lessor_of c.args.self.now.masters x.birth ≡ Some l = ap (λ (w : MasterSet). lessor_of w.masters x.birth) (sym c.self.view_is) ∙ ap (λ ms. lessor_of ms x.birth) (sym c.deref-2.ensures.value) ∙ sym c.lessor_of.ensures ∙ c.in_ok-lessor.was in
-    let here : master_at c.args.self.now.masters l ≡ Some c.in_ok-master_at.field-0 = ap (λ (w : MasterSet). master_at w.masters l) (sym c.self.view_is) ∙ ap (λ ms. master_at ms l) (sym c.deref-3.ensures.value) ∙ sym c.master_at.ensures ∙ c.in_ok-master_at.was in
+    let key : birth_at c.args.self.now.masters c.args.master ≡ x.birth = ap (λ (w : MasterSet). birth_at w.masters c.args.master) (sym c.self.view_is) ∙ ap (λ o. option_map_or (λ (y : Master). y.birth) o 0) (sym c.of_key.ensures ∙ c.in_ok-birth.was) in
+    let above : lessor_of c.args.self.now.masters x.birth ≡ Some l = ap (λ (w : MasterSet). lessor_of w.masters x.birth) (sym c.self.view_is) ∙ sym c.lessor_of.ensures ∙ c.in_ok-lessor.was in
+    let here : master_at c.args.self.now.masters l ≡ Some c.in_ok-at.field-0 = ap (λ (w : MasterSet). master_at w.masters l) (sym c.self.view_is) ∙ sym c.at.ensures ∙ c.in_ok-at.was in
     sym (ap (option_map (λ (y : Master). y.key)) here) ∙ sym (ap (option_and_then (key_of c.args.self.now.masters)) (ap (lessor_of c.args.self.now.masters) key ∙ above))

@@ -1,50 +1,104 @@
-use Rattle.std.proofs.Common.{◌≡◌, ℕ, [], ◌∷◌, ◌++◌, None, Some, refl, sym, ap, subst, ◌∙◌}
-use Rattle.drm_lists.proofs.Lists.{all_append}
+use Rattle.std.proofs.Common.{◌≡◌, ℕ, ◌<◌, [], ◌∷◌, ◌++◌, not, filter, find, None, Some, refl, sym, ap, subst, ◌∙◌, nat_cmp}
+use Rattle.std.specs.FinSet as set
+use Rattle.std.specs.List.{AllByRecursion}
+use Rattle.drm_masters.specs.declared.members.Members.{Members}
 use Rattle.drm_masters.specs.declared.rows.Master.{Master}
+use Rattle.drm_masters.specs.declared.rows.Member.{Member}
 use Rattle.drm_masters.specs.Fields.{set_of}
-use Rattle.drm_masters.specs.Masters.{MasterSet, AreMasters}
+use Rattle.drm_masters.specs.Masters.{MasterSet, AreMasters, HasOlderLessor, is_key, is_birth, is_current}
 use Rattle.drm_masters.specs.Calls as calls
-use Rattle.drm_masters.proofs.Sound.{Keyed, sound, device_there, guest_are, founder_are, free_key}
+use Rattle.drm_masters.specs.Tables.{members_in}
+use Rattle.drm_masters.proofs.Flagged.{current_in, no_device}
+use Rattle.drm_masters.proofs.Pushed.{pushed_older, taken_back}
+use Rattle.drm_masters.proofs.Sound.{Keyed, sound, device_there, guest_are, founder_are, keyed_more, guest_same}
 use Rattle.drm_masters.proofs.masters.Masters.on_open.Goals as goal
 
 pub invariant_of-self-in-Some : goal.invariant_of-self-in-Some
 invariant_of-self-in-Some c =
     let v = c.args.self.now in
-    let are : AreMasters c.args.self.now = subst AreMasters c.self.view_is c.self.invariant.are in
-    let keyed : Keyed c.args.self.now.masters = subst (λ (w : MasterSet). Keyed w.masters) c.self.view_is c.self.invariant.keyed in
+    let are : AreMasters v = subst AreMasters c.self.view_is c.self.invariant.are in
+    let keyed : Keyed v.masters = subst (λ (w : MasterSet). Keyed w.masters) c.self.view_is c.self.invariant.keyed in
+    let old : (k : ℕ) → set.contains c.self.inside.members.clients.m0 k ≡ is_current v k = λ k. c.self.invariant.flagged k ∙ ap (λ (w : MasterSet). is_current w k) c.self.view_is in
     let y = calls.guest c.args.client c.in-Some.master in
-    let items : c.push_reserved.new.self.items ≡ c.self.inside.members.items ++ y ∷ [] = c.push_reserved.ensures.items ∙ (λ i. c.reserve.ensures.items i ++ c.guest.ensures i ∷ []) in
-    let device : c.args.self.now.device_master ≡ Some c.in-Some.master = sym (ap (λ (w : MasterSet). w.device_master) c.self.view_is) ∙ c.in-Some.is in
-    sound _ (calls.with_member y c.args.self.now) ((λ i. record (set_of c.self.inside) { members = items i }) ∙ ap (calls.with_member y) c.self.view_is)
-    (guest_are c.args.self.now are y c.requires.new_client c.requires.room refl (device_there c.args.self.now are c.in-Some.master device)) keyed
+    let items : members_in c.add.new.self.clients.items ≡ members_in c.self.inside.members.clients.items ++ y ∷ [] = c.in_default-add.ensures.ok ∙ ap (λ (x : Member). members_in c.self.inside.members.clients.items ++ x ∷ []) c.guest.ensures in
+    let device : v.device_master ≡ Some c.in-Some.master = sym (ap (λ (w : MasterSet). w.device_master) c.self.view_is) ∙ c.in-Some.is in
+    sound _ (calls.with_member y v) ((λ i. record (set_of c.self.inside) { members = items i }) ∙ ap (calls.with_member y) c.self.view_is)
+    (guest_are v are y c.requires.new_client c.requires.room refl (device_there v are c.in-Some.master device)) keyed
+    (λ k. ap (λ (t : set.FinSet nat_cmp). set.contains t k) c.in_default-add.ensures.flags ∙ old k ∙ sym (guest_same v y refl c.requires.new_client k))
 
-founded : ℕ → ℕ → MasterSet → MasterSet
-founded c b v = calls.with_device (Some b) (calls.with_member (calls.owner c b) (calls.with_master (calls.own_master b b) v))
+pub insert-requires : goal.insert-requires
+insert-requires c =
+    let newest = rw (← c.self.view_is) at c.requires.new_birth in
+    record { newest = subst (λ (u : Master). AllByRecursion (λ (x : Master). x.birth < u.birth) c.self.inside.masters.items) (sym c.own_master.ensures) newest }
+
+pub add-requires-2 : goal.add-requires-2
+add-requires-2 c =
+    let newest = rw (← c.self.view_is) at c.requires.new_client in
+    record { newest = subst (λ (u : Member). AllByRecursion (λ (x : Member). x.client < u.client) (members_in c.self.inside.members.clients.items)) (sym c.owner.ensures) newest }
+
+pub invariant_of-self-in-Err-add : goal.invariant_of-self-in-Err-add
+invariant_of-self-in-Err-add c =
+    let v = c.args.self.now in
+    let are : AreMasters v = subst AreMasters c.self.view_is c.self.invariant.are in
+    let keyed : Keyed v.masters = subst (λ (w : MasterSet). Keyed w.masters) c.self.view_is c.self.invariant.keyed in
+    let old : (k : ℕ) → set.contains c.self.inside.members.clients.m0 k ≡ is_current v k = λ k. c.self.invariant.flagged k ∙ ap (λ (w : MasterSet). is_current w k) c.self.view_is in
+    let z = calls.own_master c.in_default-insert.field-0 c.args.birth in
+    let newest = rw (← c.self.view_is) at c.requires.new_birth in
+    let masters : c.insert.new.self.items ≡ c.self.inside.masters.items ++ z ∷ [] = c.in_default-insert.ensures.ok ∙ ap (λ (x : Master). c.self.inside.masters.items ++ calls.keyed_as c.in_default-insert.field-0 x ∷ []) c.own_master.ensures in
+    let back : c.remove.new.self.items ≡ c.self.inside.masters.items = c.remove.ensures ∙ ap (filter (λ (x : Master). not (is_birth c.args.birth x))) masters ∙ taken_back c.self.inside.masters.items z newest in
+    let path = (λ i. record (set_of c.self.inside) { members = members_in (c.in-Err-add.ensures.err i).clients.items; masters = back i }) ∙ c.self.view_is in
+    sound _ v path are keyed (λ k. ap (λ (m : Members). set.contains m.clients.m0 k) c.in-Err-add.ensures.err ∙ old k)
+
+pub returns-in-Err-add-clause-err : goal.returns-in-Err-add-clause-err
+returns-in-Err-add-clause-err c =
+    let z = calls.own_master c.in_default-insert.field-0 c.args.birth in
+    let newest = rw (← c.self.view_is) at c.requires.new_birth in
+    let masters : c.insert.new.self.items ≡ c.self.inside.masters.items ++ z ∷ [] = c.in_default-insert.ensures.ok ∙ ap (λ (x : Master). c.self.inside.masters.items ++ calls.keyed_as c.in_default-insert.field-0 x ∷ []) c.own_master.ensures in
+    let back : c.remove.new.self.items ≡ c.self.inside.masters.items = c.remove.ensures ∙ ap (filter (λ (x : Master). not (is_birth c.args.birth x))) masters ∙ taken_back c.self.inside.masters.items z newest in
+    let path = (λ i. record (set_of c.self.inside) { members = members_in (c.in-Err-add.ensures.err i).clients.items; masters = back i }) ∙ c.self.view_is in
+    path
+
+pub flag_current-requires-clause-older : goal.flag_current-requires-clause-older
+flag_current-requires-clause-older c =
+    let v = c.args.self.now in
+    let are : AreMasters v = subst AreMasters c.self.view_is c.self.invariant.are in
+    let keyed : Keyed v.masters = subst (λ (w : MasterSet). Keyed w.masters) c.self.view_is c.self.invariant.keyed in
+    let old : (k : ℕ) → set.contains c.self.inside.members.clients.m0 k ≡ is_current v k = λ k. c.self.invariant.flagged k ∙ ap (λ (w : MasterSet). is_current w k) c.self.view_is in
+    let b = c.args.birth in
+    let key = c.in_default-insert.field-0 in
+    let y = calls.owner c.args.client b in
+    let z = calls.own_master key b in
+    let masters : c.insert.new.self.items ≡ c.self.inside.masters.items ++ z ∷ [] = c.in_default-insert.ensures.ok ∙ ap (λ (x : Master). c.self.inside.masters.items ++ calls.keyed_as key x ∷ []) c.own_master.ensures in
+    subst (λ l. AllByRecursion (HasOlderLessor l) l) (sym (masters ∙ ap (λ (u : MasterSet). u.masters ++ z ∷ []) c.self.view_is)) (pushed_older v.masters z c.requires.new_birth (λ l e. absurd (let n : None ≡ Some l = e in cc)) are.lessors_older)
+
+pub flag_current-requires-clause-unflagged : goal.flag_current-requires-clause-unflagged
+flag_current-requires-clause-unflagged c = λ k.
+    let v = c.args.self.now in
+    let are : AreMasters v = subst AreMasters c.self.view_is c.self.invariant.are in
+    let keyed : Keyed v.masters = subst (λ (w : MasterSet). Keyed w.masters) c.self.view_is c.self.invariant.keyed in
+    let old : (k : ℕ) → set.contains c.self.inside.members.clients.m0 k ≡ is_current v k = λ k. c.self.invariant.flagged k ∙ ap (λ (w : MasterSet). is_current w k) c.self.view_is in
+    let none : v.device_master ≡ None = sym (ap (λ (w : MasterSet). w.device_master) c.self.view_is) ∙ c.in_default.is in
+    ap (λ (s : set.FinSet nat_cmp). set.contains s k) c.in_default-add-2.ensures.flags ∙ old k ∙ ap (λ d. current_in v.members v.masters d k) none ∙ no_device v.members v.masters k
+
+founded : ℕ → ℕ → ℕ → MasterSet → MasterSet
+founded c key b v = calls.with_device (Some b) (calls.with_member (calls.owner c b) (calls.with_master (calls.own_master key b) v))
 
 pub invariant_of-self-2 : goal.invariant_of-self-2
 unfolding founded
 invariant_of-self-2 c =
     let v = c.args.self.now in
-    let are : AreMasters c.args.self.now = subst AreMasters c.self.view_is c.self.invariant.are in
-    let keyed : Keyed c.args.self.now.masters = subst (λ (w : MasterSet). Keyed w.masters) c.self.view_is c.self.invariant.keyed in
+    let are : AreMasters v = subst AreMasters c.self.view_is c.self.invariant.are in
+    let keyed : Keyed v.masters = subst (λ (w : MasterSet). Keyed w.masters) c.self.view_is c.self.invariant.keyed in
+    let old : (k : ℕ) → set.contains c.self.inside.members.clients.m0 k ≡ is_current v k = λ k. c.self.invariant.flagged k ∙ ap (λ (w : MasterSet). is_current w k) c.self.view_is in
     let b = c.args.birth in
+    let key = c.in_default-insert.field-0 in
     let y = calls.owner c.args.client b in
-    let z = calls.own_master b b in
-    let items : c.push_reserved-3.new.self.items ≡ c.self.inside.members.items ++ y ∷ [] = c.push_reserved-3.ensures.items ∙ (λ i. c.reserve.ensures.items i ++ c.owner.ensures i ∷ []) in
-    let masters : c.push_reserved-2.new.self.items ≡ c.self.inside.masters.items ++ z ∷ [] = c.push_reserved-2.ensures.items ∙ (λ i. c.reserve-2.ensures.items i ++ c.own_master.ensures i ∷ []) in
-    sound _ (founded c.args.client b c.args.self.now) ((λ i. record (set_of c.self.inside) { members = items i; masters = masters i; device_master = Some b }) ∙ ap (founded c.args.client b) c.self.view_is)
-    (founder_are c.args.self.now are y c.requires.new_client c.requires.room refl z refl refl refl c.requires.new_birth)
-    (all_append (λ (x : Master). x.key ≡ x.birth) c.args.self.now.masters (z ∷ []) keyed (refl, tt))
-
-pub returns-clause-ok : goal.returns-clause-ok
-unfolding founded
-returns-clause-ok c =
-    let v = c.args.self.now in
-    let are : AreMasters c.args.self.now = subst AreMasters c.self.view_is c.self.invariant.are in
-    let keyed : Keyed c.args.self.now.masters = subst (λ (w : MasterSet). Keyed w.masters) c.self.view_is c.self.invariant.keyed in
-    let b = c.args.birth in
-    let items : c.push_reserved-3.new.self.items ≡ c.self.inside.members.items ++ calls.owner c.args.client b ∷ [] = c.push_reserved-3.ensures.items ∙ (λ i. c.reserve.ensures.items i ++ c.owner.ensures i ∷ []) in
-    let masters : c.push_reserved-2.new.self.items ≡ c.self.inside.masters.items ++ calls.own_master b b ∷ [] = c.push_reserved-2.ensures.items ∙ (λ i. c.reserve-2.ensures.items i ++ c.own_master.ensures i ∷ []) in
-    let none : c.args.self.now.device_master ≡ None = sym (ap (λ (w : MasterSet). w.device_master) c.self.view_is) ∙ c.in_default.is in
-    subst (λ d. calls.Opened c.args.self.now c.args.client b d (record { members = c.push_reserved-3.new.self.items; masters = c.push_reserved-2.new.self.items; device_master = Some b; last_magic = c.self.inside.last_magic; last_lessee = c.self.inside.last_lessee })) (sym none)
-    (b, free_key c.args.self.now.masters b keyed c.requires.new_birth, (λ i. record (set_of c.self.inside) { members = items i; masters = masters i; device_master = Some b }) ∙ ap (founded c.args.client b) c.self.view_is)
+    let z = calls.own_master key b in
+    let masters : c.insert.new.self.items ≡ c.self.inside.masters.items ++ z ∷ [] = c.in_default-insert.ensures.ok ∙ ap (λ (x : Master). c.self.inside.masters.items ++ calls.keyed_as key x ∷ []) c.own_master.ensures in
+    let items : members_in c.add-2.new.self.clients.items ≡ members_in c.self.inside.members.clients.items ++ y ∷ [] = c.in_default-add-2.ensures.ok ∙ ap (λ (x : Member). members_in c.self.inside.members.clients.items ++ x ∷ []) c.owner.ensures in
+    let rows : members_in c.flag_current.new.members.clients.items ≡ members_in c.self.inside.members.clients.items ++ y ∷ [] = ap members_in c.flag_current.ensures.rows ∙ items in
+    let path = ap (founded c.args.client key b) c.self.view_is in
+    sound _ (founded c.args.client key b v) ((λ i. record (set_of c.self.inside) { members = rows i; masters = masters i; device_master = Some b }) ∙ path)
+    (founder_are v are y c.requires.new_client c.requires.room refl z refl refl refl c.requires.new_birth)
+    (keyed_more v.masters z key keyed (ap (λ (w : MasterSet). find (is_key key) w.masters) (sym c.self.view_is) ∙ c.in_default-insert.ensures.free) refl)
+    (λ k. c.flag_current.ensures.flags k ∙ (λ i. current_in (items i) (masters i) (Some b) k) ∙ ap (λ (u : MasterSet). is_current u k) path)

@@ -1,20 +1,61 @@
-use Rattle.std.proofs.Common.{◌≡◌, false, [], ◌∷◌, ◌++◌, Some, find, refl, sym, ap, subst, ◌∙◌}
+use Rattle.std.proofs.Common.{◌≡◌, ℕ, ◌==◌, ◌&&◌, ◌||◌, false, [], ◌∷◌, ◌++◌, Some, find, is_some, refl, sym, ap, subst, ◌∙◌, nat_cmp}
+use Rattle.std.specs.FinSet as set
+use Rattle.std.specs.List.{AllByRecursion}
+use Rattle.drm_masters.specs.declared.rows.Member.{Member}
 use Rattle.drm_masters.specs.Fields.{set_of}
-use Rattle.drm_masters.specs.Masters.{MasterSet, AreMasters, is_key}
+use Rattle.drm_masters.specs.Masters.{MasterSet, AreMasters, HasOlderLessor, is_key, member_of, is_current, is_current_among}
 use Rattle.drm_masters.specs.Calls as calls
-use Rattle.drm_masters.proofs.Pushed.{kept_keyed}
-use Rattle.drm_masters.proofs.Sound.{Keyed, sound, redeemed_are, of_key}
+use Rattle.drm_masters.specs.Tables.{members_in}
+use Rattle.drm_masters.proofs.Flagged.{one_more, added_there}
+use Rattle.drm_masters.proofs.Pushed.{kept_keyed, kept_older}
+use Rattle.drm_masters.proofs.Sound.{Keyed, sound, redeemed_are, of_key, kept_same}
 use Rattle.drm_masters.proofs.masters.Masters.on_redeem.Goals as goal
+
+pub flag_if_current-requires-clause-older : goal.flag_if_current-requires-clause-older
+flag_if_current-requires-clause-older c =
+    let v = c.args.self.now in
+    let are : AreMasters v = subst AreMasters c.self.view_is c.self.invariant.are in
+    let keyed : Keyed v.masters = subst (λ (w : MasterSet). Keyed w.masters) c.self.view_is c.self.invariant.keyed in
+    let old : (k : ℕ) → set.contains c.self.inside.members.clients.m0 k ≡ is_current v k = λ k. c.self.invariant.flagged k ∙ ap (λ (w : MasterSet). is_current w k) c.self.view_is in
+    let m = c.in-Some.redeemed.birth in
+    let y = calls.redeemer c.args.client m in
+    let items : members_in c.add.new.self.clients.items ≡ members_in c.self.inside.members.clients.items ++ y ∷ [] = c.in_default-add.ensures.ok ∙ ap (λ (x : Member). members_in c.self.inside.members.clients.items ++ x ∷ []) c.redeemer-member.ensures in
+    let masters : c.set_kept.new.self.items ≡ (calls.with_kept m false v).masters = c.set_kept.ensures ∙ ap (λ (u : MasterSet). (calls.with_kept m false u).masters) c.self.view_is in
+    subst (λ l. AllByRecursion (HasOlderLessor l) l) (sym masters) (kept_older m false v.masters are.lessors_older)
+
+pub flag_if_current-requires-clause-present : goal.flag_if_current-requires-clause-present
+flag_if_current-requires-clause-present c =
+    let v = c.args.self.now in
+    let are : AreMasters v = subst AreMasters c.self.view_is c.self.invariant.are in
+    let keyed : Keyed v.masters = subst (λ (w : MasterSet). Keyed w.masters) c.self.view_is c.self.invariant.keyed in
+    let old : (k : ℕ) → set.contains c.self.inside.members.clients.m0 k ≡ is_current v k = λ k. c.self.invariant.flagged k ∙ ap (λ (w : MasterSet). is_current w k) c.self.view_is in
+    let m = c.in-Some.redeemed.birth in
+    let y = calls.redeemer c.args.client m in
+    let items : members_in c.add.new.self.clients.items ≡ members_in c.self.inside.members.clients.items ++ y ∷ [] = c.in_default-add.ensures.ok ∙ ap (λ (x : Member). members_in c.self.inside.members.clients.items ++ x ∷ []) c.redeemer-member.ensures in
+    let masters : c.set_kept.new.self.items ≡ (calls.with_kept m false v).masters = c.set_kept.ensures ∙ ap (λ (u : MasterSet). (calls.with_kept m false u).masters) c.self.view_is in
+    ap (λ (x : Member). is_some (member_of (members_in c.add.new.self.clients.items) x.client)) c.redeemer-member.ensures
+    ∙ ap (λ l. is_some (member_of l c.args.client)) (items ∙ ap (λ (u : MasterSet). u.members ++ y ∷ []) c.self.view_is)
+    ∙ ap is_some (added_there v.members y c.requires.new_client)
 
 pub invariant_of-self-2 : goal.invariant_of-self-2
 invariant_of-self-2 c =
-    let are : AreMasters c.args.self.now = subst AreMasters c.self.view_is c.self.invariant.are in
-    let keyed : Keyed c.args.self.now.masters = subst (λ (w : MasterSet). Keyed w.masters) c.self.view_is c.self.invariant.keyed in
+    let v = c.args.self.now in
+    let are : AreMasters v = subst AreMasters c.self.view_is c.self.invariant.are in
+    let keyed : Keyed v.masters = subst (λ (w : MasterSet). Keyed w.masters) c.self.view_is c.self.invariant.keyed in
+    let old : (k : ℕ) → set.contains c.self.inside.members.clients.m0 k ≡ is_current v k = λ k. c.self.invariant.flagged k ∙ ap (λ (w : MasterSet). is_current w k) c.self.view_is in
     let m = c.in-Some.redeemed.birth in
     let y = calls.redeemer c.args.client m in
-    let found : find (is_key c.args.master) c.args.self.now.masters ≡ Some c.in-Some.redeemed = sym (ap (λ (w : MasterSet). find (is_key c.args.master) w.masters) c.self.view_is) ∙ ap (find (is_key c.args.master)) (sym c.deref.ensures.value) ∙ sym c.master_of_key.ensures ∙ c.in-Some.is in
-    let items : c.push_reserved.new.self.items ≡ c.self.inside.members.items ++ y ∷ [] = c.push_reserved.ensures.items ∙ (λ i. c.reserve.ensures.items i ++ c.redeemer.ensures i ∷ []) in
-    sound _ (calls.redeemed c.args.client m c.args.self.now)
-    ((λ i. record (set_of c.self.inside) { members = items i; masters = c.set_kept.ensures i }) ∙ ap (calls.redeemed c.args.client m) c.self.view_is)
-    (redeemed_are c.args.self.now are y c.requires.new_client c.requires.room refl (of_key c.args.self.now.masters c.args.master c.in-Some.redeemed keyed found).2)
-    (kept_keyed m false c.args.self.now.masters keyed)
+    let items : members_in c.add.new.self.clients.items ≡ members_in c.self.inside.members.clients.items ++ y ∷ [] = c.in_default-add.ensures.ok ∙ ap (λ (x : Member). members_in c.self.inside.members.clients.items ++ x ∷ []) c.redeemer-member.ensures in
+    let masters : c.set_kept.new.self.items ≡ (calls.with_kept m false v).masters = c.set_kept.ensures ∙ ap (λ (u : MasterSet). (calls.with_kept m false u).masters) c.self.view_is in
+    let rows : members_in c.flag_if_current.new.members.clients.items ≡ members_in c.self.inside.members.clients.items ++ y ∷ [] = ap members_in c.flag_if_current.ensures.rows ∙ items in
+    let found : find (is_key c.args.master) v.masters ≡ Some c.in-Some.redeemed = sym (ap (λ (w : MasterSet). find (is_key c.args.master) w.masters) c.self.view_is) ∙ sym c.of_key.ensures ∙ c.in-Some.is in
+    let device : c.self.inside.device_master ≡ v.device_master = ap (λ (w : MasterSet). w.device_master) c.self.view_is in
+    sound _ (calls.redeemed c.args.client m v)
+    ((λ i. record (set_of c.self.inside) { members = rows i; masters = c.set_kept.ensures i }) ∙ ap (calls.redeemed c.args.client m) c.self.view_is)
+    (redeemed_are v are y c.requires.new_client c.requires.room refl (of_key v.masters c.args.master c.in-Some.redeemed found).1)
+    (kept_keyed m false v.masters keyed)
+    (λ k.
+    let flags : set.contains c.add.new.self.clients.m0 k ≡ is_current v k = ap (λ (t : set.FinSet nat_cmp). set.contains t k) c.in_default-add.ensures.flags ∙ old k in
+    c.flag_if_current.ensures.flags k
+    ∙ (λ i. ((k == (c.redeemer-member.ensures i).client) && is_current_among (masters i) (device i) (c.redeemer-member.ensures i)) || (flags ∙ sym (kept_same v m false k)) i)
+    ∙ sym (one_more v.members y (calls.with_kept m false v).masters v.device_master c.requires.new_client k))

@@ -1,15 +1,15 @@
-use Rattle.std.proofs.Common.{◌≡◌, ◌<◌, List, filter, sym, ap, subst, ◌∙◌}
+use Rattle.std.proofs.Common.{◌≡◌, ℕ, ◌<◌, List, filter, sym, ap, subst, ◌∙◌}
+use Rattle.std.specs.FinSet as set
 use Rattle.std.specs.List.{AllByRecursion}
 use Rattle.drm_lists.specs.Orders.{InOrder}
-use Rattle.drm_lists.proofs.Lists.{all_filter}
 use Rattle.drm_masters.specs.declared.rows.Master.{Master}
-use Rattle.drm_masters.specs.declared.rows.Member.{Member}
 use Rattle.drm_masters.specs.Fields.{set_of}
-use Rattle.drm_masters.specs.Masters.{MasterSet, AreMasters, HasOlderLessor, is_living, swept}
+use Rattle.drm_masters.specs.Masters.{MasterSet, AreMasters, HasOlderLessor, is_living, is_current, swept}
 use Rattle.drm_masters.specs.Calls as calls
+use Rattle.drm_masters.specs.Tables.{members_in}
 use Rattle.drm_masters.proofs.Pushed.{over_keyed}
 use Rattle.drm_masters.proofs.Released.{released, released_birth, released_lessor, released_key}
-use Rattle.drm_masters.proofs.Sound.{Keyed, sound, swept_are, released_ties}
+use Rattle.drm_masters.proofs.Sound.{Keyed, sound, swept_are, released_ties, keyed_fewer, swept_same, released_same}
 use Rattle.drm_masters.proofs.masters.Masters.release_under.Goals as goal
 
 pub sweep-requires-clause-rise : goal.sweep-requires-clause-rise
@@ -26,17 +26,18 @@ sweep-requires-clause-older c =
 
 pub invariant_of-self : goal.invariant_of-self
 invariant_of-self c =
-    let are : AreMasters c.args.self.now = subst AreMasters c.self.view_is c.self.invariant.are in
-    let keyed : Keyed c.args.self.now.masters = subst (λ (w : MasterSet). Keyed w.masters) c.self.view_is c.self.invariant.keyed in
-    let top = c.args.top in
-    let ms = c.args.self.now.masters in
-    let new = calls.released_under top c.args.self.now in
-    let left = λ (mem : List Member) (l : List Master). let r : MasterSet = record { members = c.self.inside.members.items; masters = filter (λ (u : Master). is_living mem l u.birth) l; device_master = c.self.inside.device_master; last_magic = c.self.inside.last_magic; last_lessee = c.self.inside.last_lessee } in r in
+    let v = c.args.self.now in
+    let are : AreMasters v = subst AreMasters c.self.view_is c.self.invariant.are in
+    let keyed : Keyed v.masters = subst (λ (w : MasterSet). Keyed w.masters) c.self.view_is c.self.invariant.keyed in
+    let old : (k : ℕ) → set.contains c.self.inside.members.clients.m0 k ≡ is_current v k = λ k. c.self.invariant.flagged k ∙ ap (λ (w : MasterSet). is_current w k) c.self.view_is in
+    let mem = members_in c.self.inside.members.clients.items in
+    let new = calls.released_under c.args.top v in
+    let left = λ (l : List Master). let r : MasterSet = record { members = mem; masters = filter (λ (u : Master). is_living mem l u.birth) l; device_master = c.self.inside.device_master; last_magic = c.self.inside.last_magic; last_lessee = c.self.inside.last_lessee } in r in
     sound _ (swept new)
     ((λ i. record (set_of c.self.inside) { masters = c.sweep.ensures i })
-    ∙ ap (λ l. left l c.release_all_under.new.masters.items) c.deref.ensures.value
-    ∙ ap (left c.self.inside.members.items) c.release_all_under.ensures
-    ∙ ap (λ (u : MasterSet). swept (calls.released_under top u)) c.self.view_is
+    ∙ ap left c.release_all_under.ensures
+    ∙ ap (λ (u : MasterSet). swept (calls.released_under c.args.top u)) c.self.view_is
     )
-    (swept_are new (released_ties c.args.self.now are top))
-    (all_filter (λ (u : Master). u.key ≡ u.birth) (λ (u : Master). is_living c.args.self.now.members new.masters u.birth) new.masters (over_keyed (released ms top) (released_birth ms top) (released_lessor ms top) ms (released_key ms top) keyed))
+    (swept_are new (released_ties c.args.self.now are c.args.top))
+    (keyed_fewer new.masters (λ (u : Master). is_living v.members new.masters u.birth) (over_keyed (released v.masters c.args.top) (released_birth v.masters c.args.top) (released_lessor v.masters c.args.top) v.masters (released_key v.masters c.args.top) keyed))
+    (λ k. old k ∙ sym (swept_same new (released_ties c.args.self.now are c.args.top) k ∙ released_same v c.args.top k))

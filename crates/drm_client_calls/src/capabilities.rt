@@ -1,0 +1,33 @@
+//! What a client asks to be shown.
+
+ghost use Rattle.std.specs.Prelude.{◌≡◌, ◌==◌, ◌&&◌, nat_le, true};
+ghost use Rattle.drm_files.specs.Files.{is_present};
+ghost use Rattle.drm_table.specs.declared.calls.Call.TheVariants.{SetClientCap};
+ghost use Rattle.drm_state.specs.Ties.{IsTied};
+ghost use Rattle.drm_state.specs.Refinement.{OwesReply};
+
+use drm_state::State;
+use drm_table::{Answer, Rule};
+
+/// Primary and cursor planes are shown beside overlay planes (drm-uapi, `DRM_CLIENT_CAP_UNIVERSAL_PLANES`).
+const UNIVERSAL_PLANES: u64 = 2;
+
+/// SET_CLIENT_CAP: universal planes alone can be set, on by 1 and off by 0. It takes no memory.
+pub fn set_client_cap(state: &mut State, client: u32, cap: u64, value: u64) -> Answer
+    requires tied { IsTied state.old }
+    requires present { is_present state.old.files client ≡ true }
+    ensures owes { OwesReply state.old client (SetClientCap cap value) result state.new }
+    ensures tied { IsTied state.new }
+{
+    if !is_settable(cap, value) {
+        return Answer::Denied(Rule::BadCap);
+    }
+    state.files.set_universal(client, value == 1);
+    Answer::Done
+}
+
+fn is_settable(cap: u64, value: u64) -> bool
+    ensures { result ≡ ((cap == 2) && nat_le value 1) }
+{
+    cap == UNIVERSAL_PLANES && value <= 1
+}

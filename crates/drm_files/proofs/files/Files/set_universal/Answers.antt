@@ -1,0 +1,25 @@
+use Rattle.std.proofs.Common.{refl, ap, sym, ◌∙◌}
+use Rattle.drm_files.specs.declared.files.FileRecord.{FileRecord}
+use Rattle.drm_files.specs.Files.{FileLists, universal, with_universal}
+use Rattle.drm_files.proofs.Calls.{changed}
+use Rattle.drm_files.proofs.RecordFacts.{nobody, AreRecords-insert}
+use Rattle.drm_files.proofs.files.Files.set_universal.Goals as goal
+
+pub unreachable-requires : goal.unreachable-requires
+unreachable-requires c =
+    let inside = c.self.inside in
+    let present = rw (← c.self.view_is) at c.requires.present in
+    nobody inside.open_limit inside.last_handle inside.clients.items c.args.client present c.in_default.ensures.value
+
+pub invariant_of-self : goal.invariant_of-self
+invariant_of-self c =
+    let inside = c.self.inside in
+    AreRecords-insert inside.open_limit inside.last_handle inside.clients.items c.self.invariant c.args.client _ (c.self.invariant.tables c.args.client c.in-Some.record.now (sym c.in-Some.ensures.value)) (c.self.invariant.filed c.args.client c.in-Some.record.now (sym c.in-Some.ensures.value))
+
+pub returns : goal.returns
+returns c =
+    let inside = c.self.inside in
+    let old = c.in-Some.record.now in
+    let new : FileRecord = record { flags = record old.flags { universal = c.args.on }; handles = old.handles; by_object = old.by_object } in
+    changed inside.open_limit inside.last_handle inside.clients.items c.args.client (universal c.args.on) old new (sym c.in-Some.ensures.value) (λ k. refl) refl
+    ∙ ap (λ (l : FileLists). with_universal l c.args.client c.args.on) c.self.view_is

@@ -1,0 +1,40 @@
+//! Sets of fixed mode objects, as words of 64 bits: bit x - 1 is object x (own).
+
+ghost use Rattle.std.specs.Prelude.{◌≡◌, ℕ};
+ghost use Rattle.std.specs.List.{AllByRecursion};
+ghost use Rattle.drm_lists.specs.Numbers.{is_among};
+ghost use Rattle.drm_leases.specs.Masks.{has_object, objects_in, IsFixed};
+
+use drm_table::ShownList;
+
+/// Whether a mask has a mode object.
+pub fn has(mask: u64, mode_object: u32) -> bool
+    ensures { result ≡ has_object mask mode_object }
+{
+    1 <= mode_object && mode_object <= 64 && mask >> (mode_object - 1) & 1 == 1
+}
+
+/// The mask of these mode objects.
+pub fn mask_of(ids: &[u32]) -> u64
+    requires { AllByRecursion IsFixed ids.now }
+    ensures { (x : ℕ) → has_object result x ≡ is_among ids.now x }
+{
+    let mut mask = 0;
+    for id in ids {
+        mask |= 1 << (*id - 1);
+    }
+    mask
+}
+
+/// The mode objects of a mask, rising.
+pub fn objects_of(mask: u64) -> ShownList
+    ensures { result ≡ objects_in mask }
+{
+    let mut list = ShownList::new();
+    for id in 1..=64 {
+        if has(mask, id) {
+            list.push(id);
+        }
+    }
+    list
+}

@@ -1,0 +1,61 @@
+-- A walk over the places of a list.
+use Rattle.std.proofs.Common.{◌≡◌, ℕ, ◌+◌, ◌<◌, ◌≤◌, Bool, true, false, cond, ◌||◌, List, [], ◌∷◌, ◌++◌, find, drop, take, length, get_or, None, Some, refl, sym, ap, ◌∙◌, inl, inr, arith}
+use Rattle.std.specs.Prelude.{slice_get, ◌⊎◌}
+use Rattle.std.specs.List.{list_any}
+use Rattle.std.proofs.lemmas.List.{drop_more, drop_all, take_more}
+use Rattle.std.proofs.lemmas.Option.{slice_get_within, slice_get_cases, get_or_from_slice_get, none-some}
+
+module _ {X : Type 0} (xs : List X) (i : ℕ) where
+  -- there is something at each place
+  pub is_there : i < length xs → slice_get xs i ≡ None → ⊥
+  is_there lt none = by_cases (slice_get_cases xs i).1
+    where
+      by_cases : ((x : X) × (i < length xs) × (slice_get xs i ≡ Some x) × (get_or xs i x ≡ x)) ⊎ ((length xs ≤ i) × (slice_get xs i ≡ None)) → ⊥
+      by_cases (inl w) = none-some w.0 (sym none ∙ w.2)
+      by_cases (inr w) = let le = w.0 in omega (arith, lt, le)
+
+  pub next_place : i < length xs → (x : X) × (slice_get xs i ≡ Some x)
+  next_place lt = by_cases (slice_get_cases xs i).1
+    where
+      by_cases : ((x : X) × (i < length xs) × (slice_get xs i ≡ Some x) × (get_or xs i x ≡ x)) ⊎ ((length xs ≤ i) × (slice_get xs i ≡ None)) → (x : X) × (slice_get xs i ≡ Some x)
+      by_cases (inl w) = (w.0, w.2)
+      by_cases (inr w) = let le = w.0 in absurd (omega (arith, lt, le))
+
+  module _ (x : X) (at : slice_get xs i ≡ Some x) where
+    pub next_is : drop i xs ≡ x ∷ drop (i + 1) xs
+    next_is = drop_more xs i x (slice_get_within xs i x at) ∙ ap (λ y. y ∷ drop (i + 1) xs) (get_or_from_slice_get xs i x x at)
+
+    pub front_is : take (i + 1) xs ≡ take i xs ++ x ∷ []
+    front_is = take_more xs i x (slice_get_within xs i x at) ∙ ap (λ y. take i xs ++ y ∷ []) (get_or_from_slice_get xs i x x at)
+
+    -- a search that finds it, or goes on
+    pub find_here : (p : X → Bool) → find p xs ≡ find p (drop i xs) → p x ≡ true → Some x ≡ find p xs
+    find_here p so_far passes = sym (so_far ∙ ap (find p) next_is ∙ ap (λ b. cond b (Some x) (find p (drop (i + 1) xs))) passes)
+
+    pub find_on : (p : X → Bool) → find p xs ≡ find p (drop i xs) → p x ≡ false → find p xs ≡ find p (drop (i + 1) xs)
+    find_on p so_far fails = so_far ∙ ap (find p) next_is ∙ ap (λ b. cond b (Some x) (find p (drop (i + 1) xs))) fails
+
+    pub any_here : (p : X → Bool) → list_any p xs ≡ list_any p (drop i xs) → p x ≡ true → true ≡ list_any p xs
+    any_here p so_far passes = sym (so_far ∙ ap (list_any p) next_is ∙ ap (λ b. b || list_any p (drop (i + 1) xs)) passes)
+
+    pub any_on : (p : X → Bool) → list_any p xs ≡ list_any p (drop i xs) → p x ≡ false → list_any p xs ≡ list_any p (drop (i + 1) xs)
+    any_on p so_far fails = so_far ∙ ap (list_any p) next_is ∙ ap (λ b. b || list_any p (drop (i + 1) xs)) fails
+
+    pub any_pushed : (p : X → Bool) → list_any p (take (i + 1) xs) ≡ (p x || list_any p (take i xs))
+    any_pushed p = ap (list_any p) front_is ∙ last (take i xs)
+      where
+        swap : (a b c : Bool) → (a || (b || c)) ≡ (b || (a || c))
+        swap true true c = refl
+        swap true false c = refl
+        swap false b c = refl
+
+        last : (ys : List X) → list_any p (ys ++ x ∷ []) ≡ (p x || list_any p ys)
+        last [] = refl
+        last (y ∷ ys) = ap (λ b. p y || b) (last ys) ∙ swap (p y) (p x) (list_any p ys)
+
+  -- at the end
+  pub find_end : (p : X → Bool) → find p xs ≡ find p (drop i xs) → length xs ≤ i → None ≡ find p xs
+  find_end p so_far past = sym (so_far ∙ ap (find p) (drop_all i xs past))
+
+  pub any_end : (p : X → Bool) → list_any p xs ≡ list_any p (drop i xs) → length xs ≤ i → false ≡ list_any p xs
+  any_end p so_far past = sym (so_far ∙ ap (list_any p) (drop_all i xs past))

@@ -1,0 +1,13 @@
+use Rattle.std.proofs.Common.{ap, ◌∙◌, nat_cmp}
+use Rattle.std.specs.FinSet as set
+use Rattle.drm_index_array.specs.Indexed.{Indexed}
+use Rattle.drm_masters.specs.declared.members.Membership.{Membership}
+use Rattle.drm_masters.specs.Tables.{members_in}
+use Rattle.drm_masters.proofs.Listed.{no_clients}
+use Rattle.drm_masters.proofs.members.Members.new.Goals as goal
+
+pub returns-clause-none : goal.returns-clause-none
+returns-clause-none c = ap (λ (a : Indexed Membership). members_in a.items) c.new.ensures ∙ no_clients
+
+pub returns-clause-unflagged : goal.returns-clause-unflagged
+returns-clause-unflagged c = λ k. ap (λ (a : Indexed Membership). set.contains a.m0 k) c.new.ensures ∙ set.contains-empty nat_cmp k

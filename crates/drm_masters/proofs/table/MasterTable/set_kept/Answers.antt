@@ -1,0 +1,39 @@
+use Rattle.std.proofs.Common.{◌≡◌, ◌==◌, map, Some, refl, ap, sym, subst, ◌∙◌}
+use Rattle.std.specs.Prelude.{if◌then◌else◌, IsSome}
+use Rattle.std.specs.FinMap as fin
+use Rattle.slab.specs.Slab.{get, with_value}
+use Rattle.slab.proofs.SlabLemmas.{Updates-with_value}
+use Rattle.drm_keys.specs.Keys.{rows_in}
+use Rattle.drm_keys.proofs.KeyLemmas.{replaced, replaced_keyed}
+use Rattle.drm_masters.specs.declared.rows.Master.{Master}
+use Rattle.drm_masters.specs.Calls.{kept_as}
+use Rattle.drm_masters.specs.Tables.{nothing}
+use Rattle.drm_masters.proofs.Kept.{key_of, birth_of, key_there, none_changed, at_key}
+use Rattle.drm_masters.proofs.table.MasterTable.set_kept.Goals as goal
+
+pub unreachable-requires : goal.unreachable-requires
+unreachable-requires c = key_there c.self.inside.keys.items c.self.inside.kept c.self.invariant c.args.birth c.in-Some.key.now (sym c.in-Some.ensures.value) (sym c.in_default-get_mut.ensures.value)
+
+pub returns-in_default : goal.returns-in_default
+returns-in_default c = rw (← c.self.view_is) (none_changed c.self.inside.keys.items c.self.inside.kept c.self.invariant c.args.birth (sym c.in_default.ensures.value) (kept_as c.args.kept))
+
+pub invariant_of-self : goal.invariant_of-self
+invariant_of-self c =
+    let x = c.in-Some-get_mut.master.now in
+    let k = c.in-Some.key.now in
+    let there : get c.self.inside.kept k ≡ Some x = sym c.in-Some-get_mut.ensures.value in
+    let present : IsSome (get c.self.inside.kept k) = subst IsSome c.in-Some-get_mut.ensures.value refl in
+    replaced_keyed key_of birth_of nothing c.self.inside.keys.items c.self.inside.kept c.self.invariant k x (kept_as c.args.kept) (with_value c.self.inside.kept k (kept_as c.args.kept x)) there refl refl
+    (Updates-with_value c.self.inside.kept k (kept_as c.args.kept x) present)
+
+pub returns : goal.returns
+returns c =
+    let x = c.in-Some-get_mut.master.now in
+    let k = c.in-Some.key.now in
+    let there : get c.self.inside.kept k ≡ Some x = sym c.in-Some-get_mut.ensures.value in
+    let present : IsSome (get c.self.inside.kept k) = subst IsSome c.in-Some-get_mut.ensures.value refl in
+    let is : x.birth ≡ c.args.birth = at_key c.self.inside.keys.items c.self.inside.kept c.self.invariant c.args.birth k x (sym c.in-Some.ensures.value) there in
+    rw (← c.self.view_is)
+    (replaced key_of birth_of nothing c.self.inside.keys.items c.self.inside.kept c.self.invariant k x (kept_as c.args.kept) (with_value c.self.inside.kept k (kept_as c.args.kept x)) there refl refl
+    (Updates-with_value c.self.inside.kept k (kept_as c.args.kept x) present)
+    ∙ ap (λ b. map (λ (z : Master). if z.birth == b then kept_as c.args.kept z else z) (rows_in nothing c.self.inside.kept (fin.entries c.self.inside.keys.items))) is)

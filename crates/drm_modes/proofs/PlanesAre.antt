@@ -1,0 +1,41 @@
+-- Topologies whose planes are for something.
+use Rattle.std.proofs.Common.{◌≡◌, ℕ, zero, suc, ◌==◌, ◌&&◌, Bool, true, false, List, [], ◌∷◌, length, replicate, refl, eq-eqb}
+use Rattle.std.specs.List.{list_all, zip}
+use Rattle.std.proofs.lemmas.List.{length-replicate}
+use Rattle.drm_modes.specs.declared.kinds.PlaneKind.{PlaneKind}
+use Rattle.drm_modes.specs.declared.kinds.PlaneKind.TheVariants.{Overlay}
+use Rattle.drm_modes.specs.PlaneKinds.{fits, stands_once, are_kinds}
+use Rattle.drm_modes.specs.Topology.{are_objects, is_topology}
+use Rattle.drm_modes.specs.Topologies.{topology_of, topology_with}
+
+both_hold : (a b : Bool) → a ≡ true → b ≡ true → (a && b) ≡ true
+both_hold true b first second = second
+both_hold false b first second = first
+
+overlays_fit : (crtcs : ℕ) (planes : List ℕ) → list_all (fits crtcs) (zip (replicate (length planes) Overlay) planes) ≡ true
+overlays_fit crtcs [] = refl
+overlays_fit crtcs (mask ∷ masks) = overlays_fit crtcs masks
+
+overlays_stand : (kinds : List PlaneKind) (n : ℕ) → list_all (stands_once kinds) (replicate n Overlay) ≡ true
+overlays_stand kinds zero = refl
+overlays_stand kinds (suc n) = overlays_stand kinds n
+
+-- there may be any overlay planes
+pub overlays_are : (crtcs : ℕ) (planes : List ℕ) → are_kinds crtcs (replicate (length planes) Overlay) planes ≡ true
+unfolding are_kinds
+overlays_are crtcs planes =
+    let kinds = replicate (length planes) Overlay in
+    both_hold _ _ (both_hold (length kinds == length planes) (list_all (fits crtcs) (zip kinds planes)) (eq-eqb _ _ (length-replicate (length planes) Overlay)) (overlays_fit crtcs planes)) (overlays_stand kinds (length planes))
+
+-- of the objects alone nothing asks what planes are for
+pub topology_made : (crtcs : ℕ) (planes : List ℕ) (kinds : List PlaneKind) (encoders connectors : List ℕ) → are_objects (topology_of crtcs planes encoders connectors) ≡ true → are_kinds crtcs kinds planes ≡ true → is_topology (topology_with crtcs planes kinds encoders connectors) ≡ true
+unfolding are_objects
+topology_made crtcs planes kinds encoders connectors objects are = both_hold _ _ objects are
+
+pub objects_named : (crtcs : ℕ) (planes : List ℕ) (kinds : List PlaneKind) (encoders connectors : List ℕ) → is_topology (topology_with crtcs planes kinds encoders connectors) ≡ true → are_objects (topology_of crtcs planes encoders connectors) ≡ true
+unfolding are_objects
+objects_named crtcs planes kinds encoders connectors is = first_of _ _ is
+  where
+    first_of : (a b : Bool) → (a && b) ≡ true → a ≡ true
+    first_of true b h = refl
+    first_of false b h = h
