@@ -1,0 +1,18 @@
+//! Why each client has what it has: explanations of a history, as rows and as lines.
+#![tactic(auto)]
+
+mod clients;
+mod explaining;
+mod leases;
+mod lines;
+mod names;
+mod reasons;
+mod rows;
+
+pub use explaining::explain;
+pub use lines::lines_of;
+pub use names::Labels;
+pub use rows::{
+    At, Authenticated, AuthenticatedBy, ClientRow, DeviceRow, Explanation, HoldRow, LeaseRow,
+    LinkRow, Node, PublishedBy, PublishedRow, StandingRow,
+};

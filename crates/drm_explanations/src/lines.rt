@@ -1,0 +1,456 @@
+//! Explanations as lines, each with one subject and the reason behind a colon.
+
+use crate::names::{Labels, Name};
+use crate::rows::{
+    At, Authenticated, AuthenticatedBy, ClientRow, Explanation, HoldRow, LeaseRow, LinkRow, Node,
+    PublishedBy, PublishedRow, StandingRow,
+};
+use drm_modes::{Kind, Topology};
+use std::alloc::{AllocError, Global};
+
+/// What lines are made of: the whole explanation, who the labels stand for, and what the ids of mode objects are.
+#[derive(Clone, Copy)]
+struct Scene<'a> {
+    explanation: &'a Explanation,
+    topology: &'a Topology,
+    labels: &'a Labels,
+}
+
+impl Scene<'_> {
+    fn name(&self, client: u64) -> Name {
+        Name::of(self.labels, client)
+    }
+}
+
+/// The explanation as lines: of the device, of each client with its handles, and of each lease; of one client alone where one is
+/// named, with the leases that it made or redeemed.
+pub fn lines_of(
+    alloc: Global,
+    explanation: &Explanation,
+    topology: &Topology,
+    labels: &Labels,
+    only: Option<u64>,
+) -> Result<String, AllocError> {
+    let scene = Scene {
+        explanation,
+        topology,
+        labels,
+    };
+    let mut text = String::new(alloc);
+    if only.is_none() {
+        device_line(scene, &mut text)?;
+    }
+    for row in &explanation.clients {
+        if only.is_none() || only == Some(row.client) {
+            client_lines(alloc, scene, row, &mut text)?;
+        }
+    }
+    for row in &explanation.leases {
+        if only.is_none() || only == Some(row.leased.client) || only == row.redeemed_by {
+            lease_line(alloc, scene, row, &mut text)?;
+        }
+    }
+    Ok(text)
+}
+
+/// The device's master, and the step since which it is that.
+fn device_line(scene: Scene<'_>, text: &mut String) -> Result<(), AllocError> {
+    match scene.explanation.device.master {
+        Some(master) => write!(text, "the device's master is {master}: ")?,
+        None => text.push_str("the device has no master: ")?,
+    }
+    let Some(since) = scene.explanation.device.since else {
+        return text.push_str("no client set one\n");
+    };
+    let name = scene.name(since.client);
+    let At { step, call, .. } = since;
+    match call {
+        "open" => writeln!(text, "{name} founded it as it opened at step {step}"),
+        "close" => writeln!(text, "its client {name} closed at step {step}"),
+        "drop_master" => writeln!(text, "{name} dropped it at step {step} ({call})"),
+        _ => writeln!(text, "{name} set it at step {step} ({call})"),
+    }
+}
+
+/// The lines of one client: who it is, and where it is open why it is what it is, and what it has.
+fn client_lines(
+    alloc: Global,
+    scene: Scene<'_>,
+    row: &ClientRow,
+    text: &mut String,
+) -> Result<(), AllocError> {
+    identity_line(scene, row, text)?;
+    if row.closed.is_some() {
+        return Ok(());
+    }
+    authenticated_line(scene, row, text)?;
+    universal_line(scene, row, text)?;
+    if let Some(standing) = &row.standing {
+        master_line(scene, row, standing, text)?;
+        current_line(scene, row, standing, text)?;
+        may_set_line(alloc, scene, row, standing, text)?;
+    }
+    for hold in &row.holds {
+        hold_line(scene, row.client, hold, text)?;
+    }
+    Ok(())
+}
+
+fn node_word(node: Node) -> &'static str {
+    match node {
+        Node::Primary => "primary",
+        Node::Render => "render",
+        Node::Lease => "lease",
+    }
+}
+
+/// Who a client is, and when it was opened and closed.
+fn identity_line(scene: Scene<'_>, row: &ClientRow, text: &mut String) -> Result<(), AllocError> {
+    let name = scene.name(row.client);
+    let client = row.client;
+    let node = node_word(row.node);
+    let by_root = if row.root { " by root" } else { "" };
+    let verb = if row.closed.is_some() { "was" } else { "is" };
+    match row.label {
+        Some(_) => write!(text, "{name} {verb} client {client}: ")?,
+        None => write!(text, "client {client} {verb} without a label: ")?,
+    }
+    write!(text, "a {node} client, opened{by_root} at step {client}")?;
+    match row.closed {
+        Some(step) => writeln!(text, ", closed at step {step}"),
+        None => text.push_str("\n"),
+    }
+}
+
+/// Why a client is authenticated, or that it isn't.
+fn authenticated_line(
+    scene: Scene<'_>,
+    row: &ClientRow,
+    text: &mut String,
+) -> Result<(), AllocError> {
+    let name = scene.name(row.client);
+    match &row.authenticated {
+        Some(reason) => {
+            write!(text, "{name} is authenticated: ")?;
+            authentication(scene, reason, text)
+        }
+        None if row.node == Node::Render => {
+            writeln!(text, "{name} is not authenticated: it is a render client")
+        }
+        None => writeln!(
+            text,
+            "{name} is not authenticated: it didn't open by root, is no master, and nobody named its magic (auth_magic)"
+        ),
+    }
+}
+
+fn authentication(
+    scene: Scene<'_>,
+    reason: &Authenticated,
+    text: &mut String,
+) -> Result<(), AllocError> {
+    let At { step, client, call } = reason.since;
+    match (reason.by, reason.magic) {
+        (AuthenticatedBy::Root, _) => writeln!(text, "it opened by root at step {step}"),
+        (AuthenticatedBy::Master, _) => writeln!(text, "it is a master"),
+        (AuthenticatedBy::AuthMagic, magic) => {
+            let by = scene.name(client);
+            let magic = magic.unwrap_or(0);
+            writeln!(text, "{by} named its magic {magic} at step {step} ({call})")
+        }
+    }
+}
+
+/// Why a client is a master, or whose it is.
+fn master_line(
+    scene: Scene<'_>,
+    row: &ClientRow,
+    standing: &StandingRow,
+    text: &mut String,
+) -> Result<(), AllocError> {
+    let name = scene.name(row.client);
+    let At { step, call, .. } = standing.since;
+    let Some(master) = standing.master else {
+        return writeln!(text, "{name} is no master: it is a render client");
+    };
+    if !standing.is_master {
+        return writeln!(
+            text,
+            "{name} is no master: it joined master {master} as it opened at step {step}"
+        );
+    }
+    match (row.node, call) {
+        (Node::Lease, _) => {
+            let id = scene
+                .explanation
+                .lease(master)
+                .map(|lease| lease.lessee_id)
+                .unwrap_or(0);
+            writeln!(
+                text,
+                "{name} is a master: it opened lessee {id}, master {master}, by its token at step {step}"
+            )
+        }
+        (_, "open") => writeln!(
+            text,
+            "{name} is a master: it founded master {master} as it opened at step {step}, when the device had none"
+        ),
+        _ => writeln!(
+            text,
+            "{name} is a master: it founded master {master} at step {step} ({call})"
+        ),
+    }
+}
+
+/// Why a client has universal planes off; nothing of one that has them on.
+fn universal_line(scene: Scene<'_>, row: &ClientRow, text: &mut String) -> Result<(), AllocError> {
+    let Some(universal) = &row.universal_planes else {
+        return Ok(());
+    };
+    if universal.on {
+        return Ok(());
+    }
+    let name = scene.name(row.client);
+    let At { step, call, .. } = universal.since;
+    match call {
+        "open" => writeln!(
+            text,
+            "{name} has universal planes off: it opened so at step {step}"
+        ),
+        _ => writeln!(
+            text,
+            "{name} has universal planes off: it turned them off at step {step} ({call})"
+        ),
+    }
+}
+
+/// Why a client is current, or isn't.
+fn current_line(
+    scene: Scene<'_>,
+    row: &ClientRow,
+    standing: &StandingRow,
+    text: &mut String,
+) -> Result<(), AllocError> {
+    let (Some(master), Some(owner)) = (standing.master, standing.owner) else {
+        return Ok(());
+    };
+    let name = scene.name(row.client);
+    if !standing.is_master {
+        return writeln!(text, "{name} is not current: it is no master");
+    }
+    match (standing.current, owner == master) {
+        (true, true) => writeln!(
+            text,
+            "{name} is current: its master {master} is the device's"
+        ),
+        (true, false) => writeln!(
+            text,
+            "{name} is current: the owner of its master {master} is {owner}, the device's master"
+        ),
+        (false, true) => {
+            write!(text, "{name} is not current: its master is {master}")?;
+            other_master(scene, text)
+        }
+        (false, false) => {
+            write!(
+                text,
+                "{name} is not current: the owner of its master {master} is {owner}"
+            )?;
+            other_master(scene, text)
+        }
+    }
+}
+
+/// Which master the device has in place of a client's.
+fn other_master(scene: Scene<'_>, text: &mut String) -> Result<(), AllocError> {
+    match scene.explanation.device.master {
+        Some(other) => writeln!(text, ", and the device's is {other}"),
+        None => text.push_str(", and the device has none\n"),
+    }
+}
+
+/// What a client may set, and why.
+fn may_set_line(
+    alloc: Global,
+    scene: Scene<'_>,
+    row: &ClientRow,
+    standing: &StandingRow,
+    text: &mut String,
+) -> Result<(), AllocError> {
+    let name = scene.name(row.client);
+    if !standing.current {
+        return writeln!(text, "{name} may set nothing: it is not current");
+    }
+    let lease = standing
+        .master
+        .and_then(|master| scene.explanation.lease(master));
+    write!(text, "{name} may set ")?;
+    write_objects(scene, &row.may_set, text)?;
+    text.push_str(": ")?;
+    match lease {
+        None => text.push_str("it is current, and its master is no lessee\n"),
+        Some(lease) => lease_chain(alloc, scene, lease, text),
+    }
+}
+
+fn kind_word(kind: Option<Kind>) -> &'static str {
+    match kind {
+        Some(Kind::Crtc) => "CRTC",
+        Some(Kind::Plane) => "plane",
+        Some(Kind::Encoder) => "encoder",
+        Some(Kind::Connector) => "connector",
+        None => "object",
+    }
+}
+
+/// Mode objects by their kinds, and nothing where there are none.
+fn write_objects(scene: Scene<'_>, ids: &[u32], text: &mut String) -> Result<(), AllocError> {
+    if ids.is_empty() {
+        return text.push_str("nothing");
+    }
+    for (place, id) in ids.iter().enumerate() {
+        let between = match place {
+            0 => "",
+            _ if place + 1 == ids.len() => " and ",
+            _ => ", ",
+        };
+        let kind = kind_word(scene.topology.kind(*id));
+        write!(text, "{between}{kind} {id}")?;
+    }
+    Ok(())
+}
+
+/// A handle, and the chain by which it came.
+fn hold_line(
+    scene: Scene<'_>,
+    client: u64,
+    hold: &HoldRow,
+    text: &mut String,
+) -> Result<(), AllocError> {
+    let name = scene.name(client);
+    let HoldRow { handle, object, .. } = hold;
+    write!(text, "{name} holds buffer {object} as handle {handle}: ")?;
+    for (place, link) in hold.chain.iter().enumerate() {
+        if place > 0 {
+            text.push_str(", ")?;
+        }
+        link_words(scene, link, text)?;
+    }
+    text.push_str("\n")
+}
+
+/// How an object was published, and given for that.
+fn link_words(scene: Scene<'_>, link: &LinkRow, text: &mut String) -> Result<(), AllocError> {
+    let At { step, client, call } = link.given;
+    let name = scene.name(client);
+    let Some(published) = &link.published else {
+        return write!(text, "made by {name} at step {step} ({call})");
+    };
+    published_words(published, text)?;
+    match published.by {
+        PublishedBy::Name => write!(text, ", opened by {name} at step {step}"),
+        PublishedBy::Token => write!(text, ", imported by {name} at step {step}"),
+        PublishedBy::Framebuffer => write!(text, ", given to {name} at step {step} ({call})"),
+    }
+}
+
+fn published_words(published: &PublishedRow, text: &mut String) -> Result<(), AllocError> {
+    let PublishedRow { number, at, .. } = published;
+    let step = at.step;
+    match published.by {
+        PublishedBy::Name => write!(text, "named at step {step} (name {number})"),
+        PublishedBy::Token => write!(text, "exported at step {step} (token {number})"),
+        PublishedBy::Framebuffer => write!(text, "added at step {step} (framebuffer {number})"),
+    }
+}
+
+/// A lease: what it has, by which leases, or what ended it.
+fn lease_line(
+    alloc: Global,
+    scene: Scene<'_>,
+    row: &LeaseRow,
+    text: &mut String,
+) -> Result<(), AllocError> {
+    let LeaseRow {
+        lessee_id,
+        master,
+        ..
+    } = row;
+    write!(text, "lessee {lessee_id}, master {master}, has ")?;
+    match row.ended {
+        None => write_objects(scene, &row.mode_objects, text)?,
+        Some(_) => text.push_str("nothing")?,
+    }
+    text.push_str(": ")?;
+    lease_chain(alloc, scene, row, text)
+}
+
+/// The lessees above one, by their leases: the nearest first. Each is older than the one below it.
+fn lessees_above(
+    alloc: Global,
+    explanation: &Explanation,
+    lessor: Option<u64>,
+) -> Result<Vec<u64>, AllocError> {
+    let mut above = Vec::new(alloc);
+    let mut lessor = lessor;
+    for _ in 0..explanation.leases.len() {
+        let Some(master) = lessor else {
+            return Ok(above);
+        };
+        let Some(lease) = explanation.lease(master) else {
+            return Ok(above);
+        };
+        above.push(master)?;
+        lessor = lease.lessor;
+    }
+    Ok(above)
+}
+
+/// The leases by which a lessee came, from the one that an owner made on, and what ended the last.
+fn lease_chain(
+    alloc: Global,
+    scene: Scene<'_>,
+    row: &LeaseRow,
+    text: &mut String,
+) -> Result<(), AllocError> {
+    let above = lessees_above(alloc, scene.explanation, row.lessor)?;
+    for master in above.iter().rev() {
+        if let Some(lease) = scene.explanation.lease(*master) {
+            lease_words(scene, lease, text)?;
+            text.push_str(", ")?;
+        }
+    }
+    lease_words(scene, row, text)?;
+    if let Some(ended) = row.ended {
+        let name = scene.name(ended.client);
+        let At { step, call, .. } = ended;
+        match call {
+            "close" => write!(text, ", ended at step {step} as {name} closed")?,
+            _ => write!(text, ", ended at step {step} ({call} by {name})")?,
+        }
+    }
+    text.push_str("\n")
+}
+
+/// Who leased, what the lessee was called, and who redeemed its token.
+fn lease_words(scene: Scene<'_>, row: &LeaseRow, text: &mut String) -> Result<(), AllocError> {
+    let name = scene.name(row.leased.client);
+    let LeaseRow {
+        lessee_id,
+        token,
+        leased,
+        ..
+    } = row;
+    let step = leased.step;
+    write!(
+        text,
+        "leased by {name} at step {step} (lessee {lessee_id}, token {token})"
+    )?;
+    match row.redeemed_by {
+        Some(client) => {
+            let redeemer = scene.name(client);
+            write!(text, ", redeemed by {redeemer} at step {client}")
+        }
+        None => text.push_str(", redeemed by nobody"),
+    }
+}

@@ -1,0 +1,75 @@
+//! How clients, calls and steps are named.
+
+use crate::rows::At;
+use drm_rights::{Step, step_at};
+use drm_table::{CallKind, Event};
+use std::fmt;
+
+/// The clients that the labels of a script stand for: the first for `a`; 0 where a label stands for nobody.
+pub type Labels = [u32; 26];
+
+/// The letters of the labels, by their places.
+const LETTERS: [char; 26] = [
+    'a', 'b', 'c', 'd', 'e', 'f', 'g', 'h', 'i', 'j', 'k', 'l', 'm', 'n', 'o', 'p', 'q', 'r', 's',
+    't', 'u', 'v', 'w', 'x', 'y', 'z',
+];
+
+/// The label that stands for a client, if one does.
+pub(crate) fn label_of(labels: &Labels, client: u64) -> Option<char> {
+    for (place, letter) in LETTERS.iter().enumerate() {
+        if u64::from(labels[place]) == client {
+            return Some(*letter);
+        }
+    }
+    None
+}
+
+/// A client, by its label where it has one.
+#[derive(Clone, Copy, PartialEq, Eq, Debug)]
+pub(crate) struct Name {
+    client: u64,
+    label: Option<char>,
+}
+
+impl Name {
+    pub(crate) fn of(labels: &Labels, client: u64) -> Name {
+        Name {
+            client,
+            label: label_of(labels, client),
+        }
+    }
+}
+
+impl fmt::Display for Name {
+    fn fmt<W: fmt::Write>(&self, f: &mut fmt::Formatter<W>) -> fmt::Result {
+        match self.label {
+            Some(label) => write!(f, "{label}"),
+            None => {
+                let client = self.client;
+                write!(f, "client {client}")
+            }
+        }
+    }
+}
+
+/// The word of a call in a script.
+fn word_of(number: u16) -> &'static str {
+    match CallKind::of_number(number) {
+        Some(kind) => str::from_utf8(kind.word()).unwrap_or(""),
+        None => "",
+    }
+}
+
+/// The step of a number, from 1. An accepted opening is a step of the client that it opens.
+pub(crate) fn at(steps: &[Step], number: u64) -> Option<At> {
+    let (client, call) = match &step_at(steps, number)?.event {
+        Event::Open(_) => (number, "open"),
+        Event::Ask(client, call) => (u64::from(*client), word_of(call.number())),
+        Event::Close(client) => (u64::from(*client), "close"),
+    };
+    Some(At {
+        step: number,
+        client,
+        call,
+    })
+}

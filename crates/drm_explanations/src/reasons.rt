@@ -1,0 +1,120 @@
+//! Why a client is what it is, and has the handles that it has.
+
+use crate::names::at;
+use crate::rows::{
+    Authenticated, AuthenticatedBy, HoldRow, LinkRow, PublishedBy, PublishedRow, StandingRow,
+    UniversalRow,
+};
+use drm_rights::{Key, Ledger, Link, Origin, Step, chain_of, handles_of};
+use drm_table::{Answer, Event};
+use std::alloc::{AllocError, Global};
+
+/// The step at which a client closed.
+pub(crate) fn closed_at(steps: &[Step], client: u64) -> Option<u64> {
+    for (place, step) in steps.iter().enumerate() {
+        if let (Event::Close(closed), Answer::Closed) = (&step.event, &step.answer) {
+            if u64::from(*closed) == client {
+                return Some(place as u64 + 1);
+            }
+        }
+    }
+    None
+}
+
+/// Why a client is authenticated: it opened as root, is a master, or AUTH_MAGIC named its magic.
+pub(crate) fn authenticated(ledger: &Ledger, client: u64) -> Option<Authenticated> {
+    let steps = ledger.steps();
+    if ledger.is_root(client) {
+        return Some(Authenticated {
+            by: AuthenticatedBy::Root,
+            since: at(steps, client)?,
+            magic: None,
+        });
+    }
+    if ledger.is_master(client) {
+        return Some(Authenticated {
+            by: AuthenticatedBy::Master,
+            since: at(steps, ledger.standing(client)?.step)?,
+            magic: None,
+        });
+    }
+    let authentication = ledger.authentication(client)?;
+    Some(Authenticated {
+        by: AuthenticatedBy::AuthMagic,
+        since: at(steps, authentication.step)?,
+        magic: Some(authentication.magic),
+    })
+}
+
+/// Whether a client has universal planes on, and since which step.
+pub(crate) fn universal_row(ledger: &Ledger, client: u64) -> Option<UniversalRow> {
+    let capability = ledger.capability(client)?;
+    Some(UniversalRow {
+        on: capability.universal,
+        since: at(ledger.steps(), capability.step)?,
+    })
+}
+
+/// How a client stands to masters, and since which step.
+pub(crate) fn standing_row(ledger: &Ledger, client: u64) -> Option<StandingRow> {
+    let standing = ledger.standing(client)?;
+    Some(StandingRow {
+        is_master: standing.is_master,
+        master: standing.master,
+        owner: standing.master.map(|master| ledger.owner_of(master)),
+        current: ledger.is_current(client),
+        since: at(ledger.steps(), standing.step)?,
+    })
+}
+
+fn published_row(steps: &[Step], origin: Origin) -> Option<PublishedRow> {
+    let Origin::Published { key, step } = origin else {
+        return None;
+    };
+    let (by, number) = match key {
+        Key::Name(number) => (PublishedBy::Name, number),
+        Key::Token(number) => (PublishedBy::Token, number),
+        Key::Framebuffer(number) => (PublishedBy::Framebuffer, number),
+    };
+    Some(PublishedRow {
+        by,
+        number,
+        at: at(steps, step)?,
+    })
+}
+
+/// The links as rows, the step that made the object first.
+fn chain_rows(alloc: Global, steps: &[Step], links: &[Link]) -> Result<Vec<LinkRow>, AllocError> {
+    let mut rows = Vec::new(alloc);
+    for link in links.iter().rev() {
+        if let Some(given) = at(steps, link.step) {
+            rows.push(LinkRow {
+                published: published_row(steps, link.origin),
+                handle: link.handle,
+                given,
+            })?;
+        }
+    }
+    Ok(rows)
+}
+
+/// The client's handles, each with its chain.
+pub(crate) fn holds_of(
+    alloc: Global,
+    steps: &[Step],
+    client: u64,
+) -> Result<Vec<HoldRow>, AllocError> {
+    let mut rows = Vec::new(alloc);
+    for handle in &handles_of(alloc, steps, client)? {
+        if let Some(links) = chain_of(alloc, steps, client, *handle)? {
+            if let Some(made) = links.last() {
+                rows.push(HoldRow {
+                    handle: *handle,
+                    object: made.step,
+                    chain: chain_rows(alloc, steps, links.as_slice())?,
+                })?;
+            }
+        }
+    }
+    Ok(rows)
+}

@@ -1,0 +1,9 @@
+mod HistoryLemmas
+mod ChainLemmas
+mod StepLemmas
+mod NoteLemmas
+mod LeaseLemmas
+mod LendingLemmas
+mod LedgerLemmas
+mod HandleLemmas
+mod RedeemerLemmas

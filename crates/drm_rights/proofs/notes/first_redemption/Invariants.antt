@@ -1,0 +1,6 @@
+use Rattle.std.proofs.Common.{◌≡◌, drop, find}
+use Rattle.drm_rights.specs.Ledgers.{is_redemption}
+use Rattle.drm_rights.proofs.notes.first_redemption.Given as goal
+
+abbrev pub invariant-loop-standing : goal.invariant-loop-standing
+invariant-loop-standing l = find (is_redemption l.lessee) l.standings ≡ find (is_redemption l.lessee) (drop l.standing-index l.standings)

@@ -1,0 +1,101 @@
+-- What a ledger has noted of leases and of what ended them, and what a history says of that.
+use Rattle.std.specs.Prelude.{ℕ, ◌==◌, Bool, false, not, ◌&&◌, ◌||◌, nat_lt, List, [], ◌∷◌, ◌++◌, Option, None, Some, find, reverse, option_and_then, option_map, option_to_list, if◌then◌else◌}
+use Rattle.std.specs.Option.{is_some, option_map_or, option_or}
+use Rattle.drm_lists.specs.Numbers.{is_among}
+use Rattle.drm_lists.specs.Chains.{is_under}
+use Rattle.drm_modes.specs.Topology.{Topology}
+use Rattle.drm_history.specs.History.{Entry, next_number}
+use Rattle.drm_authority.specs.Deeds as told
+use Rattle.drm_authority.specs.Deeds.{deed}
+use Rattle.drm_authority.specs.Standing.{master_in, own_master_in}
+use Rattle.drm_authority.specs.Lessees.{top_in, lessor_in, ended_by, ends, is_plane_of, is_lent, granted}
+use Rattle.drm_authority.specs.Shown.{is_universal_in}
+use Rattle.drm_rights.specs.declared.notes.Lease.{Lease}
+use Rattle.drm_rights.specs.declared.notes.End.{End}
+
+-- ---- look-ups in notes
+
+-- the lease of a lessee, which is named by the step that made it
+abbrev pub lease_at : List Lease → ℕ → Option Lease
+lease_at notes m = find (λ (l : Lease). m == l.master) (reverse notes)
+
+abbrev pub lease_of_token : List Lease → ℕ → Option Lease
+lease_of_token notes token = find (λ (l : Lease). l.token == token) (reverse notes)
+
+abbrev pub lease_of_id : List Lease → ℕ → ℕ → Option Lease
+lease_of_id notes owner id = find (λ (l : Lease). (l.id == id) && (l.owner == owner)) (reverse notes)
+
+abbrev pub if_older : ℕ → Option ℕ → Option ℕ
+if_older m None = None
+if_older m (Some lessor) = if nat_lt lessor m then Some lessor else None
+
+-- the lessor of a master, which is older
+abbrev pub lessor_noted : List Lease → ℕ → Option ℕ
+lessor_noted notes m = option_and_then (λ (l : Lease). if_older m l.lessor) (lease_at notes m)
+
+abbrev pub master_of_lease : Option Lease → Option ℕ
+master_of_lease found = option_map (λ (l : Lease). l.master) found
+
+-- whether a master was made before an end, and is the one that ended or below it
+abbrev pub is_ended_by : List Lease → ℕ → End → Bool
+is_ended_by notes m e = nat_lt m e.step && is_under (lessor_noted notes) e.master m
+
+-- ---- the notes of a history
+
+-- the lease that a step makes
+abbrev pub new_lease : told.Deed → List Entry → Option Lease
+new_lease (told.Leases c ids lessee token) past =
+    Some (record { master = next_number past; client = c; lessor = master_in past c; owner = top_in past (own_master_in past c); id = lessee; token = token; universal = is_universal_in past c })
+new_lease _ past = None
+
+-- all leases, the oldest first
+unfoldable pub leases_in : List Entry → List Lease
+leases_in [] = []
+leases_in (step ∷ past) = leases_in past ++ option_to_list (new_lease (deed step) past)
+
+abbrev pub end_with : List Entry → Option ℕ → Option End
+end_with past master = option_map (λ m. record { step = next_number past; master = m }) master
+
+-- the masters that steps ended, the oldest step first
+unfoldable pub ends_in : List Entry → List End
+ends_in [] = []
+ends_in (step ∷ past) = ends_in past ++ option_to_list (end_with past (ended_by (deed step) past))
+
+-- ---- what a history says
+
+-- the first step that ended the master
+unfoldable pub ended_at : List Entry → ℕ → Option ℕ
+ended_at [] m = None
+ended_at (step ∷ past) m = option_or (ended_at past m) (if ends step past m then Some (next_number past) else None)
+
+abbrev pub listed_by : told.Deed → List ℕ
+listed_by (told.Leases c ids lessee token) = ids
+listed_by _ = []
+
+-- the mode objects that the step of this number listed for a lease
+unfoldable pub listed_in : List Entry → ℕ → List ℕ
+listed_in [] m = []
+listed_in (step ∷ past) m = if m == next_number past then listed_by (deed step) else listed_in past m
+
+-- whether the step of this number lent the mode object
+unfoldable pub lent_in : Topology → List Entry → ℕ → ℕ → Bool
+lent_in t [] m x = false
+lent_in t (step ∷ past) m x = if m == next_number past then is_lent t (deed step) past x (λ n. granted t past n x) else lent_in t past m x
+
+-- whether a step before this one ended the master
+abbrev pub is_ended_before : List Entry → ℕ → ℕ → Bool
+is_ended_before history m step = option_map_or (λ ended. nat_lt ended step) (ended_at history m) false
+
+-- whether the lessor of a lease, made by the step of this number, had the mode object to lend
+abbrev pub had_to_lend : Topology → List Entry → ℕ → ℕ → Option ℕ → Bool
+had_to_lend t history step x None = false
+had_to_lend t history step x (Some m) = not (is_some (lessor_in history m)) || (lent_in t history m x && not (is_ended_before history m step))
+
+-- whether the mode object comes along with a lease of these, by a client with universal planes on or off
+abbrev pub comes_along : Topology → Bool → List ℕ → ℕ → Bool
+comes_along t universal ids x = not universal && is_plane_of t ids x
+
+-- what a lease lends, by what is noted of it
+abbrev pub lent_by : Topology → List Entry → ℕ → ℕ → Option Lease → Bool
+lent_by t history m x None = false
+lent_by t history m x (Some l) = is_among (listed_in history m) x || (comes_along t l.universal (listed_in history m) x && had_to_lend t history m x l.lessor)

@@ -1,0 +1,7 @@
+pub mod Steps
+pub mod Answers
+pub mod Searches
+pub mod Chains
+pub mod Deeds
+pub mod Leases
+pub mod Ledgers

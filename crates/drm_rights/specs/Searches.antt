@@ -1,0 +1,56 @@
+-- The last step of a history that gave a handle, or that published under a key.
+use Rattle.std.specs.Prelude.{ℕ, ◌==◌, Bool, true, false, ◌&&◌, List, [], ◌∷◌, Option, None, Some, if◌then◌else◌, take}
+use Rattle.std.specs.Option.{option_map}
+use Rattle.drm_history.specs.History.{Entry}
+use Rattle.drm_history.specs.Steps.{Key, is_key, Source, Giving, Publishing, given, takes, published}
+use Rattle.drm_rights.specs.Steps.{history_of, source_of}
+use Rattle.drm_rights.specs.declared.steps.Step.{Step}
+use Rattle.drm_rights.specs.declared.searches.LastGiving.{LastGiving}
+use Rattle.drm_rights.specs.declared.searches.LastPublishing.{LastPublishing}
+
+-- where the object comes from, if a handle is given and is this one
+abbrev pub source_for : ℕ → ℕ → Option Giving → Option Source
+source_for c h None = None
+source_for c h (Some g) = if (g.client == c) && (g.handle == h) then Some g.source else None
+
+-- a step gave the handle from this source; what came before it
+pub record Gift : Type 0 where
+  pub source : Source
+  pub past : List Entry
+
+abbrev pub gift_or : Option Source → Bool → List Entry → Option Gift → Option Gift
+gift_or (Some source) taken past older = Some (record { source = source; past = past })
+gift_or None true past older = None
+gift_or None false past older = older
+
+-- the last step that gave the client the handle, if no later one took it
+unfoldable pub last_gift : List Entry → ℕ → ℕ → Option Gift
+last_gift [] c h = None
+last_gift (step ∷ past) c h = gift_or (source_for c h (given step)) (takes step c h) past (last_gift past c h)
+
+abbrev pub gift_at : List Step → LastGiving → Gift
+gift_at steps g = record { source = source_of g.source; past = history_of (take g.past steps) }
+
+abbrev pub gifts_at : List Step → Option LastGiving → Option Gift
+gifts_at steps found = option_map (gift_at steps) found
+
+-- a step published the object of a client's handle; what came before it
+pub record Sharing : Type 0 where
+  pub client : ℕ
+  pub handle : ℕ
+  pub past : List Entry
+
+abbrev pub sharing_or : Key → Option Publishing → List Entry → Option Sharing → Option Sharing
+sharing_or key None past older = older
+sharing_or key (Some p) past older = if is_key p.key key then Some (record { client = p.client; handle = p.handle; past = past }) else older
+
+-- the last step that published under the key
+unfoldable pub last_sharing : List Entry → Key → Option Sharing
+last_sharing [] key = None
+last_sharing (step ∷ past) key = sharing_or key (published step) past (last_sharing past key)
+
+abbrev pub sharing_at : List Step → LastPublishing → Sharing
+sharing_at steps p = record { client = p.client; handle = p.handle; past = history_of (take p.past steps) }
+
+abbrev pub sharings_at : List Step → Option LastPublishing → Option Sharing
+sharings_at steps found = option_map (sharing_at steps) found

@@ -1,0 +1,667 @@
+//! A history of which each step is noted as it comes.
+
+ghost use Rattle.std.specs.Prelude.{◌≡◌, ◌&&◌, ◌∷◌, ◌++◌, ℕ, not, List, [], IfOk, option_and_then, option_to_list};
+ghost use Rattle.std.specs.Option.{is_some, option_map_or};
+ghost use Rattle.drm_lists.specs.Numbers as numbers;
+ghost use Rattle.drm_rights.specs.Deeds.{deed_of};
+ghost use Rattle.drm_rights.specs.Steps.{history_of};
+ghost use Rattle.drm_rights.specs.Leases as lending;
+ghost use Rattle.drm_rights.specs.Leases.{end_with, ended_at, leases_in, lent_in, listed_in, new_lease};
+ghost use Rattle.drm_rights.specs.Ledgers as ledgers;
+ghost use Rattle.drm_rights.specs.Ledgers.{authentication_of, authentications_in, capabilities_in, capability_of, controls_in, is_current_in, is_same_master, new_capability, new_root, owner_since_in, redeemer_in, standing_of, standings_in};
+
+use crate::deeds::Deed;
+use crate::notes::{
+    Authentication, Capability, End, Lease, Magic, Standing, first_authentication, first_end,
+    first_redemption, is_named, is_root, last_capability, last_magic, last_standing, lease_at,
+    lease_of_id, lease_of_token, lessor_of, top_of,
+};
+use crate::steps::Step;
+use drm_modes::Topology;
+use std::alloc::{AllocError, Global};
+use std::marker::Model;
+
+/// The steps of a history, with what they did for masters, leases, authentication and capabilities. Nothing that was noted is taken
+/// out. Contracts see the history.
+#[derive(Drop)]
+pub struct Ledger {
+    steps: Vec<Step>,
+    /// The device's master, and the step since which it is that.
+    owner: Option<u64>,
+    owner_since: u64,
+    standings: Vec<Standing>,
+    leases: Vec<Lease>,
+    ends: Vec<End>,
+    magics: Vec<Magic>,
+    authentications: Vec<Authentication>,
+    /// The clients that opened as root.
+    roots: Vec<u64>,
+    capabilities: Vec<Capability>,
+}
+
+impl Model for Ledger {
+    ghost use Rattle.std.specs.Prelude.{List};
+    ghost use Rattle.drm_history.specs.History.{Entry};
+    ghost use Rattle.drm_rights.specs.Steps.{history_of};
+    ghost use Rattle.drm_rights.specs.Ledgers.{IsLedger};
+
+    ghost Value = { List Entry };
+
+    ghost view = { λ l. history_of l.steps.items };
+
+    ghost invariant = { λ l. IsLedger (history_of l.steps.items) l.owner l.owner_since l.standings.items l.leases.items l.ends.items l.magics.items l.authentications.items l.roots.items l.capabilities.items };
+}
+
+/// The list with one item more, if there is one.
+fn with_item<T: Drop>(list: Vec<T>, item: Option<T>) -> Result<Vec<T>, AllocError>
+    ensures { IfOk result (λ longer. longer.items ≡ list.items ++ option_to_list item) }
+{
+    let mut list = list;
+    if let Some(item) = item {
+        list.push(item)?;
+    }
+    Ok(list)
+}
+
+impl Ledger {
+    ghost use Rattle.std.specs.Prelude.{◌≡◌, Some, None, false, if◌then◌else◌};
+    ghost use Rattle.drm_history.specs.History as past;
+    ghost use Rattle.drm_authority.specs.Standing.{is_master_in, lease_in, master_in, own_master_in, owner_in, standing, stood};
+    ghost use Rattle.drm_authority.specs.Shown.{is_universal_in};
+    ghost use Rattle.drm_authority.specs.Magics.{is_named_in, is_root_in, known, magic_in};
+    ghost use Rattle.drm_authority.specs.Lessees as lessees;
+    ghost use Rattle.drm_authority.specs.Lessees.{granted, has_ended, lessee_in, lessor_in, top_in};
+    ghost use Rattle.drm_rights.specs.Ledgers.{new_authentication, new_magic, new_standing};
+    ghost use Rattle.drm_rights.specs.Steps.{entry_of, history_of};
+
+    /// No step yet.
+    pub fn new(alloc: Global) -> Ledger
+        ensures { result ≡ [] }
+    {
+        Ledger {
+            steps: Vec::new(alloc),
+            owner: None,
+            owner_since: 0,
+            standings: Vec::new(alloc),
+            leases: Vec::new(alloc),
+            ends: Vec::new(alloc),
+            magics: Vec::new(alloc),
+            authentications: Vec::new(alloc),
+            roots: Vec::new(alloc),
+            capabilities: Vec::new(alloc),
+        }
+    }
+
+    /// The ledger with one step more.
+    pub fn note(self, step: Step) -> Result<Ledger, AllocError>
+        ensures { IfOk result (λ ledger. ledger ≡ entry_of step ∷ self) }
+    {
+        let number = self.next_number();
+        let deed = step.deed();
+        let owner = self.owner_after(deed, number);
+        let standing = self.standing_by(deed, number);
+        let lease = self.lease_by(deed);
+        let end = self.end_by(deed);
+        let magic = self.magic_by(deed, number);
+        let authentication = self.authentication_by(deed, number);
+        let owner_since = self.owner_since_after(owner);
+        Ok(Ledger {
+            steps: with_item(self.steps, Some(step))?,
+            owner,
+            owner_since,
+            standings: with_item(self.standings, standing)?,
+            leases: with_item(self.leases, lease)?,
+            ends: with_item(self.ends, end)?,
+            magics: with_item(self.magics, magic)?,
+            authentications: with_item(self.authentications, authentication)?,
+            roots: with_item(self.roots, root_by(deed, number))?,
+            capabilities: with_item(self.capabilities, capability_by(deed, number))?,
+        })
+    }
+
+    /// The device's master after a step. A primary client founds it where there is none; it goes with its client.
+    fn owner_after(&self, deed: Deed, number: u64) -> Option<u64>
+        ensures { (ids : List ℕ) → result ≡ (stood (deed_of ids deed) number (lease_in self.now) (standing self.now)).owner }
+    {
+        let owner = self.owner();
+        match deed {
+            Deed::OpensPrimary { .. } => owner.or(Some(number)),
+            Deed::SetsMaster { client } => owner.or(self.set_by(client, number)),
+            Deed::DropsMaster => None,
+            Deed::Closes { client } => {
+                if self.is_master(client) && owner == self.master_of(client) {
+                    None
+                } else {
+                    owner
+                }
+            }
+            _ => owner,
+        }
+    }
+
+    /// The step since which the device's master is what it is, after a step that leaves this one.
+    fn owner_since_after(&self, owner: Option<u64>) -> u64
+        ensures { result ≡ (if is_same_master (owner_in self.now) owner then owner_since_in self.now else past.next_number self.now) }
+    {
+        if is_same_master(self.owner(), owner) {
+            self.owner_since()
+        } else {
+            self.next_number()
+        }
+    }
+
+    /// The master that a client sets: its own, or that of this step where it has none.
+    fn set_by(&self, client: u64, number: u64) -> Option<u64>
+        ensures { result ≡ (if is_master_in self.now client then master_in self.now client else Some number) }
+    {
+        if self.is_master(client) {
+            self.master_of(client)
+        } else {
+            Some(number)
+        }
+    }
+
+    /// How a client stands to masters from the step on, where that changes.
+    fn standing_by(&self, deed: Deed, number: u64) -> Option<Standing>
+        ensures { (ids : List ℕ) → result ≡ new_standing (deed_of ids deed) number (lease_in self.now) (standing self.now) }
+    {
+        match deed {
+            Deed::OpensPrimary { .. } => Some(opened(number, self.owner())),
+            Deed::OpensRender => Some(noted(number, number, false, None)),
+            Deed::Redeems { token, .. } => Some(noted(number, number, true, self.lessee_of(token))),
+            Deed::SetsMaster { client } => {
+                if self.is_master(client) {
+                    None
+                } else {
+                    Some(noted(number, client, true, Some(number)))
+                }
+            }
+            _ => None,
+        }
+    }
+
+    /// The lessee of the last lease that was answered this token.
+    fn lessee_of(&self, token: u64) -> Option<u64>
+        ensures { result ≡ lease_in self.now token }
+    {
+        match lease_of_token(&self.leases, token) {
+            Some(lease) => Some(lease.master),
+            None => None,
+        }
+    }
+
+    /// The client that was last told this magic of a master.
+    fn client_of(&self, master: u64, magic: u64) -> Option<u64>
+        ensures { result ≡ magic_in self.now master magic }
+    {
+        match last_magic(&self.magics, master, magic) {
+            Some(told) => Some(told.client),
+            None => None,
+        }
+    }
+
+    fn lease_by(&self, deed: Deed) -> Option<Lease>
+        ensures { (ids : List ℕ) → result ≡ new_lease (deed_of ids deed) self.now }
+    {
+        match deed {
+            Deed::Leases {
+                client,
+                lessee,
+                token,
+            } => Some(Lease {
+                master: self.next_number(),
+                client,
+                lessor: self.master_of(client),
+                owner: self.owner_of(self.master_or_none(client)),
+                id: lessee,
+                token,
+                universal: self.has_universal(client),
+            }),
+            _ => None,
+        }
+    }
+
+    /// The master that a step ends: the lessee that is revoked, and the master of a closed client that is one.
+    fn ended_by(&self, deed: Deed) -> Option<u64>
+        ensures { (ids : List ℕ) → result ≡ lessees.ended_by (deed_of ids deed) self.now }
+    {
+        match deed {
+            Deed::Revokes { client, lessee } => {
+                let owner = self.owner_of(self.master_or_none(client));
+                self.lessee_of_id(owner, lessee)
+            }
+            Deed::Closes { client } => self.own_master(client),
+            _ => None,
+        }
+    }
+
+    fn end_by(&self, deed: Deed) -> Option<End>
+        ensures { (ids : List ℕ) → result ≡ end_with self.now (lessees.ended_by (deed_of ids deed) self.now) }
+    {
+        match self.ended_by(deed) {
+            Some(master) => Some(End {
+                step: self.next_number(),
+                master,
+            }),
+            None => None,
+        }
+    }
+
+    /// The lessee of the last lease that was answered this id, by a client with this owner.
+    fn lessee_of_id(&self, owner: u64, id: u64) -> Option<u64>
+        ensures { result ≡ lessee_in self.now owner id }
+    {
+        match lease_of_id(&self.leases, owner, id) {
+            Some(lease) => Some(lease.master),
+            None => None,
+        }
+    }
+
+    fn magic_by(&self, deed: Deed, number: u64) -> Option<Magic>
+        ensures { (ids : List ℕ) → result ≡ new_magic (deed_of ids deed) number (own_master_in self.now) }
+    {
+        match deed {
+            Deed::GetsMagic { client, magic } => Some(Magic {
+                step: number,
+                master: self.master_or_none(client),
+                number: magic,
+                client,
+            }),
+            _ => None,
+        }
+    }
+
+    fn authentication_by(&self, deed: Deed, number: u64) -> Option<Authentication>
+        ensures { (ids : List ℕ) → result ≡ new_authentication (deed_of ids deed) number (own_master_in self.now) (magic_in self.now) }
+    {
+        match deed {
+            Deed::Authenticates { client, magic } => {
+                match self.client_of(self.master_or_none(client), magic) {
+                    Some(named) => Some(Authentication {
+                        step: number,
+                        client: named,
+                        by: client,
+                        magic,
+                    }),
+                    None => None,
+                }
+            }
+            _ => None,
+        }
+    }
+
+    /// The client's master; 0 where it has none.
+    fn master_or_none(&self, client: u64) -> u64
+        ensures { result ≡ own_master_in self.now client }
+    {
+        self.master_of(client).unwrap_or(0)
+    }
+
+    /// The client's master, where it is one of its own.
+    fn own_master(&self, client: u64) -> Option<u64>
+        ensures { result ≡ (if is_master_in self.now client then master_in self.now client else None) }
+    {
+        if self.is_master(client) {
+            self.master_of(client)
+        } else {
+            None
+        }
+    }
+
+    /// The number of the step that comes next.
+    fn next_number(&self) -> u64
+        ensures { result ≡ past.next_number self.now }
+    {
+        self.steps.len() as u64 + 1
+    }
+
+    /// The steps, the oldest first.
+    pub fn steps(&self) -> &[Step]
+        ensures { history_of result.now ≡ self.now }
+    {
+        &self.steps
+    }
+
+    /// The device's master.
+    pub fn owner(&self) -> Option<u64>
+        ensures { result ≡ owner_in self.now }
+    {
+        self.owner
+    }
+
+    /// The step since which it is so; 0 where it was never otherwise.
+    pub fn owner_since(&self) -> u64
+        ensures { result ≡ owner_since_in self.now }
+    {
+        self.owner_since
+    }
+
+    /// How the client stands to masters, and since which step; none where it was never opened.
+    pub fn standing(&self, client: u64) -> Option<Standing>
+        ensures note { result ≡ standing_of (standings_in self.now) client }
+        ensures is_master { option_map_or (λ standing. standing.is_master) result false ≡ is_master_in self.now client }
+        ensures master { option_and_then (λ standing. standing.master) result ≡ master_in self.now client }
+    {
+        last_standing(&self.standings, client)
+    }
+
+    /// Whether the client is a master of its own.
+    pub fn is_master(&self, client: u64) -> bool
+        ensures { result ≡ is_master_in self.now client }
+    {
+        match self.standing(client) {
+            Some(standing) => standing.is_master,
+            None => false,
+        }
+    }
+
+    /// The client's master, its own or the one that it joined.
+    pub fn master_of(&self, client: u64) -> Option<u64>
+        ensures { result ≡ master_in self.now client }
+    {
+        match self.standing(client) {
+            Some(standing) => standing.master,
+            None => None,
+        }
+    }
+
+    /// The lessor of a master; none of one that nobody lent.
+    pub fn lessor_of(&self, master: u64) -> Option<u64>
+        ensures { result ≡ lessor_in self.now master }
+    {
+        lessor_of(&self.leases, master)
+    }
+
+    /// The top of a master's chain of lessors.
+    pub fn owner_of(&self, master: u64) -> u64
+        ensures { result ≡ top_in self.now master }
+    {
+        top_of(&self.leases, master)
+    }
+
+    /// Whether the client is current: it is a master, whose owner is the device's master.
+    pub fn is_current(&self, client: u64) -> bool
+        ensures { result ≡ is_current_in self.now client }
+    {
+        match self.own_master(client) {
+            Some(master) => self.owner() == Some(self.owner_of(master)),
+            None => false,
+        }
+    }
+
+    /// The leases in the order in which they were made, those that ended too.
+    pub fn leases(&self) -> &[Lease]
+        ensures { result.now ≡ leases_in self.now }
+    {
+        &self.leases
+    }
+
+    /// The lease of a lessee; none of a master that nobody lent.
+    pub fn lease_of(&self, master: u64) -> Option<Lease>
+        ensures { result ≡ lending.lease_at (leases_in self.now) master }
+    {
+        lease_at(&self.leases, master)
+    }
+
+    /// The first step that ended a master, or one above it.
+    pub fn ended(&self, master: u64) -> Option<u64>
+        ensures step { result ≡ ended_at self.now master }
+        ensures ended { is_some result ≡ has_ended self.now master }
+    {
+        match first_end(&self.leases, &self.ends, master) {
+            Some(end) => Some(end.step),
+            None => None,
+        }
+    }
+
+    /// Whether a step before this one ended a master.
+    fn is_ended_before(&self, master: u64, step: u64) -> bool
+        ensures { result ≡ lending.is_ended_before self.now master step }
+    {
+        match self.ended(master) {
+            Some(ended) => ended < step,
+            None => false,
+        }
+    }
+
+    /// The mode objects that the step of a number listed for a lease; none where it made no lease.
+    fn listed(&self, master: u64) -> &[u32]
+        ensures { result.now ≡ listed_in self.now master }
+    {
+        listed_at(&self.steps, master)
+    }
+
+    /// Whether the step of a number lent a mode object: it listed it, or listed the CRTC of which it is the primary or the cursor
+    /// plane, for a client with universal planes off whose master controlled it.
+    pub fn lends(&self, topology: &Topology, lessee: u64, mode_object: u32) -> bool
+        ensures { result ≡ lent_in topology.now self.now lessee mode_object }
+    {
+        let mut master = lessee;
+        'lessors: loop {
+            let Some(lease) = self.lease_of(master) else {
+                return false;
+            };
+            let listed = self.listed(master);
+            if is_among(listed, mode_object) {
+                return true;
+            }
+            if !comes_along(topology, lease.universal, listed, mode_object) {
+                return false;
+            }
+            let Some(lessor) = self.lessor_of(master) else {
+                return false;
+            };
+            if self.lessor_of(lessor).is_none() {
+                return true;
+            }
+            if self.is_ended_before(lessor, master) {
+                return false;
+            }
+            master = lessor;
+        }
+    }
+
+    /// Whether the step of a number lent a plane that it did not list.
+    fn is_brought(&self, topology: &Topology, master: u64, plane: u32) -> bool
+        ensures { result ≡ (not (numbers.is_among (listed_in self.now master) plane) && lent_in topology.now self.now master plane) }
+    {
+        !is_among(self.listed(master), plane) && self.lends(topology, master, plane)
+    }
+
+    /// The mode objects that the step of a number lent, rising; none where it made no lease.
+    pub fn leased(
+        &self,
+        alloc: Global,
+        topology: &Topology,
+        master: u64,
+    ) -> Result<Vec<u32>, AllocError>
+        ensures { IfOk result (λ ids. (x : ℕ) → numbers.is_among ids.items x ≡ lent_in topology.now self.now master x) }
+    {
+        let listed = self.listed(master);
+        let planes = topology.planes_of(listed);
+        let mut ids = Vec::new(alloc);
+        ids.extend_from_slice(listed)?;
+        for plane in planes.ids() {
+            if self.is_brought(topology, master, *plane) {
+                ids.push(*plane)?;
+            }
+        }
+        ids.sort_unstable();
+        Ok(ids)
+    }
+
+    /// Whether a lease has a mode object: its step lent it, and no later one ended the lease.
+    pub fn is_granted(&self, topology: &Topology, master: u64, mode_object: u32) -> bool
+        ensures { result ≡ granted topology.now self.now master mode_object }
+    {
+        self.ended(master).is_none() && self.lends(topology, master, mode_object)
+    }
+
+    /// Whether the client's master controls a mode object: one without a lessor all, a lessee what its lease has.
+    pub fn controls(&self, topology: &Topology, client: u64, mode_object: u32) -> bool
+        ensures { result ≡ controls_in topology.now self.now client mode_object }
+    {
+        match self.master_of(client) {
+            Some(master) => {
+                self.lessor_of(master).is_none() || self.is_granted(topology, master, mode_object)
+            }
+            None => false,
+        }
+    }
+
+    /// Since which step a client has universal planes on or off; none where it was never opened.
+    pub fn capability(&self, client: u64) -> Option<Capability>
+        ensures note { result ≡ capability_of (capabilities_in self.now) client }
+        ensures universal { option_map_or (λ capability. capability.universal) result false ≡ is_universal_in self.now client }
+    {
+        last_capability(&self.capabilities, client)
+    }
+
+    /// Whether a client has universal planes on.
+    pub fn has_universal(&self, client: u64) -> bool
+        ensures { result ≡ is_universal_in self.now client }
+    {
+        match self.capability(client) {
+            Some(capability) => capability.universal,
+            None => false,
+        }
+    }
+
+    /// The client that redeemed the lease of a lessee: it has been of this master since the step that opened it.
+    pub fn redeemer(&self, lessee: u64) -> Option<u64>
+        ensures { result ≡ redeemer_in self.now lessee }
+    {
+        match first_redemption(&self.standings, lessee) {
+            Some(standing) => Some(standing.client),
+            None => None,
+        }
+    }
+
+    /// Whether the client opened as root.
+    pub fn is_root(&self, client: u64) -> bool
+        ensures { result ≡ is_root_in self.now client }
+    {
+        is_root(&self.roots, client)
+    }
+
+    /// Whether some AUTH_MAGIC named the client's magic.
+    pub fn is_named(&self, client: u64) -> bool
+        ensures { result ≡ is_named_in self.now client }
+    {
+        is_named(&self.authentications, client)
+    }
+
+    /// The first AUTH_MAGIC that named the client's magic.
+    pub fn authentication(&self, client: u64) -> Option<Authentication>
+        ensures { result ≡ authentication_of (authentications_in self.now) client }
+    {
+        first_authentication(&self.authentications, client)
+    }
+
+    /// Whether the client is authenticated: it opened as root, is a master, or AUTH_MAGIC named its magic.
+    pub fn is_known(&self, client: u64) -> bool
+        ensures { result ≡ known self.now client }
+    {
+        self.is_root(client) || self.is_master(client) || self.is_named(client)
+    }
+}
+
+/// The mode objects that the step of a number listed for a lease; none where it made no lease.
+fn listed_at(steps: &[Step], number: u64) -> &[u32]
+    ensures { result.now ≡ listed_in (history_of steps.now) number }
+{
+    if number == 0 || number > steps.len() as u64 {
+        return &[];
+    }
+    let place = number as usize - 1;
+    steps[place].listed()
+}
+
+fn is_among(ids: &[u32], id: u32) -> bool
+    ensures { result ≡ numbers.is_among ids.now id }
+{
+    ids.contains(&id)
+}
+
+/// Whether a mode object comes along with a lease of these by a client with universal planes on or off: with them off, the primary
+/// and the cursor plane of each CRTC do.
+fn comes_along(topology: &Topology, universal: bool, listed: &[u32], mode_object: u32) -> bool
+    ensures { result ≡ lending.comes_along topology.now universal listed.now mode_object }
+{
+    if universal {
+        return false;
+    }
+    match topology.crtc_of_plane(mode_object) {
+        Some(crtc) => is_among(listed, crtc),
+        None => false,
+    }
+}
+
+/// Whether the device's master is the same.
+fn is_same_master(one: Option<u64>, other: Option<u64>) -> bool
+    ensures { result ≡ ledgers.is_same_master one other }
+{
+    match (one, other) {
+        (None, None) => true,
+        (Some(one), Some(other)) => one == other,
+        _ => false,
+    }
+}
+
+/// How a client stands to masters from a step on.
+fn noted(number: u64, client: u64, is_master: bool, master: Option<u64>) -> Standing
+    ensures { result ≡ ledgers.noted number client is_master master }
+{
+    Standing {
+        step: number,
+        client,
+        is_master,
+        master,
+    }
+}
+
+/// How a primary client stands that opens where the device has this master: it founds one where there is none, and else joins it.
+fn opened(number: u64, owner: Option<u64>) -> Standing
+    ensures { result ≡ ledgers.opened number owner }
+{
+    match owner {
+        None => noted(number, number, true, Some(number)),
+        Some(owner) => noted(number, number, false, Some(owner)),
+    }
+}
+
+/// The client of an opening as root: an opening is a step of the client that it opens.
+fn root_by(deed: Deed, number: u64) -> Option<u64>
+    ensures { (ids : List ℕ) → result ≡ new_root (deed_of ids deed) number }
+{
+    let root = match deed {
+        Deed::OpensPrimary { root, .. } => root,
+        Deed::Redeems { root, .. } => root,
+        _ => false,
+    };
+    if root { Some(number) } else { None }
+}
+
+/// A client has universal planes on or off from a step on.
+fn capable(number: u64, client: u64, universal: bool) -> Capability
+    ensures { result ≡ ledgers.capable number client universal }
+{
+    Capability {
+        step: number,
+        client,
+        universal,
+    }
+}
+
+/// What a step says of a client's universal planes: its opening, and SET_CLIENT_CAP, which sets no other capability.
+fn capability_by(deed: Deed, number: u64) -> Option<Capability>
+    ensures { (ids : List ℕ) → result ≡ new_capability (deed_of ids deed) number }
+{
+    match deed {
+        Deed::OpensPrimary { universal, .. } => Some(capable(number, number, universal)),
+        Deed::OpensRender => Some(capable(number, number, true)),
+        Deed::Redeems { universal, .. } => Some(capable(number, number, universal)),
+        Deed::SetsUniversal { client, on } => Some(capable(number, client, on)),
+        _ => None,
+    }
+}

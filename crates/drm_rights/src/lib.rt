@@ -1,0 +1,20 @@
+//! Which rights a history gives, and by which of its steps: who has which handle and how it came there, and who is a master,
+//! authenticated, or has a lease.
+//!
+//! A history is a slice of steps, the oldest first; step 1 is its first. What is told of a moment is told of the steps up to it.
+#![tactic(auto)]
+
+mod chains;
+mod deeds;
+mod handles;
+mod ledger;
+mod notes;
+mod searches;
+mod steps;
+
+pub use chains::{Link, Origin, chain_of};
+pub use deeds::Deed;
+pub use handles::handles_of;
+pub use ledger::Ledger;
+pub use notes::{Authentication, Capability, Lease, Magic, Standing};
+pub use steps::{Giving, Key, Publishing, Source, Step, step_at};

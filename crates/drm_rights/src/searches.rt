@@ -1,0 +1,88 @@
+//! The last step of a history that gave a handle, or that published under a key.
+
+ghost use Rattle.std.specs.Prelude.{◌≡◌, ◌<◌, length, IfSome};
+ghost use Rattle.std.specs.Option.{option_map};
+ghost use Rattle.drm_history.specs.Steps.{is_key};
+ghost use Rattle.drm_rights.specs.Steps.{givings_of, history_of, key_of, source_of};
+ghost use Rattle.drm_rights.specs.Searches as searches;
+ghost use Rattle.drm_rights.specs.Searches.{gifts_at, last_gift, last_sharing, sharings_at};
+
+use crate::steps::{Giving, Key, Source, Step};
+
+/// The last step that gave a handle: how many steps came before it, and where the object came from.
+#[derive(Clone, Copy, PartialEq, Eq, Debug)]
+pub(crate) struct LastGiving {
+    pub(crate) past: usize,
+    pub(crate) source: Source,
+}
+
+/// The last step that published under a key: how many steps came before it, and whose handle it was of.
+#[derive(Clone, Copy, PartialEq, Eq, Debug)]
+pub(crate) struct LastPublishing {
+    pub(crate) past: usize,
+    pub(crate) client: u64,
+    pub(crate) handle: u64,
+}
+
+/// Where the object comes from, if a handle is given and is this one.
+fn source_for(given: Option<Giving>, client: u64, handle: u64) -> Option<Source>
+    ensures { option_map source_of result ≡ searches.source_for client handle (givings_of given) }
+{
+    let giving = given?;
+    if giving.client == client && giving.handle == handle {
+        return Some(giving.source);
+    }
+    None
+}
+
+/// Whether two keys are the same.
+fn is_key(one: Key, other: Key) -> bool
+    ensures { result ≡ is_key (key_of one) (key_of other) }
+{
+    match (one, other) {
+        (Key::Name(one), Key::Name(other)) => one == other,
+        (Key::Token(one), Key::Token(other)) => one == other,
+        (Key::Framebuffer(one), Key::Framebuffer(other)) => one == other,
+        _ => false,
+    }
+}
+
+/// The last step that gave the client the handle, if no later one took it.
+pub(crate) fn last_giving(steps: &[Step], client: u64, handle: u64) -> Option<LastGiving>
+    ensures last { gifts_at steps.now result ≡ last_gift (history_of steps.now) client handle }
+    ensures within { IfSome result (λ giving. giving.past < length steps.now) }
+{
+    let mut past = steps.len();
+    'steps: while past > 0 {
+        past -= 1;
+        let step = &steps[past];
+        if let Some(source) = source_for(step.given(), client, handle) {
+            return Some(LastGiving { past, source });
+        }
+        if step.takes(client, handle) {
+            return None;
+        }
+    }
+    None
+}
+
+/// The last step that published under the key.
+pub(crate) fn last_publishing(steps: &[Step], key: Key) -> Option<LastPublishing>
+    ensures last { sharings_at steps.now result ≡ last_sharing (history_of steps.now) (key_of key) }
+    ensures within { IfSome result (λ publishing. publishing.past < length steps.now) }
+{
+    let mut past = steps.len();
+    'steps: while past > 0 {
+        past -= 1;
+        if let Some(publishing) = steps[past].published() {
+            if is_key(publishing.key, key) {
+                return Some(LastPublishing {
+                    past,
+                    client: publishing.client,
+                    handle: publishing.handle,
+                });
+            }
+        }
+    }
+    None
+}
