@@ -1,5 +1,5 @@
 -- What is told of an answer that differs from what is expected (own).
-use Rattle.std.specs.Prelude.{ℕ, List, [], ◌∷◌, ◌++◌, codes, decimal, if◌then◌else◌, Option, None, Some, Result}
+use Rattle.std.specs.Prelude.{ℕ, List, [], ◌∷◌, ◌++◌, codes, decimal, if◌then◌else◌, length, take, drop, ◌-◌, ◌==◌, Option, None, Some, Result}
 use Rattle.std.specs.List.{flat_map}
 use Rattle.drm_table.specs.declared.answers.Answer.{Answer}
 use Rattle.drm_table.specs.declared.apart.Apart.{Apart}
@@ -21,9 +21,21 @@ abbrev pub came_line : Option (Result Answer Apart) → List ℕ
 came_line None = codes "nothing" ++ 10 ∷ []
 came_line (Some answer) = answer_line answer
 
+-- what is expected, but for its last byte
+abbrev pub front_of : List ℕ → List ℕ
+front_of expected = take (length expected - 1) expected
+
+-- that byte as it is told: a carriage return or a space, which don't show, by a word of its own
+abbrev pub end_shown : List ℕ → List ℕ
+end_shown [] = []
+end_shown (byte ∷ others) = if byte == 13 then codes "\\r" else (if byte == 32 then codes "\\x20" else byte ∷ others)
+
+abbrev pub end_of_expected : List ℕ → List ℕ
+end_of_expected expected = end_shown (drop (length expected - 1) expected)
+
 -- the file's name, the line's number, what was expected and what came
 abbrev pub difference_text : (name : List ℕ) (number : ℕ) (expected : List ℕ) (came : Option (Result Answer Apart)) → List ℕ
-difference_text name number expected came = name ++ (codes ":" ++ (decimal number ++ (codes ": expected " ++ (expected ++ (codes ", came " ++ came_line came)))))
+difference_text name number expected came = name ++ (codes ":" ++ (decimal number ++ (codes ": expected " ++ (front_of expected ++ (end_of_expected expected ++ (codes ", came " ++ came_line came))))))
 
 abbrev pub text_of : List ℕ → Difference → List ℕ
 text_of name d = difference_text name d.number d.expected d.came

@@ -2,7 +2,7 @@
 
 ghost use Rattle.std.specs.Prelude.{◌≡◌, ◌<◌, ◌+◌, ◌^◌};
 ghost use Rattle.drm_streams.specs.Texts.{WritesOut};
-ghost use Rattle.drm_checks.specs.Differences.{difference_text, end_of_writing};
+ghost use Rattle.drm_checks.specs.Differences.{difference_text, end_of_expected, end_of_writing, front_of};
 
 use crate::expectations::{is_met, parts_of};
 use drm_runs::{Interpreter, LineResult, ScriptEnd};
@@ -22,6 +22,26 @@ fn end_of(written: Written) -> Option<ScriptEnd>
     }
 }
 
+/// What is expected as it is told: what stands before its last byte, and that byte, a carriage return or a space by a word for it.
+fn shown(expected: &[u8]) -> (&[u8], &[u8])
+    ensures front { result.0.now ≡ front_of expected.now }
+    ensures last { result.1.now ≡ end_of_expected expected.now }
+{
+    let (front, last) = expected.split_at(expected.len().saturating_sub(1));
+    match last {
+        [byte, ..] => {
+            if *byte == b'\r' {
+                (front, b"\\r")
+            } else if *byte == b' ' {
+                (front, b"\\x20")
+            } else {
+                (front, last)
+            }
+        }
+        _ => (front, last),
+    }
+}
+
 /// Tells of a difference: the file's name, the line's number, what was expected and what came.
 fn tell<K: Sink>(
     name: &[u8],
@@ -36,6 +56,7 @@ fn tell<K: Sink>(
 {
     let mut buffer = itoa::Buffer::new();
     let digits = buffer.format(number).as_bytes();
+    let (front, last) = shown(expected);
     match came {
         Some(answer) => {
             let line = line_of(answer);
@@ -44,7 +65,8 @@ fn tell<K: Sink>(
                 b":",
                 digits,
                 b": expected ",
-                expected,
+                front,
+                last,
                 b", came ",
                 line.as_bytes(),
             ];
@@ -56,7 +78,8 @@ fn tell<K: Sink>(
                 b":",
                 digits,
                 b": expected ",
-                expected,
+                front,
+                last,
                 b", came nothing\n",
             ];
             put_each(sink, &texts, turns)

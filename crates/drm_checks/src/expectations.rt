@@ -9,7 +9,7 @@ use drm_script::{line_of, push_number};
 use drm_table::{Answer, Apart};
 
 /// What stands between a line of the script and the answer that it expects.
-const ARROW: &[u8] = b" -> ";
+pub(crate) const ARROW: &[u8] = b" -> ";
 
 fn begins_with_arrow(text: &[u8]) -> bool
     ensures value { result ≡ begins_with_arrow text.now }
@@ -56,6 +56,13 @@ pub fn parts_of(line: &[u8]) -> (&[u8], Option<&[u8]>)
         }
         None => (line, None),
     }
+}
+
+/// What of a line is the script's: all that stands before its first ` -> `; of a comment the whole.
+pub fn script_of(line: &[u8]) -> &[u8]
+    ensures { result.now ≡ script_part line.now }
+{
+    parts_of(line).0
 }
 
 /// A word and a number.

@@ -6,8 +6,10 @@ mod checker;
 mod expectations;
 mod laws;
 mod totals;
+mod update;
 
 pub use check::{Report, check_script, check_with_cause};
-pub use expectations::{is_met, parts_of};
+pub use expectations::{is_met, parts_of, script_of};
 pub use laws::checked_files_are_scripts;
 pub use totals::{Totals, write_malformed, write_totals};
+pub use update::{UpdateFault, update_script};

@@ -10,18 +10,22 @@ ghost use Rattle.drm_sessions.specs.Shared.{ServesShared};
 ghost use Rattle.drm_listeners.specs.Connections.{IsFaultOf, IsFresh, IsSessionBy, Serves, Sitting, connection_turns, seats_in, sessions_in};
 
 use crate::classes::class_word;
+use crate::greeting::Greeting;
+use crate::hall::Gathering;
 use crate::notes::note_session;
+use crate::open_connections::OpenConnections;
 use crate::serve_faults::ServeFault;
 use drm_sessions::{Class, NoGate, Served, Session, serve_through};
 use drm_streams::{FromRead, Sink, Source, ToWrite};
 use drm_turns::{Seat, SharedDevice, Sharing};
 use log::{Log, error};
 use std::alloc::Global;
+use std::os::fd::AsRawFd;
 use std::os::unix::net::{UnixListener, UnixStream};
 use std::snapshot::Snapshot;
 use std::sync::Wait;
-use std::thread;
 use std::thread::{Promise, PromisedHandle, Scope, Threads};
+use std::{io, thread};
 
 /// How many reads and writes the session of a connection makes at most.
 const MOST_TURNS: u64 = 1_000_000;
@@ -86,8 +90,9 @@ fn serve_sides<R: Wait, D: Sharing, S: Source, K: Sink>(
     )
 }
 
-// Serves a connection, which is closed as the session ends. A session that doesn't end plainly is logged before.
-fn serve_connection<R: Wait + Log, D: Sharing>(
+// Serves a connection, which is closed as the session ends. A session that doesn't end plainly is logged before, unless all were
+// told to end.
+fn serve_connection<R: Wait + Log, D: Gathering>(
     rt: &R,
     shared: &D,
     seat: Seat,
@@ -100,16 +105,34 @@ fn serve_connection<R: Wait + Log, D: Sharing>(
     ensures joined { result.seat.joined ≡ [] }
     ensures stays { Stays seat result.seat }
 {
-    let mut source = FromRead::new(&stream);
+    let attendance = shared.open().attend(rt, stream.as_raw_fd());
+    let mut source = FromRead::new(Greeting::new(&stream, &attendance));
     let mut sink = ToWrite::new(&stream);
     let served = serve_sides(rt, shared, seat, class, &mut source, &mut sink);
-    note_session(rt, class, &served.session);
+    if !shared.open().has_ended(rt) {
+        note_session(rt, class, &served.session);
+    }
     served
+}
+
+// Accepts the next connection. Where all were told to end nobody comes any more: it is one whose client has ended.
+fn accept_next<R: Wait>(
+    rt: &R,
+    open: &OpenConnections,
+    socket: &UnixListener,
+) -> io::Result<UnixStream> {
+    match socket.accept() {
+        Ok((stream, _)) => Ok(stream),
+        Err(reason) => match open.ended(rt) {
+            Some(ended) => ended.try_clone(),
+            None => Err(reason),
+        },
+    }
 }
 
 // Accepts a connection, and starts the thread that serves it. Where none can be accepted, the system's reason is logged; where
 // no thread can be started, the connection is closed.
-fn start_connection<'s, E: 's, R: Wait + Threads + Log + Sync, D: Sharing + Sync>(
+fn start_connection<'s, E: 's, R: Wait + Threads + Log + Sync, D: Gathering + Sync>(
     scope: &Scope<'s, E>,
     rt: &'s R,
     shared: &'s D,
@@ -122,8 +145,8 @@ fn start_connection<'s, E: 's, R: Wait + Threads + Log + Sync, D: Sharing + Sync
     ensures fault { IfErr result (λ fault. IsFaultOf listener.now.class fault) }
 {
     let class = listener.class;
-    let stream = match listener.socket.accept() {
-        Ok((stream, _)) => stream,
+    let stream = match accept_next(rt, shared.open(), &listener.socket) {
+        Ok(stream) => stream,
         Err(reason) => {
             error!(rt; "{}: {reason}", class_word(class));
             return Err(ServeFault::Accept(class));
@@ -144,15 +167,15 @@ fn start_connection<'s, E: 's, R: Wait + Threads + Log + Sync, D: Sharing + Sync
 
 // Starts a thread for each connection, with a seat of its own. The listener is closed once the last connection was accepted, or
 // one couldn't be served.
-fn start_connections<'s, E: 's, R: Wait + Threads + Log + Sync>(
+fn start_connections<'s, E: 's, R: Wait + Threads + Log + Sync, D: Gathering + Sync>(
     scope: &Scope<'s, E>,
     rt: &'s R,
-    shared: &'s SharedDevice,
+    shared: &'s D,
     own: &mut Seat,
     listener: Listener,
     handles: Vec<ConnectionHandle>,
 ) -> Result<Vec<ConnectionHandle>, ServeFault>
-    requires own { own.old.table ≡ shared.now }
+    requires own { own.old.table ≡ D.table shared.now }
     requires empty { handles.items ≡ [] }
     requires reserved { listener.count ≤ vec_capacity handles }
     ensures count { IfOk result (λ handles. vec_len handles ≡ listener.count) }
@@ -164,8 +187,9 @@ fn start_connections<'s, E: 's, R: Wait + Threads + Log + Sync>(
     ensures out { IfOk result (λ handles. own.new.out ≡ own.old.out + vec_len handles) }
 {
     let mut handles = handles;
+    let _attendance = shared.open().attend(rt, listener.socket.as_raw_fd());
     for _ in 0..listener.count {
-        let seat = shared.split(own);
+        let seat = shared.device().split(own);
         handles.push_reserved(start_connection(scope, rt, shared, seat, &listener)?);
     }
     Ok(handles)
@@ -202,15 +226,15 @@ fn join_connections<R: Threads>(
 }
 
 // Serves the connections in threads of the scope. All memory is reserved before the first is accepted.
-fn serve_in_scope<'s, E: 's, R: Wait + Threads + Log + Sync>(
+fn serve_in_scope<'s, E: 's, R: Wait + Threads + Log + Sync, D: Gathering + Sync>(
     scope: &Scope<'s, E>,
     rt: &'s R,
     alloc: Global,
-    shared: &'s SharedDevice,
+    shared: &'s D,
     seat: Seat,
     listener: Listener,
 ) -> Result<ServedListener, ServeFault>
-    requires { IsFresh shared.now seat }
+    requires { IsFresh (D.table shared.now) seat }
     ensures { Serves listener.class listener.count seat result }
 {
     let mut seat = seat;
@@ -218,28 +242,28 @@ fn serve_in_scope<'s, E: 's, R: Wait + Threads + Log + Sync>(
     let handles = Vec::with_capacity(alloc, count).map_err(|_| ServeFault::NoMemory)?;
     let sessions = Vec::with_capacity(alloc, count).map_err(|_| ServeFault::NoMemory)?;
     let handles = start_connections(scope, rt, shared, &mut seat, listener, handles)?;
-    let sessions = join_connections(rt, shared, &mut seat, handles, sessions);
+    let sessions = join_connections(rt, shared.device(), &mut seat, handles, sessions);
     Ok(ServedListener { sessions, seat })
 }
 
 /// Accepts the connections of a listener and serves each in a thread of its own, until all have ended. It may wait.
 ///
 /// The listener is closed before the sessions are waited for. On a fault the threads that were started are waited for.
-pub(crate) fn serve_listener<R: Wait + Threads + Log + Sync>(
+pub(crate) fn serve_listener<R: Wait + Threads + Log + Sync, D: Gathering + Sync>(
     rt: &R,
     alloc: Global,
-    shared: &SharedDevice,
+    shared: &D,
     seat: Seat,
     listener: Listener,
 ) -> Result<ServedListener, ServeFault>
-    requires { IsFresh shared.now seat }
+    requires { IsFresh (D.table shared.now) seat }
     ensures { Serves listener.class listener.count seat result }
 {
     thread::scope(
         thread::scope_env(),
         rt,
         move |scope| -> Result<ServedListener, ServeFault>
-            requires { IsFresh shared.now seat }
+            requires { IsFresh (D.table shared.now) seat }
             ensures { Serves listener.class listener.count seat result }
         { serve_in_scope(scope, rt, alloc, shared, seat, listener) },
     )

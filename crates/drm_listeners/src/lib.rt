@@ -4,12 +4,16 @@
 mod classes;
 mod connections;
 mod counts;
+mod greeting;
+mod hall;
 mod listeners;
 mod notes;
+mod open_connections;
 mod serve_faults;
 mod serving;
 
 pub use classes::class_word;
 pub use counts::Counts;
+pub use open_connections::OpenConnections;
 pub use serve_faults::ServeFault;
-pub use serving::serve_all;
+pub use serving::{serve_all, serve_until_told};

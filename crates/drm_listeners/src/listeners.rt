@@ -7,9 +7,10 @@ ghost use Rattle.drm_listeners.specs.Listeners.{AreFresh, AreServed};
 
 use crate::connections::{Listener, ServedListener, serve_listener};
 use crate::counts::Counts;
+use crate::hall::Gathering;
 use crate::serve_faults::ServeFault;
 use drm_sessions::Class;
-use drm_turns::{Seat, SharedDevice, Sharing};
+use drm_turns::Seat;
 use log::Log;
 use std::alloc::Global;
 use std::os::unix::net::UnixListener;
@@ -42,7 +43,7 @@ impl Promise<Result<ServedListener, ServeFault>> for ListenerServed {
 type ListenerHandle = PromisedHandle<Result<ServedListener, ServeFault>, ListenerServed>;
 
 // Starts the thread that serves a listener.
-fn start_listener<'s, E: 's, R: Wait + Threads + Log + Sync, D: Sharing + Sync>(
+fn start_listener<'s, E: 's, R: Wait + Threads + Log + Sync, D: Gathering + Sync>(
     scope: &Scope<'s, E>,
     rt: &'s R,
     alloc: Global,
@@ -66,7 +67,7 @@ fn start_listener<'s, E: 's, R: Wait + Threads + Log + Sync, D: Sharing + Sync>(
         move || -> Result<ServedListener, ServeFault>
             requires { IsFresh (D.table shared.now) seat }
             ensures { Serves listener.class listener.count seat result }
-        { serve_listener(rt, alloc, shared.device(), seat, listener) },
+        { serve_listener(rt, alloc, shared, seat, listener) },
     );
     match served {
         Ok(handle) => Ok(handle),
@@ -75,16 +76,16 @@ fn start_listener<'s, E: 's, R: Wait + Threads + Log + Sync, D: Sharing + Sync>(
 }
 
 // Serves the listeners in threads of the scope.
-fn serve_in_scope<'s, E: 's, R: Wait + Threads + Log + Sync>(
+fn serve_in_scope<'s, E: 's, R: Wait + Threads + Log + Sync, D: Gathering + Sync>(
     scope: &Scope<'s, E>,
     rt: &'s R,
     alloc: Global,
-    shared: &'s SharedDevice,
+    shared: &'s D,
     seats: ByClass<Seat>,
     sockets: ByClass<UnixListener>,
     counts: Counts,
 ) -> Result<ByClass<ServedListener>, ServeFault>
-    requires { AreFresh shared.now seats }
+    requires { AreFresh (D.table shared.now) seats }
     ensures served { IfOk result (λ served. AreServed counts seats served) }
     ensures turn { result ≢ Err TurnOut }
 {
@@ -117,15 +118,15 @@ fn serve_in_scope<'s, E: 's, R: Wait + Threads + Log + Sync>(
 /// Serves so many connections of three listeners at once, until all have ended. It may wait.
 ///
 /// On a fault the threads that were started are waited for.
-pub(crate) fn serve_listeners<R: Wait + Threads + Log + Sync>(
+pub(crate) fn serve_listeners<R: Wait + Threads + Log + Sync, D: Gathering + Sync>(
     rt: &R,
     alloc: Global,
-    shared: &SharedDevice,
+    shared: &D,
     seats: ByClass<Seat>,
     sockets: ByClass<UnixListener>,
     counts: Counts,
 ) -> Result<ByClass<ServedListener>, ServeFault>
-    requires { AreFresh shared.now seats }
+    requires { AreFresh (D.table shared.now) seats }
     ensures served { IfOk result (λ served. AreServed counts seats served) }
     ensures turn { result ≢ Err TurnOut }
 {
@@ -133,7 +134,7 @@ pub(crate) fn serve_listeners<R: Wait + Threads + Log + Sync>(
         thread::scope_env(),
         rt,
         move |scope| -> Result<ByClass<ServedListener>, ServeFault>
-            requires { AreFresh shared.now seats }
+            requires { AreFresh (D.table shared.now) seats }
             ensures { IfOk result (λ served. AreServed counts seats served) × (result ≢ Err TurnOut) }
         { serve_in_scope(scope, rt, alloc, shared, seats, sockets, counts) },
     )

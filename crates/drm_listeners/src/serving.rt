@@ -12,7 +12,9 @@ ghost use Rattle.drm_listeners.specs.Serving.{AreSessionsOf, HaveSat, IsHistoryO
 
 use crate::connections::ServedListener;
 use crate::counts::Counts;
+use crate::hall::Hall;
 use crate::listeners::{ByClass, serve_listeners};
+use crate::open_connections::OpenConnections;
 use crate::serve_faults::ServeFault;
 use drm_device::Device;
 use drm_sessions::Session;
@@ -78,6 +80,7 @@ fn serve_shared<R: Wait + Threads + Log + Sync>(
     rt: &R,
     alloc: Global,
     shared: &SharedDevice,
+    open: &OpenConnections,
     seat: &mut Seat,
     sockets: ByClass<UnixListener>,
     counts: Counts,
@@ -97,7 +100,11 @@ fn serve_shared<R: Wait + Threads + Log + Sync>(
         render: shared.split(seat),
         root: shared.split(seat),
     };
-    let served = serve_listeners(rt, alloc, shared, seats, sockets, counts)?;
+    let hall = Hall {
+        device: shared,
+        open,
+    };
+    let served = serve_listeners(rt, alloc, &hall, seats, sockets, counts)?;
     Ok(gather(shared, seat, served, sessions))
 }
 
@@ -114,11 +121,44 @@ fn serve_shared<R: Wait + Threads + Log + Sync>(
 /// A listener is closed once it has accepted its last connection, or couldn't accept one, while sessions go on: whoever
 /// connects later is refused. One that accepts none is closed at once.
 ///
+/// The connections stand in `open` for as long as they are served, which needs room for all of them. Where that is told to end,
+/// each connection ends as if its client had ended it. Those that were still to come count as accepted: each is one whose client
+/// had ended before its first frame, so that it made no step. What ends so is not logged.
+///
 /// On a fault the threads that were started are waited for, and then the device is dropped. `NoThread` comes where a thread
 /// can't be started, for whatever cause.
 ///
 /// A session that ends in another way than `Ended` is logged as it ends, with its listener and its client; so is the system's
 /// reason where a connection can't be accepted.
+pub fn serve_until_told<R: Wait + Threads + Log + Sync>(
+    rt: &R,
+    alloc: Global,
+    device: Device,
+    card: UnixListener,
+    render: UnixListener,
+    root: UnixListener,
+    counts: Counts,
+    open: &OpenConnections,
+) -> Result<(Device, Vec<Session>), ServeFault>
+    ensures count { IfOk result (λ served. vec_len served.1 ≡ connections counts) }
+    ensures cards { IfOk result (λ served. All (IsSessionOf Card) (card_sessions counts served.1.items)) }
+    ensures renders { IfOk result (λ served. All (IsSessionOf Render) (render_sessions counts served.1.items)) }
+    ensures roots { IfOk result (λ served. All (IsSessionOf Root) (root_sessions counts served.1.items)) }
+    ensures history { IfOk result (λ served. IsHistoryOf device served.0 served.1.items) }
+    ensures turn { result ≢ Err TurnOut }
+{
+    let Ok((shared, mut seat)) = SharedDevice::new(alloc, device) else {
+        return Err(ServeFault::NoMemory);
+    };
+    let sockets = ByClass { card, render, root };
+    let sessions = serve_shared(rt, alloc, &shared, open, &mut seat, sockets, counts)?;
+    let Ok(device) = shared.close(seat) else {
+        return Err(ServeFault::TurnOut);
+    };
+    Ok((device, sessions))
+}
+
+/// Serves so many connections of three listeners, as `serve_until_told` does where nobody tells it (own). It may wait.
 pub fn serve_all<R: Wait + Threads + Log + Sync>(
     rt: &R,
     alloc: Global,
@@ -135,13 +175,6 @@ pub fn serve_all<R: Wait + Threads + Log + Sync>(
     ensures history { IfOk result (λ served. IsHistoryOf device served.0 served.1.items) }
     ensures turn { result ≢ Err TurnOut }
 {
-    let Ok((shared, mut seat)) = SharedDevice::new(alloc, device) else {
-        return Err(ServeFault::NoMemory);
-    };
-    let sockets = ByClass { card, render, root };
-    let sessions = serve_shared(rt, alloc, &shared, &mut seat, sockets, counts)?;
-    let Ok(device) = shared.close(seat) else {
-        return Err(ServeFault::TurnOut);
-    };
-    Ok((device, sessions))
+    let open = OpenConnections::new(alloc, counts, None).map_err(|_| ServeFault::NoMemory)?;
+    serve_until_told(rt, alloc, device, card, render, root, counts, &open)
 }

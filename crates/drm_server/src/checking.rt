@@ -1,5 +1,8 @@
 //! Checking files.
 
+ghost use Rattle.std.specs.Prelude.{◌≡◌, IfOk};
+ghost use Rattle.drm_streams.specs.Streams.{no_calls};
+
 use crate::faults::Fault;
 use crate::outcomes::{Outcome, outcome_of_checks, outcome_of_fault, script_fault};
 use drm_checks::{Report, Totals, check_with_cause, write_malformed, write_totals};
@@ -15,7 +18,7 @@ use std::{fs, io};
 const MOST_TURNS: u64 = 1_000_000;
 
 /// Nothing where a text was written whole, else the fault.
-fn fault_of(written: Written) -> Result<(), Fault> {
+pub(crate) fn fault_of(written: Written) -> Result<(), Fault> {
     match written {
         Written::Whole => Ok(()),
         Written::Fault => Err(Fault::Write),
@@ -23,26 +26,40 @@ fn fault_of(written: Written) -> Result<(), Fault> {
     }
 }
 
+/// The path that stands for standard input.
+const INPUT: &str = "-";
+
+/// A file's bytes. Where it can't be opened, the cause is logged.
+pub(crate) fn open<R: Files + Log>(rt: &R, path: &str) -> Result<FromRead<R::File>, Fault>
+    ensures { IfOk result (λ source. source.counts ≡ no_calls) }
+{
+    match fs::open(rt, path) {
+        Ok(file) => Ok(FromRead::new(file)),
+        Err(reason) => {
+            error!(rt; "{path}: {reason}");
+            Err(Fault::Read)
+        }
+    }
+}
+
 /// Checks a file, and tells on standard output of the answers that it doesn't expect.
-fn check_file<R: Files + Print + Log>(
+fn check_file<R: Input + Files + Print + Log>(
     rt: &R,
     alloc: Global,
     path: &str,
 ) -> Result<(Report, Option<Malformation>), Fault> {
-    let file = match fs::open(rt, path) {
-        Ok(file) => file,
-        Err(reason) => {
-            error!(rt; "{path}: {reason}");
-            return Err(Fault::Read);
-        }
-    };
-    let mut source = FromRead::new(file);
+    if path == INPUT {
+        let mut source = FromRead::new(rt.reader());
+        let mut sink = ToWrite::new(io::writer(rt));
+        return Ok(check_with_cause(alloc, path, &mut source, &mut sink, MOST_TURNS));
+    }
+    let mut source = open(rt, path)?;
     let mut sink = ToWrite::new(io::writer(rt));
     Ok(check_with_cause(alloc, path, &mut source, &mut sink, MOST_TURNS))
 }
 
 /// Tells on standard output of a line that can't be used, and logs the cause. What else ended a run early is a fault.
-fn tell_end<R: Print + Log>(
+pub(crate) fn tell_end<R: Print + Log>(
     rt: &R,
     path: &str,
     end: &ScriptEnd,
@@ -65,7 +82,7 @@ fn tell_end<R: Print + Log>(
 }
 
 /// Checks each file, and tells on standard output how many expectations are met and how many aren't.
-fn check_files<R: Files + Print + Log>(
+fn check_files<R: Input + Files + Print + Log>(
     rt: &R,
     alloc: Global,
     paths: &[&str],
@@ -83,7 +100,11 @@ fn check_files<R: Files + Print + Log>(
 }
 
 /// Checks files, each on a device of its own.
-pub(crate) fn check<R: Files + Print + Log>(rt: &R, alloc: Global, paths: &[&str]) -> Outcome {
+pub(crate) fn check<R: Input + Files + Print + Log>(
+    rt: &R,
+    alloc: Global,
+    paths: &[&str],
+) -> Outcome {
     match check_files(rt, alloc, paths) {
         Ok(totals) => outcome_of_checks(&totals),
         Err(fault) => outcome_of_fault(fault),

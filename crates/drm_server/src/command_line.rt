@@ -15,6 +15,25 @@ const MOST_CONNECTIONS: u64 = 64;
 pub(crate) struct Serving<'a> {
     pub(crate) paths: Paths<'a>,
     pub(crate) counts: Counts,
+    /// Whether the end of standard input ends it.
+    pub(crate) ends_with_input: bool,
+    /// Whether it tells only of what goes wrong.
+    pub(crate) is_quiet: bool,
+    /// The file of the device's topology.
+    pub(crate) topology: Option<&'a str>,
+    /// The limits of the device, as eight numbers.
+    pub(crate) limits: Option<&'a str>,
+    /// Where what was noted is written at the end.
+    pub(crate) journal: Option<&'a str>,
+}
+
+/// Which script to explain, of which client, and in which form.
+#[derive(Clone, Copy, Debug, PartialEq, Eq)]
+pub(crate) struct Explaining<'a> {
+    pub(crate) path: &'a str,
+    /// The client alone of which is told: a label or a number.
+    pub(crate) client: Option<&'a str>,
+    pub(crate) is_json: bool,
 }
 
 /// What the command line asks for.
@@ -24,6 +43,10 @@ pub(crate) enum Asked<'a> {
     Run,
     /// To check the files of these paths.
     Check(Vec<&'a str>),
+    /// To write into these files what is answered.
+    Update(Vec<&'a str>),
+    /// To explain what the clients of a script have.
+    Explain(Explaining<'a>),
     /// To serve connections.
     Serve(Serving<'a>),
 }
@@ -46,18 +69,59 @@ fn count<'a>(alloc: Global, name: &'a str, help: &'a str) -> Arg<'a> {
         .help(help)
 }
 
+fn flag<'a>(alloc: Global, name: &'a str, help: &'a str) -> Arg<'a> {
+    Arg::new(alloc, name)
+        .long(name)
+        .action(ArgAction::SetTrue)
+        .help(help)
+}
+
 fn check_command<'a>(alloc: Global) -> Result<Command<'a>, Error> {
     let files = Arg::new(alloc, "FILE")
         .value_parser(ValueParser::NonEmptyString)
         .required(true)
         .num_args(1..)
         .action(ArgAction::Append)
-        .help("A script whose lines tell behind ' -> ' which answers they expect");
+        .help(
+            "A script whose lines tell behind ' -> ' which answers they expect; - is standard input",
+        );
+    let update = flag(
+        alloc,
+        "update",
+        "Writes the answers that came into the files, in place of those that they expected",
+    );
     let command = Command::new(alloc, "check")
         .about(
             "Runs the scripts in files, each on a device of its own, and tells which answers are not those that they expect",
         )
+        .arg(update)?
         .arg(files)?;
+    Ok(command)
+}
+
+fn explain_command<'a>(alloc: Global) -> Result<Command<'a>, Error> {
+    let file = Arg::new(alloc, "FILE")
+        .value_parser(ValueParser::NonEmptyString)
+        .required(true)
+        .help("A script; answers that its lines expect behind ' -> ' are passed over");
+    let client = Arg::new(alloc, "client")
+        .long("client")
+        .value_name("CLIENT")
+        .value_parser(ValueParser::NonEmptyString)
+        .help(
+            "Tells of this client alone, and of the leases that it made or redeemed: a label or a number",
+        );
+    let json = Arg::new(alloc, "json")
+        .long("json")
+        .action(ArgAction::SetTrue)
+        .help("Prints JSON");
+    let command = Command::new(alloc, "explain")
+        .about(
+            "Runs the script in a file, and tells for each client and lease by which of its steps it has what it has",
+        )
+        .arg(file)?
+        .arg(client)?
+        .arg(json)?;
     Ok(command)
 }
 
@@ -83,7 +147,41 @@ fn serve_command<'a>(alloc: Global) -> Result<Command<'a>, Error> {
             alloc,
             "roots",
             "How many connections of primary clients that are root are accepted, from 0 to 64",
-        ))?;
+        ))?
+        .arg(flag(
+            alloc,
+            "until-input-ends",
+            "Ends all connections, and the server with them, once standard input ends",
+        ))?
+        .arg(flag(
+            alloc,
+            "quiet",
+            "Tells only of what goes wrong on standard error, and not where it listens",
+        ))?
+        .arg(
+            Arg::new(alloc, "topology")
+                .long("topology")
+                .value_name("FILE")
+                .value_parser(ValueParser::NonEmptyString)
+                .help("The device's CRTCs, planes, encoders and connectors"),
+        )?
+        .arg(
+            Arg::new(alloc, "limits")
+                .long("limits")
+                .value_name("NUMBERS")
+                .help(
+                    "The device's limits: clients, handles, names, tokens, objects, framebuffers, lessees, journal",
+                ),
+        )?
+        .arg(
+            Arg::new(alloc, "journal")
+                .long("journal")
+                .value_name("FILE")
+                .value_parser(ValueParser::NonEmptyString)
+                .help(
+                    "Writes what was asked and answered into this file at the end, as a script that checks itself",
+                ),
+        )?;
     Ok(command)
 }
 
@@ -98,6 +196,7 @@ fn command<'a>(alloc: Global) -> Result<Command<'a>, Error> {
         .subcommand_required(true)
         .subcommand(run)?
         .subcommand(check_command(alloc)?)?
+        .subcommand(explain_command(alloc)?)?
         .subcommand(serve_command(alloc)?)?;
     Ok(command)
 }
@@ -113,7 +212,23 @@ fn serving_of<'a>(matches: &ArgMatches<'a>) -> Option<Serving<'a>> {
         renders: matches.get_one("renders")?,
         roots: matches.get_one("roots")?,
     };
-    Some(Serving { paths, counts })
+    Some(Serving {
+        paths,
+        counts,
+        ends_with_input: matches.get_flag("until-input-ends"),
+        is_quiet: matches.get_flag("quiet"),
+        topology: matches.get_str("topology"),
+        limits: matches.get_str("limits"),
+        journal: matches.get_str("journal"),
+    })
+}
+
+fn explaining_of<'a>(matches: &ArgMatches<'a>) -> Option<Explaining<'a>> {
+    Some(Explaining {
+        path: matches.get_str("FILE")?,
+        client: matches.get_str("client"),
+        is_json: matches.get_flag("json"),
+    })
 }
 
 fn files_of<'a>(
@@ -138,7 +253,11 @@ pub(crate) fn read_words<'a>(
     let matches = command(alloc)?.try_get_matches_from(words)?;
     match matches.subcommand() {
         Some(("run", _)) => Ok(Some(Asked::Run)),
+        Some(("check", found)) if found.get_flag("update") => {
+            Ok(files_of(alloc, found)?.map(Asked::Update))
+        }
         Some(("check", found)) => Ok(files_of(alloc, found)?.map(Asked::Check)),
+        Some(("explain", found)) => Ok(explaining_of(found).map(Asked::Explain)),
         Some(("serve", found)) => Ok(serving_of(found).map(Asked::Serve)),
         _ => Ok(None),
     }

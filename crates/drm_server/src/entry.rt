@@ -2,15 +2,18 @@
 
 use crate::checking::check;
 use crate::command_line::{Asked, Serving, is_memory, read_words};
+use crate::devices::{asked_device, asked_limits};
+use crate::explaining::explain_script;
 use crate::faults::{Fault, FaultLine};
+use crate::journal::{empty_file, write_journal};
 use crate::listing::list_audit;
 use crate::outcomes::{Outcome, outcome_of, outcome_of_fault, outcome_of_listing};
-use crate::sockets::{Sockets, bind_all};
+use crate::serving::serve_device;
+use crate::updating::update;
 use crate::words::words_of;
 use clap::Error;
-use drm_device::{Device, Limits};
-use drm_listeners::serve_all;
-use drm_runs::{ScriptEnd, make_device, run_with_cause};
+use drm_device::Device;
+use drm_runs::{ScriptEnd, run_with_cause};
 use drm_streams::{FromRead, ToWrite};
 use log::{Log, error};
 use std::alloc::Global;
@@ -41,36 +44,38 @@ fn list<R: Print>(rt: &R, device: &Device) -> Outcome {
     outcome_of_listing(&list_audit(device, &mut sink, MOST_TURNS))
 }
 
-/// Serves a device on three sockets, whose files are removed at the end.
-fn serve_device<R: Files + Net + Log + Wait + Threads + Sync>(
+/// Serves an empty device, writes what it noted where that is asked for, and lists on standard output what it holds at the end.
+fn serve_and_list<R: Input + Print + Files + Net + AllocGlobal + Log + Wait + Threads + Sync>(
     rt: &R,
     alloc: Global,
-    device: Device,
     serving: Serving<'_>,
-) -> Result<Device, Fault> {
-    let Sockets { card, render, root } = bind_all(rt, serving.paths)?;
-    let _files = (card.file, render.file, root.file);
-    let (card, render, root) = (card.listener, render.listener, root.listener);
-    match serve_all(rt, alloc, device, card, render, root, serving.counts) {
-        Ok((device, _sessions)) => Ok(device),
-        Err(fault) => {
-            error!(rt; "{fault}");
-            Err(Fault::from(fault))
-        }
+) -> Result<Outcome, Fault> {
+    let limits = asked_limits(rt, serving.limits)?;
+    let device = asked_device(rt, alloc, serving.topology, limits)?;
+    if let Some(path) = serving.journal {
+        empty_file(rt, path)?;
     }
+    let device = serve_device(rt, alloc, device, serving)?;
+    let written = match serving.journal {
+        Some(path) => {
+            let replayed = asked_device(rt, alloc, serving.topology, limits)?;
+            write_journal(rt, alloc, path, limits, &device, replayed)
+        }
+        None => Ok(()),
+    };
+    let listed = list(rt, &device);
+    written?;
+    Ok(listed)
 }
 
-/// Serves an empty device, and lists on standard output what it holds at the end.
-fn serve<R: Print + Files + Net + Log + Wait + Threads + Sync>(
+/// Serves connections.
+fn serve<R: Input + Print + Files + Net + AllocGlobal + Log + Wait + Threads + Sync>(
     rt: &R,
     alloc: Global,
     serving: Serving<'_>,
 ) -> Outcome {
-    let Some(device) = make_device(alloc, Limits::PROGRAM) else {
-        return outcome_of_fault(Fault::Memory);
-    };
-    match serve_device(rt, alloc, device, serving) {
-        Ok(device) => list(rt, &device),
+    match serve_and_list(rt, alloc, serving) {
+        Ok(outcome) => outcome,
         Err(fault) => outcome_of_fault(fault),
     }
 }
@@ -94,7 +99,7 @@ fn stop_at<R: Print + Eprint>(rt: &R, error: &Error) -> Outcome {
 }
 
 /// Does what the command line asks for.
-fn carry_out<R: Input + Print + Eprint + Files + Net + Log + Wait + Threads + Sync>(
+fn carry_out<R: Input + Print + Eprint + Files + Net + AllocGlobal + Log + Wait + Threads + Sync>(
     rt: &R,
     alloc: Global,
     words: &[String],
@@ -102,6 +107,8 @@ fn carry_out<R: Input + Print + Eprint + Files + Net + Log + Wait + Threads + Sy
     match read_words(alloc, words) {
         Ok(Some(Asked::Run)) => run(rt, alloc),
         Ok(Some(Asked::Check(files))) => check(rt, alloc, files.as_slice()),
+        Ok(Some(Asked::Update(files))) => update(rt, alloc, files.as_slice()),
+        Ok(Some(Asked::Explain(explaining))) => explain_script(rt, alloc, explaining),
         Ok(Some(Asked::Serve(serving))) => serve(rt, alloc, serving),
         Ok(None) => outcome_of_fault(Fault::CommandLine),
         Err(error) => stop_at(rt, &error),

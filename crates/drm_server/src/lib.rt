@@ -3,14 +3,24 @@
 
 mod checking;
 mod command_line;
+mod devices;
+mod ending;
 mod entry;
+mod explaining;
 mod faults;
+mod journal;
+mod limits;
 mod listing;
 mod outcomes;
+mod recording;
+mod serving;
 mod sockets;
+mod updating;
 mod words;
 
-pub use drm_listeners::{Counts, ServeFault, class_word, serve_all};
+pub use drm_listeners::{
+    Counts, OpenConnections, ServeFault, class_word, serve_all, serve_until_told,
+};
 pub use drm_runs::{ScriptEnd, run_script, run_with_cause, scripts_are_answered};
 pub use entry::program;
 pub use faults::{Fault, FaultLine};

@@ -98,6 +98,14 @@ pub(crate) struct Sockets<'a, R: Files> {
     pub(crate) root: Socket<'a, R>,
 }
 
+/// Their listeners, apart from their files.
+#[derive(Drop)]
+pub(crate) struct Listeners {
+    pub(crate) card: UnixListener,
+    pub(crate) render: UnixListener,
+    pub(crate) root: UnixListener,
+}
+
 /// Binds the sockets in the order card, render, root. Where one can't be bound, those before it are closed and their files
 /// are removed.
 pub(crate) fn bind_all<'a, R: Files + Net + Log>(

@@ -1,5 +1,8 @@
+use denote.Param.Send.{sendable}
 use Rattle.std.proofs.Common.{◌≡◌, List, [], sym, ap, ◌∙◌, subst, arith}
+use Rattle.std.proofs.Crossing.{crosses}
 use Rattle.drm_turns.specs.Seats.{Standing}
+use Rattle.drm_turns.proofs.Crossing.{shared_sync}
 use Rattle.drm_sessions.specs.declared.end.Session.{Session}
 use Rattle.drm_listeners.specs.Serving.{AreSessionsOf}
 use Rattle.drm_listeners.proofs.Gathering.{are-sessions, have-sat}
@@ -32,3 +35,6 @@ returns-clause-out g c =
     let third = ap (λ (s : Standing). s.out) c.split-3.ensures.same in
     let gathered = c.gather.ensures.out in
     omega arith
+
+pub serve_listeners-requires-sync-D : goal.serve_listeners-requires-sync-D
+serve_listeners-requires-sync-D g c κs within = search (shared_sync, crosses, sendable) depth 30

@@ -6,7 +6,7 @@ use Rattle.drm_turns.specs.Seats.{Closes, Standing}
 use Rattle.drm_turns.proofs.Taken.{starts_on}
 use Rattle.drm_listeners.specs.Serving.{HaveSat}
 use Rattle.drm_listeners.proofs.Gathering.{all-told}
-use Rattle.drm_listeners.proofs.serving.serve_all.Goals as goal
+use Rattle.drm_listeners.proofs.serving.serve_until_told.Goals as goal
 
 pub returns-clause-history : goal.returns-clause-history
 returns-clause-history g c =

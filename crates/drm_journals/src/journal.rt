@@ -1,0 +1,154 @@
+//! A journal as a script.
+
+use crate::lines::{Line, call_line, close_line, limits_line, open_line};
+use crate::namings::Namings;
+use drm_device::Device;
+use drm_script::line_of;
+use drm_table::{Answer, Apart, Call, Event, Limits};
+use std::alloc::{AllocError, Global};
+
+/// How many bytes a line of a script has at most.
+const LONGEST: usize = 255;
+
+/// What stands between a line of a script and the answer that it expects.
+const ARROW: &[u8] = b" -> ";
+
+/// What stands in place of what follows, where there is no label.
+const LABELS_USED: &[u8] =
+    b"# more clients are open here than there are labels, and what follows is left out\n";
+
+/// The script of a journal (own).
+#[derive(Drop)]
+pub struct Journal {
+    /// Its bytes.
+    pub text: Vec<u8>,
+    /// Whether all events stand in it. Where more clients were open at once than there are labels, a comment says so, and what
+    /// follows is left out.
+    pub is_whole: bool,
+}
+
+/// The same event.
+fn copy_of(event: &Event) -> Event {
+    match event.clone() {
+        Ok(copy) => copy,
+        Err(_) => unreachable!(),
+    }
+}
+
+/// The event, or one that a line of a script can hold. A call that is too long for it names ids of no mode object: it is denied, and
+/// so is the same call with fields that aren't its row's.
+fn fitting(event: &Event) -> Event {
+    if let Event::Ask(client, call) = event {
+        if call_line(0, call).as_bytes().len() > LONGEST {
+            return Event::Ask(*client, Call::BadLayout(call.number()));
+        }
+    }
+    copy_of(event)
+}
+
+/// What an event is in a script.
+#[derive(Drop)]
+enum EventLine {
+    /// A line, and the place of the label that an accepted opening binds.
+    Line(Line, Option<usize>),
+    /// There is no label for its client.
+    Nobody,
+}
+
+fn line_of_event(namings: &Namings, event: &Event) -> EventLine {
+    match event {
+        Event::Open(opening) => match namings.free_place() {
+            Some(place) => EventLine::Line(open_line(place, *opening), Some(place)),
+            None => EventLine::Nobody,
+        },
+        Event::Close(client) => match namings.place_of(*client) {
+            Some(place) => EventLine::Line(close_line(place), None),
+            None => EventLine::Nobody,
+        },
+        Event::Ask(client, call) => match namings.place_of(*client) {
+            Some(place) => EventLine::Line(call_line(place, call), None),
+            None => EventLine::Nobody,
+        },
+    }
+}
+
+/// A journal that is being written.
+#[derive(Drop)]
+struct Writing {
+    device: Device,
+    namings: Namings,
+    text: Vec<u8>,
+}
+
+impl Writing {
+    /// Writes a line with the answer that it expects. One for which both are too long expects none.
+    fn write_line(
+        &mut self,
+        line: &Line,
+        outcome: &Result<Answer, Apart>,
+    ) -> Result<(), AllocError> {
+        let asked = line.as_bytes();
+        let answer = line_of(outcome);
+        self.text.extend_from_slice(asked)?;
+        // the answer has its line end
+        if asked.len() + ARROW.len() + answer.as_bytes().len() > LONGEST + 1 {
+            return self.text.extend_from_slice(b"\n");
+        }
+        self.text.extend_from_slice(ARROW)?;
+        self.text.extend_from_slice(answer.as_bytes())
+    }
+
+    /// Writes an event, and its answer. It says whether there was a label for it.
+    fn write_event(&mut self, event: &Event) -> Result<bool, AllocError> {
+        let event = fitting(event);
+        let EventLine::Line(line, binds) = line_of_event(&self.namings, &event) else {
+            self.text.extend_from_slice(LABELS_USED)?;
+            return Ok(false);
+        };
+        if let Event::Close(client) = &event {
+            self.namings.close(*client);
+        }
+        let outcome = self.device.step(event);
+        if let Some(place) = binds {
+            if let Ok(Answer::Opened { client }) = &outcome {
+                self.namings.bind(place, *client);
+            }
+        }
+        self.write_line(&line, &outcome)?;
+        Ok(true)
+    }
+}
+
+/// The events of a journal as a script (own).
+///
+/// Its first line sets the limits, and behind each event stands ` -> ` with the answer that an empty device, which is given with
+/// those limits, gives it in its turn. A client has a label while it is open, and after that until another one takes it. An answer
+/// with which the line would be longer than 255 bytes is left out. A call that is by itself too long for a line, which is one of
+/// a lease of ids that no device has, is written by its bare number, and is denied as well.
+pub fn journal_of(
+    alloc: Global,
+    events: &[Event],
+    limits: Limits,
+    device: Device,
+) -> Result<Journal, AllocError> {
+    let mut writing = Writing {
+        device,
+        namings: Namings::new(),
+        text: Vec::new(alloc),
+    };
+    writing
+        .text
+        .extend_from_slice(limits_line(limits).as_bytes())?;
+    writing.text.extend_from_slice(b"\n")?;
+    let mut is_whole = true;
+    for event in events {
+        if !writing.write_event(event)? {
+            is_whole = false;
+            break;
+        }
+    }
+    Ok(Journal {
+        text: writing.text,
+        is_whole,
+    })
+}

@@ -1,0 +1,65 @@
+//! The device that is served.
+
+ghost use Rattle.std.specs.Prelude.{◌≡◌, true, IfOk};
+ghost use Rattle.drm_table.specs.Limits.{are_in_range};
+
+use crate::faults::Fault;
+use crate::limits::limits_of;
+use drm_device::{Device, Limits, NewFault, Topology};
+use drm_runs::make_device;
+use drm_topologies::read_topology;
+use log::{Log, error};
+use std::alloc::Global;
+use std::fs;
+use std::rt::Files;
+
+/// The limits that the command line sets, or the program's.
+pub(crate) fn asked_limits<R: Log>(rt: &R, numbers: Option<&str>) -> Result<Limits, Fault>
+    ensures { IfOk result (λ limits. are_in_range limits ≡ true) }
+{
+    let Some(numbers) = numbers else {
+        return Ok(Limits::PROGRAM);
+    };
+    let Some(limits) = limits_of(numbers) else {
+        error!(rt; "--limits wants eight numbers: clients 1 to 1024; handles, names, tokens and objects 1 to 65535 each; framebuffers and lessees 1 to 64 each; journal 2 to 100000");
+        return Err(Fault::CommandLine);
+    };
+    Ok(limits)
+}
+
+/// The topology of a file.
+fn topology_of<R: Files + AllocGlobal + Log>(rt: &R, path: &str) -> Result<Topology, Fault> {
+    let text = match fs::read(rt, path) {
+        Ok(text) => text,
+        Err(reason) => {
+            error!(rt; "{path}: {reason}");
+            return Err(Fault::Read);
+        }
+    };
+    match read_topology(text.as_slice()) {
+        Ok(topology) => Ok(topology),
+        Err(line) => {
+            error!(rt; "{path}:{}: {}", line.number, line.cause);
+            Err(Fault::ScriptLine(line.number))
+        }
+    }
+}
+
+/// An empty device with these limits, and the topology of a file, or the test topology.
+pub(crate) fn asked_device<R: Files + AllocGlobal + Log>(
+    rt: &R,
+    alloc: Global,
+    topology: Option<&str>,
+    limits: Limits,
+) -> Result<Device, Fault>
+    requires { are_in_range limits ≡ true }
+{
+    let Some(path) = topology else {
+        return make_device(alloc, limits).ok_or(Fault::Memory);
+    };
+    match Device::new(alloc, topology_of(rt, path)?, limits) {
+        Ok(device) => Ok(device),
+        Err(NewFault::NoMemory) => Err(Fault::Memory),
+        Err(NewFault::BadLimits) => unreachable!(),
+    }
+}

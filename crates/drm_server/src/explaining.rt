@@ -1,0 +1,126 @@
+//! Explaining a script.
+
+use crate::checking::{fault_of, open, tell_end};
+use crate::command_line::Explaining;
+use crate::faults::{Fault, FaultLine};
+use crate::outcomes::{Outcome, outcome_of_fault};
+use crate::recording::{Recording, Stop, record};
+use drm_explanations::{Explanation, Labels, explain, lines_of};
+use drm_runs::{ScriptEnd, test_topology};
+use drm_script::Label;
+use drm_streams::{ToWrite, put_all};
+use log::{Log, error};
+use std::alloc::Global;
+use std::io;
+use std::rt::Files;
+
+/// How many reads and how many writes are made at most.
+const MOST_TURNS: u64 = 1_000_000;
+
+/// The client of a word: of a label, or of a number.
+fn client_of(labels: &Labels, word: &str) -> Option<u64> {
+    match word.as_bytes() {
+        [letter] if Label::from_letter(*letter).is_some() => {
+            let label = Label::from_letter(*letter)?;
+            Some(u64::from(labels[label.place()]))
+        }
+        _ => word.parse().ok(),
+    }
+}
+
+/// The client of which alone is told, if one is named. A word that names no client of the script is refused.
+fn only_of<R: Log>(
+    rt: &R,
+    explaining: &Explaining<'_>,
+    explanation: &Explanation,
+    labels: &Labels,
+) -> Result<Option<u64>, Fault> {
+    let Some(word) = explaining.client else {
+        return Ok(None);
+    };
+    match client_of(labels, word) {
+        Some(client) if explanation.client(client).is_some() => Ok(Some(client)),
+        _ => {
+            let path = explaining.path;
+            error!(rt; "{path}: no client was opened as {word}");
+            Err(Fault::CommandLine)
+        }
+    }
+}
+
+/// The explanation as JSON, with a line end.
+fn json_of(alloc: Global, explanation: Explanation, only: Option<u64>) -> Result<String, Fault> {
+    let mut explanation = explanation;
+    if let Some(client) = only {
+        explanation.retain_client(client);
+    }
+    let Ok(mut text) = serde_json::to_string_pretty(alloc, &explanation) else {
+        return Err(Fault::Memory);
+    };
+    text.push('\n').map_err(|_| Fault::Memory)?;
+    Ok(text)
+}
+
+/// What is told of a recording.
+fn text_of<R: Log>(
+    rt: &R,
+    alloc: Global,
+    explaining: &Explaining<'_>,
+    recording: &Recording,
+) -> Result<String, Fault> {
+    let topology = test_topology();
+    let labels = &recording.labels;
+    let explanation = explain(alloc, &recording.ledger, &topology, labels).map_err(
+        |_| Fault::Memory,
+    )?;
+    let only = only_of(rt, explaining, &explanation, labels)?;
+    if explaining.is_json {
+        return json_of(alloc, explanation, only);
+    }
+    lines_of(alloc, &explanation, &topology, labels, only).map_err(|_| Fault::Memory)
+}
+
+/// The outcome of a script that could not be recorded: a malformed one is told of as a check tells it.
+fn outcome_of_stop<R: Print + Log>(rt: &R, path: &str, stop: Stop) -> Outcome {
+    let Stop { end, cause } = stop;
+    match tell_end(rt, path, &end, cause) {
+        Ok(()) => Outcome {
+            status: 2,
+            line: FaultLine::empty(),
+        },
+        Err(fault) => outcome_of_fault(fault),
+    }
+}
+
+fn write_text<R: Print>(rt: &R, text: &str) -> Result<(), Fault> {
+    let mut sink = ToWrite::new(io::writer(rt));
+    let mut turns = MOST_TURNS;
+    fault_of(put_all(&mut sink, text.as_bytes(), &mut turns))
+}
+
+/// Explains what the clients of a script have, on standard output.
+pub(crate) fn explain_script<R: Files + Print + Log>(
+    rt: &R,
+    alloc: Global,
+    explaining: Explaining<'_>,
+) -> Outcome {
+    let mut source = match open(rt, explaining.path) {
+        Ok(source) => source,
+        Err(fault) => return outcome_of_fault(fault),
+    };
+    let recording = match record(alloc, &mut source, MOST_TURNS) {
+        Ok(recording) => recording,
+        Err(stop) => return outcome_of_stop(rt, explaining.path, stop),
+    };
+    let told = match text_of(rt, alloc, &explaining, &recording) {
+        Ok(text) => write_text(rt, text.as_str()),
+        Err(fault) => Err(fault),
+    };
+    match told {
+        Ok(()) => Outcome {
+            status: 0,
+            line: FaultLine::empty(),
+        },
+        Err(fault) => outcome_of_fault(fault),
+    }
+}

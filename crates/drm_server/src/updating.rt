@@ -1,0 +1,61 @@
+//! Writing into files what is answered.
+
+use crate::faults::{Fault, FaultLine};
+use crate::outcomes::{Outcome, outcome_of_fault};
+use drm_checks::{UpdateFault, update_script};
+use log::{Log, error};
+use std::alloc::Global;
+use std::rt::Files;
+use std::{fs, io};
+
+fn read_fault<R: Log>(rt: &R, path: &str, reason: &io::Error) -> Fault {
+    error!(rt; "{path}: {reason}");
+    Fault::Read
+}
+
+/// Updates a file, which is left as it was where a line of it can't be used.
+fn update_file<R: Files + AllocGlobal + Log>(
+    rt: &R,
+    alloc: Global,
+    path: &str,
+) -> Result<(), Fault> {
+    let text = match fs::read(rt, path) {
+        Ok(text) => text,
+        Err(reason) => return Err(read_fault(rt, path, &reason)),
+    };
+    let updated = match update_script(alloc, text.as_slice()) {
+        Ok(updated) => updated,
+        Err(UpdateFault::NoMemory) => return Err(Fault::Memory),
+        Err(UpdateFault::Malformed(number, cause)) => {
+            error!(rt; "{path}:{number}: {cause}");
+            return Err(Fault::ScriptLine(number));
+        }
+    };
+    if updated.as_slice() == text.as_slice() {
+        return Ok(());
+    }
+    match fs::write(rt, path, updated.as_slice()) {
+        Ok(()) => Ok(()),
+        Err(reason) => {
+            error!(rt; "{path}: {reason}");
+            Err(Fault::Write)
+        }
+    }
+}
+
+/// Updates each file, up to the first that can't be.
+pub(crate) fn update<R: Files + AllocGlobal + Log>(
+    rt: &R,
+    alloc: Global,
+    paths: &[&str],
+) -> Outcome {
+    for path in paths {
+        if let Err(fault) = update_file(rt, alloc, path) {
+            return outcome_of_fault(fault);
+        }
+    }
+    Outcome {
+        status: 0,
+        line: FaultLine::empty(),
+    }
+}
