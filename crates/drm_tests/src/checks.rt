@@ -71,14 +71,16 @@ const FILES: [File<'static>; 9] = [
             open a card -> client 1\n\
             a gem_close 7 -> denied 2\n\
             a gem_close 7 -> denied 22 \n\
+            a gem_close 7 -> denied 22\r\n\
             a gem_close 7 -> denied\n",
         end: ScriptEnd::Done,
         passed: 1,
-        failed: 3,
+        failed: 4,
         told: b"\
             f:2: expected denied 2, came denied 22 NoHandleToClose 22\n\
-            f:3: expected denied 22 , came denied 22 NoHandleToClose 22\n\
-            f:4: expected denied, came denied 22 NoHandleToClose 22\n",
+            f:3: expected denied 22\\x20, came denied 22 NoHandleToClose 22\n\
+            f:4: expected denied 22\\r, came denied 22 NoHandleToClose 22\n\
+            f:5: expected denied, came denied 22 NoHandleToClose 22\n",
     },
     File {
         text: b"open a card -> client 1 -> client 1\n",

@@ -1,19 +1,27 @@
 //! Devices by their public calls: what makes one, what it notes and tells, and what is replayed. Scripts show the rest.
 
 use crate::lists::{named, row};
-use drm_device::{Device, NewFault, ReplayFault, Topology, replay};
+use drm_device::{Device, NewFault, PlaneKind, ReplayFault, Topology, replay};
 use drm_table::{Answer, Apart, AuditKind, Call, Event, Limits, Opening, Rule};
 use std::alloc::{AllocError, Global};
 use std::process::Abort;
 use std::test::Fail;
 
-const CARD: Event = Event::Open(Opening::Primary { root: false });
+const CARD: Event = Event::Open(Opening::Primary {
+    root: false,
+    universal: true,
+});
 
-const ROOT: Event = Event::Open(Opening::Primary { root: true });
+const ROOT: Event = Event::Open(Opening::Primary {
+    root: true,
+    universal: true,
+});
 
-/// Two CRTCs, a plane and a connector for each, and two encoders, of which the first may drive both.
+/// Two CRTCs, a plane and a connector for each, the first CRTC's as its primary plane, and two encoders, of which the first may
+/// drive both.
 pub(crate) fn test_topology() -> Result<Topology, Fail> {
-    Ok(Topology::new(2, &[1, 2], &[3, 2], &[5, 6]).ok_or("no topology")?)
+    let kinds = [PlaneKind::Primary(1), PlaneKind::Overlay];
+    Ok(Topology::with_kinds(2, &[1, 2], &kinds, &[3, 2], &[5, 6]).ok_or("no topology")?)
 }
 
 pub(crate) fn new_device(alloc: Global, limits: Limits) -> Result<Device, Fail> {
@@ -70,7 +78,11 @@ fn open(opening: Event, client: u32) -> Told {
 }
 
 const fn redeem(token: u32) -> Event {
-    Event::Open(Opening::Lease { token, root: false })
+    Event::Open(Opening::Lease {
+        token,
+        root: false,
+        universal: true,
+    })
 }
 
 /// Client 1, which is current, makes two leases. Client 4 opens by the first, and shows a framebuffer; then client 1 revokes

@@ -106,7 +106,10 @@ fn reads_back(rt: &impl Abort, written: &[u8], says: &[Answer]) -> Result<(), Fa
 
 /// Client 1 makes a lease, with the token 1, of CRTC 2, plane 4 and connector 8.
 fn lend(rt: &impl Abort, device: &mut Device) {
-    let opened = device.step(Event::Open(Opening::Primary { root: false }));
+    let opened = device.step(Event::Open(Opening::Primary {
+        root: false,
+        universal: true,
+    }));
     assert_eq!(rt; opened, Ok(Answer::Opened { client: 1 }));
     let ids = named(&[2, 4, 8]);
     let leased = device.step(Event::Ask(1, Call::CreateLease { ids }));

@@ -15,7 +15,10 @@ const LINES: &[u8] =
 /// A device that one client has opened, with one buffer.
 fn device(alloc: Global) -> Result<Device, Fail> {
     let events = [
-        Event::Open(Opening::Primary { root: false }),
+        Event::Open(Opening::Primary {
+            root: false,
+            universal: true,
+        }),
         Event::Ask(
             1,
             Call::CreateDumb {

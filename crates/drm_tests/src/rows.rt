@@ -5,6 +5,7 @@ pub(crate) mod devices;
 pub(crate) mod leases;
 pub(crate) mod masters;
 pub(crate) mod modes;
+pub(crate) mod planes;
 pub(crate) mod sharing;
 
 use std::fmt;

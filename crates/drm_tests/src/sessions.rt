@@ -34,6 +34,17 @@ const BY_TOKEN: &[u8] = b"\x0e\0\0\0\0\x01\x01\0\0\0\x01\0\0\0\0\0\0\0\x02\0\0\0
 /// The answer to that hello.
 const NO_LEASE_TOKEN: &[u8] = b"\x0a\0\0\0\0\x20\x2a\0\0\0\x02\0\0\0";
 
+/// A hello of version 2 for a node, and SET_CLIENT_CAP of universal planes.
+const HELLO_2_AND_CAPABILITY: &[u8] =
+    b"\x0e\0\0\0\0\x01\x02\0\0\0\0\0\0\0\0\0\0\0\x12\0\0\0\x0d\0\x02\0\0\0\0\0\0\0\x01\0\0\0\0\0\0\0";
+
+/// Client 1 was opened, and the capability is set.
+const OPENED_AND_DONE: &[u8] = b"\x06\0\0\0\x01\x10\x01\0\0\0\x02\0\0\0\0\x10";
+
+/// The same with a version that there is not.
+const HELLO_3: &[u8] =
+    b"\x0e\0\0\0\0\x01\x03\0\0\0\0\0\0\0\0\0\0\0\x12\0\0\0\x0d\0\x02\0\0\0\0\0\0\0\x01\0\0\0\0\0\0\0";
+
 const MANY_TURNS: u64 = 1_000_000;
 
 const PIECES: [usize; 4] = [1, 2, 3, 7];
@@ -87,8 +98,18 @@ const NOTHING: Case<'static> = Case {
     ..WHOLE
 };
 
-const CASES: [Case<'static>; 24] = [
+const CASES: [Case<'static>; 26] = [
     WHOLE,
+    Case {
+        input: HELLO_2_AND_CAPABILITY,
+        written: OPENED_AND_DONE,
+        ..WHOLE
+    },
+    Case {
+        input: HELLO_3,
+        end: SessionEnd::BadHello,
+        ..NOTHING
+    },
     Case {
         class: Class::Render,
         ..WHOLE

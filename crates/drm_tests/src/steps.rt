@@ -11,6 +11,7 @@ use crate::rows::devices::DEVICES;
 use crate::rows::leases::LEASES;
 use crate::rows::masters::MASTERS;
 use crate::rows::modes::MODES;
+use crate::rows::planes::PLANES;
 use crate::rows::sharing::SHARING;
 use crate::rows::{Place, Row};
 use drm_checks::{is_met, parts_of};
@@ -215,4 +216,9 @@ fn mode_objects_and_framebuffers(rt: HostRuntime) -> Result<(), Fail> {
 #[test]
 fn leases(rt: HostRuntime) -> Result<(), Fail> {
     check_rows(&rt, rt.alloc(), &LEASES)
+}
+
+#[test]
+fn universal_planes(rt: HostRuntime) -> Result<(), Fail> {
+    check_rows(&rt, rt.alloc(), &PLANES)
 }

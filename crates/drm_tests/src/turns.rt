@@ -23,7 +23,10 @@ fn shared(alloc: Global, limits: Limits) -> Result<(SharedDevice, Seat), Fail>
     }
 }
 
-const CARD: Event = Event::Open(Opening::Primary { root: false });
+const CARD: Event = Event::Open(Opening::Primary {
+    root: false,
+    universal: true,
+});
 
 const OPENED: Result<Answer, Apart> = Ok(Answer::Opened { client: 1 });
 

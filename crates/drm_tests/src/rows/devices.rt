@@ -98,7 +98,7 @@ pub(crate) const DEVICES: [Row; 11] = [
             a get_cap 1 -> number 1\n\
             a get_cap 5 -> number 3\n\
             a get_cap 2 -> denied 41 BadCap 22\n\
-            a set_client_cap 2 1 -> denied 41 BadCap 22\n\
+            a set_client_cap 2 1 -> done\n\
             a raw 65535 -> denied 1 Unknown 22\n\
             a raw 0 -> denied 2 Layout 22\n\
             z version -> denied 3 NoClient 22",

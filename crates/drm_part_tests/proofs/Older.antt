@@ -1,0 +1,129 @@
+-- What the tests know of masters and leases stays so.
+use Rattle.std.proofs.Common.{◌≡◌, ℕ, ◌+◌, ◌<◌, Bool, true, false, not, ◌&&◌, List, [], ◌∷◌, map, find, Option, None, Some, Result, Ok, Err, refl, sym, ap, subst, ◌∙◌, arith}
+use Rattle.std.specs.Prelude.{IfSome, if◌then◌else◌}
+use Rattle.std.specs.List.{AllByRecursion}
+use Rattle.std.specs.Option.{is_some, option_map, option_map_or}
+use Rattle.drm_lists.specs.Chains.{is_under}
+use Rattle.drm_lists.proofs.Lists.{all_weaker, all_append, all_filter, all_mapped, all_each}
+use Rattle.drm_lists.proofs.Rising.{found, all_found}
+use Rattle.drm_modes.specs.Modes.{ModeSet}
+use Rattle.drm_masters.specs.declared.rows.Master.{Master}
+use Rattle.drm_masters.specs.declared.rows.Member.{Member}
+use Rattle.drm_masters.specs.Masters.{MasterSet, AreMasters, is_key, is_birth, master_at, lessor_of, is_living, swept, IsKeyOf}
+use Rattle.drm_masters.specs.Calls as masters_calls
+use Rattle.drm_leases.specs.declared.faults.LeaseFault.{LeaseFault}
+use Rattle.drm_leases.specs.declared.faults.LeaseFault.TheVariants.{Denied, NoMemory}
+use Rattle.drm_leases.specs.declared.rows.Grant.{Grant}
+use Rattle.drm_leases.specs.declared.rows.LeaseToken.{LeaseToken}
+use Rattle.drm_leases.specs.declared.rows.Leased.{Leased}
+use Rattle.drm_leases.specs.Leases.{LeaseSet, is_token}
+use Rattle.drm_leases.specs.Rules.{leased}
+use Rattle.drm_leases.specs.Calls.{IsNewLessee, Created, grant, lease_token, listed_objects, without_token, ended}
+use Rattle.drm_part_tests.specs.Older.{IsBefore, HasRoom}
+
+later_still : {X : Type 0} (f : X → ℕ) (n : ℕ) (xs : List X) → AllByRecursion (λ x. f x < n) xs → AllByRecursion (λ x. f x < n + 1) xs
+later_still f n xs h = all_weaker (λ x. f x < n) (λ x. f x < n + 1) (λ x lt. omega (arith, lt)) xs h
+
+pub later : (v : MasterSet) (n : ℕ) → IsBefore v n → IsBefore v (n + 1)
+later v n h = record { births = later_still (λ (x : Master). x.birth) n v.masters h.births; clients = later_still (λ (x : Member). x.client) n v.members h.clients; few = h.few }
+
+pub later_lessees : (l : LeaseSet) (n : ℕ) → IsNewLessee l n → IsNewLessee l (n + 1)
+later_lessees l n h = record { tokens = later_still (λ (row : LeaseToken). row.master) n l.tokens h.tokens; grants = later_still (λ (g : Grant). g.master) n l.grants h.grants }
+
+-- ---- leases made
+
+module _ (l : LeaseSet) (v : MasterSet) (s : ModeSet) (m : ℕ) (universal : Bool) (ids : List ℕ) (birth : ℕ) where
+  pub created_before : (result : Result Leased LeaseFault) (l2 : LeaseSet) (v2 : MasterSet) → IsBefore v birth → Created l v s m universal ids birth result l2 v2 → IsBefore v2 (birth + 1)
+  created_before (Ok made) l2 v2 h c =
+      let z = masters_calls.lessee c.4.0 birth m made.id in
+      let k = later v birth h in
+      subst (λ (w : MasterSet). IsBefore w (birth + 1)) (sym c.4.2)
+      (record { births = all_append (λ (x : Master). x.birth < birth + 1) v.masters (z ∷ []) k.births (omega arith, tt); clients = k.clients; few = k.few })
+  created_before (Err (Denied rule)) l2 v2 h c = subst (λ (w : MasterSet). IsBefore w (birth + 1)) (sym c.2) (later v birth h)
+  created_before (Err NoMemory) l2 v2 h c = subst (λ (w : MasterSet). IsBefore w (birth + 1)) (sym c.2) (later v birth h)
+
+  pub created_lessees : (result : Result Leased LeaseFault) (l2 : LeaseSet) (v2 : MasterSet) → IsNewLessee l birth → Created l v s m universal ids birth result l2 v2 → IsNewLessee l2 (birth + 1)
+  created_lessees (Ok made) l2 v2 h c =
+      let k = later_lessees l birth h in
+      let objects = listed_objects s.topology (leased l v s m universal ids) in
+      subst (λ (w : LeaseSet). IsNewLessee w (birth + 1)) (sym c.3)
+      (record {
+        tokens = all_append (λ (row : LeaseToken). row.master < birth + 1) l.tokens (lease_token made.token birth ∷ []) k.tokens (omega arith, tt);
+        grants = all_append (λ (g : Grant). g.master < birth + 1) l.grants (map (grant birth) objects) k.grants (all_mapped (λ (g : Grant). g.master < birth + 1) (grant birth) objects (all_each (λ x. (grant birth x).master < birth + 1) (λ x. omega arith) objects));
+      })
+  created_lessees (Err (Denied rule)) l2 v2 h c = subst (λ (w : LeaseSet). IsNewLessee w (birth + 1)) (sym c.1) (later_lessees l birth h)
+  created_lessees (Err NoMemory) l2 v2 h c = subst (λ (w : LeaseSet). IsNewLessee w (birth + 1)) (sym c.1) (later_lessees l birth h)
+
+  pub created_room : (result : Result Leased LeaseFault) (l2 : LeaseSet) (v2 : MasterSet) → Created l v s m universal ids birth result l2 v2 → (n : ℕ) → HasRoom v n → HasRoom v2 n
+  created_room (Ok made) l2 v2 c n h = subst (λ (w : MasterSet). HasRoom w n) (sym c.4.2) h
+  created_room (Err (Denied rule)) l2 v2 c n h = subst (λ (w : MasterSet). HasRoom w n) (sym c.2) h
+  created_room (Err NoMemory) l2 v2 c n h = subst (λ (w : MasterSet). HasRoom w n) (sym c.2) h
+
+-- what is so of a client that is there
+pub of_some : {X : Type 0} (o : Option X) (P : X → Type 0) (Q : Type 0) → is_some o ≡ true → IfSome o P → ((x : X) → P x → Q) → Q
+of_some None P Q h k f = absurd (let e : false ≡ true = h in cc)
+of_some (Some x) P Q h k f = f x k
+
+-- ---- what goes
+
+released_older : (v : MasterSet) (top n : ℕ) → IsBefore v n → IsBefore (swept (masters_calls.released_under top v)) n
+released_older v top n h =
+    let g = λ (x : Master). if is_under (lessor_of v.masters) top x.birth then masters_calls.kept_as false x else x in
+    let now = map g v.masters in
+    let older = λ (x : Master) (lt : x.birth < n). elim (is_under (lessor_of v.masters) top x.birth) as (λ b. (if b then masters_calls.kept_as false x else x).birth < n) [ true ↦ lt | false ↦ lt ] in
+    record {
+      births = all_filter (λ (x : Master). x.birth < n) (λ (x : Master). is_living v.members now x.birth) now (all_mapped (λ (x : Master). x.birth < n) g v.masters (all_weaker (λ (x : Master). x.birth < n) (λ x. (g x).birth < n) older v.masters h.births));
+      clients = h.clients;
+      few = h.few;
+    }
+
+pub ended_before : (v v2 : MasterSet) (top n : ℕ) → IsBefore v n → v2 ≡ swept (masters_calls.released_under top v) → IsBefore v2 n
+ended_before v v2 top n h e = subst (λ (w : MasterSet). IsBefore w n) (sym e) (released_older v top n h)
+
+pub ended_lessees : (l l2 : LeaseSet) (masters : List Master) (top n : ℕ) → IsNewLessee l n → l2 ≡ ended masters top l → IsNewLessee l2 n
+ended_lessees l l2 masters top n h e =
+    let under = is_under (lessor_of masters) top in
+    subst (λ (w : LeaseSet). IsNewLessee w n) (sym e)
+    (record {
+      tokens = all_filter (λ (row : LeaseToken). row.master < n) (λ (row : LeaseToken). not (under row.master)) l.tokens h.tokens;
+      grants = all_filter (λ (g : Grant). g.master < n) (λ (g : Grant). not (under g.master)) l.grants h.grants;
+    })
+
+pub spent_lessees : (l l2 : LeaseSet) (t n : ℕ) → IsNewLessee l n → l2 ≡ without_token t l → IsNewLessee l2 n
+spent_lessees l l2 t n h e =
+    subst (λ (w : LeaseSet). IsNewLessee w n) (sym e) (record { tokens = all_filter (λ (row : LeaseToken). row.master < n) (λ (row : LeaseToken). not (is_token t row)) l.tokens h.tokens; grants = h.grants })
+
+-- ---- a client comes
+
+pub entered_before : (v v2 : MasterSet) (c m : ℕ) → IsBefore v c → v2 ≡ masters_calls.redeemed c m v → IsBefore v2 (c + 1)
+entered_before v v2 c m h e =
+    let k = later v c h in
+    let g = λ (x : Master). if is_birth m x then masters_calls.kept_as false x else x in
+    let older = λ (x : Master) (lt : x.birth < c + 1). elim (is_birth m x) as (λ b. (if b then masters_calls.kept_as false x else x).birth < c + 1) [ true ↦ lt | false ↦ lt ] in
+    subst (λ (w : MasterSet). IsBefore w (c + 1)) (sym e)
+    (record {
+      births = all_mapped (λ (x : Master). x.birth < c + 1) g v.masters (all_weaker (λ (x : Master). x.birth < c + 1) (λ x. (g x).birth < c + 1) older v.masters k.births);
+      clients = all_append (λ (x : Member). x.client < c + 1) v.members (masters_calls.redeemer c m ∷ []) k.clients (omega arith, tt);
+      few = k.few;
+    })
+
+pub same_before : (v v2 : MasterSet) (c : ℕ) → IsBefore v c → v2 ≡ v → IsBefore v2 (c + 1)
+same_before v v2 c h e = subst (λ (w : MasterSet). IsBefore w (c + 1)) (sym e) (later v c h)
+
+-- a master of a birth is the master of its key
+pub of_its_key : (v : MasterSet) → AreMasters v → (b : ℕ) (x : Master) → master_at v.masters b ≡ Some x → IsKeyOf v.masters b x.key → find (is_key x.key) v.masters ≡ Some x
+of_its_key v are b x at keyed = by_row (find (is_key x.key) v.masters) refl keyed
+  where
+    by_row : (o : Option Master) → find (is_key x.key) v.masters ≡ o → option_map (λ (y : Master). y.birth) o ≡ Some b → find (is_key x.key) v.masters ≡ Some x
+    by_row None e h = absurd (let n : None ≡ Some b = h in cc)
+    by_row (Some y) e h =
+        let num : y.birth ≡ b = let s : Some y.birth ≡ Some b = h in cc in
+        let here = (found (is_key x.key) (λ (z : Master). master_at v.masters z.birth ≡ Some z) y v.masters (all_found (λ (z : Master). z.birth) v.masters are.masters_rise) e).1 in
+        e ∙ sym here ∙ ap (master_at v.masters) num ∙ at
+
+pub unredeemed : (v : MasterSet) → AreMasters v → (b : ℕ) (x : Master) → master_at v.masters b ≡ Some x → IsKeyOf v.masters b x.key → x.kept ≡ true → is_some x.lessor ≡ true → option_map_or (λ (y : Master). y.kept && is_some y.lessor) (find (is_key x.key) v.masters) false ≡ true
+unredeemed v are b x at keyed kept lessee = ap (λ o. option_map_or (λ (y : Master). y.kept && is_some y.lessor) o false) (of_its_key v are b x at keyed) ∙ ap (λ k. k && is_some x.lessor) kept ∙ lessee
+
+-- the first client
+pub opened_before : (v : MasterSet) (key : ℕ) → v ≡ masters_calls.with_device (Some 1) (masters_calls.with_member (masters_calls.owner 1 1) (masters_calls.with_master (masters_calls.own_master key 1) (record { members = []; masters = []; device_master = None; last_magic = 4; last_lessee = 4 }))) → IsBefore v 2 × HasRoom v 1
+opened_before v key e = subst (λ (w : MasterSet). IsBefore w 2 × HasRoom w 1) (sym e) (record { births = (omega arith, tt); clients = (omega arith, tt); few = omega arith }, omega arith)

@@ -1,0 +1,675 @@
+//! The lines of scripts: what each says, why one can't be used, and the lines of answers and rows.
+
+use crate::lists::{list_of, named, page_of, resources_of, row};
+use arrayvec::ArrayString;
+use drm_script::{
+    Command, LINE, Label, Malformation, Reading, audit_line, line_of, malformation_of, push_number,
+    read_line,
+};
+use drm_table::{Answer, Apart, AuditKind, AuditRow, Call, Limits, Opening, Rule};
+use std::alloc::Global;
+use std::process::Abort;
+use std::test::Fail;
+
+fn check_command(rt: &impl Abort, line: &[u8], command: Command) {
+    assert_eq!(rt; read_line(line), Reading::Says(command));
+}
+
+/// Lines by which the client of label a asks.
+const ASKS: [(&[u8], Call); 38] = [
+    (b"a version", Call::Version),
+    (b"a gem_close 7", Call::GemClose { handle: 7 }),
+    (
+        b"a gem_close 0000000000000000000000007",
+        Call::GemClose { handle: 7 },
+    ),
+    (
+        b"a create_dumb 64 48 32",
+        Call::CreateDumb {
+            width: 64,
+            height: 48,
+            bpp: 32,
+        },
+    ),
+    (
+        b"a audit 1 0",
+        Call::Audit {
+            kind: AuditKind::Client,
+            from: 0,
+        },
+    ),
+    (
+        b"a audit 010 4294967295",
+        Call::Audit {
+            kind: AuditKind::Device,
+            from: 4_294_967_295,
+        },
+    ),
+    (b"a get_cap 1", Call::GetCap { cap: 1 }),
+    (
+        b"a buf_create 18446744073709551615",
+        Call::BufCreate { size: u64::MAX },
+    ),
+    (
+        b"a stamp_read 4294967295",
+        Call::StampRead { handle: u32::MAX },
+    ),
+    (b"a list_handles 0", Call::ListHandles { from: 0 }),
+    (b"a destroy_dumb 1", Call::DestroyDumb { handle: 1 }),
+    (
+        b"a set_client_cap 2 18446744073709551615",
+        Call::SetClientCap {
+            cap: 2,
+            value: u64::MAX,
+        },
+    ),
+    (
+        b"a stamp_write 1 77",
+        Call::StampWrite {
+            handle: 1,
+            stamp: 77,
+        },
+    ),
+    (b"a gem_flink 1", Call::GemFlink { handle: 1 }),
+    (b"a gem_open 4294967295", Call::GemOpen { name: u32::MAX }),
+    (b"a prime_export 1", Call::PrimeHandleToFd { handle: 1 }),
+    (b"a prime_import 1", Call::PrimeFdToHandle { token: 1 }),
+    (b"a token_close 1", Call::TokenClose { token: 1 }),
+    (b"a token_close 0", Call::TokenClose { token: 0 }),
+    (b"a get_magic", Call::GetMagic),
+    (b"a auth_magic 1", Call::AuthMagic { magic: 1 }),
+    (
+        b"a auth_magic 4294967295",
+        Call::AuthMagic { magic: u32::MAX },
+    ),
+    (b"a set_master", Call::SetMaster),
+    (b" a  drop_master ", Call::DropMaster),
+    (b"a getresources", Call::GetResources),
+    (b"a getcrtc 1", Call::GetCrtc { crtc: 1 }),
+    (b"a getencoder 5", Call::GetEncoder { encoder: 5 }),
+    (b"a getconnector 8", Call::GetConnector { connector: 8 }),
+    (
+        b"a getfb 4294967295",
+        Call::GetFb {
+            framebuffer: u32::MAX,
+        },
+    ),
+    (b"a getplaneresources", Call::GetPlaneResources),
+    (b" a  getplane  3 ", Call::GetPlane { plane: 3 }),
+    (
+        b"a setcrtc 1 9 7",
+        Call::SetCrtc {
+            crtc: 1,
+            framebuffer: 9,
+            connector: 7,
+        },
+    ),
+    (
+        b"a addfb 64 32 256 24 1",
+        Call::AddFb {
+            width: 64,
+            height: 32,
+            pitch: 256,
+            bpp: 24,
+            handle: 1,
+        },
+    ),
+    (b"a rmfb 9", Call::RmFb { framebuffer: 9 }),
+    (
+        b"a setplane 3 1 9",
+        Call::SetPlane {
+            plane: 3,
+            crtc: 1,
+            framebuffer: 9,
+        },
+    ),
+    (b"a list_lessees", Call::ListLessees),
+    (b" a  get_lease ", Call::GetLease),
+    (b"a revoke_lease 1", Call::RevokeLease { lessee: 1 }),
+];
+
+/// Numbers of calls that have a row, and of some that have none.
+const NUMBERS: [u16; 28] = [
+    0, 2, 10, 11, 17, 30, 31, 45, 46, 64, 67, 69, 160, 161, 162, 166, 167, 173, 174, 175, 178, 181,
+    182, 183, 198, 199, 200, 201,
+];
+
+const OTHER_NUMBERS: [u16; 11] = [1, 3, 29, 32, 47, 159, 163, 184, 197, 202, 65535];
+
+fn check_call(rt: &impl Abort, line: &[u8], label: Label, call: Call) {
+    check_command(rt, line, Command::Ask { label, call });
+}
+
+/// A call by its bare number, which has no fields.
+fn check_number(
+    rt: &impl Abort,
+    alloc: Global,
+    label: Label,
+    number: u16,
+    call: Call,
+) -> Result<(), Fail> {
+    let line = format!(in alloc; "a raw {number}")?;
+    check_call(rt, line.as_bytes(), label, call);
+    Ok(())
+}
+
+#[test]
+fn calls_are_read(rt: HostRuntime) -> Result<(), Fail> {
+    let a = Label::from_letter(b'a').ok_or("a letter")?;
+    for (line, call) in &ASKS {
+        check_call(&rt, line, a, call.clone()?);
+    }
+    for number in NUMBERS {
+        check_number(&rt, rt.alloc(), a, number, Call::BadLayout(number))?;
+    }
+    for number in OTHER_NUMBERS {
+        check_number(&rt, rt.alloc(), a, number, Call::Unknown(number))?;
+    }
+    Ok(())
+}
+
+#[test]
+fn leases_are_read(rt: HostRuntime) -> Result<(), Fail> {
+    let a = Label::from_letter(b'a').ok_or("a letter")?;
+    let many =
+        b"a create_lease 1 2 3 4 5 6 7 8 9 10 11 12 13 14 15 16 17 18 19 20 21 22 23 24 25 26 27 28 29 30 31 32 33";
+    let mut ids = [0; 32];
+    for place in 0..32u32 {
+        ids[place as usize] = place + 1;
+    }
+    let rows: [(&[u8], &[u32]); 4] = [
+        (b"a create_lease 2 4  008 ", &[2, 4, 8]),
+        (b"a create_lease 4294967295", &[u32::MAX]),
+        (b"a create_lease", &[]),
+        (many.split_at(101).0, &ids),
+    ];
+    for (line, ids) in rows {
+        check_call(&rt, line, a, Call::CreateLease { ids: named(ids) });
+    }
+    Ok(())
+}
+
+/// Openings and closings, by the letter of their label.
+const fn opening_by(token: Option<u32>, root: bool, universal: bool) -> Opening {
+    match token {
+        Some(token) => Opening::Lease {
+            token,
+            root,
+            universal,
+        },
+        None => Opening::Primary { root, universal },
+    }
+}
+
+/// This line opens, or closes where there is no opening.
+fn check_label(
+    rt: &impl Abort,
+    line: &[u8],
+    letter: u8,
+    opening: Option<Opening>,
+) -> Result<(), Fail> {
+    let label = Label::from_letter(letter).ok_or("no letter")?;
+    assert_eq!(rt; label.place(), if letter == b'z' { 25 } else { 0 });
+    let command = match opening {
+        Some(opening) => Command::Open { label, opening },
+        None => Command::Close { label },
+    };
+    check_command(rt, line, command);
+    Ok(())
+}
+
+/// Openings by the label `a`, with the lease token that they may have, whether they are root's, and whether universal planes are on.
+const OPENINGS: [(&[u8], u8, Option<u32>, bool, bool); 8] = [
+    (b"open2 a card", b'a', None, false, false),
+    (b" open2  z  root", b'z', None, true, false),
+    (b"open2 a lease 2", b'a', Some(2), false, false),
+    (b"open2 z rootlease 3", b'z', Some(3), true, false),
+    (b"open a card", b'a', None, false, true),
+    (b"open z root", b'z', None, true, true),
+    (b"open a lease 1", b'a', Some(1), false, true),
+    (
+        b"open a rootlease 4294967295",
+        b'a',
+        Some(u32::MAX),
+        true,
+        true,
+    ),
+];
+
+#[test]
+fn openings_are_read(rt: HostRuntime) -> Result<(), Fail> {
+    for (line, letter, token, root, universal) in OPENINGS {
+        let opening = opening_by(token, root, universal);
+        check_label(&rt, line, letter, Some(opening))?;
+    }
+    check_label(&rt, b"open a render", b'a', Some(Opening::Render))?;
+    check_label(&rt, b"open2 a render", b'a', Some(Opening::Render))
+}
+
+#[test]
+fn closings_are_read(rt: HostRuntime) -> Result<(), Fail> {
+    check_label(&rt, b"close a", b'a', None)?;
+    check_label(&rt, b"  close   z  ", b'z', None)
+}
+
+const LIMITS: [(&[u8], Limits); 2] = [
+    (
+        b"limits 4 8 9 3 10 5 6 50",
+        Limits {
+            clients: 4,
+            handles: 8,
+            names: 9,
+            tokens: 3,
+            objects: 10,
+            framebuffers: 5,
+            lessees: 6,
+            journal: 50,
+        },
+    ),
+    (
+        b"limits 1024 65535 65535 65535 65535 64 64 100000",
+        Limits {
+            clients: 1024,
+            ..Limits::PROGRAM
+        },
+    ),
+];
+
+#[test]
+fn limits_are_read(rt: HostRuntime) {
+    for (line, limits) in LIMITS {
+        assert_eq!(rt; read_line(line), Reading::Limits(limits));
+    }
+}
+
+const BLANK: [&[u8]; 5] = [b"", b" ", b"# any text", b"#\ttab", &[b' '; 255]];
+
+#[test]
+fn blank_lines_are_read(rt: HostRuntime) {
+    for line in BLANK {
+        assert_eq!(rt; read_line(line), Reading::Skipped);
+    }
+}
+
+/// Lines that can't be used, with the reason.
+const REASONS: [(&[u8], Malformation); 60] = [
+    (&[b'#'; 256], Malformation::TooLong),
+    (&[b' '; 256], Malformation::TooLong),
+    (&[0xc8; 256], Malformation::TooLong),
+    (b"# \xc8", Malformation::NotAscii),
+    (b"close \xc8\r", Malformation::NotAscii),
+    (b"close a\r", Malformation::CarriageReturn),
+    (b"\ta version\r", Malformation::CarriageReturn),
+    (b"close\ta", Malformation::Tab),
+    (b"\t", Malformation::Tab),
+    (b"fly", Malformation::FirstWord),
+    (b" # no comment", Malformation::FirstWord),
+    (b"A version", Malformation::FirstWord),
+    (b"-> done", Malformation::FirstWord),
+    (b"close A", Malformation::Label),
+    (b"close a\0", Malformation::Label),
+    (b"open aa card", Malformation::Label),
+    (b"open a primary", Malformation::Opening),
+    (b"a versions", Malformation::Call),
+    (b"a VERSION", Malformation::Call),
+    (b"a version\0", Malformation::Call),
+    (b"a raws 7", Malformation::Call),
+    (b"a -> done", Malformation::Call),
+    (b"open", Malformation::TooFewFields),
+    (b"open a", Malformation::TooFewFields),
+    (b"open a lease", Malformation::TooFewFields),
+    (b"close", Malformation::TooFewFields),
+    (b"a", Malformation::TooFewFields),
+    (b"a gem_close", Malformation::TooFewFields),
+    (b"a audit 1", Malformation::TooFewFields),
+    (b"a addfb 64 64 256 32", Malformation::TooFewFields),
+    (b"a raw", Malformation::TooFewFields),
+    (b"limits", Malformation::TooFewFields),
+    (b"limits 4 8 8 8 8 4 4", Malformation::TooFewFields),
+    (b"open a card 1", Malformation::TooManyFields),
+    (b"open a lease 1 2", Malformation::TooManyFields),
+    (b"close a a", Malformation::TooManyFields),
+    (b"a version 1", Malformation::TooManyFields),
+    (b"a audit 1 0 0", Malformation::TooManyFields),
+    (b"a raw 1 1", Malformation::TooManyFields),
+    (
+        b"a create_lease 1 2 3 4 5 6 7 8 9 10 11 12 13 14 15 16 17 18 19 20 21 22 23 24 25 26 27 28 29 30 31 32 33",
+        Malformation::TooManyFields,
+    ),
+    (b"limits 4 8 8 8 8 4 4 50 1", Malformation::TooManyFields),
+    (
+        b"open a lease 4294967296",
+        Malformation::Number(4_294_967_295),
+    ),
+    (b"open a rootlease one", Malformation::Number(4_294_967_295)),
+    (b"a gem_close +1", Malformation::Number(4_294_967_295)),
+    (b"a gem_close -1", Malformation::Number(4_294_967_295)),
+    (b"a gem_close 1_000", Malformation::Number(4_294_967_295)),
+    (
+        b"a gem_close 4294967296",
+        Malformation::Number(4_294_967_295),
+    ),
+    (
+        b"a get_cap 18446744073709551616",
+        Malformation::Number(18_446_744_073_709_551_615),
+    ),
+    (
+        b"a stamp_write 1 0x10",
+        Malformation::Number(18_446_744_073_709_551_615),
+    ),
+    (b"a audit client 0", Malformation::Number(4_294_967_295)),
+    (
+        b"a create_lease 1 2 4294967296",
+        Malformation::Number(4_294_967_295),
+    ),
+    (b"a raw 65536", Malformation::Number(65_535)),
+    (
+        b"limits 4 8 8 8 8 4 4 4294967296",
+        Malformation::Number(4_294_967_295),
+    ),
+    (b"a audit 0 0", Malformation::AuditKind),
+    (b"a audit 11 0", Malformation::AuditKind),
+    (b"limits 0 8 8 8 8 4 4 50", Malformation::LimitRange),
+    (b"limits 4 8 8 8 8 65 4 50", Malformation::LimitRange),
+    (b"limits 4 8 8 8 8 4 4 1", Malformation::LimitRange),
+    (b"close \xc8", Malformation::NotAscii),
+    (b"close a\t", Malformation::Tab),
+];
+
+/// More lines that can't be used.
+const MALFORMED: &str = "\
+    close aa\n\
+    a gem_close 18446744073709551617\n\
+    a audit\n\
+    a audit 1 4294967296\n\
+    limits 1025 8 8 8 8 4 4 50\n\
+    limits 4 65536 8 8 8 4 4 50\n\
+    a get_magic 1\n\
+    a get_magics\n\
+    a auth_magic\n\
+    a auth_magic 1 1\n\
+    a auth_magic 4294967296\n\
+    a set_master 1\n\
+    a set_maste\n\
+    a drop_master 1\n\
+    a drop_masters\n\
+    a SET_MASTER\n\
+    a getresources 1\n\
+    a mode_getresources\n\
+    a getcrtc\n\
+    a getcrtc 1 1\n\
+    a getcrtc 4294967296\n\
+    a setcrtc 1 9\n\
+    a setcrtc 1 9 7 0\n\
+    a setcrtc 1 9 4294967296\n\
+    a getencoder\n\
+    a getconnector 8 1\n\
+    a getfb\n\
+    a addfb 64 32 256 24\n\
+    a addfb 64 32 256 24 1 1\n\
+    a rmfb\n\
+    a rmfb 1 1\n\
+    a getplaneresources 1\n\
+    a getplaneresource\n\
+    a getplane -1\n\
+    a setplane 3 1\n\
+    a setplane 3 1 9 0\n\
+    a create_lease 1 x\n\
+    a create_lease 4294967296\n\
+    a create_lease 1,2\n\
+    a list_lessees 1\n\
+    a get_lease 1\n\
+    a revoke_lease\n\
+    a revoke_lease 1 1\n\
+    a revoke_lease 4294967296\n\
+    a mode_revoke_lease 1\n\
+    a gem_flink\n\
+    a gem_flink 1 1\n\
+    a gem_flink 4294967296\n\
+    a gem_flin 1\n\
+    a gem_open\n\
+    a gem_open 1 1\n\
+    a gem_open 4294967296\n\
+    a prime_export\n\
+    a prime_export 1 0\n\
+    a prime_export 4294967296\n\
+    a prime_import\n\
+    a prime_import 1 0\n\
+    a prime_import 4294967296\n\
+    a prime_handle_to_fd 1\n\
+    a prime_fd_to_handle 1\n\
+    a token_close\n\
+    a token_close 1 1\n\
+    a token_close 4294967296\n\
+    a get_cap\n\
+    a set_client_cap 2\n\
+    a set_client_cap 2 1 0\n\
+    a buf_create -1\n\
+    a stamp_write 1\n\
+    a stamp_write 4294967296 0\n\
+    a stamp_write 1 18446744073709551616\n\
+    a stamp_read 4294967296\n\
+    a list_handles\n\
+    a list_handles 4294967296\n\
+    a destroy_dumb 1 1\n\
+    a destroy_dum 1";
+
+#[test]
+fn other_lines_are_malformed(rt: HostRuntime) {
+    for (line, reason) in REASONS {
+        assert_eq!(rt; read_line(line), Reading::Malformed);
+        assert_eq!(rt; malformation_of(line), reason);
+    }
+    let late = malformation_of(b"limits 4 8 8 8 8 4 4 50");
+    assert_eq!(rt; late, Malformation::LateLimits);
+    for line in MALFORMED.lines() {
+        assert_eq!(rt; read_line(line.as_bytes()), Reading::Malformed, "{line}");
+    }
+}
+
+/// The texts of the reasons.
+const TEXTS: [(Malformation, &str); 14] = [
+    (Malformation::TooLong, "it has more than 255 bytes"),
+    (Malformation::NotAscii, "it has a byte above 127"),
+    (Malformation::CarriageReturn, "it has a carriage return"),
+    (
+        Malformation::Tab,
+        "it has a tab, and spaces alone separate words",
+    ),
+    (
+        Malformation::FirstWord,
+        "its first word is no label from a to z, and none of limits, open, open2 and close",
+    ),
+    (
+        Malformation::Label,
+        "its second word is no label from a to z",
+    ),
+    (
+        Malformation::Opening,
+        "its third word is none of card, root, render, lease and rootlease",
+    ),
+    (Malformation::Call, "its second word is no call"),
+    (Malformation::TooFewFields, "it has too few fields"),
+    (Malformation::TooManyFields, "it has too many fields"),
+    (
+        Malformation::Number(65_535),
+        "a field is no number from 0 to 65535",
+    ),
+    (Malformation::AuditKind, "there is no audit of this kind"),
+    (Malformation::LimitRange, "a limit is out of its range"),
+    (
+        Malformation::LateLimits,
+        "it sets limits behind the first line that isn't skipped",
+    ),
+];
+
+#[test]
+fn texts_of_reasons(rt: HostRuntime) -> Result<(), Fail> {
+    let alloc: Global = rt.alloc();
+    for (reason, text) in TEXTS {
+        let told = format!(in alloc; "{reason}")?;
+        assert_eq!(rt; told.as_str(), text);
+    }
+    Ok(())
+}
+
+/// Answers with their lines.
+const ANSWERS: [(Result<Answer, Apart>, &[u8]); 20] = [
+    (Ok(Answer::Done), b"done\n"),
+    (Ok(Answer::Closed), b"closed\n"),
+    (Ok(Answer::Opened { client: 1 }), b"client 1\n"),
+    (
+        Ok(Answer::Version {
+            major: 1,
+            minor: 0,
+            patch: 0,
+        }),
+        b"version 1 0 0\n",
+    ),
+    (
+        Ok(Answer::Dumb {
+            handle: 2,
+            pitch: 524_288,
+            size: 34_359_214_080,
+        }),
+        b"dumb 2 524288 34359214080\n",
+    ),
+    (
+        Ok(Answer::Denied(Rule::NoHandleToClose)),
+        b"denied 22 NoHandleToClose 22\n",
+    ),
+    (
+        Ok(Answer::Denied(Rule::NotYourLessee)),
+        b"denied 37 NotYourLessee 13\n",
+    ),
+    (Ok(Answer::Denied(Rule::Full)), b"denied 43 Full 28\n"),
+    (
+        Ok(Answer::Denied(Rule::MasterBusy)),
+        b"denied 27 MasterBusy 16\n",
+    ),
+    (Err(Apart::JournalFull), b"apart 50 JournalFull 28\n"),
+    (Err(Apart::NoMemory), b"apart 51 NoMemory 12\n"),
+    (Err(Apart::Worn), b"apart 52 Worn 28\n"),
+    (Ok(Answer::Number { value: 3 }), b"number 3\n"),
+    (
+        Ok(Answer::Number { value: u64::MAX }),
+        b"number 18446744073709551615\n",
+    ),
+    (
+        Ok(Answer::Buffer {
+            handle: 1,
+            size: 8192,
+        }),
+        b"buffer 1 8192\n",
+    ),
+    (
+        Ok(Answer::Plane {
+            framebuffer: 9,
+            mask: 1,
+        }),
+        b"plane 9 1\n",
+    ),
+    (
+        Ok(Answer::Plane {
+            framebuffer: 0,
+            mask: u32::MAX,
+        }),
+        b"plane 0 4294967295\n",
+    ),
+    (
+        Ok(Answer::Framebuffer {
+            width: 64,
+            height: 32,
+            pitch: 256,
+            bpp: 24,
+            handle: 1,
+        }),
+        b"framebuffer 64 32 256 24 1\n",
+    ),
+    (Ok(Answer::Lease { id: 1, token: 1 }), b"lease 1 1\n"),
+    (
+        Ok(Answer::Lease {
+            id: 3,
+            token: u32::MAX,
+        }),
+        b"lease 3 4294967295\n",
+    ),
+];
+
+/// The line of an answer, and its length at most.
+fn check_line(rt: &impl Abort, outcome: &Result<Answer, Apart>, text: &[u8]) {
+    let line = line_of(outcome);
+    assert_eq!(rt; line.as_bytes(), text);
+    assert!(rt; line.as_bytes().len() <= LINE);
+}
+
+#[test]
+fn answers_have_their_lines(rt: HostRuntime) {
+    for (outcome, text) in &ANSWERS {
+        check_line(&rt, outcome, text);
+    }
+}
+
+#[test]
+fn lists_have_their_lines(rt: HostRuntime) {
+    check_line(&rt, &list_of(&[]), b"list -\n");
+    check_line(&rt, &list_of(&[7]), b"list 7\n");
+    check_line(&rt, &list_of(&[1, 3]), b"list 1,3\n");
+    check_line(
+        &rt,
+        &resources_of([&[], &[], &[], &[]]),
+        b"crtcs - connectors - encoders - framebuffers -\n",
+    );
+    check_line(
+        &rt,
+        &resources_of([&[1, 2], &[7, 8], &[5, 6], &[]]),
+        b"crtcs 1,2 connectors 7,8 encoders 5,6 framebuffers -\n",
+    );
+    check_line(
+        &rt,
+        &resources_of([&[], &[8], &[], &[9, 4_294_967_295]]),
+        b"crtcs - connectors 8 encoders - framebuffers 9,4294967295\n",
+    );
+}
+
+#[test]
+fn pages_have_their_lines(rt: HostRuntime) {
+    check_line(&rt, &page_of(&[]), b"rows 0\n");
+    check_line(&rt, &page_of(&[row(1, 0, 0, 0)]), b"rows 1 | 1 0 0 0\n");
+    check_line(
+        &rt,
+        &page_of(&[row(1, 28, 1, 0), row(2, 0, 1, 0), row(7, 6, 1, 0)]),
+        b"rows 3 | 1 28 1 0 | 2 0 1 0 | 7 6 1 0\n",
+    );
+}
+
+#[test]
+fn longest_answers_have_lines_of_their_lengths(rt: HostRuntime) {
+    let ids = [u32::MAX; 64];
+    assert_eq!(rt; line_of(&list_of(&ids)).as_bytes().len(), 709);
+    let resources = resources_of([&ids, &ids, &ids, &ids]);
+    assert_eq!(rt; line_of(&resources).as_bytes().len(), 2855);
+    let page = page_of(&[row(u64::MAX, u64::MAX, u64::MAX, u64::MAX); 16]);
+    assert_eq!(rt; line_of(&page).as_bytes().len(), 1_384);
+}
+
+#[test]
+fn rows_and_numbers_have_their_texts(rt: HostRuntime) {
+    let rows: [(AuditKind, AuditRow, &[u8]); 3] = [
+        (AuditKind::Client, row(1, 28, 1, 0), b"client 1 28 1 0\n"),
+        (
+            AuditKind::Framebuffer,
+            row(1, 2, 3, u64::MAX),
+            b"framebuffer 1 2 3 18446744073709551615\n",
+        ),
+        (AuditKind::Device, row(0, 10, 2, 7), b"device 0 10 2 7\n"),
+    ];
+    for (kind, row, text) in rows {
+        assert_eq!(rt; audit_line(kind, &row).as_bytes(), text);
+    }
+    let mut text = ArrayString::<64>::new();
+    text.push_str("turns ");
+    push_number(&mut text, 0);
+    push_number(&mut text, u64::MAX);
+    assert_eq!(rt; text.as_str(), "turns 018446744073709551615");
+}

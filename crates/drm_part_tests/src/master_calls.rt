@@ -1,0 +1,352 @@
+//! Calls of masters as data, each made where it may be.
+
+ghost use Rattle.std.specs.Prelude.{◌≡◌, ◌<◌, true, length, IfSome};
+ghost use Rattle.drm_masters.specs.Calls.{IsNewClient, IsNewBirth};
+ghost use Rattle.drm_masters.specs.Masters.{is_there};
+
+use drm_masters::{LesseeFault, Master, MasterKey, Masters, Member, SetDone, SetFault};
+use drm_table::Rule;
+
+/// A call. A client and a master are named by the steps that made them.
+#[derive(Clone, Copy)]
+pub(crate) enum Ask {
+    Open(u32),
+    /// A client opens by a lessee.
+    Redeem(u32, u32),
+    /// A client sets the device's master, by the step of a number.
+    Set(u32, u32),
+    SetAsRoot(u32, u32),
+    Drop(u32),
+    DropAsRoot(u32),
+    Magic(u32),
+    Auth(u32, u32),
+    Close(u32),
+    /// A master gets a lessee.
+    Lend(u32, u32),
+    Release(u32),
+    ReleaseUnder(u32),
+    DeviceMaster,
+    IsCurrent(u32),
+    IsLessee(u32),
+    MasterOf(u32),
+    Member(u32),
+    NthMember(usize),
+    Master(u32),
+    NthMaster(usize),
+    Lessor(u32),
+    /// A master's lessee of an id.
+    Lessee(u32, u32),
+    FreeLessee(u32),
+    LastLessee,
+    Depth(u32),
+    IsUnder(u32, u32),
+}
+
+/// What a call answers. `Unasked` is for a call that may not be made.
+#[derive(Clone, Copy, PartialEq, Eq, Debug)]
+pub(crate) enum Told {
+    Unasked,
+    Nothing,
+    Done,
+    Set(SetDone),
+    Number(u32),
+    Whether(bool),
+    /// A lessee and its id.
+    Lent(u32, u32),
+    Denied(Rule),
+    Full,
+    NoMemory,
+    Client(Member),
+    Master {
+        birth: u32,
+        lessor: Option<u32>,
+        lessee_id: u32,
+        kept: bool,
+    },
+}
+
+fn is_older_client(row: Option<Member>, client: u32) -> bool
+    ensures { result ≡ true → IfSome row (λ x. x.client < client) }
+{
+    match row {
+        Some(row) => row.client < client,
+        None => true,
+    }
+}
+
+fn is_older(row: Option<Master>, birth: u32) -> bool
+    ensures { result ≡ true → IfSome row (λ x. x.birth < birth) }
+{
+    match row {
+        Some(row) => row.birth < birth,
+        None => true,
+    }
+}
+
+/// Whether a client may open by a step: there are three at most, which are older.
+fn is_new_client(masters: &Masters, client: u32) -> bool
+    ensures older { result ≡ true → IsNewClient masters.now client }
+    ensures few { result ≡ true → length masters.now.members < 4 }
+{
+    let is_first = is_older_client(masters.nth_member(0), client);
+    let is_second = is_older_client(masters.nth_member(1), client);
+    let is_third = is_older_client(masters.nth_member(2), client);
+    let is_last = masters.nth_member(3).is_none();
+    is_last && is_first && is_second && is_third
+}
+
+/// Whether a step may make a master: there are three at most, which are older.
+fn is_new_birth(masters: &Masters, birth: u32) -> bool
+    ensures { result ≡ true → IsNewBirth masters.now birth }
+{
+    let is_first = is_older(masters.nth_master(0), birth);
+    let is_second = is_older(masters.nth_master(1), birth);
+    let is_third = is_older(masters.nth_master(2), birth);
+    let is_last = masters.nth_master(3).is_none();
+    is_last && is_first && is_second && is_third
+}
+
+/// The key of a master that is there.
+#[tactic(auto, using(crate::proofs::Keyed::there_keyed))]
+fn key_of(masters: &Masters, birth: u32) -> Option<MasterKey>
+    ensures { IfSome result (λ key. is_there masters.now.masters key ≡ true) }
+{
+    match masters.master(birth) {
+        Some(row) => Some(row.key),
+        None => None,
+    }
+}
+
+/// The master that has a key.
+fn birth_of(masters: &Masters, key: MasterKey) -> Option<u32> {
+    for place in 0..8usize {
+        let row = masters.nth_master(place)?;
+        if row.key == key {
+            return Some(row.birth);
+        }
+    }
+    None
+}
+
+fn told_number(number: Option<u32>) -> Told {
+    match number {
+        Some(number) => Told::Number(number),
+        None => Told::Nothing,
+    }
+}
+
+fn told_key(masters: &Masters, key: Option<MasterKey>) -> Told {
+    match key {
+        Some(key) => told_number(birth_of(masters, key)),
+        None => Told::Nothing,
+    }
+}
+
+fn told_client(row: Option<Member>) -> Told {
+    match row {
+        Some(row) => Told::Client(row),
+        None => Told::Nothing,
+    }
+}
+
+/// A master, if its key is its own.
+fn told_master(masters: &Masters, row: Option<Master>) -> Told {
+    let Some(row) = row else {
+        return Told::Nothing;
+    };
+    if birth_of(masters, row.key) != Some(row.birth) {
+        return Told::Unasked;
+    }
+    Told::Master {
+        birth: row.birth,
+        lessor: row.lessor,
+        lessee_id: row.lessee_id,
+        kept: row.kept,
+    }
+}
+
+fn opened(masters: &mut Masters, client: u32) -> Told
+    requires { masters.old.last_magic ≡ 4 }
+    ensures { masters.new.last_magic ≡ 4 }
+{
+    if !is_new_client(masters, client) || !is_new_birth(masters, client) {
+        return Told::Unasked;
+    }
+    match masters.on_open(client, client) {
+        Ok(made) => Told::Whether(made),
+        Err(_fault) => Told::NoMemory,
+    }
+}
+
+fn redeemed(masters: &mut Masters, client: u32, lessee: u32) -> Told
+    requires { masters.old.last_magic ≡ 4 }
+    ensures { masters.new.last_magic ≡ 4 }
+{
+    masters.laws();
+    let Some(row) = masters.master(lessee) else {
+        return Told::Unasked;
+    };
+    if !row.kept || row.lessor.is_none() || !is_new_client(masters, client) {
+        return Told::Unasked;
+    }
+    match masters.on_redeem(client, row.key) {
+        Ok(()) => Told::Done,
+        Err(_fault) => Told::NoMemory,
+    }
+}
+
+fn set(masters: &mut Masters, client: u32, root: bool, birth: u32) -> Told
+    requires { masters.old.last_magic ≡ 4 }
+    ensures { masters.new.last_magic ≡ 4 }
+{
+    if masters.member(client).is_none() || !is_new_birth(masters, birth) {
+        return Told::Unasked;
+    }
+    match masters.set(client, root, birth) {
+        Ok(done) => Told::Set(done),
+        Err(SetFault::Denied(rule)) => Told::Denied(rule),
+        Err(SetFault::NoMemory) => Told::NoMemory,
+    }
+}
+
+fn dropped(masters: &mut Masters, client: u32, root: bool) -> Told
+    requires { masters.old.last_magic ≡ 4 }
+    ensures { masters.new.last_magic ≡ 4 }
+{
+    if masters.member(client).is_none() {
+        return Told::Unasked;
+    }
+    match masters.drop_master(client, root) {
+        Ok(()) => Told::Done,
+        Err(rule) => Told::Denied(rule),
+    }
+}
+
+fn magic(masters: &mut Masters, client: u32) -> Told
+    requires { masters.old.last_magic ≡ 4 }
+    ensures { masters.new.last_magic ≡ 4 }
+{
+    if masters.member(client).is_none() {
+        return Told::Unasked;
+    }
+    match masters.magic(client) {
+        Ok(number) => Told::Number(number),
+        Err(_fault) => Told::NoMemory,
+    }
+}
+
+fn authenticated(masters: &mut Masters, client: u32, number: u32) -> Told
+    requires { masters.old.last_magic ≡ 4 }
+    ensures { masters.new.last_magic ≡ 4 }
+{
+    if masters.member(client).is_none() {
+        return Told::Unasked;
+    }
+    match masters.auth(client, number) {
+        Ok(client) => Told::Number(client),
+        Err(rule) => Told::Denied(rule),
+    }
+}
+
+fn closed(masters: &mut Masters, client: u32) -> Told
+    requires { masters.old.last_magic ≡ 4 }
+    ensures { masters.new.last_magic ≡ 4 }
+{
+    let key = masters.on_close(client);
+    told_key(masters, key)
+}
+
+fn lent(masters: &mut Masters, lessor: u32, birth: u32) -> Told
+    requires { masters.old.last_magic ≡ 4 }
+    ensures { masters.new.last_magic ≡ 4 }
+{
+    if !is_new_birth(masters, birth) {
+        return Told::Unasked;
+    }
+    let Some(key) = key_of(masters, lessor) else {
+        return Told::Unasked;
+    };
+    match masters.make_lessee(key, birth) {
+        Ok((key, id)) => match birth_of(masters, key) {
+            Some(birth) => Told::Lent(birth, id),
+            None => Told::Nothing,
+        },
+        Err(LesseeFault::Full) => Told::Full,
+        Err(LesseeFault::NoMemory) => Told::NoMemory,
+    }
+}
+
+fn released(masters: &mut Masters, master: u32) -> Told
+    requires { masters.old.last_magic ≡ 4 }
+    ensures { masters.new.last_magic ≡ 4 }
+{
+    let Some(key) = key_of(masters, master) else {
+        return Told::Unasked;
+    };
+    masters.release(key);
+    Told::Done
+}
+
+fn released_under(masters: &mut Masters, top: u32) -> Told
+    requires { masters.old.last_magic ≡ 4 }
+    ensures { masters.new.last_magic ≡ 4 }
+{
+    masters.release_under(top);
+    Told::Done
+}
+
+fn lessor_of(masters: &Masters, master: u32) -> Told {
+    let Some(key) = key_of(masters, master) else {
+        return Told::Unasked;
+    };
+    told_key(masters, masters.lessor_of(key))
+}
+
+fn lessee_of(masters: &Masters, owner: u32, id: u32) -> Told {
+    let Some(key) = key_of(masters, owner) else {
+        return Told::Unasked;
+    };
+    told_master(masters, masters.lessee(key, id))
+}
+
+/// Asks what changes nothing.
+fn told_of(masters: &Masters, ask: Ask) -> Told {
+    match ask {
+        Ask::DeviceMaster => told_number(masters.device_master()),
+        Ask::IsCurrent(client) => Told::Whether(masters.is_current(client)),
+        Ask::IsLessee(client) => Told::Whether(masters.is_lessee(client)),
+        Ask::MasterOf(client) => told_key(masters, masters.master_of(client)),
+        Ask::Member(client) => told_client(masters.member(client)),
+        Ask::NthMember(place) => told_client(masters.nth_member(place)),
+        Ask::Master(birth) => told_master(masters, masters.master(birth)),
+        Ask::NthMaster(place) => told_master(masters, masters.nth_master(place)),
+        Ask::Lessor(master) => lessor_of(masters, master),
+        Ask::Lessee(owner, id) => lessee_of(masters, owner, id),
+        Ask::FreeLessee(master) => told_number(masters.free_lessee(master)),
+        Ask::LastLessee => Told::Number(masters.last_lessee()),
+        Ask::Depth(master) => Told::Number(masters.depth(master)),
+        Ask::IsUnder(top, master) => Told::Whether(masters.is_under(top, master)),
+        _ => Told::Unasked,
+    }
+}
+
+pub(crate) fn asked(masters: &mut Masters, ask: Ask) -> Told
+    requires { masters.old.last_magic ≡ 4 }
+    ensures { masters.new.last_magic ≡ 4 }
+{
+    match ask {
+        Ask::Open(client) => opened(masters, client),
+        Ask::Redeem(client, lessee) => redeemed(masters, client, lessee),
+        Ask::Set(client, birth) => set(masters, client, false, birth),
+        Ask::SetAsRoot(client, birth) => set(masters, client, true, birth),
+        Ask::Drop(client) => dropped(masters, client, false),
+        Ask::DropAsRoot(client) => dropped(masters, client, true),
+        Ask::Magic(client) => magic(masters, client),
+        Ask::Auth(client, number) => authenticated(masters, client, number),
+        Ask::Close(client) => closed(masters, client),
+        Ask::Lend(lessor, birth) => lent(masters, lessor, birth),
+        Ask::Release(master) => released(masters, master),
+        Ask::ReleaseUnder(top) => released_under(masters, top),
+        _ => told_of(masters, ask),
+    }
+}

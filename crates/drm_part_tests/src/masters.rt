@@ -1,0 +1,383 @@
+//! Masters, magics and lessees, call by call.
+
+ghost use Rattle.std.specs.Prelude.{◌≡◌};
+
+use crate::master_calls::{Ask, Told, asked};
+use drm_masters::{Magic, Masters, Member, SetDone};
+use drm_table::Rule;
+use std::alloc::Global;
+use std::process::Abort;
+
+/// A call and its answer.
+type Case = (Ask, Told);
+
+/// Makes these calls in turn, and compares each answer.
+fn check(rt: &impl Abort, masters: &mut Masters, cases: &[Case])
+    requires { masters.old.last_magic ≡ 4 }
+    ensures { masters.new.last_magic ≡ 4 }
+{
+    for (place, (ask, told)) in cases.iter().enumerate() {
+        assert_eq!(rt; asked(masters, *ask), *told, "case {place}");
+    }
+}
+
+/// The same of new masters.
+fn check_new(rt: &impl Abort, alloc: Global, cases: &[Case]) {
+    let mut masters = Masters::new(alloc, 4, 4);
+    check(rt, &mut masters, cases);
+}
+
+/// The first client's master, which it founded.
+const OWNER: Told = Told::Master {
+    birth: 1,
+    lessor: None,
+    lessee_id: 0,
+    kept: false,
+};
+
+/// A client that is current by it.
+const CURRENT: Told = Told::Client(Member {
+    client: 1,
+    once_master: true,
+    is_master: true,
+    master: 1,
+    magic: None,
+});
+
+/// Client 1 is current, and clients 2 and 3 are guests of its master. A number is kept until its client closes, and then given
+/// again.
+const MAGICS: [Case; 22] = [
+    (Ask::Open(1), Told::Whether(true)),
+    (Ask::Open(2), Told::Whether(false)),
+    (Ask::Open(3), Told::Whether(false)),
+    (Ask::Magic(2), Told::Number(1)),
+    (Ask::Magic(2), Told::Number(1)),
+    (Ask::Auth(1, 1), Told::Number(2)),
+    (Ask::Auth(1, 1), Told::Denied(Rule::NoMagic)),
+    (Ask::Auth(1, 2), Told::Denied(Rule::NoMagic)),
+    (Ask::Magic(2), Told::Number(1)),
+    (Ask::Magic(1), Told::Number(2)),
+    (Ask::Close(2), Told::Nothing),
+    (Ask::Close(2), Told::Nothing),
+    (Ask::Magic(2), Told::Unasked),
+    (Ask::Magic(3), Told::Number(1)),
+    (Ask::Auth(3, 2), Told::Number(1)),
+    (Ask::IsCurrent(1), Told::Whether(true)),
+    (Ask::IsCurrent(3), Told::Whether(false)),
+    (Ask::IsCurrent(4), Told::Whether(false)),
+    (Ask::IsLessee(1), Told::Whether(false)),
+    (Ask::DeviceMaster, Told::Number(1)),
+    (Ask::Close(1), Told::Number(1)),
+    (Ask::DeviceMaster, Told::Nothing),
+];
+
+/// Clients 1 and 3 are two masters, each with magics of its own.
+const TWO_MASTERS: [Case; 8] = [
+    (Ask::Open(1), Told::Whether(true)),
+    (Ask::Drop(1), Told::Done),
+    (Ask::Open(3), Told::Whether(true)),
+    (Ask::Magic(3), Told::Number(1)),
+    (Ask::Magic(1), Told::Number(1)),
+    (Ask::Auth(3, 2), Told::Denied(Rule::NoMagic)),
+    (Ask::Auth(1, 1), Told::Number(1)),
+    (Ask::Auth(3, 1), Told::Number(3)),
+];
+
+/// A client that was authenticated sets a master of its own, and leaves its magic with the old one.
+const NEW_MASTER: [Case; 11] = [
+    (Ask::Open(1), Told::Whether(true)),
+    (Ask::Open(2), Told::Whether(false)),
+    (Ask::Magic(1), Told::Number(1)),
+    (Ask::Magic(2), Told::Number(2)),
+    (Ask::Drop(1), Told::Done),
+    (Ask::SetAsRoot(2, 6), Told::Set(SetDone::Made)),
+    (
+        Ask::Member(2),
+        Told::Client(Member {
+            client: 2,
+            once_master: true,
+            is_master: true,
+            master: 6,
+            magic: None,
+        }),
+    ),
+    (Ask::Auth(1, 2), Told::Denied(Rule::NoMagic)),
+    (Ask::Magic(2), Told::Number(1)),
+    (Ask::DeviceMaster, Told::Number(6)),
+    (Ask::IsCurrent(2), Told::Whether(true)),
+];
+
+#[test]
+fn magics_of_a_master(rt: HostRuntime) {
+    check_new(&rt, rt.alloc(), &MAGICS);
+    check_new(&rt, rt.alloc(), &TWO_MASTERS);
+    check_new(&rt, rt.alloc(), &NEW_MASTER);
+}
+
+/// Client 1 is current, and client 2 a guest.
+const DROPS: [Case; 10] = [
+    (Ask::Open(1), Told::Whether(true)),
+    (Ask::Open(2), Told::Whether(false)),
+    (Ask::Drop(2), Told::Denied(Rule::MasterPerm)),
+    (Ask::DropAsRoot(2), Told::Denied(Rule::NotCurrent)),
+    (Ask::DeviceMaster, Told::Number(1)),
+    (Ask::Drop(1), Told::Done),
+    (Ask::DeviceMaster, Told::Nothing),
+    (Ask::IsCurrent(1), Told::Whether(false)),
+    (Ask::Drop(1), Told::Denied(Rule::NotCurrent)),
+    (Ask::DropAsRoot(9), Told::Unasked),
+];
+
+/// Root takes a device that was left, and goes: the first client's master stays.
+const LEFT: [Case; 12] = [
+    (Ask::Open(1), Told::Whether(true)),
+    (Ask::Open(2), Told::Whether(false)),
+    (Ask::SetAsRoot(2, 3), Told::Denied(Rule::MasterBusy)),
+    (Ask::Drop(1), Told::Done),
+    (Ask::DeviceMaster, Told::Nothing),
+    (Ask::SetAsRoot(2, 5), Told::Set(SetDone::Made)),
+    (Ask::Set(1, 6), Told::Denied(Rule::MasterBusy)),
+    (Ask::IsCurrent(2), Told::Whether(true)),
+    (Ask::IsCurrent(1), Told::Whether(false)),
+    (Ask::Close(2), Told::Number(5)),
+    (Ask::DeviceMaster, Told::Nothing),
+    (
+        Ask::NthMaster(1),
+        Told::Master {
+            birth: 5,
+            lessor: None,
+            lessee_id: 0,
+            kept: true,
+        },
+    ),
+];
+
+/// A guest sets no master.
+const GUEST: [Case; 5] = [
+    (Ask::Open(1), Told::Whether(true)),
+    (Ask::Open(2), Told::Whether(false)),
+    (Ask::Set(2, 3), Told::Denied(Rule::MasterPerm)),
+    (Ask::DeviceMaster, Told::Number(1)),
+    (Ask::NthMaster(1), Told::Nothing),
+];
+
+/// A client sets its own master again.
+const SET_AGAIN: [Case; 5] = [
+    (Ask::Open(1), Told::Whether(true)),
+    (Ask::Drop(1), Told::Done),
+    (Ask::Set(1, 3), Told::Set(SetDone::Again)),
+    (Ask::Set(1, 4), Told::Set(SetDone::Already)),
+    (Ask::DeviceMaster, Told::Number(1)),
+];
+
+/// What is set once a client was authenticated.
+const SET_AFTER_MAGIC: [Case; 8] = [
+    (Ask::Open(1), Told::Whether(true)),
+    (Ask::Open(2), Told::Whether(false)),
+    (Ask::Magic(2), Told::Number(1)),
+    (Ask::Auth(1, 1), Told::Number(2)),
+    (Ask::Drop(1), Told::Done),
+    (Ask::SetAsRoot(2, 6), Told::Set(SetDone::Made)),
+    (Ask::DeviceMaster, Told::Number(6)),
+    (Ask::IsCurrent(2), Told::Whether(true)),
+];
+
+#[test]
+fn device_master_is_set_and_dropped(rt: HostRuntime) {
+    check_new(&rt, rt.alloc(), &DROPS);
+    check_new(&rt, rt.alloc(), &LEFT);
+    check_new(&rt, rt.alloc(), &GUEST);
+    check_new(&rt, rt.alloc(), &SET_AGAIN);
+    check_new(&rt, rt.alloc(), &SET_AFTER_MAGIC);
+}
+
+/// There is no lessee without an id.
+const NO_IDS: [Case; 5] = [
+    (Ask::Open(1), Told::Whether(true)),
+    (Ask::MasterOf(1), Told::Number(1)),
+    (Ask::MasterOf(2), Told::Nothing),
+    (Ask::Lessor(1), Told::Nothing),
+    (Ask::Lend(1, 2), Told::Full),
+];
+
+/// A master that was set leases.
+const SET_AND_LENT: [Case; 5] = [
+    (Ask::Open(1), Told::Whether(true)),
+    (Ask::Open(2), Told::Whether(false)),
+    (Ask::Drop(1), Told::Done),
+    (Ask::SetAsRoot(2, 6), Told::Set(SetDone::Made)),
+    (Ask::Lend(6, 7), Told::Lent(7, 1)),
+];
+
+/// A lessee is found below its owner, and the owner above it.
+const LENT: [Case; 11] = [
+    (Ask::Open(1), Told::Whether(true)),
+    (Ask::Lend(1, 7), Told::Lent(7, 1)),
+    (
+        Ask::Lessee(1, 1),
+        Told::Master {
+            birth: 7,
+            lessor: Some(1),
+            lessee_id: 1,
+            kept: true,
+        },
+    ),
+    (Ask::Lessee(1, 2), Told::Nothing),
+    (Ask::Depth(1), Told::Number(0)),
+    (Ask::Depth(7), Told::Number(1)),
+    (Ask::FreeLessee(1), Told::Number(2)),
+    (Ask::Lessor(7), Told::Number(1)),
+    (
+        Ask::Lessee(7, 1),
+        Told::Master {
+            birth: 7,
+            lessor: Some(1),
+            lessee_id: 1,
+            kept: true,
+        },
+    ),
+    (Ask::IsUnder(1, 7), Told::Whether(true)),
+    (Ask::IsUnder(7, 1), Told::Whether(false)),
+];
+
+/// A lessee is redeemed, and is current while the owner's master is the device's.
+const REDEEMED: [Case; 6] = [
+    (Ask::Open(1), Told::Whether(true)),
+    (Ask::Lend(1, 2), Told::Lent(2, 1)),
+    (Ask::Redeem(5, 2), Told::Done),
+    (Ask::IsCurrent(5), Told::Whether(true)),
+    (Ask::Drop(1), Told::Done),
+    (Ask::IsCurrent(5), Told::Whether(false)),
+];
+
+#[test]
+fn lessees_of_a_master(rt: HostRuntime) {
+    let mut masters = Masters::new(rt.alloc(), 4, 0);
+    check(&rt, &mut masters, &NO_IDS);
+    check_new(&rt, rt.alloc(), &SET_AND_LENT);
+    check_new(&rt, rt.alloc(), &LENT);
+    check_new(&rt, rt.alloc(), &REDEEMED);
+}
+
+/// A lessee that is released goes.
+const LESSEE_RELEASED: [Case; 5] = [
+    (Ask::Open(1), Told::Whether(true)),
+    (Ask::Lend(1, 2), Told::Lent(2, 1)),
+    (Ask::Release(2), Told::Done),
+    (Ask::NthMaster(0), OWNER),
+    (Ask::NthMaster(1), Told::Nothing),
+];
+
+/// An owner that is released stays under its lessee.
+const OWNER_STAYS: [Case; 6] = [
+    (Ask::Open(1), Told::Whether(true)),
+    (Ask::Lend(1, 2), Told::Lent(2, 1)),
+    (Ask::Close(1), Told::Number(1)),
+    (Ask::Release(1), Told::Done),
+    (Ask::NthMaster(0), OWNER),
+    (
+        Ask::NthMaster(1),
+        Told::Master {
+            birth: 2,
+            lessor: Some(1),
+            lessee_id: 1,
+            kept: true,
+        },
+    ),
+];
+
+/// Without a lessee it goes.
+const OWNER_GOES: [Case; 5] = [
+    (Ask::Open(1), Told::Whether(true)),
+    (Ask::Close(1), Told::Number(1)),
+    (Ask::DeviceMaster, Told::Nothing),
+    (Ask::Release(1), Told::Done),
+    (Ask::NthMaster(0), Told::Nothing),
+];
+
+/// A release reaches all below.
+const ALL_BELOW: [Case; 8] = [
+    (Ask::LastLessee, Told::Number(4)),
+    (Ask::Open(1), Told::Whether(true)),
+    (Ask::Lend(1, 2), Told::Lent(2, 1)),
+    (Ask::IsUnder(1, 2), Told::Whether(true)),
+    (Ask::IsUnder(2, 1), Told::Whether(false)),
+    (Ask::Close(1), Told::Number(1)),
+    (Ask::ReleaseUnder(1), Told::Done),
+    (Ask::NthMaster(0), Told::Nothing),
+];
+
+#[test]
+fn masters_are_released(rt: HostRuntime) {
+    check_new(&rt, rt.alloc(), &LESSEE_RELEASED);
+    check_new(&rt, rt.alloc(), &OWNER_STAYS);
+    check_new(&rt, rt.alloc(), &OWNER_GOES);
+    check_new(&rt, rt.alloc(), &ALL_BELOW);
+}
+
+/// A guest that was authenticated.
+const AUTHENTICATED: Told = Told::Client(Member {
+    client: 2,
+    once_master: false,
+    is_master: false,
+    master: 1,
+    magic: Some(Magic {
+        number: 1,
+        spent: true,
+    }),
+});
+
+/// The second lessee.
+const LESSEE: Told = Told::Master {
+    birth: 5,
+    lessor: Some(1),
+    lessee_id: 1,
+    kept: true,
+};
+
+/// Clients and masters stand in the order of their births.
+const ROWS: [Case; 15] = [
+    (Ask::Open(1), Told::Whether(true)),
+    (Ask::Open(2), Told::Whether(false)),
+    (Ask::Magic(2), Told::Number(1)),
+    (Ask::Auth(1, 1), Told::Number(2)),
+    (Ask::Lend(1, 5), Told::Lent(5, 1)),
+    (Ask::NthMember(0), CURRENT),
+    (Ask::NthMember(1), AUTHENTICATED),
+    (Ask::NthMember(2), Told::Nothing),
+    (Ask::Member(2), AUTHENTICATED),
+    (Ask::Member(5), Told::Nothing),
+    (Ask::NthMaster(0), OWNER),
+    (Ask::NthMaster(1), LESSEE),
+    (Ask::NthMaster(2), Told::Nothing),
+    (Ask::Master(5), LESSEE),
+    (Ask::Master(2), Told::Nothing),
+];
+
+#[test]
+fn rows_in_the_order_of_births(rt: HostRuntime) {
+    check_new(&rt, rt.alloc(), &ROWS);
+}
+
+/// What is there after a client that was refused, which then opens.
+const REFUSED: [Case; 4] = [
+    (Ask::NthMember(0), Told::Nothing),
+    (Ask::NthMaster(0), Told::Nothing),
+    (Ask::DeviceMaster, Told::Nothing),
+    (Ask::Open(1), Told::Whether(true)),
+];
+
+/// With ample memory nothing is refused. Where it is, as under `rt try --test --fail-alloc N`, nothing has changed, and the same call
+/// may be made again.
+#[test]
+fn a_refusal_changes_nothing(rt: HostRuntime) {
+    let mut masters = Masters::new(rt.alloc(), 4, 4);
+    if asked(&mut masters, Ask::Open(1)) == Told::NoMemory {
+        check(&rt, &mut masters, &REFUSED);
+    }
+    let second = [
+        (Ask::DeviceMaster, Told::Number(1)),
+        (Ask::Open(2), Told::Whether(false)),
+    ];
+    check(&rt, &mut masters, &second);
+}

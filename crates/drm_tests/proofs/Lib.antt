@@ -1,2 +1,0 @@
-mod Last
-mod Older
