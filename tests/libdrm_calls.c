@@ -5,6 +5,7 @@
  */
 #include <errno.h>
 #include <fcntl.h>
+#include <stdbool.h>
 #include <stdint.h>
 #include <stdio.h>
 #include <stdlib.h>
@@ -367,11 +368,12 @@ static int opened(const char *what, uint64_t lease)
     return -1;
 }
 
-static void open_label(char label, const char *what, uint64_t lease)
+/* `open` of a script opens with universal planes on, `open2` with universal planes off, as a program does. */
+static void open_label(char label, const char *what, uint64_t lease, bool universal)
 {
     int fd = opened(what, lease);
 
-    if (fd < 0) {
+    if (fd < 0 || (universal && strcmp(what, "render") != 0 && drmSetClientCap(fd, DRM_CLIENT_CAP_UNIVERSAL_PLANES, 1) != 0)) {
         denied(errno);
         return;
     }
@@ -418,8 +420,8 @@ static void carry_out(char *line)
         numbers[at] = strtoull(words[at], NULL, 10);
     if (count < 2)
         return;
-    if (strcmp(words[0], "open") == 0 && count > 2)
-        open_label(words[1][0], words[2], count > 3 ? numbers[3] : 0);
+    if (strcmp(words[0], "open") == 0 || strcmp(words[0], "open2") == 0)
+        open_label(words[1][0], words[2], count > 3 ? numbers[3] : 0, strcmp(words[0], "open") == 0);
     else if (strcmp(words[0], "close") == 0)
         close_label(words[1][0]);
     else

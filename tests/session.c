@@ -1,4 +1,5 @@
-/* One session of the C client over card, render, root and a lease: each call once, with its answer in a script's words. */
+/* Sessions of the C client, each call with its answer in a script's words: over card, render, root and a lease, where each call is
+ * made once, and over the card alone by both hellos. */
 #include "drm_client.h"
 
 #include <inttypes.h>
@@ -81,10 +82,10 @@ static void tell_dumb(struct zirkoshe_client *client)
     tell(client, failed, "dumb %" PRIu32 " %" PRIu32 " %" PRIu64, dumb.handle, dumb.pitch, dumb.size);
 }
 
-static void tell_lease(struct zirkoshe_client *client, const uint32_t *ids)
+static void tell_lease(struct zirkoshe_client *client, const uint32_t *ids, uint32_t count)
 {
     struct zirkoshe_lease lease = {0, 0};
-    int failed = zirkoshe_drmModeCreateLease(client, ids, 3, &lease);
+    int failed = zirkoshe_drmModeCreateLease(client, ids, count, &lease);
 
     tell(client, failed, "lease %" PRIu32 " %" PRIu32, lease.lessee_id, lease.token);
 }
@@ -119,9 +120,16 @@ static void make_buffers(struct zirkoshe_client *client)
     DONE(zirkoshe_drmCloseBufferHandle(client, 2));
 }
 
-static void show(struct zirkoshe_client *client)
+static void tell_plane(struct zirkoshe_client *client)
 {
     struct zirkoshe_plane plane = {0, 0};
+    int failed = zirkoshe_drmModeGetPlane(client, 3, &plane);
+
+    tell(client, failed, "plane %" PRIu32 " %" PRIu32, plane.fb_id, plane.possible_crtcs);
+}
+
+static void show(struct zirkoshe_client *client)
+{
     struct zirkoshe_fb fb = {0, 0, 0, 0, 0};
     int failed;
 
@@ -129,8 +137,7 @@ static void show(struct zirkoshe_client *client)
     DONE(zirkoshe_drmModeSetCrtc(client, 1, 9, 7));
     DONE(zirkoshe_drmModeSetPlane(client, 3, 1, 9));
     NUMBER(zirkoshe_drmModeGetCrtc(client, 1, &number));
-    failed = zirkoshe_drmModeGetPlane(client, 3, &plane);
-    tell(client, failed, "plane %" PRIu32 " %" PRIu32, plane.fb_id, plane.possible_crtcs);
+    tell_plane(client);
     failed = zirkoshe_drmModeGetFB(client, 9, &fb);
     tell(client, failed, "framebuffer %" PRIu32 " %" PRIu32 " %" PRIu32 " %" PRIu32 " %" PRIu32, fb.width, fb.height, fb.pitch,
          fb.bpp, fb.handle);
@@ -189,13 +196,13 @@ static void lend(struct zirkoshe_client *owner, struct zirkoshe_client *lessee, 
     struct zirkoshe_client late;
     struct zirkoshe_client *client = lessee;
 
-    tell_lease(owner, ids);
+    tell_lease(owner, ids, 3);
     open_lease(lessee, path);
     open_lease(&late, path);
     tell_all_resources(lessee);
     DONE(zirkoshe_drmModeSetCrtc(lessee, 1, 9, 7));
     LIST(zirkoshe_drmModeGetLease(lessee, &list));
-    tell_lease(owner, leased);
+    tell_lease(owner, leased, 3);
     client = owner;
     LIST(zirkoshe_drmModeListLessees(owner, &list));
     tell_grants(root);
@@ -218,6 +225,68 @@ static void end(struct zirkoshe_client *owner, struct zirkoshe_client *render)
     DONE(zirkoshe_drmSetMaster(owner));
 }
 
+static int make_session(const char *card_path, const char *render_path, const char *root_path)
+{
+    struct zirkoshe_client owner, render, root, lessee;
+
+    open_node(&owner, card_path);
+    make_buffers(&owner);
+    show(&owner);
+    share(&owner, &render, render_path);
+    authenticate(&owner, &root, root_path);
+    lend(&owner, &lessee, &root, card_path);
+    end(&owner, &render);
+    return zirkoshe_close(&lessee) | zirkoshe_close(&render) | zirkoshe_close(&root) | zirkoshe_close(&owner);
+}
+
+static void see_planes(struct zirkoshe_client *client)
+{
+    LIST(zirkoshe_drmModeGetPlaneResources(client, &list));
+    tell_plane(client);
+}
+
+static void switch_planes(struct zirkoshe_client *client, uint64_t is_on)
+{
+    DONE(zirkoshe_drmSetClientCap(client, 2, is_on));
+    see_planes(client);
+}
+
+static void open_by_hello_2(struct zirkoshe_client *client, const char *path)
+{
+    int failed = zirkoshe_open2(client, path, ZIRKOSHE_TIMEOUT);
+
+    tell(client, failed, "client %" PRIu32, client->number);
+}
+
+static void lend_with_planes_off(struct zirkoshe_client *owner, struct zirkoshe_client *lessee, const char *path)
+{
+    const uint32_t ids[] = {1, 7};
+    struct zirkoshe_client *client = lessee;
+    int failed;
+
+    tell_lease(owner, ids, 2);
+    failed = zirkoshe_open2_lease(lessee, path, 1, ZIRKOSHE_TIMEOUT);
+    tell(lessee, failed, "client %" PRIu32, lessee->number);
+    LIST(zirkoshe_drmModeGetLease(lessee, &list));
+    see_planes(lessee);
+    switch_planes(lessee, 1);
+}
+
+/* A client of each hello on one server. */
+static int make_planes_session(const char *path)
+{
+    struct zirkoshe_client old, new, lessee;
+
+    open_node(&old, path);
+    open_by_hello_2(&new, path);
+    see_planes(&old);
+    see_planes(&new);
+    switch_planes(&new, 1);
+    switch_planes(&old, 0);
+    lend_with_planes_off(&old, &lessee, path);
+    return zirkoshe_close(&old) | zirkoshe_close(&new) | zirkoshe_close(&lessee);
+}
+
 /* A connection with this time limit in milliseconds: what it gives is printed. */
 static int try_opening(const char *path, int timeout)
 {
@@ -230,20 +299,14 @@ static int try_opening(const char *path, int timeout)
 
 int main(int count, char **words)
 {
-    struct zirkoshe_client owner, render, root, lessee;
-    int failed;
-
-    if (count == 3)
+    switch (count) {
+    case 2:
+        return make_planes_session(words[1]) ? 1 : 0;
+    case 3:
         return try_opening(words[1], atoi(words[2]));
-    if (count != 4)
+    case 4:
+        return make_session(words[1], words[2], words[3]) ? 1 : 0;
+    default:
         return 2;
-    open_node(&owner, words[1]);
-    make_buffers(&owner);
-    show(&owner);
-    share(&owner, &render, words[2]);
-    authenticate(&owner, &root, words[3]);
-    lend(&owner, &lessee, &root, words[1]);
-    end(&owner, &render);
-    failed = zirkoshe_close(&lessee) | zirkoshe_close(&render) | zirkoshe_close(&root) | zirkoshe_close(&owner);
-    return failed ? 1 : 0;
+    }
 }

@@ -1,4 +1,5 @@
-//! One session of the Rust client over card, render, root and a lease: each call once, with its answer in a script's words.
+//! Sessions of the Rust client, each call with its answer in a script's words: over card, render, root and a lease, where each call
+//! is made once, and over the card alone by both hellos.
 #[path = "../clients/rust/drm_client.rs"]
 mod drm_client;
 
@@ -168,6 +169,34 @@ fn session(card: &str, render: &str, root: &str) -> Result<(), Error> {
     owner.close()
 }
 
+fn see_planes(client: &mut Client) {
+    tell(client.getplaneresources());
+    tell(client.getplane(3));
+}
+
+fn switch_planes(client: &mut Client, is_on: u64) {
+    tell(client.set_client_cap(2, is_on));
+    see_planes(client);
+}
+
+/// A client of each hello on one server.
+fn planes_session(card: &str) -> Result<(), Error> {
+    let mut old = opened(Client::open(card, DEFAULT_TIMEOUT))?;
+    let mut new = opened(Client::open2(card, DEFAULT_TIMEOUT))?;
+    see_planes(&mut old);
+    see_planes(&mut new);
+    switch_planes(&mut new, 1);
+    switch_planes(&mut old, 0);
+    tell(old.create_lease(&[1, 7]));
+    let mut lessee = opened(Client::open2_lease(card, 1, DEFAULT_TIMEOUT))?;
+    tell(lessee.get_lease());
+    see_planes(&mut lessee);
+    switch_planes(&mut lessee, 1);
+    old.close()?;
+    new.close()?;
+    lessee.close()
+}
+
 /// A connection with this time limit in milliseconds.
 fn try_opening(path: &str, timeout: &str) -> Result<(), Error> {
     opened(Client::open(path, Duration::from_millis(timeout.parse().unwrap_or(0))))?.close()
@@ -176,6 +205,7 @@ fn try_opening(path: &str, timeout: &str) -> Result<(), Error> {
 fn main() -> ExitCode {
     let words: Vec<String> = std::env::args().skip(1).collect();
     let ran = match words.as_slice() {
+        [card] => planes_session(card),
         [path, timeout] => try_opening(path, timeout),
         [card, render, root] => session(card, render, root),
         _ => return ExitCode::from(2),

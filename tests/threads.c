@@ -1,10 +1,10 @@
-/* A C client that two threads share: each asks another encoder 2,000 times, and the answers that are the other's are counted.
+/* A C client that two threads share: each asks another encoder 10,000 times, and the answers that are the other's are counted.
  * With a second word it asks once for the version, and prints what that gives. */
 #include "drm_client.h"
 
 #include <stdio.h>
 
-#define ASKED 2000
+#define ASKED 10000
 
 struct asker {
     struct zirkoshe_client *client;

@@ -1,4 +1,4 @@
-//! A Rust client behind a mutex that two threads share: each asks another encoder 2,000 times, and the answers that are the
+//! A Rust client behind a mutex that two threads share: each asks another encoder 10,000 times, and the answers that are the
 //! other's are counted. With a second word it asks once for the version, and prints what that gives.
 #[path = "../clients/rust/drm_client.rs"]
 mod drm_client;
@@ -8,7 +8,7 @@ use std::process::ExitCode;
 use std::sync::Mutex;
 use std::thread;
 
-const ASKED: usize = 2000;
+const ASKED: usize = 10_000;
 
 /// How many answers were the other thread's.
 fn ask(client: &Mutex<Client>, encoder: u32, possible_crtcs: u32) -> Result<usize, Error> {

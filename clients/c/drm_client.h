@@ -324,10 +324,11 @@ static inline int zirkoshe_prepare_turn(pthread_mutex_t *turn)
     return -failed;
 }
 
-/* Connects, and sends a hello: what is 0 for the node, 1 for a lease token. */
-static inline int zirkoshe_open_by(struct zirkoshe_client *client, const char *path, uint32_t what, uint32_t token, int timeout)
+/* Connects, and sends a hello of this version: what is 0 for the node, 1 for a lease token. */
+static inline int zirkoshe_open_by(struct zirkoshe_client *client, const char *path, uint32_t version, uint32_t what, uint32_t token,
+                                   int timeout)
 {
-    const uint64_t values[] = {1, what, token};
+    const uint64_t values[] = {version, what, token};
     uint64_t number;
     int failed;
 
@@ -353,13 +354,25 @@ static inline int zirkoshe_open_by(struct zirkoshe_client *client, const char *p
 /* Opens the node that the path is: the server's card, render or root socket. The time limit is in milliseconds. */
 static inline int zirkoshe_open(struct zirkoshe_client *client, const char *path, int timeout)
 {
-    return zirkoshe_open_by(client, path, 0, 0, timeout);
+    return zirkoshe_open_by(client, path, 1, 0, 0, timeout);
+}
+
+/* The same by a hello of version 2: the client has universal planes off, until it turns them on by zirkoshe_drmSetClientCap. */
+static inline int zirkoshe_open2(struct zirkoshe_client *client, const char *path, int timeout)
+{
+    return zirkoshe_open_by(client, path, 2, 0, 0, timeout);
 }
 
 /* Opens by a lease token, on the card or the root socket, and spends it. */
 static inline int zirkoshe_open_lease(struct zirkoshe_client *client, const char *path, uint32_t token, int timeout)
 {
-    return zirkoshe_open_by(client, path, 1, token, timeout);
+    return zirkoshe_open_by(client, path, 1, 1, token, timeout);
+}
+
+/* The same by a hello of version 2. */
+static inline int zirkoshe_open2_lease(struct zirkoshe_client *client, const char *path, uint32_t token, int timeout)
+{
+    return zirkoshe_open_by(client, path, 2, 1, token, timeout);
 }
 
 /* Ends the connection, which is open and held. */

@@ -152,6 +152,7 @@ enum zirkoshe_client_flag {
     ZIRKOSHE_CLIENT_ONCE_MASTER = 8,
     ZIRKOSHE_CLIENT_MASTER = 16,
     ZIRKOSHE_CLIENT_MAGIC_SPENT = 32,
+    ZIRKOSHE_CLIENT_UNIVERSAL_PLANES_OFF = 64,
 };
 
 /* The capabilities that drmGetCap knows. */

@@ -121,7 +121,8 @@ int connection_open(enum node node, bool is_lease, uint32_t token, int flags)
     connection = make_connection(node);
     if (connection == NULL)
         return -ENOMEM;
-    failed = zirkoshe_open_by(&connection->client, path, is_lease ? 1 : 0, token, ZIRKOSHE_TIMEOUT);
+    /* by version 2 universal planes are off until the program turns them on, as in a kernel */
+    failed = zirkoshe_open_by(&connection->client, path, 2, is_lease ? 1 : 0, token, ZIRKOSHE_TIMEOUT);
     if (failed) {
         failed = opening_error(&connection->client, failed);
         free(connection);

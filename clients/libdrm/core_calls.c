@@ -69,7 +69,7 @@ int answer_get_client(struct connection *connection, void *argument)
     if (client->idx != 0)
         return -EINVAL;
     zirkoshe_gem_flink(&connection->client, 0, &name);
-    client->auth = connection->client.rule != 12;
+    client->auth = connection->client.rule != ZIRKOSHE_RULE_AUTH;
     client->pid = (unsigned long)getpid();
     client->uid = (unsigned long)getuid();
     client->magic = 0;
@@ -128,10 +128,10 @@ static int find_core_cap(uint64_t capability, uint64_t *value)
     return -EINVAL;
 }
 
-/* Whether the server knows no such capability (rule 41). */
+/* Whether the server knows no such capability. */
 static bool is_unknown_cap(const struct connection *connection)
 {
-    return connection->client.rule == 41;
+    return connection->client.rule == ZIRKOSHE_RULE_BAD_CAP;
 }
 
 int answer_get_cap(struct connection *connection, void *argument)
@@ -148,13 +148,12 @@ int answer_get_cap(struct connection *connection, void *argument)
 }
 
 /* What the core does with a capability of a client that the server doesn't know. Layouts of stereo and aspect ratios are told in
- * modes alone, and those here have none. Universal planes are on at all times: the server tells everybody of all planes that he sees.
+ * modes alone, and those here have none.
  */
 static int set_core_cap(const struct drm_set_client_cap *cap)
 {
     switch (cap->capability) {
     case DRM_CLIENT_CAP_STEREO_3D:
-    case DRM_CLIENT_CAP_UNIVERSAL_PLANES:
     case DRM_CLIENT_CAP_ASPECT_RATIO:
         return cap->value <= 1 ? 0 : -EINVAL;
     case DRM_CLIENT_CAP_ATOMIC:

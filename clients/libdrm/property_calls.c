@@ -1,7 +1,7 @@
 /* Answers to requests of properties. There are two, which stand in for what each driver's planes and connectors have.
  *
- * A plane's `type` stands for the kinds of planes, which the server doesn't have, and a connector's `DPMS` for its power. Both are
- * the same at all times: setting DPMS is allowed to who may set modes, and changes nothing.
+ * A plane's `type` stands in for its kind, which no call of the server tells, and a connector's `DPMS` for its power. Both are the
+ * same at all times: setting DPMS is allowed to who may set modes, and changes nothing.
  */
 #include "answers.h"
 

@@ -124,6 +124,7 @@ class ClientFlag(enum.IntFlag):
     ONCE_MASTER = 8
     MASTER = 16
     MAGIC_SPENT = 32
+    UNIVERSAL_PLANES_OFF = 64
 
 
 class Cap(enum.IntEnum):
@@ -332,9 +333,9 @@ def pack(layout: str, *values: int) -> bytes:
         raise ValueError(f"{list(values)} are no fields of the call: {error}") from error
 
 
-def hello(lease: Optional[int]) -> bytes:
+def hello(lease: Optional[int], version: int = 1) -> bytes:
     """The first frame: of an opening of the node, or of one by this lease token."""
-    return frame(HELLO, pack("III", 1, 0 if lease is None else 1, lease or 0))
+    return frame(HELLO, pack("III", version, 0 if lease is None else 1, lease or 0))
 
 
 def request(call: Call, values: Tuple[int, ...]) -> bytes:
@@ -475,17 +476,17 @@ class Client:
     """One connection, and the client that the server opened for it.
 
     `path` is the server's card, render or root socket. With `lease`, the opening redeems the lease of that token. `timeout` is
-    how many seconds an opening, a call and the closing may each take; it may be set at any time. An opening that is refused
-    raises `Denied` or `Apart`.
+    how many seconds an opening, a call and the closing may each take; it may be set at any time. `version` is that of the hello:
+    by 1 the client has universal planes on at first, by 2 off. An opening that is refused raises `Denied` or `Apart`.
 
     Threads may share it. A call's time begins with its turn.
     """
 
     def __init__(self, path: Union[str, "os.PathLike[str]"], lease: Optional[int] = None,
-                 timeout: float = DEFAULT_TIMEOUT) -> None:
+                 timeout: float = DEFAULT_TIMEOUT, version: int = 1) -> None:
         self.timeout = timeout
         self._turn = threading.RLock()  # held from a request until its answer is there
-        first = hello(lease)
+        first = hello(lease, version)
         self.socket: Optional[socket.socket] = connect(os.fspath(path), self._deadline())
         try:
             self.opened: Opened = self._exchange(first, Opened)
@@ -759,6 +760,8 @@ def parse(arguments: List[str]) -> argparse.Namespace:
     parser.add_argument("path", help="the socket to open: the server's card, render or root")
     parser.add_argument("calls", nargs="*", metavar="CALL", help='a call in a script\'s words, as "create_dumb 64 64 32"')
     parser.add_argument("--lease", type=number_of, metavar="TOKEN", help="redeem the lease of this token")
+    parser.add_argument("--hello", type=int, choices=(1, 2), default=1, metavar="VERSION",
+                        help="the version of the hello: 1, or 2, which opens with universal planes off")
     parser.add_argument("--timeout", type=float, default=DEFAULT_TIMEOUT, metavar="SECONDS",
                         help="how long an opening, a call and the closing may each take (%(default)g)")
     return parser.parse_intermixed_args(arguments)
@@ -767,7 +770,7 @@ def parse(arguments: List[str]) -> argparse.Namespace:
 def talk(arguments: argparse.Namespace) -> None:
     """Opens a client, asks each call, and prints what is answered."""
     try:
-        client = Client(arguments.path, arguments.lease, arguments.timeout)
+        client = Client(arguments.path, arguments.lease, arguments.timeout, arguments.hello)
     except Refusal as refusal:
         raise ClientError(f"the opening was refused: {refusal}") from refusal
     with client:

@@ -142,6 +142,7 @@ pub mod client_flag {
     pub const ONCE_MASTER: u64 = 8;
     pub const MASTER: u64 = 16;
     pub const MAGIC_SPENT: u64 = 32;
+    pub const UNIVERSAL_PLANES_OFF: u64 = 64;
 }
 
 /// The capabilities that `get_cap` knows.
@@ -464,18 +465,28 @@ pub struct Client {
 impl Client {
     /// Opens the node that the path is: the server's card, render or root socket.
     pub fn open(path: impl AsRef<Path>, timeout: Duration) -> Result<Client, Error> {
-        Client::open_by(path.as_ref(), 0, 0, timeout)
+        Client::open_by(path.as_ref(), 1, 0, 0, timeout)
+    }
+
+    /// The same by a hello of version 2: the client has universal planes off, until it turns them on by `set_client_cap`.
+    pub fn open2(path: impl AsRef<Path>, timeout: Duration) -> Result<Client, Error> {
+        Client::open_by(path.as_ref(), 2, 0, 0, timeout)
     }
 
     /// Opens by a lease token, on the card or the root socket, and spends it.
     pub fn open_lease(path: impl AsRef<Path>, token: u32, timeout: Duration) -> Result<Client, Error> {
-        Client::open_by(path.as_ref(), 1, token, timeout)
+        Client::open_by(path.as_ref(), 1, 1, token, timeout)
     }
 
-    fn open_by(path: &Path, what: u32, token: u32, timeout: Duration) -> Result<Client, Error> {
+    /// The same by a hello of version 2.
+    pub fn open2_lease(path: impl AsRef<Path>, token: u32, timeout: Duration) -> Result<Client, Error> {
+        Client::open_by(path.as_ref(), 2, 1, token, timeout)
+    }
+
+    fn open_by(path: &Path, version: u32, what: u32, token: u32, timeout: Duration) -> Result<Client, Error> {
         let stream = connect(path, &Deadline::new(timeout)?)?;
         let mut client = Client { stream: Some(stream), timeout, number: 0 };
-        client.number = client.ask(Frame::new(HELLO).u32(1).u32(what).u32(token), answer::OPENED, |fields| fields.u32())?;
+        client.number = client.ask(Frame::new(HELLO).u32(version).u32(what).u32(token), answer::OPENED, |fields| fields.u32())?;
         Ok(client)
     }
 
