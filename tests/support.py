@@ -17,17 +17,30 @@ import time
 import traceback
 
 REPOSITORY = pathlib.Path(__file__).resolve().parent.parent
-PROGRAM = REPOSITORY / "crates/drm_server_main/out/drm_server_main"
+SCRIPT = REPOSITORY / "drm_server"
 CLIENTS = REPOSITORY / "clients"
 SECONDS = 30
-# the flags of a socket that listens, in /proc/net/unix
+# the flags of a socket that listens, in /proc/net/unix, and the state of one that is no connection
 LISTENS = b"00010000"
+UNCONNECTED = b"01"
 
 sys.dont_write_bytecode = True
 sys.path[:0] = [str(CLIENTS / "python"), str(REPOSITORY / "tools")]
 from drm_client import Client, Refusal, words  # noqa: E402  (the client stands in clients/python)
 
 CLASSES = ("card", "render", "root")
+
+
+def find_program():
+    """The program that the script at the top would run, or none; it compiles one where that is to be done, and tells so."""
+    found = subprocess.run([SCRIPT, "--program"], stdin=subprocess.DEVNULL, stdout=subprocess.PIPE, text=True, check=False)
+    return pathlib.Path(found.stdout.rstrip("\n")).resolve() if found.returncode == 0 else None
+
+
+# whatever a test starts takes the same one, and looks for no other
+PROGRAM = find_program()
+if PROGRAM is not None:
+    os.environ["DRM_SERVER_PROGRAM"] = str(PROGRAM)
 
 BUILT = tempfile.TemporaryDirectory(prefix="drm_")
 LIBRARY_COMPILER = ["cc", "-std=gnu99", "-Wall", "-Wextra", "-Wpedantic", "-Werror", "-O2", "-fPIC", "-shared"]
@@ -49,6 +62,11 @@ def expect_end(ran, status, error, output):
 def told_by(line):
     """A logged line as its level and its text, as `ERROR line 1: ..`. Where the program logs it is left out."""
     return re.sub(r"^\[([A-Z]+) +drm_[a-z_:]+\] ", r"\1 ", line.rstrip("\n"))
+
+
+def is_of_listening(line):
+    """Whether a line tells where a server listens."""
+    return re.fullmatch(r"INFO (card|render|root): .* accepts \d+ in all", told_by(line)) is not None
 
 
 def next_told(started):
@@ -114,7 +132,7 @@ def server(folder, *counts, limits=(), **options):
             resource.setrlimit(kind, (most, most))
 
     started = subprocess.Popen(
-        [PROGRAM, "serve", *path_words(folder), *count_words(*counts)],
+        [PROGRAM, "serve", "--quiet", *path_words(folder), *count_words(*counts)],
         **{"stdin": subprocess.DEVNULL, "stdout": subprocess.PIPE, "stderr": subprocess.PIPE, "text": True, **options},
         preexec_fn=prepare)
     try:
@@ -159,6 +177,12 @@ def wait_until_it_listens(path):
         lambda: any(len(row) == 8 and row[3] == LISTENS and row[7] == wanted for row in sockets_of_this_system()))
 
 
+def is_bound(path):
+    """Whether a socket is bound to this path that is no connection: it is listened to, or will be in a moment."""
+    wanted = os.fsencode(path)
+    return any(len(row) == 8 and row[5] == UNCONNECTED and row[7] == wanted for row in sockets_of_this_system())
+
+
 def sockets_of_this_system():
     """The rows of all Unix sockets."""
     return [line.split(None, 7) for line in pathlib.Path("/proc/net/unix").read_bytes().split(b"\n")]
@@ -177,9 +201,9 @@ def ended_in_time(started):
             started.kill()
 
 
-def connect(path, lease=None):
-    """A client of the socket, once the server has made it: of the node, or by a lease token."""
-    return retry(lambda: Client(path, lease, SECONDS))
+def connect(path, lease=None, version=1):
+    """A client of the socket, once the server has made it: of the node, or by a lease token, with a hello of this version."""
+    return retry(lambda: Client(path, lease, SECONDS, version))
 
 
 def connect_raw(path):
@@ -232,12 +256,6 @@ def expect_no_sockets(folder):
     expect("files left", sorted(path.name for path in folder.iterdir()), [])
 
 
-def build():
-    """Builds the program where that is still to be done."""
-    ran = subprocess.run([REPOSITORY / "drm_server", "--help"], stdout=subprocess.DEVNULL, check=False)
-    return ran.returncode == 0 and PROGRAM.exists()
-
-
 class Skipped(Exception):
     """What a test raises that can't be run here, with the reason."""
 
@@ -246,6 +264,18 @@ def want_program(name):
     """Skips the test where this program isn't on the path."""
     if shutil.which(name) is None:
         raise Skipped(f"there is no {name}")
+
+
+@functools.lru_cache(None)
+def is_compiled_with_checks():
+    """Whether the program checks its accesses to memory as it runs, as one does that was compiled without a proof."""
+    return b"__asan_init" in PROGRAM.read_bytes()
+
+
+def want_no_checks(reason):
+    """Skips the test where the program is compiled with such checks, which it can't be run with for this reason."""
+    if is_compiled_with_checks():
+        raise Skipped(f"the program was compiled with checks: {reason}")
 
 
 @functools.lru_cache(None)
@@ -305,7 +335,7 @@ def run_tests(found):
 
     The last line is `N passed, M failed`.
     """
-    if not build():
+    if PROGRAM is None:
         print("0 passed, 1 failed")
         return 1
     socket.setdefaulttimeout(SECONDS)
