@@ -194,7 +194,7 @@ static pid_t start_server(const char *server, const char *folder, const char *pa
     snprintf(root_count, sizeof root_count, "%d", roots);
     if (!freopen("/dev/null", "w", stdout))
         fail("/dev/null");
-    execl(server, server, "serve", "--card", path, "--render", render, "--root", root, "--cards", count, "--renders", "0",
+    execl(server, server, "serve", "--quiet", "--card", path, "--render", render, "--root", root, "--cards", count, "--renders", "0",
           "--roots", root_count, (char *)NULL);
     fail(server);
     return -1;
