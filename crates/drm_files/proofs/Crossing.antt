@@ -2,9 +2,7 @@
 use denote.Struct.Declared.{shape}
 use denote.Param.Send.{IsSend, sendable, view_send, recorded_send, struct_send}
 use Rattle.drm_index_array.proofs.Crossing.{array_send}
-use Rattle.drm_id_alloc.proofs.Crossing.{table_send}
-use Rattle.std.proofs.Crossing.{Vec-send}
-use Rattle.drm_files.specs.contracts.by_object.ByObject as by_object
+use Rattle.drm_id_alloc.proofs.Crossing.{groups_send, table_send}
 use Rattle.drm_files.specs.contracts.files.Held as held
 use Rattle.drm_files.specs.contracts.files.FileRecord as record_of
 use Rattle.drm_files.specs.contracts.files.Files as files
@@ -13,9 +11,6 @@ use Rattle.drm_files.specs.contracts.files.Files.TheInside as inside
 held_send : IsSend held.the_row
 held_send = recorded_send held.the_field.row _ _ held.the_type.to_one (struct_send (shape held.the_type) (search sendable depth 20, (search sendable depth 20, tt)))
 
-by_object_send : IsSend by_object.the_field.row
-by_object_send = struct_send (shape by_object.the_type) (search sendable depth 20, (search (array_send, Vec-send, sendable) depth 20, tt))
-
 record_send : IsSend record_of.the_row
 record_send =
     recorded_send
@@ -23,7 +18,7 @@ record_send =
     _
     _
     record_of.the_type.to_one
-    (struct_send (shape record_of.the_type) (search sendable depth 20, (search (table_send, held_send, sendable) depth 20, (by_object_send, tt))))
+    (struct_send (shape record_of.the_type) (search sendable depth 20, (search (table_send, held_send, sendable) depth 20, (groups_send, tt))))
 
 inside_send : IsSend inside.the_row
 inside_send =

@@ -5,6 +5,5 @@ mod Calls
 mod Walks
 mod Rests
 mod Removal
-mod Filed
 mod PrimeFacts
 pub mod Crossing

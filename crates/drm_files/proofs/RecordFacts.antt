@@ -11,14 +11,13 @@ use Rattle.drm_index_array.specs.Least.{least}
 use Rattle.drm_index_array.proofs.Least.{least-same}
 use Rattle.drm_index_array.proofs.MarkedLemmas.{get-insert, get-remove, insert_same}
 use Rattle.drm_id_alloc.specs.Table.{Table, is_free, least_free, with_entry, without_entry}
-use Rattle.drm_id_alloc.specs.Groups.{Groups, AreSame, IsAdded, IsTaken, AreGroupsOf}
+use Rattle.drm_id_alloc.specs.Groups.{Groups, GroupMap, has, AreSame, IsAdded, IsTaken, AreGroupsOf}
 use Rattle.drm_id_alloc.proofs.GroupLemmas.{grouped_same, grouped_more, grouped_fewer, grouped_kept}
-use Rattle.drm_files.specs.declared.by_object.ByObject.{ByObject}
 use Rattle.drm_files.specs.declared.files.FileRecord.{FileRecord}
 use Rattle.drm_files.specs.declared.files.Held.{Held}
 use Rattle.drm_files.specs.declared.rows.FileHold.{FileHold}
 use Rattle.drm_files.specs.Files.{client, hold, hold_before, client_before, is_present, is_hold, is_among, handles_of, free_handle, left_by, empty_files, AreFiles, IsHoldOf, InOrder}
-use Rattle.drm_files.specs.Records.{rows_in, holds_in, clients_in, lists_of, pairs_of, handles_by, IsTable, IsFiled, AreRecords}
+use Rattle.drm_files.specs.Records.{rows_in, holds_in, clients_in, lists_of, pairs_of, IsTable, IsFiled, AreRecords}
 use Rattle.drm_index_array.proofs.Keyed.{all_rows, rows_in_order, none_some}
 use Rattle.drm_files.proofs.Flat.{place_cmp, place_total, row_of, flat, rows_flat, sorted_flat, held, find_held, eqb_other}
 use Rattle.drm_files.proofs.Changes.{client_of, before_test, hold_order, find_client, find_hold, held_here, rows_of_client}
@@ -168,7 +167,7 @@ abbrev pub with_table : FileRecord → Table Held → FileRecord
 with_table r t = record r { handles = t }
 
 -- the handles by their objects, too
-abbrev pub with_both : FileRecord → Table Held → ByObject → FileRecord
+abbrev pub with_both : FileRecord → Table Held → GroupMap → FileRecord
 with_both r t by_object = record { flags = r.flags; handles = t; by_object = by_object }
 
 module _ (limit last : ℕ) (m : fin.FinMap nat_cmp FileRecord) (c : ℕ) (r : FileRecord) (t : Table Held) (found : fin.get m c ≡ Some r) where
@@ -179,12 +178,12 @@ module _ (limit last : ℕ) (m : fin.FinMap nat_cmp FileRecord) (c : ℕ) (r : F
   pub are-unchanged : AreRecords limit last m → t ≡ r.handles → AreRecords limit last (fin.insert m c (with_table r t))
   are-unchanged are same = subst (AreRecords limit last) (sym (unchanged same)) are
 
-  module _ (are : AreRecords limit last m) (new : ByObject) where
+  module _ (are : AreRecords limit last m) (new : GroupMap) where
     abbrev old_groups : Groups
-    old_groups = handles_by r.by_object.objects.items
+    old_groups = has r.by_object
 
     abbrev new_groups : Groups
-    new_groups = handles_by new.objects.items
+    new_groups = has new
 
     -- the table is as it was, and so is what is filed
     pub are-kept : t ≡ r.handles → AreSame old_groups new_groups → AreRecords limit last (fin.insert m c (with_both r t new))
@@ -207,7 +206,7 @@ module _ (limit last : ℕ) (m : fin.FinMap nat_cmp FileRecord) (c : ℕ) (r : F
   pub are-replaced : AreRecords limit last m → (h : ℕ) (x y : Held) → r.handles.first ≤ h → h ≤ r.handles.last → fin.get r.handles.slots h ≡ Some x → y.object ≡ x.object → t ≡ with_entry r.handles h y → AreRecords limit last (fin.insert m c (with_table r t))
   are-replaced are h x y low high there same is =
       let table = are.tables c r found in
-      let groups = handles_by r.by_object.objects.items in
+      let groups = has r.by_object in
       AreRecords-insert limit last m are c (with_table r t) (IsTable-add last r.handles t h y table (omega (arith, low, table.first_is)) (omega (arith, high, table.last_is)) (ap (λ u. u.first) is) (ap (λ u. u.last) is) (ap (λ u. u.slots) is))
       (subst (λ (u : Table Held). AreGroupsOf (λ (x : Held). x.object) u.slots groups) (sym is) (grouped_kept (λ (x : Held). x.object) r.handles.slots groups groups (are.filed c r found) h x y there same))
 

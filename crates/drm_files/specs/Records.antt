@@ -1,11 +1,9 @@
 -- The flat lists that the clients' records stand for.
-use Rattle.std.specs.Prelude.{◌≡◌, ℕ, ◌≤◌, ◌==◌, Bool, List, map as list_map, flat_map, Some, IsTrue}
-use Rattle.std.specs.List.{list_any}
-use Rattle.std.specs.Global.{Vec}
+use Rattle.std.specs.Prelude.{◌≡◌, ℕ, ◌≤◌, List, map as list_map, flat_map, Some, IsTrue}
 use Rattle.std.specs.Ordering.{nat_cmp}
 use Rattle.std.specs.FinMap as map
 use Rattle.drm_id_alloc.specs.Table.{Table}
-use Rattle.drm_id_alloc.specs.Groups.{Groups, groups_in, AreGroupsOf}
+use Rattle.drm_id_alloc.specs.Groups.{has, AreGroupsOf}
 use Rattle.drm_files.specs.Files.{FileLists, client, hold}
 use Rattle.drm_files.specs.declared.rows.FileClient.{FileClient}
 use Rattle.drm_files.specs.declared.rows.FileHold.{FileHold}
@@ -41,16 +39,9 @@ pub record IsTable (last_handle : ℕ) (table : Table Held) : Type 0 where
   pub low : (h : ℕ) → IsTrue (map.contains_key table.slots h) → 1 ≤ h
   pub high : (h : ℕ) → IsTrue (map.contains_key table.slots h) → h ≤ last_handle
 
-abbrev pub has_handle : Vec ℕ → ℕ → Bool
-has_handle handles h = list_any (λ x. x == h) handles.items
-
--- which handles a client has for which object
-abbrev pub handles_by : map.FinMap nat_cmp (Vec ℕ) → Groups
-handles_by objects = groups_in has_handle objects
-
 -- a client's handles are found by their objects
 abbrev pub IsFiled : FileRecord → Type 0
-IsFiled row = AreGroupsOf (λ (x : Held). x.object) row.handles.slots (handles_by row.by_object.objects.items)
+IsFiled row = AreGroupsOf (λ (x : Held). x.object) row.handles.slots (has row.by_object)
 
 -- each client's table is of that kind, and filed; and the limits are numbers of 32 bits
 pub record AreRecords (limit last_handle : ℕ) (records : map.FinMap nat_cmp FileRecord) : Type 0 where

@@ -4,12 +4,11 @@ ghost use Rattle.std.specs.Prelude.{◌≡◌, ◌≤◌, ◌<◌, ◌↔◌, tr
 ghost use Rattle.drm_files.specs.Files.{AreFiles, empty_files, is_client, is_hold, is_present, free_handle, with_client, without_client, left_by, with_hold, without_hold, with_authenticated, with_universal, new_flags, hold};
 ghost use Rattle.drm_files.specs.FileFault.{IsFull};
 
-use crate::by_object::ByObject;
 use crate::faults::FileFault;
 use crate::rest::FileRest;
 use crate::rows::FileFlags;
 use drm_gem::ObjectKey;
-use drm_id_alloc::{AddFault, IdTable};
+use drm_id_alloc::{AddFault, Groups, IdTable};
 use drm_index_array::IndexArray;
 use std::alloc::Global;
 use std::marker::Model;
@@ -26,7 +25,8 @@ pub(crate) struct Held {
 pub(crate) struct FileRecord {
     pub(crate) flags: FileFlags,
     pub(crate) handles: IdTable<Held>,
-    pub(crate) by_object: ByObject,
+    // the handles, by the numbers of their objects' keys
+    pub(crate) by_object: Groups,
 }
 
 /// The open clients with their flags, and the handles of each. Contracts see flat lists: the
@@ -92,7 +92,7 @@ impl Files {
                 universal,
             },
             handles: IdTable::new(self.alloc, 1, self.last_handle),
-            by_object: ByObject::new(self.alloc),
+            by_object: Groups::new(self.alloc),
         };
         if let Err(_fault) = self.clients.insert(client, record) {
             return Err(FileFault::NoMemory);
@@ -163,7 +163,7 @@ impl Files {
             Err(AddFault::Full(_)) => return Err(FileFault::Full),
             Err(AddFault::NoMemory(_)) => return Err(FileFault::NoMemory),
         };
-        if let Err(_fault) = record.by_object.note(object, handle) {
+        if let Err(_fault) = record.by_object.note(object.number(), handle) {
             let _held = record.handles.remove(handle);
             return Err(FileFault::NoMemory);
         }
@@ -193,7 +193,7 @@ impl Files {
             unreachable!();
         };
         let held = record.handles.remove(handle)?;
-        record.by_object.forget(held.object, handle);
+        record.by_object.forget(held.object.number(), handle);
         Some(held.object)
     }
 

@@ -1,7 +1,6 @@
 //! The open clients of a device with their flags, and the GEM handles of each.
 #![tactic(auto)]
 
-mod by_object;
 mod faults;
 mod files;
 mod lists;

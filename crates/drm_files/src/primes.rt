@@ -1,12 +1,13 @@
 //! PRIME handles: those that an export or an import gave a place (drm-mm, PRIME; the places are this crate's own).
 
 ghost use Rattle.std.specs.Prelude.{◌≡◌, true, is_some, find};
+ghost use Rattle.drm_id_alloc.specs.Groups.{numbers_of};
 ghost use Rattle.drm_files.specs.Files.{AreFiles, is_present, is_hold, prime_handle, with_place};
 ghost use Rattle.drm_files.specs.Primes.{IsLeastIn, prime_at, prime_of, is_before, lesser_prime};
 
 use crate::files::{Files, Held};
 use drm_gem::ObjectKey;
-use drm_id_alloc::IdTable;
+use drm_id_alloc::{Groups, IdTable};
 
 // A handle that has a PRIME place.
 #[derive(Clone, Copy)]
@@ -27,8 +28,7 @@ impl Files {
         let Some(record) = self.clients.get(client) else {
             unreachable!();
         };
-        let handles = record.by_object.objects.get(object.number())?;
-        let least = least_prime(&record.handles, handles.as_slice(), object)?;
+        let least = least_prime(&record.handles, &record.by_object, object)?;
         Some(least.handle)
     }
 
@@ -55,13 +55,17 @@ impl Files {
     }
 }
 
-// Of these handles the one for an object with the least place, and at a tie the least handle.
-fn least_prime(table: &IdTable<Held>, handles: &[u32], object: ObjectKey) -> Option<Prime>
-    ensures { IsLeastIn table.now.slots object handles.now result }
+// Of the handles for an object the one with the least place, and at a tie the least handle.
+fn least_prime(table: &IdTable<Held>, by_object: &Groups, object: ObjectKey) -> Option<Prime>
+    ensures { IsLeastIn table.now.slots object (numbers_of by_object.now object) result }
 {
+    let number = object.number();
     let mut least = None;
-    for place in 0..handles.len() {
-        least = lesser_prime(least, prime_at(table, handles[place], object));
+    for place in 0..by_object.len(number) {
+        let Some(handle) = by_object.nth(number, place) else {
+            unreachable!()
+        };
+        least = lesser_prime(least, prime_at(table, handle, object));
     }
     least
 }

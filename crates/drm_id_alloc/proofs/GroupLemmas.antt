@@ -1,5 +1,5 @@
 -- How groups change, as numbers come and go.
-use Rattle.std.proofs.Common.{◌≡◌, ℕ, ◌==◌, ◌&&◌, ◌||◌, Bool, true, false, not, cond, Option, Some, None, refl, sym, ap, ◌∙◌, arith, eq-eqb, nat_cmp}
+use Rattle.std.proofs.Common.{◌≡◌, ℕ, ◌==◌, ◌&&◌, ◌||◌, Bool, true, false, not, cond, Option, Some, None, refl, sym, ap, ◌∙◌, eq-eqb, nat_cmp}
 use Rattle.std.specs.Option.{option_map_or}
 use Rattle.std.specs.FinMap as fin
 use Rattle.std.proofs.lemmas.Bool.{false≢true, eqb-true, ne_eqb}
@@ -18,7 +18,7 @@ none_and : (b : Bool) → (b && false) ≡ false
 none_and true = refl
 none_and false = refl
 
-turned : (a b : ℕ) → (a == b) ≡ (b == a)
+pub turned : (a b : ℕ) → (a == b) ≡ (b == a)
 turned a b = elim (a == b) as (λ s. (a == b) ≡ s → s ≡ (b == a)) [
   | true ↦ λ same. sym (eq-eqb b a (sym (eqb-true a b same)))
   | false ↦ λ apart. sym (ne_eqb b a (λ e. false≢true (sym apart ∙ eq-eqb a b (sym e))))

@@ -1,8 +1,11 @@
 -- Which numbers stand in which group.
-use Rattle.std.specs.Prelude.{◌≡◌, ℕ, ◌==◌, ◌&&◌, ◌||◌, Bool, false, not}
+use Rattle.std.specs.Prelude.{◌≡◌, ℕ, ◌==◌, ◌&&◌, ◌||◌, Bool, false, not, List, []}
 use Rattle.std.specs.Option.{option_map_or}
 use Rattle.std.specs.Ordering.{nat_cmp}
 use Rattle.std.specs.FinMap as map
+use Rattle.std.specs.Coded.{Coded, coded_ℕ}
+use base.Stored.{coded_unit}
+use Rattle.drm_index_array.specs.Indexed.{Indexed, indexed_code}
 
 -- whether a group has a number
 abbrev pub Groups : Type 0
@@ -26,3 +29,25 @@ groups_in has m g n = option_map_or (λ y. has y n) (map.get m g) false
 -- each number that the map has stands in the group that its value names, and no other stands in any
 abbrev pub AreGroupsOf : {X : Type 0} → (X → ℕ) → map.FinMap nat_cmp X → Groups → Type 0
 AreGroupsOf group m groups = (g n : ℕ) → groups g n ≡ option_map_or (λ x. group x == g) (map.get m n) false
+
+-- what has the numbers of each group that has one
+abbrev pub GroupMap : Type 0
+GroupMap = map.FinMap nat_cmp (Indexed (Unit {0}))
+
+abbrev pub group_code : Coded GroupMap
+group_code = map.code coded_ℕ (indexed_code coded_unit)
+
+abbrev pub has_number : Indexed (Unit {0}) → ℕ → Bool
+has_number numbers n = map.contains_key numbers.items n
+
+-- whether a group has a number
+abbrev pub has : GroupMap → Groups
+has m = groups_in has_number m
+
+-- the numbers of a group, rising
+abbrev pub numbers_of : GroupMap → ℕ → List ℕ
+numbers_of m g = option_map_or (λ (numbers : Indexed (Unit {0})). map.keys numbers.items) (map.get m g) []
+
+-- it has the number besides
+abbrev pub IsNoted : Indexed (Unit {0}) → ℕ → Indexed (Unit {0}) → Type 0
+IsNoted old n new = (u : ℕ) → has_number new u ≡ (has_number old u || (u == n))

@@ -7,7 +7,7 @@ use Rattle.drm_lists.specs.Orders.{InOrder}
 use Rattle.std.proofs.lemmas.Bool.{eqb-true, or_left}
 use Rattle.drm_lists.specs.Chains.{is_under}
 use Rattle.drm_lists.proofs.Lists.{all_weaker, all_each, all_append, all_mapped, list_any-map, list_any_left, list_any_right}
-use Rattle.drm_lists.proofs.Found.{is_some-find, is_some-map, find-map, find-same}
+use Rattle.drm_lists.proofs.Found.{is_some-find, is_some-map, find-map, find-same, find_last}
 use Rattle.drm_lists.proofs.Numbers.{less-differ, flipped}
 use Rattle.drm_lists.proofs.Chains.{itself, same_chain}
 use Rattle.drm_lists.proofs.Rising.{found, any_more, find_more, all_found_apart, in_order_kept}
@@ -125,7 +125,11 @@ module _ (ms : List Master) (y : Master) (newest : AllByRecursion (λ (x : Maste
   older_lessors : (n : ℕ) → n < y.birth → lessor_of (ms ++ y ∷ []) n ≡ lessor_of ms n
   older_lessors n lt = ap (option_and_then (λ (x : Master). x.lessor)) (find_more (λ (x : Master). x.birth) y n (flipped n y.birth (less-differ n y.birth lt)) ms)
 
-  birth_below : (l : ℕ) → is_some (master_at ms l) ≡ true → l < y.birth
+  -- the new one is found
+  pub new_lessor : lessor_of (ms ++ y ∷ []) y.birth ≡ y.lessor
+  new_lessor = ap (option_and_then (λ (x : Master). x.lessor)) (find_last (is_birth y.birth) y (eq-eqb y.birth y.birth refl) ms (all_weaker (λ (x : Master). x.birth < y.birth) (λ (x : Master). is_birth y.birth x ≡ false) (λ x lt. less-differ x.birth y.birth lt) ms newest))
+
+  pub birth_below : (l : ℕ) → is_some (master_at ms l) ≡ true → l < y.birth
   birth_below l h = by_row (master_at ms l) refl h
     where
       by_row : (o : Option Master) → master_at ms l ≡ o → is_some o ≡ true → l < y.birth
@@ -135,6 +139,10 @@ module _ (ms : List Master) (y : Master) (newest : AllByRecursion (λ (x : Maste
   -- a master that is there has its owner yet
   pub pushed_owner : Older ms → (n : ℕ) → is_some (master_at ms n) ≡ true → owner_of (ms ++ y ∷ []) n ≡ owner_of ms n
   pushed_owner older n there = owner_stays (λ k. k < y.birth) ms (ms ++ y ∷ []) older_lessors (λ k l p e. let less = falls ms older k l e in omega (arith, less, p)) n (birth_below n there)
+
+  -- a master that is there has its lessor yet
+  pub pushed_lessor : (n : ℕ) → is_some (master_at ms n) ≡ true → lessor_of (ms ++ y ∷ []) n ≡ lessor_of ms n
+  pushed_lessor n there = older_lessors n (birth_below n there)
 
   -- a new master has no lessor, or one that is there
   pub pushed_older : ((l : ℕ) → y.lessor ≡ Some l → is_some (master_at ms l) ≡ true) → Older ms → Older (ms ++ y ∷ [])

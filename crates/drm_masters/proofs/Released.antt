@@ -1,15 +1,16 @@
--- A master and all below it are kept no more: those before a place are released, those from it on are as they were.
-use Rattle.std.proofs.Common.{◌≡◌, ℕ, ◌+◌, ◌<◌, ◌≤◌, Bool, true, false, List, [], ◌∷◌, ◌++◌, map, length, Some, refl, sym, ap, subst, ◌∙◌, arith, append-nil, length-append}
-use Rattle.std.specs.Prelude.{slice_get, slice_set, if◌then◌else◌}
-use Rattle.std.proofs.lemmas.List.{length-map}
+-- A master and all below it are kept no more: those below its lessees up to one are released, the others are as they were.
+use Rattle.std.proofs.Common.{◌≡◌, ℕ, ◌<◌, ◌≤◌, ◌==◌, Bool, true, false, ◌||◌, inl, inr, List, [], ◌∷◌, map, Option, Some, refl, sym, ap, subst, ◌∙◌, eq-eqb, arith}
+use Rattle.std.specs.Prelude.{nat_lt, if◌then◌else◌}
+use Rattle.std.proofs.lemmas.Bool.{eqb-true, false≢true, or_right}
 use Rattle.drm_lists.specs.Chains.{is_under}
-use Rattle.drm_lists.proofs.Rising.{set_at}
+use Rattle.drm_lists.proofs.Chains.{itself, child, above_too}
+use Rattle.drm_lists.proofs.Lists.{map-map}
 use Rattle.drm_masters.specs.declared.rows.Master.{Master}
-use Rattle.drm_masters.specs.Masters.{is_birth, lessor_of}
+use Rattle.drm_masters.specs.Masters.{is_birth, is_option, lessor_of}
 use Rattle.drm_masters.specs.Calls.{kept_as}
-use Rattle.drm_masters.proofs.Living.{Rise, Older}
-use Rattle.drm_masters.proofs.Pushed.{kept_lessors, kept_rise, kept_older}
-use Rattle.drm_masters.proofs.Rewritten.{get_behind}
+use Rattle.drm_masters.proofs.Living.{Rise, Older, falls}
+use Rattle.drm_masters.proofs.Below.{named_is, less_of, lt_of, le_of}
+use Rattle.drm_masters.proofs.Pushed.{over_lessors, over_rise, over_older}
 
 abbrev pub released : List Master → ℕ → Master → Master
 released ms top x = if is_under (lessor_of ms) top x.birth then kept_as false x else x
@@ -23,93 +24,99 @@ released_lessor ms top x = elim (is_under (lessor_of ms) top x.birth) as (λ b. 
 pub released_key : (ms : List Master) (top : ℕ) (x : Master) → (released ms top x).key ≡ x.key
 released_key ms top x = elim (is_under (lessor_of ms) top x.birth) as (λ b. (if b then kept_as false x else x).key ≡ x.key) [ true ↦ refl | false ↦ refl ]
 
-pub record Releasing (ms : List Master) (top place : ℕ) (items : List Master) : Type 0 where
-  pub front : List Master
-  pub rest : List Master
-  pub all : ms ≡ front ++ rest
-  pub so_far : length front ≡ place
-  pub is : items ≡ map (released ms top) front ++ rest
-  pub lessors : (n : ℕ) → lessor_of items n ≡ lessor_of ms n
-  pub older : Older items
-  pub rise : Rise items
+abbrev pub marked : (ℕ → Bool) → Master → Master
+marked under x = if under x.birth then kept_as false x else x
 
--- the first of what is left
-next_of : {X : Type 0} (ys zs : List X) (n : ℕ) → length ys ≡ n → n < length (ys ++ zs) → (y : X) × (us : List X) × (zs ≡ y ∷ us)
-next_of ys [] n e lt = let l = length-append ys [] in absurd (omega (arith, e, lt, l))
-next_of ys (y ∷ us) n e lt = (y, us, refl)
+pub marked_birth : (under : ℕ → Bool) (x : Master) → (marked under x).birth ≡ x.birth
+marked_birth under x = elim (under x.birth) as (λ b. (if b then kept_as false x else x).birth ≡ x.birth) [ true ↦ refl | false ↦ refl ]
 
-none_left : {X : Type 0} (ys zs : List X) (n : ℕ) → length ys ≡ n → length (ys ++ zs) ≤ n → zs ≡ []
-none_left ys [] n e le = refl
-none_left ys (y ∷ us) n e le = let l = length-append ys (y ∷ us) in absurd (omega (arith, e, le, l))
+pub marked_lessor : (under : ℕ → Bool) (x : Master) → (marked under x).lessor ≡ x.lessor
+marked_lessor under x = elim (under x.birth) as (λ b. (if b then kept_as false x else x).lessor ≡ x.lessor) [ true ↦ refl | false ↦ refl ]
 
-set_behind : {X : Type 0} (ys : List X) (y x : X) (zs : List X) → slice_set (ys ++ y ∷ zs) (length ys) x ≡ ys ++ x ∷ zs
-set_behind [] y x zs = refl
-set_behind (u ∷ ys) y x zs = ap (λ l. u ∷ l) (set_behind ys y x zs)
+map_each : {X : Type 0} (f g : X → X) → ((x : X) → f x ≡ g x) → (xs : List X) → map f xs ≡ map g xs
+map_each f g same [] = refl
+map_each f g same (x ∷ xs) = λ i. same x i ∷ map_each f g same xs i
 
-one_moved : {X : Type 0} (f : X → X) (y z : X) (zs : List X) → f y ≡ z → (ys : List X) → map f ys ++ z ∷ zs ≡ map f (ys ++ y ∷ []) ++ zs
-one_moved f y z zs e [] = ap (λ u. u ∷ zs) (sym e)
-one_moved f y z zs e (x ∷ ys) = ap (λ l. f x ∷ l) (one_moved f y z zs e ys)
+-- those below its lessees up to one are kept no more
+pub record Releasing (ms : List Master) (top after : ℕ) (items : List Master) : Type 0 where
+  pub under : ℕ → Bool
+  pub is : items ≡ map (marked under) ms
+  pub from : top ≤ after
+  pub only : (n : ℕ) → under n ≡ true → is_under (lessor_of ms) top n ≡ true
+  pub first : under top ≡ true
+  pub below : (y n : ℕ) → lessor_of ms y ≡ Some top → y ≤ after → is_under (lessor_of ms) y n ≡ true → under n ≡ true
 
-one_over : {X : Type 0} (y : X) (zs : List X) → (ys : List X) → ys ++ y ∷ zs ≡ (ys ++ y ∷ []) ++ zs
-one_over y zs [] = refl
-one_over y zs (x ∷ ys) = ap (λ l. x ∷ l) (one_over y zs ys)
+module _ (ms : List Master) (rise : Rise ms) (older : Older ms) (top : ℕ) where
+  pub none_yet : (items : List Master) → items ≡ map (λ (x : Master). if is_birth top x then kept_as false x else x) ms → Releasing ms top top items
+  none_yet items e = record {
+    under = λ n. n == top;
+    is = e;
+    from = omega arith;
+    only = λ n h. subst (λ k. is_under (lessor_of ms) top k ≡ true) (sym (eqb-true n top h)) (itself (lessor_of ms) top top);
+    first = eq-eqb top top refl;
+    below = λ y n up le h. let lt = falls ms older y top up in absurd (omega (arith, lt, le));
+  }
 
-module _ (ms : List Master) (top : ℕ) where
-  pub none_yet : Rise ms → Older ms → Releasing ms top 0 ms
-  none_yet rise older = record { front = []; rest = ms; all = refl; so_far = refl; is = refl; lessors = λ n. refl; older = older; rise = rise }
+  module _ (after : ℕ) (items : List Master) (h : Releasing ms top after items) where
+    lessors : (n : ℕ) → lessor_of items n ≡ lessor_of ms n
+    lessors n = ap (λ l. lessor_of l n) h.is ∙ over_lessors (marked h.under) (marked_birth h.under) (marked_lessor h.under) ms n
 
-  module _ (n : ℕ) (items : List Master) (h : Releasing ms top n items) where
-    pub length_is : length items ≡ length ms
-    length_is =
-        let a = ap length h.is ∙ length-append (map (released ms top) h.front) h.rest in
-        let b = length-map h.front (released ms top) in
-        let c = ap length h.all ∙ length-append h.front h.rest in
-        omega (arith, a, b, c)
+    pub now_rise : Rise items
+    now_rise = subst Rise (sym h.is) (over_rise (marked h.under) (marked_birth h.under) (marked_lessor h.under) ms rise)
 
-    pub all_released : length ms ≤ n → items ≡ map (released ms top) ms
-    all_released le =
-        let none = none_left h.front h.rest n h.so_far (let e = ap length h.all in omega (arith, e, le)) in
-        h.is ∙ ap (λ l. map (released ms top) h.front ++ l) none ∙ append-nil (map (released ms top) h.front) ∙ ap (map (released ms top)) (sym (h.all ∙ ap (λ l. h.front ++ l) none ∙ append-nil h.front))
+    pub now_older : Older items
+    now_older = subst Older (sym h.is) (over_older (marked h.under) (marked_birth h.under) (marked_lessor h.under) ms older)
 
-    -- one master more is looked at
-    pub one_released : n < length ms → (x : Master) → slice_get items n ≡ Some x → (under : Bool) → under ≡ is_under (lessor_of items) top x.birth →
-        (under ≡ true → Releasing ms top (n + 1) (map (λ (z : Master). if is_birth x.birth z then kept_as false z else z) items)) × (under ≡ false → Releasing ms top (n + 1) items)
-    one_released lt x at under is =
-        let w = next_of h.front h.rest n h.so_far (let e = ap length h.all in omega (arith, e, lt)) in
-        let y = w.0 in
-        let zs = w.1 in
-        let told = map (released ms top) h.front in
-        let here : items ≡ told ++ y ∷ zs = h.is ∙ ap (λ l. told ++ l) w.2 in
-        let place : length told ≡ n = length-map h.front (released ms top) ∙ h.so_far in
-        let found : slice_get items n ≡ Some y = ap (slice_get items) (sym place) ∙ ap (λ l. slice_get l (length told)) here ∙ get_behind told y zs in
-        let one : Some x ≡ Some y = sym at ∙ found in
-        let same : x ≡ y = cc in
-        let test : under ≡ is_under (lessor_of ms) top y.birth = is ∙ ap (λ (above : ℕ → _). is_under above top x.birth) (λ i k. h.lessors k i) ∙ ap (λ (z : Master). is_under (lessor_of ms) top z.birth) same in
-        let all : ms ≡ (h.front ++ y ∷ []) ++ zs = h.all ∙ ap (λ l. h.front ++ l) w.2 ∙ one_over y zs h.front in
-        let more : length (h.front ++ y ∷ []) ≡ n + 1 = let e = length-append h.front (y ∷ []) in omega (arith, e, h.so_far) in (
-          (λ t.
-              let over : map (λ (z : Master). if is_birth x.birth z then kept_as false z else z) items ≡ map (λ (z : Master). if is_birth y.birth z then kept_as false z else z) items = ap (λ (u : Master). map (λ (z : Master). if is_birth u.birth z then kept_as false z else z) items) same in
-              let new = over ∙ sym (set_at (λ (z : Master). z.birth) y.birth (kept_as false) items n y h.rise found refl) in
-              record {
-                front = h.front ++ y ∷ [];
-                rest = zs;
-                all = all;
-                so_far = more;
-                is =
-                    new ∙ ap (λ k. slice_set items k (kept_as false y)) (sym place) ∙ ap (λ l. slice_set l (length told) (kept_as false y)) here ∙ set_behind told y (kept_as false y) zs
-                    ∙ one_moved (released ms top) y (kept_as false y) zs (ap (λ b. if b then kept_as false y else y) (sym test ∙ t)) h.front;
-                lessors = λ k. ap (λ l. lessor_of l k) over ∙ kept_lessors y.birth false items k ∙ h.lessors k;
-                older = subst Older (sym over) (kept_older y.birth false items h.older);
-                rise = subst Rise (sym over) (kept_rise y.birth false items h.rise);
-              }),
-          (λ f. record {
-            front = h.front ++ y ∷ [];
-            rest = zs;
-            all = all;
-            so_far = more;
-            is = here ∙ one_moved (released ms top) y y zs (ap (λ b. if b then kept_as false y else y) (sym test ∙ f)) h.front;
-            lessors = h.lessors;
-            older = h.older;
-            rise = h.rise;
-          }),
-        )
+    pub one_released : (l : ℕ) (next : List Master) → is_option top (lessor_of items l) ≡ true → after < l → ((k : ℕ) → after < k → k < l → is_option top (lessor_of items k) ≡ false) → next ≡ map (released items l) items → Releasing ms top l next
+    one_released l next is_lessee later least e = record {
+      under = λ n. h.under n || is_under (lessor_of ms) l n;
+      is = e ∙ ap (λ (above : ℕ → Option ℕ). map (λ (x : Master). if is_under above l x.birth then kept_as false x else x) items) (λ i n. lessors n i)
+          ∙ ap (map (released ms l)) h.is ∙ map-map (released ms l) (marked h.under) ms ∙ map_each (λ x. released ms l (marked h.under x)) (marked (λ n. h.under n || is_under (lessor_of ms) l n)) each ms;
+      from = let f = h.from in omega (arith, f, later);
+      only = λ n k. by_mark n (h.under n) refl k;
+      first = ap (λ b. b || is_under (lessor_of ms) l top) h.first;
+      below = λ y n up le k. by_last y n up le k (y == l) refl;
+    }
+      where
+        up_l : lessor_of ms l ≡ Some top
+        up_l = sym (lessors l) ∙ named_is top (lessor_of items l) is_lessee
+
+        each : (x : Master) → released ms l (marked h.under x) ≡ marked (λ n. h.under n || is_under (lessor_of ms) l n) x
+        each x =
+            elim (h.under x.birth) as (λ b. (if is_under (lessor_of ms) l (if b then kept_as false x else x).birth then kept_as false (if b then kept_as false x else x) else (if b then kept_as false x else x)) ≡ (if (b || is_under (lessor_of ms) l x.birth) then kept_as false x else x)) [
+              | true ↦ elim (is_under (lessor_of ms) l x.birth) as (λ b. (if b then kept_as false (kept_as false x) else kept_as false x) ≡ kept_as false x) [ true ↦ refl | false ↦ refl ]
+              | false ↦ refl
+            ]
+
+        by_mark : (n : ℕ) (b : Bool) → h.under n ≡ b → (b || is_under (lessor_of ms) l n) ≡ true → is_under (lessor_of ms) top n ≡ true
+        by_mark n true k j = h.only n k
+        by_mark n false k j = above_too (lessor_of ms) (falls ms older) n l n top (omega arith) up_l j
+
+        by_last : (y n : ℕ) → lessor_of ms y ≡ Some top → y ≤ l → is_under (lessor_of ms) y n ≡ true → (b : Bool) → (y == l) ≡ b → (h.under n || is_under (lessor_of ms) l n) ≡ true
+        by_last y n up le k true same = or_right (h.under n) (is_under (lessor_of ms) l n) (subst (λ z. is_under (lessor_of ms) z n ≡ true) (eqb-true y l same) k)
+        by_last y n up le k false differs = ap (λ b. b || is_under (lessor_of ms) l n) (h.below y n up (by_order (nat_lt after y) refl) k)
+          where
+            less : y < l
+            less = less_of y l le (λ same. false≢true (sym differs ∙ eq-eqb y l same))
+
+            by_order : (b : Bool) → nat_lt after y ≡ b → y ≤ after
+            by_order true lt = absurd (false≢true (sym (least y (lt_of after y lt) less) ∙ ap (is_option top) (lessors y ∙ up) ∙ eq-eqb top top refl))
+            by_order false lt = le_of after y lt
+
+    pub all_released : ((k : ℕ) → after < k → is_option top (lessor_of items k) ≡ false) → items ≡ map (released ms top) ms
+    all_released last = h.is ∙ map_each (marked h.under) (released ms top) (λ x. ap (λ b. if b then kept_as false x else x) (same x.birth)) ms
+      where
+        same_bool : (a b : Bool) → (a ≡ true → b ≡ true) → (b ≡ true → a ≡ true) → a ≡ b
+        same_bool true b f g = sym (f refl)
+        same_bool false true f g = g refl
+        same_bool false false f g = refl
+
+        by_order : (y : ℕ) → lessor_of ms y ≡ Some top → (b : Bool) → nat_lt after y ≡ b → y ≤ after
+        by_order y up true lt = absurd (false≢true (sym (last y (lt_of after y lt)) ∙ ap (is_option top) (lessors y ∙ up) ∙ eq-eqb top top refl))
+        by_order y up false lt = le_of after y lt
+
+        same : (n : ℕ) → h.under n ≡ is_under (lessor_of ms) top n
+        same n = same_bool (h.under n) (is_under (lessor_of ms) top n) (h.only n) (λ k. elim (child (lessor_of ms) n top n k) [
+          | inl e ↦ subst (λ z. h.under z ≡ true) e h.first
+          | inr up ↦ h.below up.0 n up.1 (by_order up.0 up.1 (nat_lt after up.0) refl) up.2
+        ])

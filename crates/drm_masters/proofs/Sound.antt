@@ -8,6 +8,7 @@ use Rattle.std.proofs.Math.Bool.{and-false}
 use Rattle.std.proofs.lemmas.List.{length-map}
 use Rattle.std.proofs.lemmas.Bool.{eqb-true, or_left, or_right}
 use Rattle.drm_lists.specs.Orders.{InOrder}
+use Rattle.drm_lists.specs.Chains.{is_under}
 use Rattle.drm_lists.proofs.Lists.{all_weaker, all_both, all_each, all_append, all_filter, all_mapped, filter-shorter, list_any-map, list_any_agree, list_any_left, list_any_right, some_passing}
 use Rattle.drm_lists.proofs.Found.{is_some-find, none_found}
 use Rattle.drm_lists.proofs.Orders.{in_order_append, in_order_filter}
@@ -15,23 +16,23 @@ use Rattle.drm_lists.proofs.Rising.{found, any_found, any_more, any_left, all_fo
 use Rattle.drm_masters.specs.declared.rows.Magic.{Magic}
 use Rattle.drm_masters.specs.declared.rows.Member.{Member}
 use Rattle.drm_masters.specs.declared.rows.Master.{Master}
-use Rattle.drm_masters.specs.Masters.{MasterSet, AreMasters, HaveOtherMagics, HasOlderLessor, is_client, is_birth, is_key, is_option, IsKeyOf, birth_at, member_of, master_at, owner_of, is_held, is_used, is_living, is_current, has_magic, has_open_magic, swept}
+use Rattle.drm_masters.specs.Masters.{MasterSet, AreMasters, HaveOtherMagics, HasOlderLessor, is_client, is_birth, is_key, is_option, IsKeyOf, birth_at, member_of, master_at, lessor_of, owner_of, is_held, is_used, is_living, is_current, has_magic, has_open_magic, swept}
 use Rattle.drm_masters.specs.declared.masters.Masters.TheInside.{Inside}
 use Rattle.drm_masters.specs.Fields.{set_of, IsSound}
 use Rattle.drm_masters.specs.Calls.{with_member, with_master, with_device, without_member, changed_member, with_kept, with_magic, closed_own, released_under}
 use Rattle.drm_masters.proofs.Living.{both_true, and_true}
-use Rattle.drm_masters.proofs.Pushed.{birth_stays, lessor_stays, kept_at, kept_there, kept_rise, kept_older, kept_used, same_used, there_too, new_there, pushed_older, pushed_used, over_there, over_lessors, over_rise, over_older, kept_lessors, pushed_owner}
+use Rattle.drm_masters.proofs.Pushed.{birth_stays, lessor_stays, kept_at, kept_there, kept_rise, kept_older, kept_used, same_used, there_too, new_there, pushed_older, pushed_used, over_there, over_lessors, over_rise, over_older, kept_lessors, pushed_owner, pushed_lessor, new_lessor}
 use Rattle.drm_masters.proofs.Released.{released, released_birth, released_lessor}
 use Rattle.drm_masters.proofs.Upward.{OthersUsed, all_living_used}
 use Rattle.drm_masters.proofs.Flagged.{same_owners, under_same, one_more}
-use Rattle.drm_masters.proofs.Swept.{swept_older, swept_used, swept_owner, named_lives, named_there}
+use Rattle.drm_masters.proofs.Swept.{none_left, swept_older, swept_used, swept_owner, named_lives, named_there}
 use Rattle.drm_masters.proofs.Numbered.{no_magic, other_none, given_before, given_behind, spent_same}
 
 abbrev pub Keyed : List Master → Type 0
 Keyed ms = InOrder (λ (x y : Master). (x.key == y.key) ≡ false) ms
 
 abbrev pub Flags : Inside → MasterSet → Type 0
-Flags a v = (c : ℕ) → set.contains a.members.clients.m0 c ≡ is_current v c
+Flags a v = (c : ℕ) → set.contains a.members.flags c ≡ is_current v c
 
 abbrev MembersRise : List Member → Type 0
 MembersRise xs = InOrder (λ (x y : Member). x.client < y.client) xs
@@ -43,8 +44,25 @@ pub record AreTied (v : MasterSet) : Type 0 where
   pub lessors_older : AllByRecursion (HasOlderLessor v.masters) v.masters
   pub masters_there : AllByRecursion (λ (x : Member). is_some (master_at v.masters x.master) ≡ true) v.members
   pub device_own : (m : ℕ) → v.device_master ≡ Some m → list_any (λ (x : Member). x.is_master && (x.master == m)) v.members ≡ true
+  pub device_owner : (m : ℕ) → v.device_master ≡ Some m → lessor_of v.masters m ≡ None
+  pub guests_of_owners : AllByRecursion (λ (x : Member). x.is_master ≡ false → lessor_of v.masters x.master ≡ None) v.members
   pub magics_differ : InOrder HaveOtherMagics v.members
   pub few : length v.members ≤ v.last_magic
+
+-- a client that is no master stands to one without a lessor
+abbrev IsGuest : List Master → Member → Type 0
+IsGuest ms x = x.is_master ≡ false → lessor_of ms x.master ≡ None
+
+guests_over : (ms others : List Master) → ((n : ℕ) → lessor_of others n ≡ lessor_of ms n) → (xs : List Member) → AllByRecursion (IsGuest ms) xs → AllByRecursion (IsGuest others) xs
+guests_over ms others same xs h = all_weaker (IsGuest ms) (IsGuest others) (λ x g own. same x.master ∙ g own) xs h
+
+guests_pushed : (ms : List Master) (z : Master) → AllByRecursion (λ (x : Master). x.birth < z.birth) ms → (xs : List Member) → AllByRecursion (λ (x : Member). is_some (master_at ms x.master) ≡ true) xs → AllByRecursion (IsGuest ms) xs →
+    AllByRecursion (IsGuest (ms ++ z ∷ [])) xs
+guests_pushed ms z newest xs there h = all_both (λ (x : Member). is_some (master_at ms x.master) ≡ true) (IsGuest ms) (IsGuest (ms ++ z ∷ [])) (λ x t g own. pushed_lessor ms z newest x.master t ∙ g own) xs there h
+
+-- a new master without a lessor is the device's
+new_owner : (ms : List Master) (z : Master) → AllByRecursion (λ (x : Master). x.birth < z.birth) ms → z.lessor ≡ None → (m : ℕ) → Some z.birth ≡ Some m → lessor_of (ms ++ z ∷ []) m ≡ None
+new_owner ms z newest top m e = subst (λ n. lessor_of (ms ++ z ∷ []) n ≡ None) (let s : z.birth ≡ m = cc in s) (new_lessor ms z newest ∙ top)
 
 -- a sweep makes each used
 pub swept_are : (v : MasterSet) → AreTied v → AreMasters (swept v)
@@ -56,6 +74,8 @@ swept_are v t = record {
       all_both (λ (x : Member). is_some (master_at v.masters x.master) ≡ true) (λ (x : Member). list_any (λ (y : Member). y.master == x.master) v.members ≡ true) (λ (x : Member). is_some (master_at (swept v).masters x.master) ≡ true)
       (λ x there named. named_there v.members v.masters t.masters_rise t.lessors_older x there named) v.members t.masters_there (each_is_there (λ (x : Member). x.master) v.members);
   device_own = t.device_own;
+  device_owner = λ m e. none_left v.members v.masters t.masters_rise t.lessors_older m (t.device_owner m e);
+  guests_of_owners = all_weaker (IsGuest v.masters) (IsGuest (swept v).masters) (λ x g own. none_left v.members v.masters t.masters_rise t.lessors_older x.master (g own)) v.members t.guests_of_owners;
   used = swept_used v.members v.masters t.masters_rise t.lessors_older;
   magics_differ = t.magics_differ;
   few = t.few;
@@ -79,7 +99,7 @@ names_last xs y m e = list_any_right (λ (z : Member). z.master == m) xs (y ∷ 
 
 module _ (v : MasterSet) (a : AreMasters v) where
   pub ties : AreTied v
-  ties = record { members_rise = a.members_rise; masters_rise = a.masters_rise; lessors_older = a.lessors_older; masters_there = a.masters_there; device_own = a.device_own; magics_differ = a.magics_differ; few = a.few }
+  ties = record { members_rise = a.members_rise; masters_rise = a.masters_rise; lessors_older = a.lessors_older; masters_there = a.masters_there; device_own = a.device_own; device_owner = a.device_owner; guests_of_owners = a.guests_of_owners; magics_differ = a.magics_differ; few = a.few }
 
   -- the device's master is there
   pub device_there : (m : ℕ) → v.device_master ≡ Some m → is_some (master_at v.masters m) ≡ true
@@ -95,13 +115,15 @@ module _ (v : MasterSet) (a : AreMasters v) where
     come_differ : InOrder HaveOtherMagics (v.members ++ y ∷ [])
     come_differ = in_order_append HaveOtherMagics v.members y a.magics_differ (all_each (λ x. HaveOtherMagics x y) (λ x. other_none y none x) v.members)
 
-    pub guest_are : is_some (master_at v.masters y.master) ≡ true → AreMasters (with_member y v)
-    guest_are there = record {
+    pub guest_are : is_some (master_at v.masters y.master) ≡ true → IsGuest v.masters y → AreMasters (with_member y v)
+    guest_are there guest = record {
       members_rise = come_rise;
       masters_rise = a.masters_rise;
       lessors_older = a.lessors_older;
       masters_there = all_append (λ (x : Member). is_some (master_at v.masters x.master) ≡ true) v.members (y ∷ []) a.masters_there (there, tt);
       device_own = λ m e. list_any_left (λ (x : Member). x.is_master && (x.master == m)) v.members (y ∷ []) (a.device_own m e);
+      device_owner = a.device_owner;
+      guests_of_owners = all_append (IsGuest v.masters) v.members (y ∷ []) a.guests_of_owners (guest, tt);
       used = same_used v.members (v.members ++ y ∷ []) v.masters (held_more v.members y) a.used;
       magics_differ = come_differ;
       few = few_more v.members y v.last_magic room;
@@ -117,13 +139,15 @@ module _ (v : MasterSet) (a : AreMasters v) where
           (all_weaker (λ (x : Member). is_some (master_at v.masters x.master) ≡ true) (λ (x : Member). is_some (master_at (v.masters ++ z ∷ []) x.master) ≡ true) (λ x e. there_too v.masters z newest x.master e) v.members a.masters_there)
           (ap (λ n. is_some (master_at (v.masters ++ z ∷ []) n)) own ∙ new_there v.masters z newest, tt);
       device_own = λ m e. list_any_right (λ (x : Member). x.is_master && (x.master == m)) v.members (y ∷ []) (or_left (y.is_master && (y.master == m)) false (and_true y.is_master (y.master == m) is_own (eq-eqb y.master m (own ∙ (let s : Some z.birth ≡ Some m = e in cc)))));
+      device_owner = new_owner v.masters z newest top;
+      guests_of_owners = all_append (IsGuest (v.masters ++ z ∷ [])) v.members (y ∷ []) (guests_pushed v.masters z newest v.members a.masters_there a.guests_of_owners) ((λ g. absurd (let j : true ≡ false = sym is_own ∙ g in cc)), tt);
       used = pushed_used v.masters z newest v.members (v.members ++ y ∷ []) a.lessors_older (held_more v.members y) (or_right z.kept (list_any (λ (x : Member). x.master == z.birth) (v.members ++ y ∷ [])) (names_last v.members y z.birth own)) a.used;
       magics_differ = come_differ;
       few = few_more v.members y v.last_magic room;
     }
 
-    pub redeemed_are : is_some (master_at v.masters y.master) ≡ true → AreMasters (with_kept y.master false (with_member y v))
-    redeemed_are there = record {
+    pub redeemed_are : is_some (master_at v.masters y.master) ≡ true → y.is_master ≡ true → AreMasters (with_kept y.master false (with_member y v))
+    redeemed_are there is_own = record {
       members_rise = come_rise;
       masters_rise = kept_rise y.master false v.masters a.masters_rise;
       lessors_older = kept_older y.master false v.masters a.lessors_older;
@@ -132,6 +156,10 @@ module _ (v : MasterSet) (a : AreMasters v) where
           (all_weaker (λ (x : Member). is_some (master_at v.masters x.master) ≡ true) (λ (x : Member). is_some (master_at (map (kept_at y.master false) v.masters) x.master) ≡ true) (λ x e. kept_there y.master false v.masters x.master ∙ e) v.members a.masters_there)
           (kept_there y.master false v.masters y.master ∙ there, tt);
       device_own = λ m e. list_any_left (λ (x : Member). x.is_master && (x.master == m)) v.members (y ∷ []) (a.device_own m e);
+      device_owner = λ m e. kept_lessors y.master false v.masters m ∙ a.device_owner m e;
+      guests_of_owners =
+          all_append (IsGuest (map (kept_at y.master false) v.masters)) v.members (y ∷ []) (guests_over v.masters (map (kept_at y.master false) v.masters) (kept_lessors y.master false v.masters) v.members a.guests_of_owners)
+          ((λ g. absurd (let j : true ≡ false = sym is_own ∙ g in cc)), tt);
       used = kept_used y.master false v.masters v.members (v.members ++ y ∷ []) held a.used;
       magics_differ = come_differ;
       few = few_more v.members y v.last_magic room;
@@ -144,8 +172,8 @@ module _ (v : MasterSet) (a : AreMasters v) where
               | false ↦ λ e. held_more v.members y x h
             ]) refl
 
-  pub device_are : (d : Option ℕ) → ((m : ℕ) → d ≡ Some m → list_any (λ (x : Member). x.is_master && (x.master == m)) v.members ≡ true) → AreMasters (with_device d v)
-  device_are d own = record { members_rise = a.members_rise; masters_rise = a.masters_rise; lessors_older = a.lessors_older; masters_there = a.masters_there; device_own = own; used = a.used; magics_differ = a.magics_differ; few = a.few }
+  pub device_are : (d : Option ℕ) → ((m : ℕ) → d ≡ Some m → list_any (λ (x : Member). x.is_master && (x.master == m)) v.members ≡ true) → ((m : ℕ) → d ≡ Some m → lessor_of v.masters m ≡ None) → AreMasters (with_device d v)
+  device_are d own top = record { members_rise = a.members_rise; masters_rise = a.masters_rise; lessors_older = a.lessors_older; masters_there = a.masters_there; device_own = own; device_owner = top; guests_of_owners = a.guests_of_owners; used = a.used; magics_differ = a.magics_differ; few = a.few }
 
   -- a new master that is kept
   pub lessee_are : (z : Master) → z.kept ≡ true → ((l : ℕ) → z.lessor ≡ Some l → is_some (master_at v.masters l) ≡ true) → AllByRecursion (λ (x : Master). x.birth < z.birth) v.masters → AreMasters (with_master z v)
@@ -155,6 +183,8 @@ module _ (v : MasterSet) (a : AreMasters v) where
     lessors_older = pushed_older v.masters z newest there a.lessors_older;
     masters_there = all_weaker (λ (x : Member). is_some (master_at v.masters x.master) ≡ true) (λ (x : Member). is_some (master_at (v.masters ++ z ∷ []) x.master) ≡ true) (λ x e. there_too v.masters z newest x.master e) v.members a.masters_there;
     device_own = a.device_own;
+    device_owner = λ m e. pushed_lessor v.masters z newest m (device_there m e) ∙ a.device_owner m e;
+    guests_of_owners = guests_pushed v.masters z newest v.members a.masters_there a.guests_of_owners;
     used = pushed_used v.masters z newest v.members v.members a.lessors_older (λ x h. h) (or_left z.kept (list_any (λ (x : Member). x.master == z.birth) v.members) kept) a.used;
     magics_differ = a.magics_differ;
     few = a.few;
@@ -168,6 +198,8 @@ module _ (v : MasterSet) (a : AreMasters v) where
     lessors_older = kept_older m kept v.masters a.lessors_older;
     masters_there = all_weaker (λ (x : Member). is_some (master_at v.masters x.master) ≡ true) (λ (x : Member). is_some (master_at (map (kept_at m kept) v.masters) x.master) ≡ true) (λ x e. kept_there m kept v.masters x.master ∙ e) v.members a.masters_there;
     device_own = a.device_own;
+    device_owner = λ n e. kept_lessors m kept v.masters n ∙ a.device_owner n e;
+    guests_of_owners = guests_over v.masters (map (kept_at m kept) v.masters) (kept_lessors m kept v.masters) v.members a.guests_of_owners;
     magics_differ = a.magics_differ;
     few = a.few;
   }
@@ -184,6 +216,8 @@ module _ (v : MasterSet) (a : AreMasters v) where
         lessors_older = over_older g births lessors v.masters a.lessors_older;
         masters_there = all_weaker (λ (x : Member). is_some (master_at v.masters x.master) ≡ true) (λ (x : Member). is_some (master_at (map g v.masters) x.master) ≡ true) (λ x e. over_there g births lessors v.masters x.master ∙ e) v.members a.masters_there;
         device_own = a.device_own;
+        device_owner = λ n e. over_lessors g births lessors v.masters n ∙ a.device_owner n e;
+        guests_of_owners = guests_over v.masters (map g v.masters) (over_lessors g births lessors v.masters) v.members a.guests_of_owners;
         magics_differ = a.magics_differ;
         few = a.few;
       }
@@ -225,6 +259,8 @@ module _ (v : MasterSet) (a : AreMasters v) where
       lessors_older = a.lessors_older;
       masters_there = all_filter (λ (y : Member). is_some (master_at v.masters y.master) ≡ true) (λ (y : Member). not (is_client x.client y)) v.members a.masters_there;
       device_own = λ m e. still_there (λ (y : Member). y.is_master && (y.master == m)) (ap (λ b. b && (x.master == m)) not_own) (a.device_own m e);
+      device_owner = a.device_owner;
+      guests_of_owners = all_filter (IsGuest v.masters) (λ (y : Member). not (is_client x.client y)) v.members a.guests_of_owners;
       magics_differ = gone_differ;
       few = gone_few;
     }
@@ -258,11 +294,16 @@ module _ (v : MasterSet) (a : AreMasters v) where
           all_filter (λ (y : Member). is_some (master_at (map (kept_at x.master true) v.masters) y.master) ≡ true) (λ (y : Member). not (is_client x.client y)) v.members
           (all_weaker (λ (y : Member). is_some (master_at v.masters y.master) ≡ true) (λ (y : Member). is_some (master_at (map (kept_at x.master true) v.masters) y.master) ≡ true) (λ y e. kept_there x.master true v.masters y.master ∙ e) v.members a.masters_there);
       device_own = λ m e. of_device m v.device_master refl e;
+      device_owner = λ m e. kept_lessors x.master true v.masters m ∙ a.device_owner m (still_device v.device_master e);
+      guests_of_owners = all_filter (IsGuest (map (kept_at x.master true) v.masters)) (λ (y : Member). not (is_client x.client y)) v.members (guests_over v.masters (map (kept_at x.master true) v.masters) (kept_lessors x.master true v.masters) v.members a.guests_of_owners);
       used = kept_used x.master true v.masters v.members (filter (λ (y : Member). not (is_client x.client y)) v.members) held a.used;
       magics_differ = gone_differ;
       few = gone_few;
     }
       where
+        still_device : {m : ℕ} (d : Option ℕ) → (if is_option x.master d then None else d) ≡ Some m → d ≡ Some m
+        still_device {m} d e = (elim (is_option x.master d) as (λ b. (if b then None else d) ≡ Some m → d ≡ Some m) [ true ↦ λ k. absurd (let n : None ≡ Some m = k in cc) | false ↦ λ k. k ]) e
+
         others : (m : ℕ) → (m == x.master) ≡ false → (x.master == m) ≡ false
         others m e = (elim (x.master == m) as (λ b. (x.master == m) ≡ b → b ≡ false) [ true ↦ λ k. absurd (let j : false ≡ true = sym e ∙ eq-eqb m x.master (sym (eqb-true x.master m k)) in cc) | false ↦ λ k. refl ]) refl
 
@@ -322,6 +363,11 @@ module _ (v : MasterSet) (a : AreMasters v) where
           (all_both (λ (z : Member). member_of v.members z.client ≡ Some z) (λ (z : Member). is_some (master_at v.masters z.master) ≡ true) (λ z. is_some (master_at v.masters (put z).master) ≡ true)
           (λ z at there. by_row (λ u. is_some (master_at v.masters u.master) ≡ true) z at (λ zx. ap (λ n. is_some (master_at v.masters n)) (of_one ∙ ap (λ (u : Member). u.master) (sym zx)) ∙ there) there) v.members clients_found a.masters_there);
       device_own = λ m e. put_any (λ (z : Member). z.is_master && (z.master == m)) (ap (λ b. b && (y.master == m)) is ∙ ap (λ n. x.is_master && (n == m)) of_one) (a.device_own m e);
+      device_owner = a.device_owner;
+      guests_of_owners =
+          all_mapped (IsGuest v.masters) put v.members
+          (all_both (λ (z : Member). member_of v.members z.client ≡ Some z) (IsGuest v.masters) (λ z. IsGuest v.masters (put z))
+          (λ z at h. by_row (IsGuest v.masters) z at (λ zx own. ap (lessor_of v.masters) (of_one ∙ ap (λ (u : Member). u.master) (sym zx)) ∙ h (ap (λ (u : Member). u.is_master) zx ∙ sym is ∙ own)) h) v.members clients_found a.guests_of_owners);
       used = same_used v.members (map put v.members) v.masters (λ z h. or_more z.kept (list_any (λ (u : Member). u.master == z.birth) v.members) (list_any (λ (u : Member). u.master == z.birth) (map put v.members)) (put_any (λ (u : Member). u.master == z.birth) (ap (λ n. n == z.birth) of_one)) h) a.used;
       magics_differ = differ;
       few = few_put;
@@ -338,6 +384,11 @@ module _ (v : MasterSet) (a : AreMasters v) where
           (all_both (λ (u : Member). member_of v.members u.client ≡ Some u) (λ (u : Member). is_some (master_at v.masters u.master) ≡ true) (λ u. is_some (master_at (v.masters ++ z ∷ []) (put u).master) ≡ true)
           (λ u at there. by_row (λ w. is_some (master_at (v.masters ++ z ∷ []) w.master) ≡ true) u at (λ ux. ap (λ n. is_some (master_at (v.masters ++ z ∷ []) n)) own ∙ new_there v.masters z newest) (there_too v.masters z newest u.master there)) v.members clients_found a.masters_there);
       device_own = λ m e. is_device m (let s : Some z.birth ≡ Some m = e in cc);
+      device_owner = new_owner v.masters z newest top;
+      guests_of_owners =
+          all_mapped (IsGuest (v.masters ++ z ∷ [])) put v.members
+          (all_both (λ (u : Member). member_of v.members u.client ≡ Some u) (IsGuest (v.masters ++ z ∷ [])) (λ u. IsGuest (v.masters ++ z ∷ []) (put u))
+          (λ u at h. by_row (IsGuest (v.masters ++ z ∷ [])) u at (λ ux g. absurd (let j : true ≡ false = sym is_own ∙ g in cc)) h) v.members clients_found (guests_pushed v.masters z newest v.members a.masters_there a.guests_of_owners));
       magics_differ = in_order_mapped (λ (u : Member). member_of v.members u.client ≡ Some u) HaveOtherMagics HaveOtherMagics put (λ u w at au h. differ u w at au h) v.members clients_found a.magics_differ;
       few = few_put;
     }
@@ -352,6 +403,35 @@ module _ (v : MasterSet) (a : AreMasters v) where
         differ u w at aw h =
             by_row (λ b. HaveOtherMagics b (put w)) u at (λ ux n k. absurd (let j : false ≡ true = sym (no_magic y.master n y none) ∙ k in cc))
             (by_row (λ b. HaveOtherMagics u b) w aw (λ wx. other_none y none u) h)
+
+    -- all are used then but the master that it had
+    pub remade_used : (z : Master) → y.master ≡ z.birth → OthersUsed (map put v.members) (v.masters ++ z ∷ []) x.master
+    remade_used z own =
+        all_append (λ (u : Master). (u.birth == x.master) ≡ false → is_used (map put v.members) (v.masters ++ z ∷ []) u ≡ true) v.masters (z ∷ [])
+        (all_weaker (λ (u : Master). is_used v.members v.masters u ≡ true) (λ (u : Master). (u.birth == x.master) ≡ false → is_used (map put v.members) (v.masters ++ z ∷ []) u ≡ true) each v.masters (all_living_used v.members v.masters a.masters_rise a.lessors_older a.used))
+        ((λ _. or_left (is_held (map put v.members) z) (list_any (λ (w : Master). is_option z.birth w.lessor) (v.masters ++ z ∷ [])) (or_right z.kept (list_any (λ (u : Member). u.master == z.birth) (map put v.members)) named)), tt)
+      where
+        named : list_any (λ (u : Member). u.master == z.birth) (map put v.members) ≡ true
+        named =
+            list_any-map (λ (u : Member). u.master == z.birth) put v.members
+            ∙ any_found (is_client x.client) (λ u. (put u).master == z.birth) x v.members here (ap (λ b. (if b then y else x).master == z.birth) (eq-eqb x.client y.client (sym same)) ∙ eq-eqb y.master z.birth own)
+
+        either : (k b c d e : Bool) → (b ≡ true → d ≡ true) → (c ≡ true → e ≡ true) → ((k || b) || c) ≡ true → ((k || d) || e) ≡ true
+        either true b c d e f g h = refl
+        either false true c d e f g h = or_left d e (f refl)
+        either false false c d e f g h = or_right d e (g h)
+
+        each : (u : Master) → is_used v.members v.masters u ≡ true → (u.birth == x.master) ≡ false → is_used (map put v.members) (v.masters ++ z ∷ []) u ≡ true
+        each u used differs =
+            either u.kept (list_any (λ (w : Member). w.master == u.birth) v.members) (list_any (λ (w : Master). is_option u.birth w.lessor) v.masters) (list_any (λ (w : Member). w.master == u.birth) (map put v.members)) (list_any (λ (w : Master). is_option u.birth w.lessor) (v.masters ++ z ∷ []))
+            still (list_any_left (λ (w : Master). is_option u.birth w.lessor) v.masters (z ∷ [])) used
+          where
+            still : list_any (λ (w : Member). w.master == u.birth) v.members ≡ true → list_any (λ (w : Member). w.master == u.birth) (map put v.members) ≡ true
+            still h =
+                list_any-map (λ (w : Member). w.master == u.birth) put v.members
+                ∙ any_more (λ (w : Member). member_of v.members w.client ≡ Some w) (λ (w : Member). w.master == u.birth) (λ w. (put w).master == u.birth)
+                (λ w at t. by_row (λ r. (r.master == u.birth) ≡ true) w at
+                (λ wx. absurd (let j : false ≡ true = sym differs ∙ eq-eqb u.birth x.master (sym (eqb-true w.master u.birth t) ∙ ap (λ (r : Member). r.master) wx) in cc)) t) v.members clients_found h
 
   -- a client's number
   module _ (x : Member) (here : member_of v.members x.client ≡ Some x) (n : ℕ) where
@@ -411,6 +491,27 @@ released_used v a m =
     let same : kept_at m false z ≡ z = ap (λ b. if b then record z { kept = false } else z) other in
     ap (λ (u : Master). is_used v.members (with_kept m false v).masters u) same ∙ ap (λ b. is_held v.members z || b) (list_any-map (λ (y : Master). is_option z.birth y.lessor) (kept_at m false) v.masters ∙ list_any_agree (λ (y : Master). is_option z.birth (kept_at m false y).lessor) (λ (y : Master). is_option z.birth y.lessor) (λ y. ap (is_option z.birth) (lessor_stays m false y)) v.masters) ∙ used
     ) v.masters (all_living_used v.members v.masters a.masters_rise a.lessors_older a.used))
+
+-- those that aren't below the one that is released are used
+pub released_others : (v : MasterSet) → AreMasters v → (top : ℕ) → AllByRecursion (λ (x : Master). is_under (lessor_of (released_under top v).masters) top x.birth ≡ false → is_used v.members (released_under top v).masters x ≡ true) (released_under top v).masters
+released_others v a top =
+    all_mapped (λ (z : Master). is_under (lessor_of new) top z.birth ≡ false → is_used v.members new z ≡ true) g v.masters
+    (all_weaker (λ (z : Master). is_used v.members v.masters z ≡ true) (λ (z : Master). is_under (lessor_of new) top (g z).birth ≡ false → is_used v.members new (g z) ≡ true) each v.masters (all_living_used v.members v.masters a.masters_rise a.lessors_older a.used))
+  where
+    g : Master → Master
+    g = released v.masters top
+
+    new : List Master
+    new = map g v.masters
+
+    each : (z : Master) → is_used v.members v.masters z ≡ true → is_under (lessor_of new) top (g z).birth ≡ false → is_used v.members new (g z) ≡ true
+    each z used apart =
+        let births = released_birth v.masters top in
+        let lessors = released_lessor v.masters top in
+        let test : is_under (lessor_of v.masters) top z.birth ≡ false = ap (λ (above : ℕ → Option ℕ). is_under above top z.birth) (λ i n. sym (over_lessors g births lessors v.masters n) i) ∙ ap (is_under (lessor_of new) top) (sym (births z)) ∙ apart in
+        let same : g z ≡ z = ap (λ b. if b then record z { kept = false } else z) test in
+        ap (λ (u : Master). is_used v.members new u) same
+        ∙ ap (λ b. is_held v.members z || b) (list_any-map (λ (y : Master). is_option z.birth y.lessor) g v.masters ∙ list_any_agree (λ (y : Master). is_option z.birth (g y).lessor) (λ (y : Master). is_option z.birth y.lessor) (λ y. ap (is_option z.birth) (lessors y)) v.masters) ∙ used
 
 -- ---- who is current
 

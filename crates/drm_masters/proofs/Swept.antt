@@ -25,6 +25,12 @@ module _ (members : List Member) (ms : List Master) (rise : Rise ms) (older : Ol
   lessors_are : (n : ℕ) → is_living members ms n ≡ true → lessor_of left n ≡ lessor_of ms n
   lessors_are n h = ap (option_and_then (λ (x : Master). x.lessor)) (at_is n h)
 
+  -- nothing gets a lessor
+  pub none_left : (n : ℕ) → lessor_of ms n ≡ None → lessor_of left n ≡ None
+  none_left n h =
+      ap (option_and_then (λ (x : Master). x.lessor)) (find_where (λ (x : Master). x.birth) (is_living members ms) n ms)
+      ∙ elim (is_living members ms n) as (λ b. option_and_then (λ (x : Master). x.lessor) (cond b (master_at ms n) None) ≡ None) [ true ↦ h | false ↦ refl ]
+
   under_is : (b n : ℕ) → is_living members ms n ≡ true → is_under (lessor_of left) b n ≡ is_under (lessor_of ms) b n
   under_is b n h = ap (λ l. is_among l b) (same_chain (λ k. is_living members ms k ≡ true) (lessor_of ms) (lessor_of left) lessors_are (λ k l p e. lessor_lives ms members rise older k l p e) n n h)
 

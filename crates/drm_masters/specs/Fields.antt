@@ -5,11 +5,10 @@ use Rattle.drm_lists.specs.Orders.{InOrder}
 use Rattle.drm_masters.specs.declared.rows.Master.{Master}
 use Rattle.drm_masters.specs.declared.masters.Masters.TheInside.{Inside}
 use Rattle.drm_masters.specs.Masters.{MasterSet, AreMasters, is_current}
-use Rattle.drm_masters.specs.Tables.{members_in}
 
 abbrev pub set_of : Inside → MasterSet
 set_of a = record {
-  members = members_in a.members.clients.items;
+  members = a.members.items;
   masters = a.masters.items;
   device_master = a.device_master;
   last_magic = a.last_magic;
@@ -20,4 +19,4 @@ set_of a = record {
 pub record IsSound (a : Inside) : Type 0 where
   pub are : AreMasters (set_of a)
   pub keyed : InOrder (λ (x y : Master). (x.key == y.key) ≡ false) a.masters.items
-  pub flagged : (c : ℕ) → set.contains a.members.clients.m0 c ≡ is_current (set_of a) c
+  pub flagged : (c : ℕ) → set.contains a.members.flags c ≡ is_current (set_of a) c

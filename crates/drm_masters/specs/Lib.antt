@@ -3,3 +3,5 @@ pub mod Calls
 pub mod Fields
 pub mod Tables
 pub mod Records
+pub mod Members
+pub mod Sweeps

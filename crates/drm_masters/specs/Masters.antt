@@ -1,5 +1,5 @@
 -- Who stands to which master, and the masters, as flat lists in the order of births (drm(7), masters; drm-uapi, leases).
-use Rattle.std.specs.Prelude.{◌≡◌, ℕ, ◌==◌, ◌<◌, ◌≤◌, Bool, true, false, not, ◌&&◌, ◌||◌, List, length, Option, None, Some, find, filter}
+use Rattle.std.specs.Prelude.{◌≡◌, ℕ, ◌==◌, ◌<◌, ◌≤◌, Bool, true, false, not, ◌&&◌, ◌||◌, List, length, Option, None, Some, find, filter, map}
 use Rattle.std.specs.List.{list_any, AllByRecursion}
 use Rattle.std.specs.Option.{is_some, option_map, option_map_or, option_and_then}
 use Rattle.drm_index_array.specs.Least.{least}
@@ -60,6 +60,10 @@ is_there masters key = is_some (find (is_key key) masters)
 
 abbrev pub lessor_of : List Master → ℕ → Option ℕ
 lessor_of masters m = option_and_then (λ (x : Master). x.lessor) (master_at masters m)
+
+-- the direct lessees of a master, in the order of births
+abbrev pub lessees_of : List Master → ℕ → List ℕ
+lessees_of masters m = map (λ (x : Master). x.birth) (filter (λ (x : Master). is_option m x.lessor) masters)
 
 abbrev pub is_lessee : List Master → ℕ → Bool
 is_lessee masters m = is_some (lessor_of masters m)
@@ -134,14 +138,17 @@ HasOlderLessor masters x = (l : ℕ) → x.lessor ≡ Some l → (is_some (maste
 abbrev pub HaveOtherMagics : Member → Member → Type 0
 HaveOtherMagics x y = (n : ℕ) → has_magic x.master n x ≡ true → has_magic x.master n y ≡ false
 
--- the lists stand in the order of births; all that is named is there; the device's master is some client's own; each master
--- is held, or one below it; no two clients of a master have one number, and there are no more clients than numbers
+-- the lists stand in the order of births; all that is named is there; the device's master is some client's own; neither it
+-- nor the master of a client that is no master has a lessor; each master is held, or one below it; no two clients of a
+-- master have one number, and there are no more clients than numbers
 pub record AreMasters (v : MasterSet) : Type 0 where
   pub members_rise : InOrder (λ (x y : Member). x.client < y.client) v.members
   pub masters_rise : InOrder (λ (x y : Master). x.birth < y.birth) v.masters
   pub lessors_older : AllByRecursion (HasOlderLessor v.masters) v.masters
   pub masters_there : AllByRecursion (λ (x : Member). is_some (master_at v.masters x.master) ≡ true) v.members
   pub device_own : (m : ℕ) → v.device_master ≡ Some m → list_any (λ (x : Member). x.is_master && (x.master == m)) v.members ≡ true
+  pub device_owner : (m : ℕ) → v.device_master ≡ Some m → lessor_of v.masters m ≡ None
+  pub guests_of_owners : AllByRecursion (λ (x : Member). x.is_master ≡ false → lessor_of v.masters x.master ≡ None) v.members
   pub used : AllByRecursion (λ (x : Master). is_living v.members v.masters x.birth ≡ true) v.masters
   pub magics_differ : InOrder HaveOtherMagics v.members
   pub few : length v.members ≤ v.last_magic

@@ -1,12 +1,21 @@
 -- What the fields of the table of masters stand for.
+use Rattle.std.specs.Prelude.{List, ◌≤◌}
+use Rattle.std.specs.List.{AllByRecursion}
 use Rattle.std.specs.FinMap as map
+use Rattle.drm_id_alloc.specs.Groups.{has}
 use Rattle.drm_keys.specs.Keys.{rows_in, IsKeyed}
 use Rattle.drm_masters.specs.declared.rows.Master.{Master}
 use Rattle.drm_masters.specs.declared.table.MasterTable.TheInside.{Inside}
-use Rattle.drm_masters.specs.Tables.{MasterRows, nothing}
+use Rattle.drm_masters.specs.Tables.{MasterRows, nothing, AreLesseesOf}
+
+abbrev pub items_of : Inside → List Master
+items_of a = rows_in nothing a.kept (map.entries a.keys.items)
 
 abbrev pub rows_of : Inside → MasterRows
-rows_of a = record { items = rows_in nothing a.kept (map.entries a.keys.items) }
+rows_of a = record { items = items_of a }
 
-abbrev pub IsTable : Inside → Type 0
-IsTable a = IsKeyed (λ (x : Master). x.key) (λ (x : Master). x.birth) a.keys.items a.kept
+-- the records are found by their births and keys, the births are numbers of 32 bits, and the lessees stand by their lessors
+pub record IsTable (a : Inside) : Type 0 where
+  pub keyed : IsKeyed (λ (x : Master). x.key) (λ (x : Master). x.birth) a.keys.items a.kept
+  pub fits : AllByRecursion (λ (x : Master). x.birth ≤ 4294967295) (items_of a)
+  pub lessees : AreLesseesOf (items_of a) (has a.lessees)

@@ -1,10 +1,14 @@
 -- The lists that the records of clients and masters stand for.
-use Rattle.std.specs.Prelude.{ℕ, List, map as list_map, None, false}
+use Rattle.std.specs.Prelude.{◌≡◌, ℕ, ◌==◌, ◌&&◌, ◌||◌, not, Option, List, map as list_map, None, false, refl}
 use Rattle.std.specs.Ordering.{nat_cmp}
 use Rattle.std.specs.FinMap as map
+use Rattle.std.specs.FinSet as set
+use Rattle.std.specs.Coded.{Coded, code_by, coded×, coded_list, coded_ℕ}
 use Rattle.drm_masters.specs.declared.members.Membership.{Membership}
 use Rattle.drm_masters.specs.declared.rows.Master.{Master}
 use Rattle.drm_masters.specs.declared.rows.Member.{Member}
+use Rattle.drm_id_alloc.specs.Groups.{Groups}
+use Rattle.drm_masters.specs.Masters.{is_option, lessor_of}
 
 -- a client and how it stands to masters
 abbrev pub member_row : ℕ × Membership → Member
@@ -14,6 +18,15 @@ member_row e = record { client = e.0; once_master = e.1.once_master; is_master =
 abbrev pub members_in : map.FinMap nat_cmp Membership → List Member
 members_in clients = list_map member_row (map.entries clients)
 
+-- the clients, in the order of their numbers, and those that are flagged
+pub record MemberRows : Type 0 where
+  pub items : List Member
+  pub flags : set.FinSet nat_cmp
+
+-- stored as the pair of its fields
+abbrev pub rows_code : Coded Member → Coded MemberRows
+rows_code code = code_by (List Member × set.FinSet nat_cmp) (coded× (coded_list code) (set.code coded_ℕ)) (λ r. (r.items, r.flags)) (λ p. record { items = p.0; flags = p.1 }) (λ _. refl)
+
 -- what stands where no master is kept
 abbrev pub nothing : Master
 nothing = record { key = 0; birth = 0; lessor = None; lessee_id = 0; kept = false }
@@ -21,3 +34,15 @@ nothing = record { key = 0; birth = 0; lessor = None; lessee_id = 0; kept = fals
 -- the masters, in the order of their births
 pub record MasterRows : Type 0 where
   pub items : List Master
+
+-- the births of a master's lessees stand in its group
+abbrev pub AreLesseesOf : List Master → Groups → Type 0
+AreLesseesOf ms groups = (m n : ℕ) → groups m n ≡ is_option m (lessor_of ms n)
+
+-- a birth is listed with its lessor's besides
+abbrev pub IsListed : Groups → Option ℕ → ℕ → Groups → Type 0
+IsListed old lessor birth new = (m n : ℕ) → new m n ≡ (old m n || (is_option m lessor && (n == birth)))
+
+-- or not any more
+abbrev pub IsUnlisted : Groups → Option ℕ → ℕ → Groups → Type 0
+IsUnlisted old lessor birth new = (m n : ℕ) → new m n ≡ (old m n && not (is_option m lessor && (n == birth)))

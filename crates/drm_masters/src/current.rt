@@ -1,9 +1,10 @@
 //! Which clients are current.
 
-ghost use Rattle.std.specs.Prelude.{◌≡◌, ℕ, ◌==◌, ◌&&◌, ◌||◌, true, false, if◌then◌else◌};
+ghost use Rattle.std.specs.Prelude.{◌≡◌, ℕ, ◌<◌, ◌==◌, ◌&&◌, ◌||◌, true, false, if◌then◌else◌};
 ghost use Rattle.std.specs.List.{AllByRecursion};
 ghost use Rattle.std.specs.Option.{option_map_or, is_some};
 ghost use Rattle.std.specs.FinSet as set;
+ghost use Rattle.drm_lists.specs.Orders.{InOrder};
 ghost use Rattle.drm_masters.specs.Masters as sets;
 ghost use Rattle.drm_masters.specs.Tables.{members_in};
 
@@ -28,9 +29,9 @@ pub fn flag_if_current(
     member: Member,
 )
     requires older { AllByRecursion (sets.HasOlderLessor masters.now.items) masters.now.items }
-    requires present { is_some (sets.member_of (members_in members.old.clients.items) member.client) ≡ true }
-    ensures rows { members.new.clients.items ≡ members.old.clients.items }
-    ensures flags { (c : ℕ) → set.contains members.new.clients.m0 c ≡ (((c == member.client) && sets.is_current_among masters.now.items device member) || set.contains members.old.clients.m0 c) }
+    requires present { is_some (sets.member_of members.old.items member.client) ≡ true }
+    ensures rows { members.new.items ≡ members.old.items }
+    ensures flags { (c : ℕ) → set.contains members.new.flags c ≡ (((c == member.client) && sets.is_current_among masters.now.items device member) || set.contains members.old.flags c) }
 {
     if is_current_among(masters, device, member) {
         members.flag(member.client);
@@ -40,9 +41,10 @@ pub fn flag_if_current(
 /// Flags those clients that are current. None is flagged before.
 pub fn flag_current(members: &mut Members, masters: &MasterTable, device: Option<u32>)
     requires older { AllByRecursion (sets.HasOlderLessor masters.now.items) masters.now.items }
-    requires unflagged { (c : ℕ) → set.contains members.old.clients.m0 c ≡ false }
-    ensures rows { members.new.clients.items ≡ members.old.clients.items }
-    ensures flags { (c : ℕ) → set.contains members.new.clients.m0 c ≡ option_map_or (sets.is_current_among masters.now.items device) (sets.member_of (members_in members.old.clients.items) c) false }
+    requires rise { InOrder (λ x y. x.client < y.client) members.old.items }
+    requires unflagged { (c : ℕ) → set.contains members.old.flags c ≡ false }
+    ensures rows { members.new.items ≡ members.old.items }
+    ensures flags { (c : ℕ) → set.contains members.new.flags c ≡ option_map_or (sets.is_current_among masters.now.items device) (sets.member_of members.old.items c) false }
 {
     for place in 0..members.len() {
         let Some(member) = members.nth(place) else {
@@ -54,8 +56,8 @@ pub fn flag_current(members: &mut Members, masters: &MasterTable, device: Option
 
 /// Takes the flags away where the device's master is this one.
 pub fn unflag_where_device(members: &mut Members, device: Option<u32>, master: u32)
-    ensures rows { members.new.clients.items ≡ members.old.clients.items }
-    ensures flags { (c : ℕ) → set.contains members.new.clients.m0 c ≡ (if sets.is_option master device then false else set.contains members.old.clients.m0 c) }
+    ensures rows { members.new.items ≡ members.old.items }
+    ensures flags { (c : ℕ) → set.contains members.new.flags c ≡ (if sets.is_option master device then false else set.contains members.old.flags c) }
 {
     if is_option(master, device) {
         members.unflag_all();

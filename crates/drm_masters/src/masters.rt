@@ -14,7 +14,7 @@ use crate::searches::{
     depth_of, find_lessee, find_open_magic, free_lessee, free_magic, is_option, is_under,
     lessor_of, owner_of,
 };
-use crate::sweeps::{release_all_under, sweep, sweep_up};
+use crate::sweeps::{release_all_under, sweep_under, sweep_up};
 use crate::table::MasterTable;
 use crate::writes::{device_without, guest, lessee, own_master, owner, redeemer, with_magic};
 use drm_table::Rule;
@@ -115,6 +115,14 @@ impl Masters {
         let birth = self.masters.of_key(master)?.birth;
         let lessor = lessor_of(&self.masters, birth)?;
         Some(self.masters.at(lessor)?.key)
+    }
+
+    /// The direct lessee of a master at a place, from 0, in the order of births; none past the last. Masters are named by the
+    /// numbers of the steps that made them. It takes no memory.
+    pub fn nth_lessee(&self, lessor: u32, place: usize) -> Option<u32>
+        ensures { result ≡ slice_get (sets.lessees_of self.now.masters lessor) place }
+    {
+        self.masters.nth_lessee(lessor, place)
     }
 
     /// Whether a client's master has a lessor (drm-uapi, leases). It is false of a client that stands to no master. It takes
@@ -380,7 +388,7 @@ impl Masters {
         ensures { self.new ≡ sets.swept (calls.released_under top self.old) }
     {
         release_all_under(&mut self.masters, top);
-        sweep(&self.members, &mut self.masters);
+        sweep_under(&self.members, &mut self.masters, top);
     }
 
     /// The client at a place, from 0, in the order of births, among those that stand to masters; none past the last. It
@@ -407,13 +415,19 @@ impl Masters {
         ensures free { IfOk result (λ key. calls.IsFreeKey self.old key) }
         ensures err { OnErr result (self.new ≡ self.old) }
     {
+        let Some(old) = self.members.get(client) else {
+            unreachable!()
+        };
         let key = match self.masters.insert(own_master(birth)) {
             Ok(key) => key,
             Err(NoMemory) => return Err(NoMemory),
         };
-        self.members.set(owner(client, birth));
+        if let Err(NoMemory) = self.members.remake(owner(client, birth)) {
+            self.masters.remove(birth);
+            return Err(NoMemory);
+        }
         self.device_master = Some(birth);
-        sweep(&self.members, &mut self.masters);
+        sweep_up(&self.members, &mut self.masters, old.master);
         flag_current(&mut self.members, &self.masters, self.device_master);
         Ok(key)
     }

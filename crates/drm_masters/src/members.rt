@@ -1,16 +1,21 @@
 //! The clients that stand to masters.
 
-ghost use Rattle.std.specs.Prelude.{◌≡◌, ◌<◌, ◌++◌, ◌∷◌, ℕ, [], not, false, true, filter, map, length, slice_get, OnOk, OnErr, if◌then◌else◌};
-ghost use Rattle.std.specs.List.{AllByRecursion};
-ghost use Rattle.std.specs.Option.{is_some};
+ghost use Rattle.std.specs.Prelude.{◌≡◌, ◌==◌, ◌<◌, ◌++◌, ◌∷◌, ℕ, [], None, not, false, true, filter, map, length, slice_get, OnOk, OnErr, IfSome, if◌then◌else◌};
+ghost use Rattle.std.specs.List.{list_any, AllByRecursion};
+ghost use Rattle.std.specs.Option.{is_some, option_map_or};
+ghost use Rattle.std.specs.FinMap as fin;
 ghost use Rattle.std.specs.FinSet as set;
 ghost use Rattle.drm_masters.specs.Masters as sets;
-ghost use Rattle.drm_masters.specs.Tables.{members_in, member_row};
+ghost use Rattle.drm_index_array.specs.Indexed.{with_item};
+ghost use Rattle.drm_id_alloc.specs.Groups.{IsAdded, has};
+ghost use Rattle.drm_masters.specs.Tables.{member_row};
 
 use crate::faults::NoMemory;
 use crate::rows::{Magic, Member};
-use drm_index_array::{IndexArray, Mark};
+use drm_id_alloc::Groups;
+use drm_index_array::{IndexArray, InsertFault, Mark};
 use std::alloc::Global;
+use std::marker::Model;
 
 /// What is kept of a client under its number.
 #[derive(Clone, Copy)]
@@ -22,33 +27,52 @@ pub(crate) struct Membership {
 }
 
 /// The clients that stand to masters, by their numbers, each with a flag that says whether it is current.
+/// Contracts see a flat list, in the order of their numbers, and the set of those that are flagged.
 #[derive(Drop)]
 pub struct Members {
     // the first mark is the flag
-    pub(crate) clients: IndexArray<Membership>,
+    clients: IndexArray<Membership>,
+    // the clients by their masters
+    named: Groups,
+}
+
+impl Model for Members {
+    ghost use Rattle.drm_masters.specs.Tables.{MemberRows, rows_code};
+    ghost use Rattle.drm_masters.specs.contracts.rows.Member as row;
+
+    ghost Value = { MemberRows };
+
+    ghost coded = { rows_code row.the_row.coded };
+
+    ghost use Rattle.drm_masters.specs.Members.{rows_of, AreNamed};
+
+    ghost view = { rows_of };
+
+    ghost invariant = { AreNamed };
 }
 
 impl Members {
     /// No client. It takes no memory.
     pub fn new(alloc: Global) -> Members
-        ensures none { members_in result.clients.items ≡ [] }
-        ensures unflagged { (c : ℕ) → set.contains result.clients.m0 c ≡ false }
+        ensures none { result.items ≡ [] }
+        ensures unflagged { (c : ℕ) → set.contains result.flags c ≡ false }
     {
         Members {
             clients: IndexArray::new(alloc),
+            named: Groups::new(alloc),
         }
     }
 
     /// How many clients there are.
     pub fn len(&self) -> usize
-        ensures { result ≡ length (members_in self.now.clients.items) }
+        ensures { result ≡ length self.now.items }
     {
         self.clients.len()
     }
 
     /// How a client stands to masters, if it does.
     pub fn get(&self, client: u32) -> Option<Member>
-        ensures { result ≡ sets.member_of (members_in self.now.clients.items) client }
+        ensures { result ≡ sets.member_of self.now.items client }
     {
         let membership = self.clients.get(client)?;
         Some(row_of(client, *membership))
@@ -56,7 +80,7 @@ impl Members {
 
     /// The client at a place, from 0; none past the last.
     pub fn nth(&self, place: usize) -> Option<Member>
-        ensures { result ≡ slice_get (members_in self.now.clients.items) place }
+        ensures { result ≡ slice_get self.now.items place }
     {
         let client = self.clients.nth(place)?;
         self.get(client)
@@ -64,28 +88,42 @@ impl Members {
 
     /// Whether a client is flagged as current.
     pub fn is_flagged(&self, client: u32) -> bool
-        ensures { result ≡ set.contains self.now.clients.m0 client }
+        ensures { result ≡ set.contains self.now.flags client }
     {
         self.clients.marked(client, Mark::M0)
     }
 
+    /// Whether a client names the master. It looks at no other.
+    pub fn is_named(&self, master: u32) -> bool
+        ensures { result ≡ list_any (λ x. x.master == master) self.now.items }
+    {
+        self.named.next(master, 0).is_some()
+    }
+
     /// Adds a client that is newer than all, without a flag. Without memory nothing changes.
     pub fn add(&mut self, member: Member) -> Result<(), NoMemory>
-        requires newest { AllByRecursion (λ x. x.client < member.client) (members_in self.old.clients.items) }
-        ensures ok { OnOk result (members_in self.new.clients.items ≡ members_in self.old.clients.items ++ member ∷ []) }
-        ensures flags { self.new.clients.m0 ≡ self.old.clients.m0 }
+        requires newest { AllByRecursion (λ x. x.client < member.client) self.old.items }
+        ensures ok { OnOk result (self.new.items ≡ self.old.items ++ member ∷ []) }
+        ensures flags { self.new.flags ≡ self.old.flags }
         ensures err { OnErr result (self.new ≡ self.old) }
     {
-        if let Err(_fault) = self.clients.insert(member.client, kept_of(member)) {
+        let client = member.client;
+        let master = member.master;
+        if let Err(NoMemory) = note(&mut self.named, master, client) {
+            return Err(NoMemory);
+        }
+        if let Err(NoMemory) = insert(&mut self.clients, client, kept_of(member)) {
+            self.named.forget(master, client);
             return Err(NoMemory);
         }
         Ok(())
     }
 
-    /// Puts a client's row in place of the one that it has, if it has one. It keeps its flag.
+    /// Puts a client's row in place of the one that it has, if it has one. It keeps its master, and its flag.
     pub fn set(&mut self, member: Member)
-        ensures rows { members_in self.new.clients.items ≡ map (λ x. if sets.is_client member.client x then member else x) (members_in self.old.clients.items) }
-        ensures flags { self.new.clients.m0 ≡ self.old.clients.m0 }
+        requires stays { IfSome (sets.member_of self.old.items member.client) (λ x. x.master ≡ member.master) }
+        ensures rows { self.new.items ≡ map (λ x. if sets.is_client member.client x then member else x) self.old.items }
+        ensures flags { self.new.flags ≡ self.old.flags }
     {
         let Some(kept) = self.clients.get_mut(member.client) else {
             return;
@@ -93,19 +131,43 @@ impl Members {
         *kept = kept_of(member);
     }
 
+    /// Puts a client's row, of another master, in place of the one that it has. It keeps its flag. Without memory nothing
+    /// changes.
+    pub fn remake(&mut self, member: Member) -> Result<(), NoMemory>
+        requires moves { option_map_or (λ x. not (x.master == member.master)) (sets.member_of self.old.items member.client) false ≡ true }
+        ensures rows { OnOk result (self.new.items ≡ map (λ x. if sets.is_client member.client x then member else x) self.old.items) }
+        ensures flags { self.new.flags ≡ self.old.flags }
+        ensures err { OnErr result (self.new ≡ self.old) }
+    {
+        let client = member.client;
+        let master = member.master;
+        let Some(old) = self.get(client) else {
+            unreachable!()
+        };
+        if let Err(NoMemory) = note(&mut self.named, master, client) {
+            return Err(NoMemory);
+        }
+        self.named.forget(old.master, client);
+        put(&mut self.clients, client, kept_of(member));
+        Ok(())
+    }
+
     /// Takes a client away, if it is there, with its flag.
     pub fn remove(&mut self, client: u32)
-        ensures rows { members_in self.new.clients.items ≡ filter (λ x. not (sets.is_client client x)) (members_in self.old.clients.items) }
-        ensures flags { self.new.clients.m0 ≡ set.remove self.old.clients.m0 client }
+        ensures rows { self.new.items ≡ filter (λ x. not (sets.is_client client x)) self.old.items }
+        ensures flags { self.new.flags ≡ set.remove self.old.flags client }
     {
-        let _membership = self.clients.remove(client);
+        let Some(kept) = self.clients.remove(client) else {
+            return;
+        };
+        self.named.forget(kept.master, client);
     }
 
     /// Flags a client as current.
     pub fn flag(&mut self, client: u32)
-        requires present { is_some (sets.member_of (members_in self.old.clients.items) client) ≡ true }
-        ensures rows { self.new.clients.items ≡ self.old.clients.items }
-        ensures flags { self.new.clients.m0 ≡ set.insert self.old.clients.m0 client }
+        requires present { is_some (sets.member_of self.old.items client) ≡ true }
+        ensures rows { self.new.items ≡ self.old.items }
+        ensures flags { self.new.flags ≡ set.insert self.old.flags client }
     {
         if !self.clients.set_mark(client, Mark::M0) {
             unreachable!()
@@ -114,13 +176,60 @@ impl Members {
 
     /// Takes the flag from each client that has it. It passes over the others.
     pub fn unflag_all(&mut self)
-        ensures rows { self.new.clients.items ≡ self.old.clients.items }
-        ensures flags { (c : ℕ) → set.contains self.new.clients.m0 c ≡ false }
+        ensures rows { self.new.items ≡ self.old.items }
+        ensures flags { (c : ℕ) → set.contains self.new.flags c ≡ false }
     {
-        while let Some(client) = self.clients.next_marked(0, Mark::M0) {
-            let _there = self.clients.clear_mark(client, Mark::M0);
-        }
+        unflag(&mut self.clients);
     }
+}
+
+/// Takes the flag from each client that has it.
+fn unflag(clients: &mut IndexArray<Membership>)
+    ensures rows { clients.new.items ≡ clients.old.items }
+    ensures flags { (c : ℕ) → set.contains clients.new.m0 c ≡ false }
+{
+    while let Some(client) = clients.next_marked(0, Mark::M0) {
+        let _there = clients.clear_mark(client, Mark::M0);
+    }
+}
+
+/// Notes a client of a master. Without memory nothing changes.
+fn note(named: &mut Groups, master: u32, client: u32) -> Result<(), NoMemory>
+    ensures ok { OnOk result (IsAdded (has named.old) master client (has named.new)) }
+    ensures err { OnErr result (named.new ≡ named.old) }
+{
+    match named.note(master, client) {
+        Ok(()) => Ok(()),
+        Err(_fault) => Err(NoMemory),
+    }
+}
+
+/// Adds what is kept of a client that is not there. Without memory nothing changes.
+fn insert(
+    clients: &mut IndexArray<Membership>,
+    client: u32,
+    kept: Membership,
+) -> Result<(), NoMemory>
+    requires absent { fin.get clients.old.items client ≡ None }
+    ensures ok { OnOk result (clients.new ≡ with_item clients.old client kept) }
+    ensures err { OnErr result (clients.new ≡ clients.old) }
+{
+    match clients.insert(client, kept) {
+        Ok(()) => Ok(()),
+        Err(InsertFault::NoMemory(_)) => Err(NoMemory),
+        Err(InsertFault::Taken(_)) => unreachable!(),
+    }
+}
+
+/// Puts what is kept of a client that is there.
+fn put(clients: &mut IndexArray<Membership>, client: u32, kept: Membership)
+    requires present { is_some (fin.get clients.old.items client) ≡ true }
+    ensures { clients.new ≡ with_item clients.old client kept }
+{
+    let Some(slot) = clients.get_mut(client) else {
+        unreachable!()
+    };
+    *slot = kept;
 }
 
 fn row_of(client: u32, kept: Membership) -> Member

@@ -1,6 +1,6 @@
 //! Searches among the clients and the masters.
 
-ghost use Rattle.std.specs.Prelude.{◌≡◌, ◌==◌, find, not};
+ghost use Rattle.std.specs.Prelude.{◌≡◌, ◌==◌, find, not, slice_get};
 ghost use Rattle.std.specs.List.{list_any, AllByRecursion};
 ghost use Rattle.drm_index_array.specs.Least.{least};
 ghost use Rattle.drm_lists.specs.Chains as chains;
@@ -57,36 +57,6 @@ pub fn is_under(masters: &MasterTable, top: u32, birth: u32) -> bool
     }
 }
 
-/// Whether a client names the master.
-pub fn is_named(members: &Members, master: u32) -> bool
-    ensures { result ≡ list_any (λ x. x.master == master) (members_in members.now.clients.items) }
-{
-    for place in 0..members.len() {
-        let Some(member) = members.nth(place) else {
-            unreachable!()
-        };
-        if member.master == master {
-            return true;
-        }
-    }
-    false
-}
-
-/// Whether a master names it as its lessor.
-pub fn has_lessee(masters: &MasterTable, lessor: u32) -> bool
-    ensures { result ≡ list_any (λ x. sets.is_option lessor x.lessor) masters.now.items }
-{
-    for place in 0..masters.len() {
-        let Some(master) = masters.nth(place) else {
-            unreachable!()
-        };
-        if is_option(lessor, master.lessor) {
-            return true;
-        }
-    }
-    false
-}
-
 /// Whether the option is this number.
 pub fn is_option(number: u32, option: Option<u32>) -> bool
     ensures { result ≡ sets.is_option number option }
@@ -99,7 +69,7 @@ pub fn is_option(number: u32, option: Option<u32>) -> bool
 
 /// The client that has the number under the master, unspent.
 pub fn find_open_magic(members: &Members, master: u32, number: u32) -> Option<Member>
-    ensures { result ≡ find (sets.has_open_magic master number) (members_in members.now.clients.items) }
+    ensures { result ≡ find (sets.has_open_magic master number) members.now.items }
 {
     for place in 0..members.len() {
         let Some(member) = members.nth(place) else {
@@ -132,7 +102,7 @@ fn has_magic(member: Member, master: u32, number: u32) -> bool
 
 /// Whether a client has the number under the master.
 pub fn is_magic(members: &Members, master: u32, number: u32) -> bool
-    ensures { result ≡ list_any (sets.has_magic master number) (members_in members.now.clients.items) }
+    ensures { result ≡ list_any (sets.has_magic master number) members.now.items }
 {
     for place in 0..members.len() {
         let Some(member) = members.nth(place) else {
@@ -147,7 +117,7 @@ pub fn is_magic(members: &Members, master: u32, number: u32) -> bool
 
 /// The least number up to the last that no client has under the master.
 pub fn free_magic(members: &Members, master: u32, last: u32) -> Option<u32>
-    ensures { result ≡ least (λ n. not (list_any (sets.has_magic master n) (members_in members.now.clients.items))) 1 last }
+    ensures { result ≡ least (λ n. not (list_any (sets.has_magic master n) members.now.items)) 1 last }
 {
     for number in 1..=last {
         if !is_magic(members, master, number) {

@@ -1,12 +1,18 @@
 //! The masters that are there.
 
-ghost use Rattle.std.specs.Prelude.{◌≡◌, ◌<◌, ◌++◌, ◌∷◌, [], None, not, find, filter, map, length, slice_get, OnErr, IfOk, if◌then◌else◌};
-ghost use Rattle.std.specs.List.{AllByRecursion};
+ghost use Rattle.std.specs.Prelude.{◌≡◌, ◌+◌, ◌<◌, ◌≤◌, ◌++◌, ◌∷◌, ℕ, [], None, false, not, find, filter, map as list_map, length, slice_get, OnOk, OnErr, IfOk, IfNone, if◌then◌else◌};
+ghost use Rattle.std.specs.List.{list_any, AllByRecursion};
+ghost use Rattle.std.specs.FinMap as map;
+ghost use Rattle.drm_index_array.specs.Indexed.{with_item};
+ghost use Rattle.drm_index_array.specs.Least.{least};
+ghost use Rattle.drm_id_alloc.specs.Groups.{has};
 ghost use Rattle.drm_masters.specs.Masters as sets;
 ghost use Rattle.drm_masters.specs.Calls as calls;
+ghost use Rattle.drm_masters.specs.Tables.{IsListed, IsUnlisted};
 
 use crate::faults::NoMemory;
 use crate::rows::{Master, MasterKey};
+use drm_id_alloc::Groups;
 use drm_index_array::{IndexArray, InsertFault};
 use slab::Slab;
 use std::alloc::Global;
@@ -18,6 +24,8 @@ pub struct MasterTable {
     // the keys, by the births of their masters
     keys: IndexArray<u32>,
     kept: Slab<Master>,
+    // the births of lessees, by those of their lessors
+    lessees: Groups,
 }
 
 impl Model for MasterTable {
@@ -40,6 +48,7 @@ impl MasterTable {
         MasterTable {
             keys: IndexArray::new(alloc),
             kept: Slab::new(alloc),
+            lessees: Groups::new(alloc),
         }
     }
 
@@ -90,10 +99,14 @@ impl MasterTable {
         if let Err(_fault) = self.kept.reserve(1) {
             return Err(NoMemory);
         }
-        match self.keys.insert(master.birth, number as u32) {
-            Ok(()) => {}
-            Err(InsertFault::NoMemory(_)) => return Err(NoMemory),
-            Err(InsertFault::Taken(_)) => unreachable!(),
+        let birth = master.birth;
+        let lessor = master.lessor;
+        if let Err(NoMemory) = list(&mut self.lessees, lessor, birth) {
+            return Err(NoMemory);
+        }
+        if let Err(NoMemory) = add_key(&mut self.keys, birth, number as u32) {
+            unlist(&mut self.lessees, lessor, birth);
+            return Err(NoMemory);
         }
         let key = MasterKey::from_number(number as u32);
         let _number = self.kept.insert_reserved(Master { key, ..master });
@@ -102,7 +115,7 @@ impl MasterTable {
 
     /// Keeps the master of a birth, if it is there, or not any more.
     pub fn set_kept(&mut self, birth: u32, kept: bool)
-        ensures { self.new.items ≡ map (λ x. if sets.is_birth birth x then calls.kept_as kept x else x) self.old.items }
+        ensures { self.new.items ≡ list_map (λ x. if sets.is_birth birth x then calls.kept_as kept x else x) self.old.items }
     {
         let Some(key) = self.keys.get(birth) else {
             return;
@@ -121,6 +134,72 @@ impl MasterTable {
         let Some(key) = self.keys.remove(birth) else {
             return;
         };
-        let _master = self.kept.try_remove(key as usize);
+        let Some(master) = self.kept.try_remove(key as usize) else {
+            unreachable!()
+        };
+        unlist(&mut self.lessees, master.lessor, birth);
+    }
+
+    /// Whether a master names it as its lessor. It looks at no other.
+    pub fn has_lessee(&self, lessor: u32) -> bool
+        ensures { result ≡ list_any (λ x. sets.is_option lessor x.lessor) self.now.items }
+    {
+        self.lessees.next(lessor, 0).is_some()
+    }
+
+    /// The direct lessee of a master at a place, from 0, in the order of births; none past the last.
+    pub fn nth_lessee(&self, lessor: u32, place: usize) -> Option<u32>
+        ensures { result ≡ slice_get (sets.lessees_of self.now.items lessor) place }
+    {
+        self.lessees.nth(lessor, place)
+    }
+
+    /// The oldest direct lessee of a master that is younger than this birth.
+    pub fn lessee_after(&self, lessor: u32, after: u32) -> Option<u32>
+        ensures least { result ≡ least (λ n. sets.is_option lessor (sets.lessor_of self.now.items n)) (after + 1) u32.MAX }
+        ensures none_above { IfNone result ((n : ℕ) → after < n → sets.is_option lessor (sets.lessor_of self.now.items n) ≡ false) }
+    {
+        let lessees = &self.lessees;
+        if after == u32::MAX {
+            return None;
+        }
+        lessees.next(lessor, after + 1)
+    }
+}
+
+/// Adds a birth's key, where the birth has none. Without memory nothing changes.
+fn add_key(keys: &mut IndexArray<u32>, birth: u32, key: u32) -> Result<(), NoMemory>
+    requires vacant { map.get keys.old.items birth ≡ None }
+    ensures ok { OnOk result (keys.new ≡ with_item keys.old birth key) }
+    ensures err { OnErr result (keys.new ≡ keys.old) }
+    ensures fits { birth ≤ u32.MAX }
+{
+    match keys.insert(birth, key) {
+        Ok(()) => Ok(()),
+        Err(InsertFault::NoMemory(_)) => Err(NoMemory),
+        Err(InsertFault::Taken(_)) => unreachable!(),
+    }
+}
+
+/// Lists a master with its lessor's lessees, if it has one. Without memory nothing changes.
+fn list(lessees: &mut Groups, lessor: Option<u32>, birth: u32) -> Result<(), NoMemory>
+    ensures ok { OnOk result (IsListed (has lessees.old) lessor birth (has lessees.new)) }
+    ensures err { OnErr result (lessees.new ≡ lessees.old) }
+{
+    let Some(lessor) = lessor else {
+        return Ok(());
+    };
+    match lessees.note(lessor, birth) {
+        Ok(()) => Ok(()),
+        Err(_fault) => Err(NoMemory),
+    }
+}
+
+/// Lists it no more.
+fn unlist(lessees: &mut Groups, lessor: Option<u32>, birth: u32)
+    ensures { IsUnlisted (has lessees.old) lessor birth (has lessees.new) }
+{
+    if let Some(lessor) = lessor {
+        lessees.forget(lessor, birth);
     }
 }

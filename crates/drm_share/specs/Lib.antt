@@ -1,5 +1,4 @@
 pub mod Names
 pub mod Tokens
-pub mod Owned
 pub mod Tables
 pub mod ShareFault

@@ -3,13 +3,12 @@ use Rattle.std.specs.Prelude.{◌≡◌, ℕ, List, map as list_map, Some}
 use Rattle.std.specs.Ordering.{nat_cmp}
 use Rattle.std.specs.FinMap as map
 use Rattle.drm_id_alloc.specs.Table.{Table, IsWithin}
-use Rattle.drm_id_alloc.specs.Groups.{AreGroupsOf}
+use Rattle.drm_id_alloc.specs.Groups.{GroupMap, has, AreGroupsOf}
 use Rattle.drm_share.specs.declared.rows.SharedName.{SharedName}
 use Rattle.drm_share.specs.declared.rows.SharedToken.{SharedToken}
 use Rattle.drm_share.specs.declared.tokens.Export.{Export}
 use Rattle.drm_share.specs.Names.{NameList, shared_name}
 use Rattle.drm_share.specs.Tokens.{TokenList, token}
-use Rattle.drm_share.specs.Owned.{OwnedMap, owns}
 
 abbrev pub name_row : ℕ × ℕ → SharedName
 name_row entry = shared_name entry.0 entry.1
@@ -41,6 +40,6 @@ pub record HasNames (table : Table ℕ) (names : map.FinMap nat_cmp ℕ) : Type 
   pub given : (k n : ℕ) → map.get names k ≡ Some n → map.get table.slots n ≡ Some k
 
 -- such a table of tokens, and those of each client
-pub record HasOwners (table : Table Export) (owned : OwnedMap) : Type 0 where
+pub record HasOwners (table : Table Export) (owned : GroupMap) : Type 0 where
   pub numbered : IsNumbered table
-  pub owners : AreGroupsOf (λ (x : Export). x.client) table.slots (owns owned)
+  pub owners : AreGroupsOf (λ (x : Export). x.client) table.slots (has owned)

@@ -4,7 +4,6 @@
 
 mod faults;
 mod names;
-mod owned;
 mod rows;
 mod tokens;
 

@@ -5,10 +5,9 @@ ghost use Rattle.drm_share.specs.Tokens.{AreTokens, empty_tokens, is_token, is_t
 ghost use Rattle.drm_share.specs.ShareFault.{IsFull};
 
 use crate::faults::ShareFault;
-use crate::owned::Owned;
 use crate::rows::SharedToken;
 use drm_gem::ObjectKey;
-use drm_id_alloc::IdTable;
+use drm_id_alloc::{Groups, IdTable};
 use std::alloc::Global;
 use std::marker::Model;
 
@@ -25,7 +24,8 @@ pub(crate) struct Export {
 #[derive(Drop)]
 pub struct Tokens {
     exports: IdTable<Export>,
-    owned: Owned,
+    // the tokens, by the clients that exported them
+    owned: Groups,
 }
 
 impl Model for Tokens {
@@ -36,7 +36,7 @@ impl Model for Tokens {
 
     ghost view = { λ tokens. token_list tokens.exports };
 
-    ghost invariant = { λ tokens. HasOwners tokens.exports tokens.owned.clients.items };
+    ghost invariant = { λ tokens. HasOwners tokens.exports tokens.owned };
 }
 
 impl Tokens {
@@ -47,7 +47,7 @@ impl Tokens {
     {
         Tokens {
             exports: IdTable::new(alloc, 1, last),
-            owned: Owned::new(alloc),
+            owned: Groups::new(alloc),
         }
     }
 
@@ -115,7 +115,7 @@ impl Tokens {
         ensures none { IfNone result (self.new ≡ self.old) }
         ensures tokens { AreTokens self.old }
     {
-        let token = self.owned.first(client)?;
+        let token = self.owned.next(client, 0)?;
         let Some(export) = self.exports.remove(token) else {
             unreachable!();
         };

@@ -1,11 +1,19 @@
-use Rattle.std.proofs.Common.{get_or, take, arith}
+use Rattle.std.proofs.Common.{◌≡◌, ◌+◌, [], ◌∷◌, ◌++◌, Some, take, ap, sym, subst, ◌∙◌}
+use Rattle.std.specs.Prelude.{List, ℕ, slice_get}
 use Rattle.std.proofs.lemmas.List.{take_more}
+use Rattle.std.proofs.lemmas.Option.{slice_get_within, get_or_from_slice_get}
+use Rattle.drm_id_alloc.specs.Groups.{numbers_of}
+use Rattle.drm_files.specs.Primes.{IsLeastIn, lesser_prime, prime_at}
 use Rattle.drm_files.proofs.PrimeFacts.{one_more}
 use Rattle.drm_files.proofs.primes.least_prime.Goals as goal
 
 pub loop-place-preserved : goal.loop-place-preserved
 loop-place-preserved c =
-    let handles = c.args.handles.now in
+    let slots = c.args.table.now.slots in
+    let handles = numbers_of c.args.by_object.now c.args.object in
     let place = c.loop-place.place in
-    rw (take_more handles place 0 (omega (arith, c.loop-place-test.true)), c.lesser_prime-least.ensures, c.prime_at.ensures)
-    (one_more c.args.table.now.slots c.args.object (take place handles) c.loop-place.least (get_or handles place 0) c.loop-place.invariant)
+    let h = c.in-Some.handle in
+    let at : slice_get handles place ≡ Some h = ap (λ n. slice_get (numbers_of c.args.by_object.now n) place) (sym c.number-number.ensures) ∙ sym c.nth.ensures ∙ c.in-Some.is in
+    let front : take (place + 1) handles ≡ take place handles ++ h ∷ [] = take_more handles place h (slice_get_within handles place h at) ∙ ap (λ y. take place handles ++ y ∷ []) (get_or_from_slice_get handles place h h at) in
+    rw (c.lesser_prime-least.ensures, c.prime_at.ensures)
+    (subst (λ (l : List ℕ). IsLeastIn slots c.args.object l (lesser_prime c.loop-place.least (prime_at slots c.args.object h))) (sym front) (one_more slots c.args.object (take place handles) c.loop-place.least h c.loop-place.invariant))

@@ -1,7 +1,8 @@
 use Rattle.std.proofs.Common.{take}
+use Rattle.drm_id_alloc.specs.Groups.{numbers_of}
 use Rattle.drm_files.specs.Primes.{IsLeastIn}
 use Rattle.drm_files.proofs.primes.least_prime.Given as goal
 
 -- the least among the handles before this place
 abbrev pub invariant-loop-place : goal.invariant-loop-place
-invariant-loop-place l = IsLeastIn l.table.slots l.object (take l.place l.handles) l.least
+invariant-loop-place l = IsLeastIn l.table.slots l.object (take l.place (numbers_of l.by_object l.object)) l.least

@@ -1,12 +1,11 @@
-use Rattle.std.proofs.Common.{◌≡◌, ◌==◌, ◌&&◌, ◌||◌, Bool, Some, is_some, refl, ap, sym, ◌∙◌, arith}
+use Rattle.std.proofs.Common.{◌≡◌, ◌<◌, ◌==◌, ◌&&◌, ◌||◌, Bool, List, Some, is_some, refl, ap, sym, subst, ◌∙◌, arith}
 use Rattle.std.specs.Prelude.{slice_get}
 use Rattle.std.specs.List.{list_any}
 use Rattle.std.proofs.lemmas.List.{take_all}
 use Rattle.drm_masters.specs.declared.rows.Member.{Member}
 use Rattle.drm_masters.specs.Masters.{is_current_among}
-use Rattle.drm_masters.specs.Tables.{members_in}
 use Rattle.drm_masters.proofs.Looked.{is_there, any_pushed}
-use Rattle.drm_masters.proofs.Listed.{Clients, clients_rise}
+use Rattle.drm_lists.specs.Orders.{InOrder}
 use Rattle.drm_masters.proofs.Flagged.{at_place, any_is}
 use Rattle.drm_masters.proofs.current.flag_current.Goals as goal
 
@@ -15,19 +14,19 @@ loop-place-init c = record { rows = refl; flags = λ k. c.requires.unflagged k }
 
 pub unreachable-requires : goal.unreachable-requires
 unreachable-requires c =
-    let rows = members_in c.args.members.now.clients.items in
-    is_there rows c.loop-place.place (omega (arith, c.loop-place-test.true, c.len-place-end.ensures)) (ap (λ (m : Clients). slice_get (members_in m) c.loop-place.place) (sym c.loop-place.invariant.rows) ∙ sym c.nth.ensures ∙ c.in_default.is)
+    let rows = c.args.members.now.items in
+    is_there rows c.loop-place.place (omega (arith, c.loop-place-test.true, c.len-place-end.ensures)) (ap (λ (l : List Member). slice_get l c.loop-place.place) (sym c.loop-place.invariant.rows) ∙ sym c.nth.ensures ∙ c.in_default.is)
 
 pub flag_if_current-requires-clause-present : goal.flag_if_current-requires-clause-present
 flag_if_current-requires-clause-present c =
-    let now = c.loop-place.members.clients.items in
-    ap is_some (at_place (members_in now) (clients_rise now) c.loop-place.place c.in-Some.member (sym c.nth.ensures ∙ c.in-Some.is))
+    let now = c.loop-place.members.items in
+    ap is_some (at_place now (subst (λ (l : List Member). InOrder (λ (x y : Member). x.client < y.client) l) (sym c.loop-place.invariant.rows) c.requires.rise) c.loop-place.place c.in-Some.member (sym c.nth.ensures ∙ c.in-Some.is))
 
 pub loop-place-preserved : goal.loop-place-preserved
 loop-place-preserved c =
-    let rows = members_in c.args.members.now.clients.items in
+    let rows = c.args.members.now.items in
     let x = c.in-Some.member in
-    let at : slice_get rows c.loop-place.place ≡ Some x = ap (λ (m : Clients). slice_get (members_in m) c.loop-place.place) (sym c.loop-place.invariant.rows) ∙ sym c.nth.ensures ∙ c.in-Some.is in
+    let at : slice_get rows c.loop-place.place ≡ Some x = ap (λ (l : List Member). slice_get l c.loop-place.place) (sym c.loop-place.invariant.rows) ∙ sym c.nth.ensures ∙ c.in-Some.is in
     record {
       rows = c.flag_if_current.ensures.rows ∙ c.loop-place.invariant.rows;
       flags = λ k.
@@ -37,8 +36,8 @@ loop-place-preserved c =
 
 pub returns-clause-flags : goal.returns-clause-flags
 returns-clause-flags c = λ k.
-    let items = c.args.members.now.clients.items in
+    let items = c.args.members.now.items in
     let q = is_current_among c.args.masters.now.items c.args.device in
     c.loop-place.invariant.flags k
-    ∙ ap (list_any (λ (y : Member). (k == y.client) && q y)) (take_all c.loop-place.place (members_in items) (omega (arith, c.loop-place-test.false, c.len-place-end.ensures)))
-    ∙ any_is q k (members_in items) (clients_rise items)
+    ∙ ap (list_any (λ (y : Member). (k == y.client) && q y)) (take_all c.loop-place.place items (omega (arith, c.loop-place-test.false, c.len-place-end.ensures)))
+    ∙ any_is q k items c.requires.rise

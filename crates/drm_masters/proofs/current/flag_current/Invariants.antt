@@ -2,12 +2,11 @@ use Rattle.std.proofs.Common.{◌≡◌, ℕ, ◌==◌, ◌&&◌, take}
 use Rattle.std.specs.List.{list_any}
 use Rattle.std.specs.FinSet as set
 use Rattle.drm_masters.specs.Masters.{is_current_among}
-use Rattle.drm_masters.specs.Tables.{members_in}
 use Rattle.drm_masters.proofs.current.flag_current.Given as goal
 
 -- of those that were looked at the ones that are current are flagged
 abbrev pub invariant-loop-place : goal.invariant-loop-place
 invariant-loop-place l = record {
-  rows : l.members.clients.items ≡ l.fn.members.clients.items;
-  flags : (c : ℕ) → set.contains l.members.clients.m0 c ≡ list_any (λ x. (c == x.client) && is_current_among l.masters.items l.device x) (take l.place (members_in l.fn.members.clients.items));
+  rows : l.members.items ≡ l.fn.members.items;
+  flags : (c : ℕ) → set.contains l.members.flags c ≡ list_any (λ x. (c == x.client) && is_current_among l.masters.items l.device x) (take l.place l.fn.members.items);
 }

@@ -1,7 +1,6 @@
 use Rattle.std.proofs.Common.{◌≡◌, find, drop}
 use Rattle.drm_masters.specs.Masters.{has_open_magic}
-use Rattle.drm_masters.specs.Tables.{members_in}
 use Rattle.drm_masters.proofs.searches.find_open_magic.Given as goal
 
 abbrev pub invariant-loop-place : goal.invariant-loop-place
-invariant-loop-place l = find (has_open_magic l.master l.number) (members_in l.members.clients.items) ≡ find (has_open_magic l.master l.number) (drop l.place (members_in l.members.clients.items))
+invariant-loop-place l = find (has_open_magic l.master l.number) l.members.items ≡ find (has_open_magic l.master l.number) (drop l.place l.members.items)

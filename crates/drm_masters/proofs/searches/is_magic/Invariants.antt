@@ -1,8 +1,7 @@
 use Rattle.std.proofs.Common.{◌≡◌, drop}
 use Rattle.std.specs.List.{list_any}
 use Rattle.drm_masters.specs.Masters.{has_magic}
-use Rattle.drm_masters.specs.Tables.{members_in}
 use Rattle.drm_masters.proofs.searches.is_magic.Given as goal
 
 abbrev pub invariant-loop-place : goal.invariant-loop-place
-invariant-loop-place l = list_any (has_magic l.master l.number) (members_in l.members.clients.items) ≡ list_any (has_magic l.master l.number) (drop l.place (members_in l.members.clients.items))
+invariant-loop-place l = list_any (has_magic l.master l.number) l.members.items ≡ list_any (has_magic l.master l.number) (drop l.place l.members.items)

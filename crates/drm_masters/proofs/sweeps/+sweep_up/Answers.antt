@@ -4,7 +4,6 @@ use Rattle.std.proofs.lemmas.Bool.{eqb-true, false≢true}
 use Rattle.drm_lists.specs.Orders.{InOrder}
 use Rattle.drm_masters.specs.declared.rows.Master.{Master}
 use Rattle.drm_masters.specs.Masters.{is_birth, is_used, is_living, master_at, HasOlderLessor}
-use Rattle.drm_masters.specs.Tables.{members_in}
 use Rattle.drm_masters.proofs.Living.{falls}
 use Rattle.drm_masters.proofs.Sound.{at_birth}
 use Rattle.drm_masters.proofs.Upward.{OthersUsed, all_stay, all_used, gone, gone_rise, gone_older, top_left, lessor_left, same_left}
@@ -12,14 +11,14 @@ use Rattle.drm_masters.proofs.sweeps.+sweep_up.Goals as goal
 
 pub returns-in_default : goal.returns-in_default
 returns-in_default t c =
-    let members = members_in c.args.members.now.clients.items in
+    let members = c.args.members.now.items in
     let ms = c.args.masters.now.items in
     let none : master_at ms c.args.birth ≡ None = sym c.at.ensures ∙ c.in_default.is in
     all_stay members ms c.requires.rise c.requires.older (all_used members ms c.args.birth c.requires.others (λ x at e. absurd (false≢true (ap is_some (sym none ∙ ap (master_at ms) (sym (eqb-true x.birth c.args.birth e)) ∙ at)))) c.requires.rise)
 
 pub returns-then-is_used : goal.returns-then-is_used
 returns-then-is_used t c =
-    let members = members_in c.args.members.now.clients.items in
+    let members = c.args.members.now.items in
     let ms = c.args.masters.now.items in
     let x = c.in-Some.master in
     let at : master_at ms c.args.birth ≡ Some x = sym c.at.ensures ∙ c.in-Some.is in
@@ -30,7 +29,7 @@ returns-then-is_used t c =
 
 pub sweep_up-requires : goal.sweep_up-requires
 sweep_up-requires t c =
-    let members = members_in c.args.members.now.clients.items in
+    let members = c.args.members.now.items in
     let ms = c.args.masters.now.items in
     let x = c.in-Some.master in
     let at : master_at ms c.args.birth ≡ Some x = sym c.at.ensures ∙ c.in-Some.is in
@@ -53,7 +52,7 @@ sweep_up-requires t c =
 
 pub returns-in-Some-above : goal.returns-in-Some-above
 returns-in-Some-above t c =
-    let members = members_in c.args.members.now.clients.items in
+    let members = c.args.members.now.items in
     let ms = c.args.masters.now.items in
     let x = c.in-Some.master in
     let at : master_at ms c.args.birth ≡ Some x = sym c.at.ensures ∙ c.in-Some.is in
@@ -66,7 +65,7 @@ returns-in-Some-above t c =
 
 pub returns-in_default-above : goal.returns-in_default-above
 returns-in_default-above t c =
-    let members = members_in c.args.members.now.clients.items in
+    let members = c.args.members.now.items in
     let ms = c.args.masters.now.items in
     let x = c.in-Some.master in
     let at : master_at ms c.args.birth ≡ Some x = sym c.at.ensures ∙ c.in-Some.is in

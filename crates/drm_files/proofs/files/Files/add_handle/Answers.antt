@@ -1,5 +1,6 @@
 use Rattle.std.proofs.Common.{refl, ap, sym, ◌∙◌}
 use Rattle.std.proofs.lemmas.Option.{none-some}
+use Rattle.drm_id_alloc.specs.Groups.{GroupMap, has}
 use Rattle.drm_files.specs.declared.files.Held.{Held}
 use Rattle.drm_files.specs.Files.{FileLists, hold, with_hold}
 use Rattle.drm_files.specs.Records.{lists_of}
@@ -72,7 +73,7 @@ pub invariant_of-self-in-Err : goal.invariant_of-self-in-Err
 invariant_of-self-in-Err c =
     let inside = c.self.inside in
     let back = taken_back c.in-Some.record.now.handles c.add.new.self c.remove-held.new.self c.in-Ok.handle (record { object = c.args.object; place = c.args.place }) c.in-Ok.ensures.fresh c.in-Ok.ensures.ok c.remove-held.ensures.after in
-    are-kept inside.open_limit inside.last_handle inside.clients.items c.args.client c.in-Some.record.now c.remove-held.new.self (sym c.in-Some.ensures.value) c.self.invariant c.note.new.self back c.in-Err.ensures.err
+    are-kept inside.open_limit inside.last_handle inside.clients.items c.args.client c.in-Some.record.now c.remove-held.new.self (sym c.in-Some.ensures.value) c.self.invariant c.note.new.self back (λ d u. ap (λ (m : GroupMap). has m d u) c.in-Err.ensures.err)
 
 pub returns-in-Err-clause-err : goal.returns-in-Err-clause-err
 returns-in-Err-clause-err c =
@@ -92,4 +93,4 @@ pub invariant_of-self-2 : goal.invariant_of-self-2
 invariant_of-self-2 c =
     let inside = c.self.inside in
     let made : Held = record { object = c.args.object; place = c.args.place } in
-    are-added inside.open_limit inside.last_handle inside.clients.items c.args.client c.in-Some.record.now c.add.new.self (sym c.in-Some.ensures.value) c.self.invariant c.note.new.self c.in-Ok.handle made c.in-Ok.ensures.low c.in-Ok.ensures.high c.in-Ok.ensures.fresh c.in-Ok.ensures.ok c.in_default-note.ensures.ok
+    are-added inside.open_limit inside.last_handle inside.clients.items c.args.client c.in-Some.record.now c.add.new.self (sym c.in-Some.ensures.value) c.self.invariant c.note.new.self c.in-Ok.handle made c.in-Ok.ensures.low c.in-Ok.ensures.high c.in-Ok.ensures.fresh c.in-Ok.ensures.ok (rw c.number.ensures at c.in_default-note.ensures.ok)

@@ -42,7 +42,7 @@ returns-in_err-held-clause-none c =
 pub invariant_of-self-2 : goal.invariant_of-self-2
 invariant_of-self-2 c =
     let inside = c.self.inside in
-    are-dropped inside.open_limit inside.last_handle inside.clients.items c.args.client c.in-Some.record.now c.remove.new.self (sym c.in-Some.ensures.value) c.self.invariant c.forget.new.self c.args.handle c.in_ok-held.held (sym c.in_ok-held.ensures.value) c.in_ok-held.ensures.after c.forget.ensures
+    are-dropped inside.open_limit inside.last_handle inside.clients.items c.args.client c.in-Some.record.now c.remove.new.self (sym c.in-Some.ensures.value) c.self.invariant c.forget.new.self c.args.handle c.in_ok-held.held (sym c.in_ok-held.ensures.value) c.in_ok-held.ensures.after (rw c.number.ensures at c.forget.ensures)
 
 pub returns-clause-object : goal.returns-clause-object
 returns-clause-object c =

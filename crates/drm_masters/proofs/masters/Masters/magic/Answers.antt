@@ -11,7 +11,6 @@ use Rattle.drm_masters.specs.Calls as calls
 use Rattle.drm_masters.proofs.Numbered.{number_free}
 use Rattle.drm_masters.proofs.Sound.{Keyed, sound, given_are, client_found}
 use Rattle.std.specs.FinSet as set
-use Rattle.drm_masters.specs.Tables.{members_in}
 use Rattle.drm_masters.proofs.Flagged.{one_changed}
 use Rattle.drm_masters.proofs.masters.Masters.magic.Goals as goal
 
@@ -27,16 +26,23 @@ unreachable-requires-in_default-free_magic c =
     let last : c.self.inside.last_magic ≡ c.args.self.now.last_magic = ap (λ (w : MasterSet). w.last_magic) c.self.view_is in
     number_free x.master c.self.inside.last_magic x c.args.self.now.members (client_found c.args.self.now.members c.args.client x look).1 none (omega (arith, few, last)) taken
 
+pub set-requires : goal.set-requires
+set-requires c =
+    let x = c.in-Some.member in
+    let look : member_of c.args.self.now.members c.args.client ≡ Some x = sym (ap (λ (w : MasterSet). member_of w.members c.args.client) c.self.view_is) ∙ sym c.get.ensures ∙ c.in-Some.is in
+    let here : member_of c.self.inside.members.items x.client ≡ Some x = ap (λ (w : MasterSet). member_of w.members x.client) c.self.view_is ∙ (client_found c.args.self.now.members c.args.client x look).1 in
+    record { stays = subst (λ (z : Member). IfSome (member_of c.self.inside.members.items z.client) (λ y. y.master ≡ z.master)) (sym c.with_magic.ensures) (subst (λ o. IfSome o (λ (y : Member). y.master ≡ x.master)) (sym here) refl) }
+
 pub invariant_of-self : goal.invariant_of-self
 invariant_of-self c =
     let are : AreMasters c.args.self.now = subst AreMasters c.self.view_is c.self.invariant.are in
     let keyed : Keyed c.args.self.now.masters = subst (λ (w : MasterSet). Keyed w.masters) c.self.view_is c.self.invariant.keyed in
-    let old : (k : ℕ) → set.contains c.self.inside.members.clients.m0 k ≡ is_current c.args.self.now k = λ k. c.self.invariant.flagged k ∙ ap (λ (w : MasterSet). is_current w k) c.self.view_is in
+    let old : (k : ℕ) → set.contains c.self.inside.members.flags k ≡ is_current c.args.self.now k = λ k. c.self.invariant.flagged k ∙ ap (λ (w : MasterSet). is_current w k) c.self.view_is in
     let look : member_of c.args.self.now.members c.args.client ≡ Some c.in-Some.member = sym (ap (λ (w : MasterSet). member_of w.members c.args.client) c.self.view_is) ∙ sym c.get.ensures ∙ c.in-Some.is in
     let x = c.in-Some.member in
     let n = c.in-Some-free_magic.number in
     let y = calls.with_magic n false x in
-    let items : members_in c.set.new.self.clients.items ≡ map (λ (x : Member). if is_client y.client x then y else x) (members_in c.self.inside.members.clients.items) = c.set.ensures.rows ∙ ap (λ (z : Member). map (λ (x : Member). if is_client z.client x then z else x) (members_in c.self.inside.members.clients.items)) c.with_magic.ensures in
+    let items : c.set.new.self.items ≡ map (λ (x : Member). if is_client y.client x then y else x) c.self.inside.members.items = c.set.ensures.rows ∙ ap (λ (z : Member). map (λ (x : Member). if is_client z.client x then z else x) c.self.inside.members.items) c.with_magic.ensures in
     let least_is : least (λ k. not (list_any (has_magic x.master k) c.args.self.now.members)) 1 c.self.inside.last_magic ≡ Some n = sym (ap (λ (w : MasterSet). least (λ k. not (list_any (has_magic x.master k) w.members)) 1 c.self.inside.last_magic) c.self.view_is) ∙ sym c.free_magic.ensures ∙ c.in-Some-free_magic.is in
     let free = (least_some (λ k. not (list_any (has_magic x.master k) c.args.self.now.members)) 1 c.self.inside.last_magic n least_is).passes in
     sound _ (calls.changed_member y c.args.self.now) ((λ i. record (set_of c.self.inside) { members = items i }) ∙ ap (calls.changed_member y) c.self.view_is)
@@ -53,8 +59,8 @@ returns-clause-given c =
     let x = c.in-Some.member in
     let n = c.in-Some-free_magic.number in
     let y = calls.with_magic n false x in
-    let new : MasterSet = record { members = members_in c.set.new.self.clients.items; masters = c.self.inside.masters.items; device_master = c.self.inside.device_master; last_magic = c.self.inside.last_magic; last_lessee = c.self.inside.last_lessee } in
-    let items : members_in c.set.new.self.clients.items ≡ map (λ (x : Member). if is_client y.client x then y else x) (members_in c.self.inside.members.clients.items) = c.set.ensures.rows ∙ ap (λ (z : Member). map (λ (x : Member). if is_client z.client x then z else x) (members_in c.self.inside.members.clients.items)) c.with_magic.ensures in
+    let new : MasterSet = record { members = c.set.new.self.items; masters = c.self.inside.masters.items; device_master = c.self.inside.device_master; last_magic = c.self.inside.last_magic; last_lessee = c.self.inside.last_lessee } in
+    let items : c.set.new.self.items ≡ map (λ (x : Member). if is_client y.client x then y else x) c.self.inside.members.items = c.set.ensures.rows ∙ ap (λ (z : Member). map (λ (x : Member). if is_client z.client x then z else x) c.self.inside.members.items) c.with_magic.ensures in
     let least_is : least (λ k. not (list_any (has_magic x.master k) c.args.self.now.members)) 1 c.args.self.now.last_magic ≡ Some n = sym (ap (λ (w : MasterSet). least (λ k. not (list_any (has_magic x.master k) w.members)) 1 w.last_magic) c.self.view_is) ∙ sym c.free_magic.ensures ∙ c.in-Some-free_magic.is in
     let given : calls.GaveMagic c.args.self.now x x.magic n new = subst (λ (g : Option Magic). calls.GaveMagic c.args.self.now x g n new) (sym c.in_default-magic.is) (least_is, (λ i. record (set_of c.self.inside) { members = items i }) ∙ ap (calls.changed_member y) c.self.view_is) in
     subst (λ o. IfSome o (λ (z : Member). calls.GaveMagic c.args.self.now z z.magic n new)) (sym look) given

@@ -12,7 +12,7 @@ pub invariant_of-self-2 : goal.invariant_of-self-2
 invariant_of-self-2 c =
     let are : AreMasters c.args.self.now = subst AreMasters c.self.view_is c.self.invariant.are in
     let keyed : Keyed c.args.self.now.masters = subst (λ (w : MasterSet). Keyed w.masters) c.self.view_is c.self.invariant.keyed in
-    let old : (k : ℕ) → set.contains c.self.inside.members.clients.m0 k ≡ is_current c.args.self.now k = λ k. c.self.invariant.flagged k ∙ ap (λ (w : MasterSet). is_current w k) c.self.view_is in
+    let old : (k : ℕ) → set.contains c.self.inside.members.flags k ≡ is_current c.args.self.now k = λ k. c.self.invariant.flagged k ∙ ap (λ (w : MasterSet). is_current w k) c.self.view_is in
     let m = c.in-Some.lessor.birth in
     let z = calls.lessee c.in-Ok.key c.args.birth m c.in-Some-free_lessee.id in
     let found : find (is_key c.args.master) c.args.self.now.masters ≡ Some c.in-Some.lessor = sym (ap (λ (w : MasterSet). find (is_key c.args.master) w.masters) c.self.view_is) ∙ sym c.of_key.ensures ∙ c.in-Some.is in

@@ -9,7 +9,6 @@ use Rattle.drm_masters.specs.declared.rows.Member.{Member}
 use Rattle.drm_masters.specs.Fields.{set_of}
 use Rattle.drm_masters.specs.Masters.{MasterSet, AreMasters, member_of, master_at, is_client, is_option, is_current, IsKeyOf, is_living, swept}
 use Rattle.drm_masters.specs.Calls as calls
-use Rattle.drm_masters.specs.Tables.{members_in}
 use Rattle.drm_masters.proofs.Flagged.{current_in, no_device, one_fewer}
 use Rattle.drm_masters.proofs.Living.{not_true, not_false}
 use Rattle.drm_masters.proofs.Pushed.{kept_keyed, kept_key}
@@ -24,8 +23,8 @@ sweep_up-requires-clause-others c =
     let look : member_of v.members c.args.client ≡ Some c.in_ok-member.member = sym (ap (λ (w : MasterSet). member_of w.members c.args.client) c.self.view_is) ∙ sym c.get.ensures ∙ c.in_ok-member.was in
     let x = c.in_ok-member.member in
     let is = client_found v.members c.args.client x look in
-    let gone : members_in c.remove.new.self.clients.items ≡ filter (λ (u : Member). not (is_client x.client u)) v.members =
-    c.remove.ensures.rows ∙ ap (λ n. filter (λ (u : Member). not (is_client n u)) (members_in c.self.inside.members.clients.items)) (sym is.0) ∙ ap (λ (w : MasterSet). filter (λ (u : Member). not (is_client x.client u)) w.members) c.self.view_is in
+    let gone : c.remove.new.self.items ≡ filter (λ (u : Member). not (is_client x.client u)) v.members =
+    c.remove.ensures.rows ∙ ap (λ n. filter (λ (u : Member). not (is_client n u)) c.self.inside.members.items) (sym is.0) ∙ ap (λ (w : MasterSet). filter (λ (u : Member). not (is_client x.client u)) w.members) c.self.view_is in
     subst (λ l. OthersUsed l c.self.inside.masters.items x.master) (sym gone) (subst (λ (w : MasterSet). OthersUsed (filter (λ (u : Member). not (is_client x.client u)) v.members) w.masters x.master) (sym c.self.view_is) (gone_used v are x is.1))
 
 pub invariant_of-self : goal.invariant_of-self
@@ -33,16 +32,16 @@ invariant_of-self c =
     let v = c.args.self.now in
     let are : AreMasters v = subst AreMasters c.self.view_is c.self.invariant.are in
     let keyed : Keyed v.masters = subst (λ (w : MasterSet). Keyed w.masters) c.self.view_is c.self.invariant.keyed in
-    let old : (k : ℕ) → set.contains c.self.inside.members.clients.m0 k ≡ is_current v k = λ k. c.self.invariant.flagged k ∙ ap (λ (w : MasterSet). is_current w k) c.self.view_is in
+    let old : (k : ℕ) → set.contains c.self.inside.members.flags k ≡ is_current v k = λ k. c.self.invariant.flagged k ∙ ap (λ (w : MasterSet). is_current w k) c.self.view_is in
     let look : member_of v.members c.args.client ≡ Some c.in_ok-member.member = sym (ap (λ (w : MasterSet). member_of w.members c.args.client) c.self.view_is) ∙ sym c.get.ensures ∙ c.in_ok-member.was in
     let x = c.in_ok-member.member in
     let is = client_found v.members c.args.client x look in
-    let gone : members_in c.remove.new.self.clients.items ≡ filter (λ (u : Member). not (is_client x.client u)) (members_in c.self.inside.members.clients.items) = c.remove.ensures.rows ∙ ap (λ n. filter (λ (u : Member). not (is_client n u)) (members_in c.self.inside.members.clients.items)) (sym is.0) in
-    let unflagged : (k : ℕ) → set.contains c.remove.new.self.clients.m0 k ≡ (not (k == x.client) && is_current v k) = λ k.
-    ap (λ (s : set.FinSet nat_cmp). set.contains s k) c.remove.ensures.flags ∙ set.contains-remove nat_cmp_total c.self.inside.members.clients.m0 c.args.client k
+    let gone : c.remove.new.self.items ≡ filter (λ (u : Member). not (is_client x.client u)) c.self.inside.members.items = c.remove.ensures.rows ∙ ap (λ n. filter (λ (u : Member). not (is_client n u)) c.self.inside.members.items) (sym is.0) in
+    let unflagged : (k : ℕ) → set.contains c.remove.new.self.flags k ≡ (not (k == x.client) && is_current v k) = λ k.
+    ap (λ (s : set.FinSet nat_cmp). set.contains s k) c.remove.ensures.flags ∙ set.contains-remove nat_cmp_total c.self.inside.members.flags c.args.client k
     ∙ (λ i. not ((eq_by_cmp-nat_cmp k c.args.client ∙ ap (λ n. k == n) (sym is.0)) i) && old k i) in
     let left = λ (l : List Member). let r : MasterSet = record { members = l; masters = filter (λ (u : Master). is_living l c.self.inside.masters.items u.birth) c.self.inside.masters.items; device_master = c.self.inside.device_master; last_magic = c.self.inside.last_magic; last_lessee = c.self.inside.last_lessee } in r in
-    let path = (λ i. record (set_of c.self.inside) { members = members_in c.remove.new.self.clients.items; masters = c.sweep_up.ensures i }) ∙ (λ i. left (gone i)) ∙ ap (λ (u : MasterSet). swept (calls.without_member x.client u)) c.self.view_is in
+    let path = (λ i. record (set_of c.self.inside) { members = c.remove.new.self.items; masters = c.sweep_up.ensures i }) ∙ (λ i. left (gone i)) ∙ ap (λ (u : MasterSet). swept (calls.without_member x.client u)) c.self.view_is in
     let ties = gone_ties v are x is.1 (not_true x.is_master c.if-not-member.true) in
     sound _ (swept (calls.without_member x.client v)) path (swept_are (calls.without_member x.client v) ties)
     (keyed_fewer v.masters (λ (u : Master). is_living (calls.without_member x.client v).members v.masters u.birth) keyed)
@@ -53,17 +52,17 @@ returns-then-not-member c =
     let v = c.args.self.now in
     let are : AreMasters v = subst AreMasters c.self.view_is c.self.invariant.are in
     let keyed : Keyed v.masters = subst (λ (w : MasterSet). Keyed w.masters) c.self.view_is c.self.invariant.keyed in
-    let old : (k : ℕ) → set.contains c.self.inside.members.clients.m0 k ≡ is_current v k = λ k. c.self.invariant.flagged k ∙ ap (λ (w : MasterSet). is_current w k) c.self.view_is in
+    let old : (k : ℕ) → set.contains c.self.inside.members.flags k ≡ is_current v k = λ k. c.self.invariant.flagged k ∙ ap (λ (w : MasterSet). is_current w k) c.self.view_is in
     let look : member_of v.members c.args.client ≡ Some c.in_ok-member.member = sym (ap (λ (w : MasterSet). member_of w.members c.args.client) c.self.view_is) ∙ sym c.get.ensures ∙ c.in_ok-member.was in
     let x = c.in_ok-member.member in
     let is = client_found v.members c.args.client x look in
-    let gone : members_in c.remove.new.self.clients.items ≡ filter (λ (u : Member). not (is_client x.client u)) (members_in c.self.inside.members.clients.items) = c.remove.ensures.rows ∙ ap (λ n. filter (λ (u : Member). not (is_client n u)) (members_in c.self.inside.members.clients.items)) (sym is.0) in
-    let unflagged : (k : ℕ) → set.contains c.remove.new.self.clients.m0 k ≡ (not (k == x.client) && is_current v k) = λ k.
-    ap (λ (s : set.FinSet nat_cmp). set.contains s k) c.remove.ensures.flags ∙ set.contains-remove nat_cmp_total c.self.inside.members.clients.m0 c.args.client k
+    let gone : c.remove.new.self.items ≡ filter (λ (u : Member). not (is_client x.client u)) c.self.inside.members.items = c.remove.ensures.rows ∙ ap (λ n. filter (λ (u : Member). not (is_client n u)) c.self.inside.members.items) (sym is.0) in
+    let unflagged : (k : ℕ) → set.contains c.remove.new.self.flags k ≡ (not (k == x.client) && is_current v k) = λ k.
+    ap (λ (s : set.FinSet nat_cmp). set.contains s k) c.remove.ensures.flags ∙ set.contains-remove nat_cmp_total c.self.inside.members.flags c.args.client k
     ∙ (λ i. not ((eq_by_cmp-nat_cmp k c.args.client ∙ ap (λ n. k == n) (sym is.0)) i) && old k i) in
     let left = λ (l : List Member). let r : MasterSet = record { members = l; masters = filter (λ (u : Master). is_living l c.self.inside.masters.items u.birth) c.self.inside.masters.items; device_master = c.self.inside.device_master; last_magic = c.self.inside.last_magic; last_lessee = c.self.inside.last_lessee } in r in
-    let path = (λ i. record (set_of c.self.inside) { members = members_in c.remove.new.self.clients.items; masters = c.sweep_up.ensures i }) ∙ (λ i. left (gone i)) ∙ ap (λ (u : MasterSet). swept (calls.without_member x.client u)) c.self.view_is in
-    let new : MasterSet = record { members = members_in c.remove.new.self.clients.items; masters = c.sweep_up.new.masters.items; device_master = c.self.inside.device_master; last_magic = c.self.inside.last_magic; last_lessee = c.self.inside.last_lessee } in
+    let path = (λ i. record (set_of c.self.inside) { members = c.remove.new.self.items; masters = c.sweep_up.ensures i }) ∙ (λ i. left (gone i)) ∙ ap (λ (u : MasterSet). swept (calls.without_member x.client u)) c.self.view_is in
+    let new : MasterSet = record { members = c.remove.new.self.items; masters = c.sweep_up.new.masters.items; device_master = c.self.inside.device_master; last_magic = c.self.inside.last_magic; last_lessee = c.self.inside.last_lessee } in
     subst (λ o. calls.ClosedBy v o None new) (sym look) (subst (λ b. calls.ClosedOf v x b None new) (sym (not_true x.is_master c.if-not-member.true)) (refl, path))
 
 there_none : (o : Option Master) → is_some o ≡ true → o ≡ None → ⊥
@@ -75,7 +74,7 @@ unreachable-requires c =
     let v = c.args.self.now in
     let are : AreMasters v = subst AreMasters c.self.view_is c.self.invariant.are in
     let keyed : Keyed v.masters = subst (λ (w : MasterSet). Keyed w.masters) c.self.view_is c.self.invariant.keyed in
-    let old : (k : ℕ) → set.contains c.self.inside.members.clients.m0 k ≡ is_current v k = λ k. c.self.invariant.flagged k ∙ ap (λ (w : MasterSet). is_current w k) c.self.view_is in
+    let old : (k : ℕ) → set.contains c.self.inside.members.flags k ≡ is_current v k = λ k. c.self.invariant.flagged k ∙ ap (λ (w : MasterSet). is_current w k) c.self.view_is in
     let look : member_of v.members c.args.client ≡ Some c.in_ok-member.member = sym (ap (λ (w : MasterSet). member_of w.members c.args.client) c.self.view_is) ∙ sym c.get.ensures ∙ c.in_ok-member.was in
     let x = c.in_ok-member.member in
     there_none (master_at v.masters x.master) (master_there v are c.args.client x look) (sym (ap (λ (w : MasterSet). master_at w.masters x.master) c.self.view_is) ∙ sym c.at.ensures ∙ c.in_default.is)
@@ -85,15 +84,15 @@ invariant_of-self-2 c =
     let v = c.args.self.now in
     let are : AreMasters v = subst AreMasters c.self.view_is c.self.invariant.are in
     let keyed : Keyed v.masters = subst (λ (w : MasterSet). Keyed w.masters) c.self.view_is c.self.invariant.keyed in
-    let old : (k : ℕ) → set.contains c.self.inside.members.clients.m0 k ≡ is_current v k = λ k. c.self.invariant.flagged k ∙ ap (λ (w : MasterSet). is_current w k) c.self.view_is in
+    let old : (k : ℕ) → set.contains c.self.inside.members.flags k ≡ is_current v k = λ k. c.self.invariant.flagged k ∙ ap (λ (w : MasterSet). is_current w k) c.self.view_is in
     let look : member_of v.members c.args.client ≡ Some c.in_ok-member.member = sym (ap (λ (w : MasterSet). member_of w.members c.args.client) c.self.view_is) ∙ sym c.get.ensures ∙ c.in_ok-member.was in
     let x = c.in_ok-member.member in
     let is = client_found v.members c.args.client x look in
-    let gone : members_in c.remove.new.self.clients.items ≡ filter (λ (u : Member). not (is_client x.client u)) (members_in c.self.inside.members.clients.items) = c.remove.ensures.rows ∙ ap (λ n. filter (λ (u : Member). not (is_client n u)) (members_in c.self.inside.members.clients.items)) (sym is.0) in
-    let unflagged : (k : ℕ) → set.contains c.remove.new.self.clients.m0 k ≡ (not (k == x.client) && is_current v k) = λ k.
-    ap (λ (s : set.FinSet nat_cmp). set.contains s k) c.remove.ensures.flags ∙ set.contains-remove nat_cmp_total c.self.inside.members.clients.m0 c.args.client k
+    let gone : c.remove.new.self.items ≡ filter (λ (u : Member). not (is_client x.client u)) c.self.inside.members.items = c.remove.ensures.rows ∙ ap (λ n. filter (λ (u : Member). not (is_client n u)) c.self.inside.members.items) (sym is.0) in
+    let unflagged : (k : ℕ) → set.contains c.remove.new.self.flags k ≡ (not (k == x.client) && is_current v k) = λ k.
+    ap (λ (s : set.FinSet nat_cmp). set.contains s k) c.remove.ensures.flags ∙ set.contains-remove nat_cmp_total c.self.inside.members.flags c.args.client k
     ∙ (λ i. not ((eq_by_cmp-nat_cmp k c.args.client ∙ ap (λ n. k == n) (sym is.0)) i) && old k i) in
-    let rows : members_in c.unflag_where_device.new.members.clients.items ≡ filter (λ (u : Member). not (is_client x.client u)) (members_in c.self.inside.members.clients.items) = ap members_in c.unflag_where_device.ensures.rows ∙ gone in
+    let rows : c.unflag_where_device.new.members.items ≡ filter (λ (u : Member). not (is_client x.client u)) c.self.inside.members.items = c.unflag_where_device.ensures.rows ∙ gone in
     let device : c.self.inside.device_master ≡ v.device_master = ap (λ (w : MasterSet). w.device_master) c.self.view_is in
     let left = (calls.without_member x.client v).members in
     let ms = (calls.with_kept x.master true v).masters in
@@ -113,16 +112,16 @@ returns c =
     let v = c.args.self.now in
     let are : AreMasters v = subst AreMasters c.self.view_is c.self.invariant.are in
     let keyed : Keyed v.masters = subst (λ (w : MasterSet). Keyed w.masters) c.self.view_is c.self.invariant.keyed in
-    let old : (k : ℕ) → set.contains c.self.inside.members.clients.m0 k ≡ is_current v k = λ k. c.self.invariant.flagged k ∙ ap (λ (w : MasterSet). is_current w k) c.self.view_is in
+    let old : (k : ℕ) → set.contains c.self.inside.members.flags k ≡ is_current v k = λ k. c.self.invariant.flagged k ∙ ap (λ (w : MasterSet). is_current w k) c.self.view_is in
     let look : member_of v.members c.args.client ≡ Some c.in_ok-member.member = sym (ap (λ (w : MasterSet). member_of w.members c.args.client) c.self.view_is) ∙ sym c.get.ensures ∙ c.in_ok-member.was in
     let x = c.in_ok-member.member in
     let is = client_found v.members c.args.client x look in
-    let gone : members_in c.remove.new.self.clients.items ≡ filter (λ (u : Member). not (is_client x.client u)) (members_in c.self.inside.members.clients.items) = c.remove.ensures.rows ∙ ap (λ n. filter (λ (u : Member). not (is_client n u)) (members_in c.self.inside.members.clients.items)) (sym is.0) in
-    let unflagged : (k : ℕ) → set.contains c.remove.new.self.clients.m0 k ≡ (not (k == x.client) && is_current v k) = λ k.
-    ap (λ (s : set.FinSet nat_cmp). set.contains s k) c.remove.ensures.flags ∙ set.contains-remove nat_cmp_total c.self.inside.members.clients.m0 c.args.client k
+    let gone : c.remove.new.self.items ≡ filter (λ (u : Member). not (is_client x.client u)) c.self.inside.members.items = c.remove.ensures.rows ∙ ap (λ n. filter (λ (u : Member). not (is_client n u)) c.self.inside.members.items) (sym is.0) in
+    let unflagged : (k : ℕ) → set.contains c.remove.new.self.flags k ≡ (not (k == x.client) && is_current v k) = λ k.
+    ap (λ (s : set.FinSet nat_cmp). set.contains s k) c.remove.ensures.flags ∙ set.contains-remove nat_cmp_total c.self.inside.members.flags c.args.client k
     ∙ (λ i. not ((eq_by_cmp-nat_cmp k c.args.client ∙ ap (λ n. k == n) (sym is.0)) i) && old k i) in
-    let rows : members_in c.unflag_where_device.new.members.clients.items ≡ filter (λ (u : Member). not (is_client x.client u)) (members_in c.self.inside.members.clients.items) = ap members_in c.unflag_where_device.ensures.rows ∙ gone in
-    let new : MasterSet = record { members = members_in c.unflag_where_device.new.members.clients.items; masters = c.set_kept.new.self.items; device_master = c.device_without-self-inside.result; last_magic = c.self.inside.last_magic; last_lessee = c.self.inside.last_lessee } in
+    let rows : c.unflag_where_device.new.members.items ≡ filter (λ (u : Member). not (is_client x.client u)) c.self.inside.members.items = c.unflag_where_device.ensures.rows ∙ gone in
+    let new : MasterSet = record { members = c.unflag_where_device.new.members.items; masters = c.set_kept.new.self.items; device_master = c.device_without-self-inside.result; last_magic = c.self.inside.last_magic; last_lessee = c.self.inside.last_lessee } in
     let found : master_at v.masters x.master ≡ Some c.in-Some.master = sym (ap (λ (w : MasterSet). master_at w.masters x.master) c.self.view_is) ∙ sym c.at.ensures ∙ c.in-Some.is in
     let num : c.in-Some.master.birth ≡ x.master = (at_birth v.masters x.master c.in-Some.master found).0 in
     let key = kept_key x.master true v.masters keyed c.in-Some.master (at_birth v.masters x.master c.in-Some.master found).1 in

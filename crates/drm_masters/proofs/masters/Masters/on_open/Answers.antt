@@ -1,13 +1,14 @@
-use Rattle.std.proofs.Common.{◌≡◌, ℕ, ◌<◌, [], ◌∷◌, ◌++◌, not, filter, find, None, Some, refl, sym, ap, subst, ◌∙◌, nat_cmp}
+use Rattle.std.proofs.Common.{◌≡◌, ℕ, ◌<◌, List, [], ◌∷◌, ◌++◌, not, filter, find, None, Some, refl, sym, ap, subst, ◌∙◌, nat_cmp}
 use Rattle.std.specs.FinSet as set
 use Rattle.std.specs.List.{AllByRecursion}
-use Rattle.drm_masters.specs.declared.members.Members.{Members}
+use Rattle.drm_lists.specs.Orders.{InOrder}
+use Rattle.drm_lists.proofs.Orders.{in_order_append}
+use Rattle.drm_masters.specs.Tables.{MemberRows}
 use Rattle.drm_masters.specs.declared.rows.Master.{Master}
 use Rattle.drm_masters.specs.declared.rows.Member.{Member}
 use Rattle.drm_masters.specs.Fields.{set_of}
 use Rattle.drm_masters.specs.Masters.{MasterSet, AreMasters, HasOlderLessor, is_key, is_birth, is_current}
 use Rattle.drm_masters.specs.Calls as calls
-use Rattle.drm_masters.specs.Tables.{members_in}
 use Rattle.drm_masters.proofs.Flagged.{current_in, no_device}
 use Rattle.drm_masters.proofs.Pushed.{pushed_older, taken_back}
 use Rattle.drm_masters.proofs.Sound.{Keyed, sound, device_there, guest_are, founder_are, keyed_more, guest_same}
@@ -18,12 +19,12 @@ invariant_of-self-in-Some c =
     let v = c.args.self.now in
     let are : AreMasters v = subst AreMasters c.self.view_is c.self.invariant.are in
     let keyed : Keyed v.masters = subst (λ (w : MasterSet). Keyed w.masters) c.self.view_is c.self.invariant.keyed in
-    let old : (k : ℕ) → set.contains c.self.inside.members.clients.m0 k ≡ is_current v k = λ k. c.self.invariant.flagged k ∙ ap (λ (w : MasterSet). is_current w k) c.self.view_is in
+    let old : (k : ℕ) → set.contains c.self.inside.members.flags k ≡ is_current v k = λ k. c.self.invariant.flagged k ∙ ap (λ (w : MasterSet). is_current w k) c.self.view_is in
     let y = calls.guest c.args.client c.in-Some.master in
-    let items : members_in c.add.new.self.clients.items ≡ members_in c.self.inside.members.clients.items ++ y ∷ [] = c.in_default-add.ensures.ok ∙ ap (λ (x : Member). members_in c.self.inside.members.clients.items ++ x ∷ []) c.guest.ensures in
+    let items : c.add.new.self.items ≡ c.self.inside.members.items ++ y ∷ [] = c.in_default-add.ensures.ok ∙ ap (λ (x : Member). c.self.inside.members.items ++ x ∷ []) c.guest.ensures in
     let device : v.device_master ≡ Some c.in-Some.master = sym (ap (λ (w : MasterSet). w.device_master) c.self.view_is) ∙ c.in-Some.is in
     sound _ (calls.with_member y v) ((λ i. record (set_of c.self.inside) { members = items i }) ∙ ap (calls.with_member y) c.self.view_is)
-    (guest_are v are y c.requires.new_client c.requires.room refl (device_there v are c.in-Some.master device)) keyed
+    (guest_are v are y c.requires.new_client c.requires.room refl (device_there v are c.in-Some.master device) (λ _. are.device_owner c.in-Some.master device)) keyed
     (λ k. ap (λ (t : set.FinSet nat_cmp). set.contains t k) c.in_default-add.ensures.flags ∙ old k ∙ sym (guest_same v y refl c.requires.new_client k))
 
 pub insert-requires : goal.insert-requires
@@ -34,20 +35,20 @@ insert-requires c =
 pub add-requires-2 : goal.add-requires-2
 add-requires-2 c =
     let newest = rw (← c.self.view_is) at c.requires.new_client in
-    record { newest = subst (λ (u : Member). AllByRecursion (λ (x : Member). x.client < u.client) (members_in c.self.inside.members.clients.items)) (sym c.owner.ensures) newest }
+    record { newest = subst (λ (u : Member). AllByRecursion (λ (x : Member). x.client < u.client) c.self.inside.members.items) (sym c.owner.ensures) newest }
 
 pub invariant_of-self-in-Err-add : goal.invariant_of-self-in-Err-add
 invariant_of-self-in-Err-add c =
     let v = c.args.self.now in
     let are : AreMasters v = subst AreMasters c.self.view_is c.self.invariant.are in
     let keyed : Keyed v.masters = subst (λ (w : MasterSet). Keyed w.masters) c.self.view_is c.self.invariant.keyed in
-    let old : (k : ℕ) → set.contains c.self.inside.members.clients.m0 k ≡ is_current v k = λ k. c.self.invariant.flagged k ∙ ap (λ (w : MasterSet). is_current w k) c.self.view_is in
+    let old : (k : ℕ) → set.contains c.self.inside.members.flags k ≡ is_current v k = λ k. c.self.invariant.flagged k ∙ ap (λ (w : MasterSet). is_current w k) c.self.view_is in
     let z = calls.own_master c.in_default-insert.field-0 c.args.birth in
     let newest = rw (← c.self.view_is) at c.requires.new_birth in
     let masters : c.insert.new.self.items ≡ c.self.inside.masters.items ++ z ∷ [] = c.in_default-insert.ensures.ok ∙ ap (λ (x : Master). c.self.inside.masters.items ++ calls.keyed_as c.in_default-insert.field-0 x ∷ []) c.own_master.ensures in
     let back : c.remove.new.self.items ≡ c.self.inside.masters.items = c.remove.ensures ∙ ap (filter (λ (x : Master). not (is_birth c.args.birth x))) masters ∙ taken_back c.self.inside.masters.items z newest in
-    let path = (λ i. record (set_of c.self.inside) { members = members_in (c.in-Err-add.ensures.err i).clients.items; masters = back i }) ∙ c.self.view_is in
-    sound _ v path are keyed (λ k. ap (λ (m : Members). set.contains m.clients.m0 k) c.in-Err-add.ensures.err ∙ old k)
+    let path = (λ i. record (set_of c.self.inside) { members = (c.in-Err-add.ensures.err i).items; masters = back i }) ∙ c.self.view_is in
+    sound _ v path are keyed (λ k. ap (λ (m : MemberRows). set.contains m.flags k) c.in-Err-add.ensures.err ∙ old k)
 
 pub returns-in-Err-add-clause-err : goal.returns-in-Err-add-clause-err
 returns-in-Err-add-clause-err c =
@@ -55,7 +56,7 @@ returns-in-Err-add-clause-err c =
     let newest = rw (← c.self.view_is) at c.requires.new_birth in
     let masters : c.insert.new.self.items ≡ c.self.inside.masters.items ++ z ∷ [] = c.in_default-insert.ensures.ok ∙ ap (λ (x : Master). c.self.inside.masters.items ++ calls.keyed_as c.in_default-insert.field-0 x ∷ []) c.own_master.ensures in
     let back : c.remove.new.self.items ≡ c.self.inside.masters.items = c.remove.ensures ∙ ap (filter (λ (x : Master). not (is_birth c.args.birth x))) masters ∙ taken_back c.self.inside.masters.items z newest in
-    let path = (λ i. record (set_of c.self.inside) { members = members_in (c.in-Err-add.ensures.err i).clients.items; masters = back i }) ∙ c.self.view_is in
+    let path = (λ i. record (set_of c.self.inside) { members = (c.in-Err-add.ensures.err i).items; masters = back i }) ∙ c.self.view_is in
     path
 
 pub flag_current-requires-clause-older : goal.flag_current-requires-clause-older
@@ -63,7 +64,7 @@ flag_current-requires-clause-older c =
     let v = c.args.self.now in
     let are : AreMasters v = subst AreMasters c.self.view_is c.self.invariant.are in
     let keyed : Keyed v.masters = subst (λ (w : MasterSet). Keyed w.masters) c.self.view_is c.self.invariant.keyed in
-    let old : (k : ℕ) → set.contains c.self.inside.members.clients.m0 k ≡ is_current v k = λ k. c.self.invariant.flagged k ∙ ap (λ (w : MasterSet). is_current w k) c.self.view_is in
+    let old : (k : ℕ) → set.contains c.self.inside.members.flags k ≡ is_current v k = λ k. c.self.invariant.flagged k ∙ ap (λ (w : MasterSet). is_current w k) c.self.view_is in
     let b = c.args.birth in
     let key = c.in_default-insert.field-0 in
     let y = calls.owner c.args.client b in
@@ -71,12 +72,20 @@ flag_current-requires-clause-older c =
     let masters : c.insert.new.self.items ≡ c.self.inside.masters.items ++ z ∷ [] = c.in_default-insert.ensures.ok ∙ ap (λ (x : Master). c.self.inside.masters.items ++ calls.keyed_as key x ∷ []) c.own_master.ensures in
     subst (λ l. AllByRecursion (HasOlderLessor l) l) (sym (masters ∙ ap (λ (u : MasterSet). u.masters ++ z ∷ []) c.self.view_is)) (pushed_older v.masters z c.requires.new_birth (λ l e. absurd (let n : None ≡ Some l = e in cc)) are.lessors_older)
 
+pub flag_current-requires-clause-rise : goal.flag_current-requires-clause-rise
+flag_current-requires-clause-rise c =
+    let v = c.args.self.now in
+    let are : AreMasters v = subst AreMasters c.self.view_is c.self.invariant.are in
+    let y = calls.owner c.args.client c.args.birth in
+    let items : c.add-2.new.self.items ≡ v.members ++ y ∷ [] = c.in_default-add-2.ensures.ok ∙ ap (λ (x : Member). c.self.inside.members.items ++ x ∷ []) c.owner.ensures ∙ ap (λ (w : MasterSet). w.members ++ y ∷ []) c.self.view_is in
+    subst (λ (l : List Member). InOrder (λ (a b : Member). a.client < b.client) l) (sym items) (in_order_append (λ (a b : Member). a.client < b.client) v.members y are.members_rise c.requires.new_client)
+
 pub flag_current-requires-clause-unflagged : goal.flag_current-requires-clause-unflagged
 flag_current-requires-clause-unflagged c = λ k.
     let v = c.args.self.now in
     let are : AreMasters v = subst AreMasters c.self.view_is c.self.invariant.are in
     let keyed : Keyed v.masters = subst (λ (w : MasterSet). Keyed w.masters) c.self.view_is c.self.invariant.keyed in
-    let old : (k : ℕ) → set.contains c.self.inside.members.clients.m0 k ≡ is_current v k = λ k. c.self.invariant.flagged k ∙ ap (λ (w : MasterSet). is_current w k) c.self.view_is in
+    let old : (k : ℕ) → set.contains c.self.inside.members.flags k ≡ is_current v k = λ k. c.self.invariant.flagged k ∙ ap (λ (w : MasterSet). is_current w k) c.self.view_is in
     let none : v.device_master ≡ None = sym (ap (λ (w : MasterSet). w.device_master) c.self.view_is) ∙ c.in_default.is in
     ap (λ (s : set.FinSet nat_cmp). set.contains s k) c.in_default-add-2.ensures.flags ∙ old k ∙ ap (λ d. current_in v.members v.masters d k) none ∙ no_device v.members v.masters k
 
@@ -89,14 +98,14 @@ invariant_of-self-2 c =
     let v = c.args.self.now in
     let are : AreMasters v = subst AreMasters c.self.view_is c.self.invariant.are in
     let keyed : Keyed v.masters = subst (λ (w : MasterSet). Keyed w.masters) c.self.view_is c.self.invariant.keyed in
-    let old : (k : ℕ) → set.contains c.self.inside.members.clients.m0 k ≡ is_current v k = λ k. c.self.invariant.flagged k ∙ ap (λ (w : MasterSet). is_current w k) c.self.view_is in
+    let old : (k : ℕ) → set.contains c.self.inside.members.flags k ≡ is_current v k = λ k. c.self.invariant.flagged k ∙ ap (λ (w : MasterSet). is_current w k) c.self.view_is in
     let b = c.args.birth in
     let key = c.in_default-insert.field-0 in
     let y = calls.owner c.args.client b in
     let z = calls.own_master key b in
     let masters : c.insert.new.self.items ≡ c.self.inside.masters.items ++ z ∷ [] = c.in_default-insert.ensures.ok ∙ ap (λ (x : Master). c.self.inside.masters.items ++ calls.keyed_as key x ∷ []) c.own_master.ensures in
-    let items : members_in c.add-2.new.self.clients.items ≡ members_in c.self.inside.members.clients.items ++ y ∷ [] = c.in_default-add-2.ensures.ok ∙ ap (λ (x : Member). members_in c.self.inside.members.clients.items ++ x ∷ []) c.owner.ensures in
-    let rows : members_in c.flag_current.new.members.clients.items ≡ members_in c.self.inside.members.clients.items ++ y ∷ [] = ap members_in c.flag_current.ensures.rows ∙ items in
+    let items : c.add-2.new.self.items ≡ c.self.inside.members.items ++ y ∷ [] = c.in_default-add-2.ensures.ok ∙ ap (λ (x : Member). c.self.inside.members.items ++ x ∷ []) c.owner.ensures in
+    let rows : c.flag_current.new.members.items ≡ c.self.inside.members.items ++ y ∷ [] = c.flag_current.ensures.rows ∙ items in
     let path = ap (founded c.args.client key b) c.self.view_is in
     sound _ (founded c.args.client key b v) ((λ i. record (set_of c.self.inside) { members = rows i; masters = masters i; device_master = Some b }) ∙ path)
     (founder_are v are y c.requires.new_client c.requires.room refl z refl refl refl c.requires.new_birth)

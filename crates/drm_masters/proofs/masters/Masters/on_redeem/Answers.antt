@@ -5,7 +5,6 @@ use Rattle.drm_masters.specs.declared.rows.Member.{Member}
 use Rattle.drm_masters.specs.Fields.{set_of}
 use Rattle.drm_masters.specs.Masters.{MasterSet, AreMasters, HasOlderLessor, is_key, member_of, is_current, is_current_among}
 use Rattle.drm_masters.specs.Calls as calls
-use Rattle.drm_masters.specs.Tables.{members_in}
 use Rattle.drm_masters.proofs.Flagged.{one_more, added_there}
 use Rattle.drm_masters.proofs.Pushed.{kept_keyed, kept_older}
 use Rattle.drm_masters.proofs.Sound.{Keyed, sound, redeemed_are, of_key, kept_same}
@@ -16,10 +15,10 @@ flag_if_current-requires-clause-older c =
     let v = c.args.self.now in
     let are : AreMasters v = subst AreMasters c.self.view_is c.self.invariant.are in
     let keyed : Keyed v.masters = subst (λ (w : MasterSet). Keyed w.masters) c.self.view_is c.self.invariant.keyed in
-    let old : (k : ℕ) → set.contains c.self.inside.members.clients.m0 k ≡ is_current v k = λ k. c.self.invariant.flagged k ∙ ap (λ (w : MasterSet). is_current w k) c.self.view_is in
+    let old : (k : ℕ) → set.contains c.self.inside.members.flags k ≡ is_current v k = λ k. c.self.invariant.flagged k ∙ ap (λ (w : MasterSet). is_current w k) c.self.view_is in
     let m = c.in-Some.redeemed.birth in
     let y = calls.redeemer c.args.client m in
-    let items : members_in c.add.new.self.clients.items ≡ members_in c.self.inside.members.clients.items ++ y ∷ [] = c.in_default-add.ensures.ok ∙ ap (λ (x : Member). members_in c.self.inside.members.clients.items ++ x ∷ []) c.redeemer-member.ensures in
+    let items : c.add.new.self.items ≡ c.self.inside.members.items ++ y ∷ [] = c.in_default-add.ensures.ok ∙ ap (λ (x : Member). c.self.inside.members.items ++ x ∷ []) c.redeemer-member.ensures in
     let masters : c.set_kept.new.self.items ≡ (calls.with_kept m false v).masters = c.set_kept.ensures ∙ ap (λ (u : MasterSet). (calls.with_kept m false u).masters) c.self.view_is in
     subst (λ l. AllByRecursion (HasOlderLessor l) l) (sym masters) (kept_older m false v.masters are.lessors_older)
 
@@ -28,12 +27,12 @@ flag_if_current-requires-clause-present c =
     let v = c.args.self.now in
     let are : AreMasters v = subst AreMasters c.self.view_is c.self.invariant.are in
     let keyed : Keyed v.masters = subst (λ (w : MasterSet). Keyed w.masters) c.self.view_is c.self.invariant.keyed in
-    let old : (k : ℕ) → set.contains c.self.inside.members.clients.m0 k ≡ is_current v k = λ k. c.self.invariant.flagged k ∙ ap (λ (w : MasterSet). is_current w k) c.self.view_is in
+    let old : (k : ℕ) → set.contains c.self.inside.members.flags k ≡ is_current v k = λ k. c.self.invariant.flagged k ∙ ap (λ (w : MasterSet). is_current w k) c.self.view_is in
     let m = c.in-Some.redeemed.birth in
     let y = calls.redeemer c.args.client m in
-    let items : members_in c.add.new.self.clients.items ≡ members_in c.self.inside.members.clients.items ++ y ∷ [] = c.in_default-add.ensures.ok ∙ ap (λ (x : Member). members_in c.self.inside.members.clients.items ++ x ∷ []) c.redeemer-member.ensures in
+    let items : c.add.new.self.items ≡ c.self.inside.members.items ++ y ∷ [] = c.in_default-add.ensures.ok ∙ ap (λ (x : Member). c.self.inside.members.items ++ x ∷ []) c.redeemer-member.ensures in
     let masters : c.set_kept.new.self.items ≡ (calls.with_kept m false v).masters = c.set_kept.ensures ∙ ap (λ (u : MasterSet). (calls.with_kept m false u).masters) c.self.view_is in
-    ap (λ (x : Member). is_some (member_of (members_in c.add.new.self.clients.items) x.client)) c.redeemer-member.ensures
+    ap (λ (x : Member). is_some (member_of c.add.new.self.items x.client)) c.redeemer-member.ensures
     ∙ ap (λ l. is_some (member_of l c.args.client)) (items ∙ ap (λ (u : MasterSet). u.members ++ y ∷ []) c.self.view_is)
     ∙ ap is_some (added_there v.members y c.requires.new_client)
 
@@ -42,20 +41,20 @@ invariant_of-self-2 c =
     let v = c.args.self.now in
     let are : AreMasters v = subst AreMasters c.self.view_is c.self.invariant.are in
     let keyed : Keyed v.masters = subst (λ (w : MasterSet). Keyed w.masters) c.self.view_is c.self.invariant.keyed in
-    let old : (k : ℕ) → set.contains c.self.inside.members.clients.m0 k ≡ is_current v k = λ k. c.self.invariant.flagged k ∙ ap (λ (w : MasterSet). is_current w k) c.self.view_is in
+    let old : (k : ℕ) → set.contains c.self.inside.members.flags k ≡ is_current v k = λ k. c.self.invariant.flagged k ∙ ap (λ (w : MasterSet). is_current w k) c.self.view_is in
     let m = c.in-Some.redeemed.birth in
     let y = calls.redeemer c.args.client m in
-    let items : members_in c.add.new.self.clients.items ≡ members_in c.self.inside.members.clients.items ++ y ∷ [] = c.in_default-add.ensures.ok ∙ ap (λ (x : Member). members_in c.self.inside.members.clients.items ++ x ∷ []) c.redeemer-member.ensures in
+    let items : c.add.new.self.items ≡ c.self.inside.members.items ++ y ∷ [] = c.in_default-add.ensures.ok ∙ ap (λ (x : Member). c.self.inside.members.items ++ x ∷ []) c.redeemer-member.ensures in
     let masters : c.set_kept.new.self.items ≡ (calls.with_kept m false v).masters = c.set_kept.ensures ∙ ap (λ (u : MasterSet). (calls.with_kept m false u).masters) c.self.view_is in
-    let rows : members_in c.flag_if_current.new.members.clients.items ≡ members_in c.self.inside.members.clients.items ++ y ∷ [] = ap members_in c.flag_if_current.ensures.rows ∙ items in
+    let rows : c.flag_if_current.new.members.items ≡ c.self.inside.members.items ++ y ∷ [] = c.flag_if_current.ensures.rows ∙ items in
     let found : find (is_key c.args.master) v.masters ≡ Some c.in-Some.redeemed = sym (ap (λ (w : MasterSet). find (is_key c.args.master) w.masters) c.self.view_is) ∙ sym c.of_key.ensures ∙ c.in-Some.is in
     let device : c.self.inside.device_master ≡ v.device_master = ap (λ (w : MasterSet). w.device_master) c.self.view_is in
     sound _ (calls.redeemed c.args.client m v)
     ((λ i. record (set_of c.self.inside) { members = rows i; masters = c.set_kept.ensures i }) ∙ ap (calls.redeemed c.args.client m) c.self.view_is)
-    (redeemed_are v are y c.requires.new_client c.requires.room refl (of_key v.masters c.args.master c.in-Some.redeemed found).1)
+    (redeemed_are v are y c.requires.new_client c.requires.room refl (of_key v.masters c.args.master c.in-Some.redeemed found).1 refl)
     (kept_keyed m false v.masters keyed)
     (λ k.
-    let flags : set.contains c.add.new.self.clients.m0 k ≡ is_current v k = ap (λ (t : set.FinSet nat_cmp). set.contains t k) c.in_default-add.ensures.flags ∙ old k in
+    let flags : set.contains c.add.new.self.flags k ≡ is_current v k = ap (λ (t : set.FinSet nat_cmp). set.contains t k) c.in_default-add.ensures.flags ∙ old k in
     c.flag_if_current.ensures.flags k
     ∙ (λ i. ((k == (c.redeemer-member.ensures i).client) && is_current_among (masters i) (device i) (c.redeemer-member.ensures i)) || (flags ∙ sym (kept_same v m false k)) i)
     ∙ sym (one_more v.members y (calls.with_kept m false v).masters v.device_master c.requires.new_client k))

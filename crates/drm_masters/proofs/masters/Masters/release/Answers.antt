@@ -6,7 +6,6 @@ use Rattle.drm_masters.specs.declared.rows.Master.{Master}
 use Rattle.drm_masters.specs.Fields.{set_of}
 use Rattle.drm_masters.specs.Masters.{MasterSet, AreMasters, HasOlderLessor, is_living, is_current, swept}
 use Rattle.drm_masters.specs.Calls as calls
-use Rattle.drm_masters.specs.Tables.{members_in}
 use Rattle.drm_masters.proofs.Pushed.{kept_keyed}
 use Rattle.drm_masters.proofs.Upward.{OthersUsed}
 use Rattle.drm_masters.proofs.Sound.{Keyed, sound, swept_are, kept_ties, released_used, keyed_fewer, swept_same, kept_same}
@@ -29,7 +28,7 @@ sweep_up-requires-clause-others c =
     let v = c.args.self.now in
     let are : AreMasters v = subst AreMasters c.self.view_is c.self.invariant.are in
     let m = c.in-Some.released.birth in
-    subst (λ l. OthersUsed (members_in c.self.inside.members.clients.items) l m) (sym c.set_kept.ensures)
+    subst (λ l. OthersUsed c.self.inside.members.items l m) (sym c.set_kept.ensures)
     (subst (λ (w : MasterSet). OthersUsed w.members (calls.with_kept m false w).masters m) (sym c.self.view_is) (released_used v are m))
 
 pub invariant_of-self : goal.invariant_of-self
@@ -37,8 +36,8 @@ invariant_of-self c =
     let v = c.args.self.now in
     let are : AreMasters v = subst AreMasters c.self.view_is c.self.invariant.are in
     let keyed : Keyed v.masters = subst (λ (w : MasterSet). Keyed w.masters) c.self.view_is c.self.invariant.keyed in
-    let old : (k : ℕ) → set.contains c.self.inside.members.clients.m0 k ≡ is_current v k = λ k. c.self.invariant.flagged k ∙ ap (λ (w : MasterSet). is_current w k) c.self.view_is in
-    let mem = members_in c.self.inside.members.clients.items in
+    let old : (k : ℕ) → set.contains c.self.inside.members.flags k ≡ is_current v k = λ k. c.self.invariant.flagged k ∙ ap (λ (w : MasterSet). is_current w k) c.self.view_is in
+    let mem = c.self.inside.members.items in
     let new = calls.with_kept c.in-Some.released.birth false v in
     let left = λ (l : List Master). let r : MasterSet = record { members = mem; masters = filter (λ (u : Master). is_living mem l u.birth) l; device_master = c.self.inside.device_master; last_magic = c.self.inside.last_magic; last_lessee = c.self.inside.last_lessee } in r in
     sound _ (swept new)

@@ -8,9 +8,8 @@ use Rattle.drm_masters.specs.declared.faults.SetDone.TheVariants.{Made}
 use Rattle.drm_masters.specs.declared.rows.Member.{Member}
 use Rattle.drm_masters.specs.Calls.{set_checks}
 use Rattle.drm_masters.specs.Fields.{set_of}
-use Rattle.drm_masters.specs.Masters.{MasterSet, AreMasters, member_of, is_client, is_current, is_current_member}
+use Rattle.drm_masters.specs.Masters.{MasterSet, AreMasters, member_of, is_client, lessor_of, is_current, is_current_member}
 use Rattle.drm_masters.specs.Calls as calls
-use Rattle.drm_masters.specs.Tables.{members_in}
 use Rattle.drm_masters.proofs.Living.{and_true, not_false, not_true}
 use Rattle.drm_masters.proofs.Flagged.{current_in, no_device}
 use Rattle.drm_masters.proofs.Sound.{Keyed, sound, device_are, client_found}
@@ -26,9 +25,12 @@ found-requires-clause-none c = sym (ap (λ (w : MasterSet). w.device_master) c.s
 pub flag_current-requires-clause-older : goal.flag_current-requires-clause-older
 flag_current-requires-clause-older c = c.self.invariant.are.lessors_older
 
+pub flag_current-requires-clause-rise : goal.flag_current-requires-clause-rise
+flag_current-requires-clause-rise c = c.self.invariant.are.members_rise
+
 pub flag_current-requires-clause-unflagged : goal.flag_current-requires-clause-unflagged
 flag_current-requires-clause-unflagged c = λ k.
-    let members = members_in c.self.inside.members.clients.items in
+    let members = c.self.inside.members.items in
     c.self.invariant.flagged k ∙ ap (λ d. current_in members c.self.inside.masters.items d k) (none_is c.self.inside.device_master (sym c.is_some.ensures ∙ c.if-is_some.false)) ∙ no_device members c.self.inside.masters.items k
 
 pub invariant_of-self : goal.invariant_of-self
@@ -36,13 +38,15 @@ invariant_of-self c =
     let v = c.args.self.now in
     let are : AreMasters v = subst AreMasters c.self.view_is c.self.invariant.are in
     let keyed : Keyed v.masters = subst (λ (w : MasterSet). Keyed w.masters) c.self.view_is c.self.invariant.keyed in
-    let old : (k : ℕ) → set.contains c.self.inside.members.clients.m0 k ≡ is_current v k = λ k. c.self.invariant.flagged k ∙ ap (λ (w : MasterSet). is_current w k) c.self.view_is in
+    let old : (k : ℕ) → set.contains c.self.inside.members.flags k ≡ is_current v k = λ k. c.self.invariant.flagged k ∙ ap (λ (w : MasterSet). is_current w k) c.self.view_is in
     let look : member_of v.members c.args.client ≡ Some c.in-Some.member = sym (ap (λ (w : MasterSet). member_of w.members c.args.client) c.self.view_is) ∙ sym c.get.ensures ∙ c.in-Some.is in
     let x = c.in-Some.member in
     let path = ap (calls.with_device (Some x.master)) c.self.view_is in
-    sound _ (calls.with_device (Some x.master) v) ((λ i. record (set_of c.self.inside) { members = members_in (c.flag_current.ensures.rows i); device_master = Some x.master }) ∙ path)
+    let top : lessor_of v.masters x.master ≡ None = none_is (lessor_of v.masters x.master) (ap (λ (w : MasterSet). is_some (lessor_of w.masters x.master)) (sym c.self.view_is) ∙ ap is_some (sym c.lessor_of.ensures) ∙ sym c.is_some-2.ensures ∙ c.if-is_some-2.false) in
+    sound _ (calls.with_device (Some x.master) v) ((λ i. record (set_of c.self.inside) { members = (c.flag_current.ensures.rows i); device_master = Some x.master }) ∙ path)
     (device_are v are (Some x.master) (λ m e. any_found (is_client c.args.client) (λ (y : Member). y.is_master && (y.master == m)) x v.members look
-    (and_true x.is_master (x.master == m) (not_false x.is_master c.if-not-member.false) (eq-eqb x.master m (let s : Some x.master ≡ Some m = e in cc))))) keyed
+    (and_true x.is_master (x.master == m) (not_false x.is_master c.if-not-member.false) (eq-eqb x.master m (let s : Some x.master ≡ Some m = e in cc))))
+    (λ m e. subst (λ n. lessor_of v.masters n ≡ None) (let s : x.master ≡ m = cc in s) top)) keyed
     (λ k. c.flag_current.ensures.flags k ∙ ap (λ (u : MasterSet). is_current u k) path)
 
 verdict : (v : MasterSet) (x : Member) (root : Bool) → (x.once_master || root) ≡ true → is_current_member v x ≡ false → v.device_master ≡ None → x.is_master ≡ false → first_failing (calls.set_checks v x root) ≡ None
@@ -54,7 +58,7 @@ returns-then-not-member c =
     let v = c.args.self.now in
     let are : AreMasters v = subst AreMasters c.self.view_is c.self.invariant.are in
     let keyed : Keyed v.masters = subst (λ (w : MasterSet). Keyed w.masters) c.self.view_is c.self.invariant.keyed in
-    let old : (k : ℕ) → set.contains c.self.inside.members.clients.m0 k ≡ is_current v k = λ k. c.self.invariant.flagged k ∙ ap (λ (w : MasterSet). is_current w k) c.self.view_is in
+    let old : (k : ℕ) → set.contains c.self.inside.members.flags k ≡ is_current v k = λ k. c.self.invariant.flagged k ∙ ap (λ (w : MasterSet). is_current w k) c.self.view_is in
     let look : member_of v.members c.args.client ≡ Some c.in-Some.member = sym (ap (λ (w : MasterSet). member_of w.members c.args.client) c.self.view_is) ∙ sym c.get.ensures ∙ c.in-Some.is in
     let x = c.in-Some.member in
     let num : x.client ≡ c.args.client = (client_found v.members c.args.client x look).0 in

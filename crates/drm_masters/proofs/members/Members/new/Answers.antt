@@ -1,10 +1,16 @@
 use Rattle.std.proofs.Common.{ap, ◌∙◌, nat_cmp}
 use Rattle.std.specs.FinSet as set
 use Rattle.drm_index_array.specs.Indexed.{Indexed}
+use Rattle.drm_id_alloc.specs.Groups.{has}
+use Rattle.drm_id_alloc.proofs.GroupLemmas.{grouped_empty}
 use Rattle.drm_masters.specs.declared.members.Membership.{Membership}
 use Rattle.drm_masters.specs.Tables.{members_in}
 use Rattle.drm_masters.proofs.Listed.{no_clients}
+use Rattle.drm_masters.proofs.Named.{master_of}
 use Rattle.drm_masters.proofs.members.Members.new.Goals as goal
+
+pub invariant_of-result : goal.invariant_of-result
+invariant_of-result c = grouped_empty master_of c.new.result.items (has c.new-2.result) (ap (λ (a : Indexed Membership). a.items) c.new.ensures) c.new-2.ensures
 
 pub returns-clause-none : goal.returns-clause-none
 returns-clause-none c = ap (λ (a : Indexed Membership). members_in a.items) c.new.ensures ∙ no_clients

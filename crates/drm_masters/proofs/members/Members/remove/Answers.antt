@@ -1,9 +1,26 @@
-use Rattle.std.proofs.Common.{ap, ◌∙◌}
+use Rattle.std.proofs.Common.{not, filter, refl, ap, sym, ◌∙◌}
 use Rattle.drm_index_array.specs.Indexed.{Indexed}
+use Rattle.drm_id_alloc.specs.Groups.{has}
+use Rattle.drm_id_alloc.proofs.GroupLemmas.{grouped_fewer}
 use Rattle.drm_masters.specs.declared.members.Membership.{Membership}
-use Rattle.drm_masters.specs.Tables.{members_in}
+use Rattle.drm_masters.specs.declared.rows.Member.{Member}
+use Rattle.drm_masters.specs.Masters.{is_client}
+use Rattle.drm_masters.specs.Tables.{MemberRows, members_in}
 use Rattle.drm_masters.proofs.Listed.{client_removed}
+use Rattle.drm_masters.proofs.Named.{master_of}
 use Rattle.drm_masters.proofs.members.Members.remove.Goals as goal
 
+pub returns-in_default-clause-rows : goal.returns-in_default-clause-rows
+returns-in_default-clause-rows c =
+    ap (λ (a : Indexed Membership). members_in a.items) c.remove.ensures.after ∙ client_removed c.self.inside.clients.items c.args.client
+    ∙ ap (λ (v : MemberRows). filter (λ (x : Member). not (is_client c.args.client x)) v.items) c.self.view_is
+
+pub invariant_of-self-2 : goal.invariant_of-self-2
+invariant_of-self-2 c =
+    rw c.remove.ensures.after
+    (grouped_fewer master_of c.self.inside.clients.items (has c.self.inside.named) (has c.forget.new.self) c.self.invariant c.args.client c.in-Some.kept c.in-Some.kept.master (sym c.in-Some.ensures.value) refl c.forget.ensures)
+
 pub returns-clause-rows : goal.returns-clause-rows
-returns-clause-rows c = ap (λ (a : Indexed Membership). members_in a.items) c.remove-membership.ensures.after ∙ client_removed c.args.self.now.clients.items c.args.client
+returns-clause-rows c =
+    ap (λ (a : Indexed Membership). members_in a.items) c.remove.ensures.after ∙ client_removed c.self.inside.clients.items c.args.client
+    ∙ ap (λ (v : MemberRows). filter (λ (x : Member). not (is_client c.args.client x)) v.items) c.self.view_is

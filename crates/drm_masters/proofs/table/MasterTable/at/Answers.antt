@@ -10,7 +10,7 @@ pub returns-in_err-key : goal.returns-in_err-key
 returns-in_err-key c =
     c.from_residual.ensures
     ∙ ap (option_and_then (get c.self.inside.kept)) c.in_err-key.ensures.value
-    ∙ sym (by_birth key_of birth_of nothing c.self.inside.keys.items c.self.inside.kept c.self.invariant c.args.birth)
+    ∙ sym (by_birth key_of birth_of nothing c.self.inside.keys.items c.self.inside.kept c.self.invariant.keyed c.args.birth)
     ∙ ap (λ (v : MasterRows). master_at v.items c.args.birth) c.self.view_is
 
 pub returns-in_err-master : goal.returns-in_err-master
@@ -18,12 +18,12 @@ returns-in_err-master c =
     c.from_residual-in_err-master.ensures
     ∙ c.in_err-master.ensures
     ∙ ap (option_and_then (get c.self.inside.kept)) c.in_ok-key.ensures.value
-    ∙ sym (by_birth key_of birth_of nothing c.self.inside.keys.items c.self.inside.kept c.self.invariant c.args.birth)
+    ∙ sym (by_birth key_of birth_of nothing c.self.inside.keys.items c.self.inside.kept c.self.invariant.keyed c.args.birth)
     ∙ ap (λ (v : MasterRows). master_at v.items c.args.birth) c.self.view_is
 
 pub returns : goal.returns
 returns c =
     c.in_ok-master.ensures
     ∙ ap (option_and_then (get c.self.inside.kept)) c.in_ok-key.ensures.value
-    ∙ sym (by_birth key_of birth_of nothing c.self.inside.keys.items c.self.inside.kept c.self.invariant c.args.birth)
+    ∙ sym (by_birth key_of birth_of nothing c.self.inside.keys.items c.self.inside.kept c.self.invariant.keyed c.args.birth)
     ∙ ap (λ (v : MasterRows). master_at v.items c.args.birth) c.self.view_is

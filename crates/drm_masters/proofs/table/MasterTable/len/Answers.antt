@@ -5,4 +5,4 @@ use Rattle.drm_masters.proofs.Kept.{key_of, birth_of}
 use Rattle.drm_masters.proofs.table.MasterTable.len.Goals as goal
 
 pub returns : goal.returns
-returns c = c.len.ensures.len ∙ sym (many key_of birth_of nothing c.self.inside.keys.items c.self.inside.kept c.self.invariant) ∙ ap (λ (v : MasterRows). length v.items) c.self.view_is
+returns c = c.len.ensures.len ∙ sym (many key_of birth_of nothing c.self.inside.keys.items c.self.inside.kept c.self.invariant.keyed) ∙ ap (λ (v : MasterRows). length v.items) c.self.view_is

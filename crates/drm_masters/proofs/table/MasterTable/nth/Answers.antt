@@ -13,7 +13,7 @@ returns-in_err-birth c =
     let kept = c.self.inside.kept in
     c.from_residual.ensures
     ∙ ap (option_and_then (λ b. option_and_then (get kept) (fin.get keys b))) c.in_err-birth.ensures.nth
-    ∙ at_place key_of birth_of nothing keys kept c.self.invariant c.args.place
+    ∙ at_place key_of birth_of nothing keys kept c.self.invariant.keyed c.args.place
     ∙ ap (λ (v : MasterRows). slice_get v.items c.args.place) c.self.view_is
 
 pub returns : goal.returns
@@ -22,7 +22,7 @@ returns c =
     let kept = c.self.inside.kept in
     c.at.ensures
     ∙ ap (λ (v : MasterRows). master_at v.items c.in_ok-birth.birth) (sym c.self.view_is)
-    ∙ by_birth key_of birth_of nothing keys kept c.self.invariant c.in_ok-birth.birth
+    ∙ by_birth key_of birth_of nothing keys kept c.self.invariant.keyed c.in_ok-birth.birth
     ∙ ap (option_and_then (λ b. option_and_then (get kept) (fin.get keys b))) c.in_ok-birth.ensures.nth
-    ∙ at_place key_of birth_of nothing keys kept c.self.invariant c.args.place
+    ∙ at_place key_of birth_of nothing keys kept c.self.invariant.keyed c.args.place
     ∙ ap (λ (v : MasterRows). slice_get v.items c.args.place) c.self.view_is

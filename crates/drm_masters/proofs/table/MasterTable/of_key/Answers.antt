@@ -9,13 +9,13 @@ pub returns-in_err-master : goal.returns-in_err-master
 returns-in_err-master c =
     c.from_residual.ensures
     ∙ c.in_err-master.ensures
-    ∙ sym (by_key key_of birth_of nothing c.self.inside.keys.items c.self.inside.kept c.self.invariant c.number.result)
+    ∙ sym (by_key key_of birth_of nothing c.self.inside.keys.items c.self.inside.kept c.self.invariant.keyed c.number.result)
     ∙ ap (λ (v : MasterRows). find (is_key c.number.result) v.items) c.self.view_is
     ∙ ap (λ k. find (is_key k) c.args.self.now.items) c.number.ensures
 
 pub returns : goal.returns
 returns c =
     c.in_ok-master.ensures
-    ∙ sym (by_key key_of birth_of nothing c.self.inside.keys.items c.self.inside.kept c.self.invariant c.number.result)
+    ∙ sym (by_key key_of birth_of nothing c.self.inside.keys.items c.self.inside.kept c.self.invariant.keyed c.number.result)
     ∙ ap (λ (v : MasterRows). find (is_key c.number.result) v.items) c.self.view_is
     ∙ ap (λ k. find (is_key k) c.args.self.now.items) c.number.ensures

@@ -1,18 +1,50 @@
-use Rattle.std.proofs.Common.{sym}
-use Rattle.drm_keys.proofs.KeyLemmas.{removed, removed_keyed}
-use Rattle.drm_masters.specs.Tables.{nothing}
-use Rattle.drm_masters.proofs.Kept.{key_of, birth_of, none_gone, kept_there}
+use Rattle.std.proofs.Common.{◌≡◌, ◌≤◌, not, List, filter, Some, option_and_then, sym, ap, subst, ◌∙◌}
+use Rattle.std.specs.List.{AllByRecursion}
+use Rattle.std.specs.FinMap as fin
+use Rattle.slab.specs.Slab.{get}
+use Rattle.drm_id_alloc.specs.Groups.{has}
+use Rattle.drm_keys.specs.Keys.{rows_in}
+use Rattle.drm_keys.proofs.KeyLemmas.{by_birth, removed, removed_keyed}
+use Rattle.drm_lists.proofs.Lists.{all_filter}
+use Rattle.drm_masters.specs.declared.rows.Master.{Master}
+use Rattle.drm_masters.specs.Masters.{is_birth, master_at}
+use Rattle.drm_masters.specs.Records.{items_of}
+use Rattle.drm_masters.specs.Tables.{nothing, AreLesseesOf, IsUnlisted}
+use Rattle.drm_masters.proofs.Kept.{key_of, birth_of, none_gone, key_there, at_key}
+use Rattle.drm_masters.proofs.Lessees.{unlisted}
 use Rattle.drm_masters.proofs.table.MasterTable.remove.Goals as goal
 
 pub returns-in_default : goal.returns-in_default
-returns-in_default c = rw (← c.self.view_is, c.in_default.ensures.absent) (none_gone c.self.inside.keys.items c.self.inside.kept c.self.invariant c.args.birth (sym c.in_default.ensures.value))
+returns-in_default c = rw (← c.self.view_is, c.in_default.ensures.absent) (none_gone c.self.inside.keys.items c.self.inside.kept c.self.invariant.keyed c.args.birth (sym c.in_default.ensures.value))
+
+pub unreachable-requires : goal.unreachable-requires
+unreachable-requires c = key_there c.self.inside.keys.items c.self.inside.kept c.self.invariant.keyed c.args.birth c.in-Some.key (sym c.in-Some.ensures.value) (sym c.in_default-try_remove.ensures.value)
 
 pub invariant_of-self-2 : goal.invariant_of-self-2
 invariant_of-self-2 c =
-    let w = kept_there c.self.inside.keys.items c.self.inside.kept c.self.invariant c.args.birth c.in-Some.key (sym c.in-Some.ensures.value) in
-    rw (c.in-Some.ensures.after, ← w.2) (removed_keyed key_of birth_of nothing c.self.inside.keys.items c.self.inside.kept c.self.invariant c.in-Some.key w.0 c.try_remove-master.new.self w.1 c.try_remove-master.ensures.updates)
+    let keys = c.self.inside.keys.items in
+    let slab = c.self.inside.kept in
+    let keyed = c.self.invariant.keyed in
+    let k = c.in-Some.key in
+    let x = c.in-Some-try_remove.master in
+    let there : get slab k ≡ Some x = sym c.in-Some-try_remove.ensures.value in
+    let is : x.birth ≡ c.args.birth = at_key keys slab keyed c.args.birth k x (sym c.in-Some.ensures.value) there in
+    let here : master_at (items_of c.self.inside) x.birth ≡ Some x = by_birth key_of birth_of nothing keys slab keyed x.birth ∙ ap (option_and_then (get slab)) (keyed.key_of k x there).1 ∙ there in
+    let left : rows_in nothing c.try_remove.new.self (fin.entries (fin.remove keys x.birth)) ≡ filter (λ (y : Master). not (is_birth x.birth y)) (items_of c.self.inside) = removed key_of birth_of nothing keys slab keyed k x c.try_remove.new.self there c.try_remove.ensures.updates in
+    let taken : IsUnlisted (has c.self.inside.lessees) x.lessor x.birth (has c.unlist.new.lessees) = subst (λ b. IsUnlisted (has c.self.inside.lessees) x.lessor b (has c.unlist.new.lessees)) (sym is) c.unlist.ensures in
+    rw (c.in-Some.ensures.after, ← is)
+    (record {
+      keyed = removed_keyed key_of birth_of nothing keys slab keyed k x c.try_remove.new.self there c.try_remove.ensures.updates;
+      fits = subst (λ (l : List Master). AllByRecursion (λ (y : Master). y.birth ≤ 4294967295) l) (sym left) (all_filter (λ (y : Master). y.birth ≤ 4294967295) (λ (y : Master). not (is_birth x.birth y)) (items_of c.self.inside) c.self.invariant.fits);
+      lessees = subst (λ (l : List Master). AreLesseesOf l (has c.unlist.new.lessees)) (sym left) (unlisted (items_of c.self.inside) x here (has c.self.inside.lessees) (has c.unlist.new.lessees) c.self.invariant.lessees taken);
+    })
 
 pub returns : goal.returns
 returns c =
-    let w = kept_there c.self.inside.keys.items c.self.inside.kept c.self.invariant c.args.birth c.in-Some.key (sym c.in-Some.ensures.value) in
-    rw (← c.self.view_is, c.in-Some.ensures.after, ← w.2) (removed key_of birth_of nothing c.self.inside.keys.items c.self.inside.kept c.self.invariant c.in-Some.key w.0 c.try_remove-master.new.self w.1 c.try_remove-master.ensures.updates)
+    let keys = c.self.inside.keys.items in
+    let slab = c.self.inside.kept in
+    let keyed = c.self.invariant.keyed in
+    let x = c.in-Some-try_remove.master in
+    let there : get slab c.in-Some.key ≡ Some x = sym c.in-Some-try_remove.ensures.value in
+    let is : x.birth ≡ c.args.birth = at_key keys slab keyed c.args.birth c.in-Some.key x (sym c.in-Some.ensures.value) there in
+    rw (← c.self.view_is, c.in-Some.ensures.after, ← is) (removed key_of birth_of nothing keys slab keyed c.in-Some.key x c.try_remove.new.self there c.try_remove.ensures.updates)

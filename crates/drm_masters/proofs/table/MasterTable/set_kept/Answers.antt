@@ -1,4 +1,4 @@
-use Rattle.std.proofs.Common.{◌≡◌, ◌==◌, map, Some, refl, ap, sym, subst, ◌∙◌}
+use Rattle.std.proofs.Common.{◌≡◌, ◌≤◌, ◌==◌, List, map, Some, refl, ap, sym, subst, ◌∙◌}
 use Rattle.std.specs.Prelude.{if◌then◌else◌, IsSome}
 use Rattle.std.specs.FinMap as fin
 use Rattle.slab.specs.Slab.{get, with_value}
@@ -7,15 +7,21 @@ use Rattle.drm_keys.specs.Keys.{rows_in}
 use Rattle.drm_keys.proofs.KeyLemmas.{replaced, replaced_keyed}
 use Rattle.drm_masters.specs.declared.rows.Master.{Master}
 use Rattle.drm_masters.specs.Calls.{kept_as}
-use Rattle.drm_masters.specs.Tables.{nothing}
+use Rattle.drm_id_alloc.specs.Groups.{has}
+use Rattle.drm_lists.proofs.Lists.{all_weaker, all_mapped}
+use Rattle.std.specs.List.{AllByRecursion}
+use Rattle.drm_masters.specs.Records.{items_of}
+use Rattle.drm_masters.specs.Tables.{nothing, AreLesseesOf}
+use Rattle.drm_masters.proofs.Pushed.{kept_at, birth_stays, kept_lessors}
+use Rattle.drm_masters.proofs.Lessees.{same_lessees}
 use Rattle.drm_masters.proofs.Kept.{key_of, birth_of, key_there, none_changed, at_key}
 use Rattle.drm_masters.proofs.table.MasterTable.set_kept.Goals as goal
 
 pub unreachable-requires : goal.unreachable-requires
-unreachable-requires c = key_there c.self.inside.keys.items c.self.inside.kept c.self.invariant c.args.birth c.in-Some.key.now (sym c.in-Some.ensures.value) (sym c.in_default-get_mut.ensures.value)
+unreachable-requires c = key_there c.self.inside.keys.items c.self.inside.kept c.self.invariant.keyed c.args.birth c.in-Some.key.now (sym c.in-Some.ensures.value) (sym c.in_default-get_mut.ensures.value)
 
 pub returns-in_default : goal.returns-in_default
-returns-in_default c = rw (← c.self.view_is) (none_changed c.self.inside.keys.items c.self.inside.kept c.self.invariant c.args.birth (sym c.in_default.ensures.value) (kept_as c.args.kept))
+returns-in_default c = rw (← c.self.view_is) (none_changed c.self.inside.keys.items c.self.inside.kept c.self.invariant.keyed c.args.birth (sym c.in_default.ensures.value) (kept_as c.args.kept))
 
 pub invariant_of-self : goal.invariant_of-self
 invariant_of-self c =
@@ -23,8 +29,19 @@ invariant_of-self c =
     let k = c.in-Some.key.now in
     let there : get c.self.inside.kept k ≡ Some x = sym c.in-Some-get_mut.ensures.value in
     let present : IsSome (get c.self.inside.kept k) = subst IsSome c.in-Some-get_mut.ensures.value refl in
-    replaced_keyed key_of birth_of nothing c.self.inside.keys.items c.self.inside.kept c.self.invariant k x (kept_as c.args.kept) (with_value c.self.inside.kept k (kept_as c.args.kept x)) there refl refl
-    (Updates-with_value c.self.inside.kept k (kept_as c.args.kept x) present)
+    let slab = with_value c.self.inside.kept k (kept_as c.args.kept x) in
+    let updates = Updates-with_value c.self.inside.kept k (kept_as c.args.kept x) present in
+    let all : rows_in nothing slab (fin.entries c.self.inside.keys.items) ≡ map (kept_at x.birth c.args.kept) (items_of c.self.inside) = replaced key_of birth_of nothing c.self.inside.keys.items c.self.inside.kept c.self.invariant.keyed k x (kept_as c.args.kept) slab there refl refl updates in
+    record {
+      keyed = replaced_keyed key_of birth_of nothing c.self.inside.keys.items c.self.inside.kept c.self.invariant.keyed k x (kept_as c.args.kept) slab there refl refl updates;
+      fits =
+          subst (λ (l : List Master). AllByRecursion (λ (y : Master). y.birth ≤ 4294967295) l) (sym all)
+          (all_mapped (λ (y : Master). y.birth ≤ 4294967295) (kept_at x.birth c.args.kept) (items_of c.self.inside)
+          (all_weaker (λ (y : Master). y.birth ≤ 4294967295) (λ (y : Master). (kept_at x.birth c.args.kept y).birth ≤ 4294967295) (λ y le. subst (λ b. b ≤ 4294967295) (sym (birth_stays x.birth c.args.kept y)) le) (items_of c.self.inside) c.self.invariant.fits));
+      lessees =
+          subst (λ (l : List Master). AreLesseesOf l (has c.self.inside.lessees)) (sym all)
+          (same_lessees (items_of c.self.inside) (map (kept_at x.birth c.args.kept) (items_of c.self.inside)) (kept_lessors x.birth c.args.kept (items_of c.self.inside)) (has c.self.inside.lessees) c.self.invariant.lessees);
+    }
 
 pub returns : goal.returns
 returns c =
@@ -32,8 +49,8 @@ returns c =
     let k = c.in-Some.key.now in
     let there : get c.self.inside.kept k ≡ Some x = sym c.in-Some-get_mut.ensures.value in
     let present : IsSome (get c.self.inside.kept k) = subst IsSome c.in-Some-get_mut.ensures.value refl in
-    let is : x.birth ≡ c.args.birth = at_key c.self.inside.keys.items c.self.inside.kept c.self.invariant c.args.birth k x (sym c.in-Some.ensures.value) there in
+    let is : x.birth ≡ c.args.birth = at_key c.self.inside.keys.items c.self.inside.kept c.self.invariant.keyed c.args.birth k x (sym c.in-Some.ensures.value) there in
     rw (← c.self.view_is)
-    (replaced key_of birth_of nothing c.self.inside.keys.items c.self.inside.kept c.self.invariant k x (kept_as c.args.kept) (with_value c.self.inside.kept k (kept_as c.args.kept x)) there refl refl
+    (replaced key_of birth_of nothing c.self.inside.keys.items c.self.inside.kept c.self.invariant.keyed k x (kept_as c.args.kept) (with_value c.self.inside.kept k (kept_as c.args.kept x)) there refl refl
     (Updates-with_value c.self.inside.kept k (kept_as c.args.kept x) present)
     ∙ ap (λ b. map (λ (z : Master). if z.birth == b then kept_as c.args.kept z else z) (rows_in nothing c.self.inside.kept (fin.entries c.self.inside.keys.items))) is)

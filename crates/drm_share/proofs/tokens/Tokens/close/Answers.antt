@@ -2,7 +2,7 @@ use Rattle.std.proofs.Common.{cond, Some, None, ap, sym, ◌∙◌, find, option
 use Rattle.std.proofs.lemmas.Bool.{ne_eqb}
 use Rattle.drm_id_alloc.proofs.GroupLemmas.{grouped_fewer}
 use Rattle.drm_share.specs.declared.tokens.Export.{Export}
-use Rattle.drm_share.specs.Owned.{owns}
+use Rattle.drm_id_alloc.specs.Groups.{has}
 use Rattle.drm_share.specs.Tokens.{TokenList, is_token_of, without_token}
 use Rattle.drm_share.specs.Tables.{token_list, token_row}
 use Rattle.drm_share.proofs.TokenFacts.{token_of_is, token_closed, is-closed, closes, tokens_are}
@@ -28,7 +28,7 @@ invariant_of-self c =
     let v = c.in_ok-export.field-0.now in
     rw c.remove-export.ensures.after (record {
       numbered = is-closed c.self.inside.exports c.self.invariant.numbered c.args.token;
-      owners = grouped_fewer (λ (x : Export). x.client) c.self.inside.exports.slots (owns c.self.inside.owned.clients.items) (owns c.forget.new.self.clients.items) c.self.invariant.owners c.args.token v c.args.client (sym c.in_ok-export.ensures.value) c.if-export-client.false c.forget.ensures;
+      owners = grouped_fewer (λ (x : Export). x.client) c.self.inside.exports.slots (has c.self.inside.owned) (has c.forget.new.self) c.self.invariant.owners c.args.token v c.args.client (sym c.in_ok-export.ensures.value) c.if-export-client.false c.forget.ensures;
     })
 
 pub returns-clause-object : goal.returns-clause-object

@@ -1,8 +1,8 @@
-use Rattle.std.proofs.Common.{Some, refl, ap, sym, ◌∙◌, arith}
+use Rattle.std.proofs.Common.{refl, ap, sym, ◌∙◌, arith}
 use Rattle.std.proofs.lemmas.Option.{none-some, same_Some}
 use Rattle.drm_id_alloc.proofs.GroupLemmas.{grouped_more, grouped_back, grouped_same}
 use Rattle.drm_share.specs.declared.tokens.Export.{Export}
-use Rattle.drm_share.specs.Owned.{owns}
+use Rattle.drm_id_alloc.specs.Groups.{GroupMap, has}
 use Rattle.drm_share.specs.Tokens.{TokenList, with_token, token}
 use Rattle.drm_share.specs.Tables.{token_list}
 use Rattle.drm_share.proofs.TokenFacts.{next_token_is, token_opened, is-opened}
@@ -16,7 +16,7 @@ returns-in_default-clause-full c =
 pub invariant_of-self : goal.invariant_of-self
 invariant_of-self c = record {
   numbered = c.self.invariant.numbered;
-  owners = grouped_same (λ (x : Export). x.client) c.self.inside.exports.slots (owns c.self.inside.owned.clients.items) (owns c.note.new.self.clients.items) c.self.invariant.owners c.in-Err.ensures.err;
+  owners = grouped_same (λ (x : Export). x.client) c.self.inside.exports.slots (has c.self.inside.owned) (has c.note.new.self) c.self.invariant.owners (λ d u. ap (λ (m : GroupMap). has m d u) c.in-Err.ensures.err);
 }
 
 pub returns-in-Err-clause-full : goal.returns-in-Err-clause-full
@@ -27,12 +27,12 @@ returns-in-Err-clause-full c =
 pub invariant_of-self-in-Err-add_cyclic : goal.invariant_of-self-in-Err-add_cyclic
 invariant_of-self-in-Err-add_cyclic c =
     let t = c.self.inside.exports in
-    let old = owns c.self.inside.owned.clients.items in
-    let again = owns c.forget.new.self.clients.items in
+    let old = has c.self.inside.owned in
+    let again = has c.forget.new.self in
     rw c.in-Err-add_cyclic.ensures.err (record {
       numbered = c.self.invariant.numbered;
       owners = grouped_same (λ (x : Export). x.client) t.slots old again c.self.invariant.owners
-          (grouped_back (λ (x : Export). x.client) t.slots old (owns c.note.new.self.clients.items) c.self.invariant.owners again c.args.client c.in-Some.token c.in-Some.ensures.fresh c.in_default-note.ensures.ok c.forget.ensures);
+          (grouped_back (λ (x : Export). x.client) t.slots old (has c.note.new.self) c.self.invariant.owners again c.args.client c.in-Some.token c.in-Some.ensures.fresh c.in_default-note.ensures.ok c.forget.ensures);
     })
 
 pub returns-in-Err-add_cyclic-clause-full : goal.returns-in-Err-add_cyclic-clause-full
@@ -43,12 +43,12 @@ returns-in-Err-add_cyclic-clause-full c =
 pub invariant_of-self-in_default-add_cyclic : goal.invariant_of-self-in_default-add_cyclic
 invariant_of-self-in_default-add_cyclic c =
     let t = c.self.inside.exports in
-    let m = c.self.inside.owned.clients.items in
+    let m = c.self.inside.owned in
     let made : Export = record { client = c.args.client; object = c.args.object } in
     let same = same_Some c.in_default-add_cyclic.field-0 c.in-Some.token (sym c.in_default-add_cyclic.ensures.given ∙ sym c.in-Some.ensures.next) in
     rw (c.in_default-add_cyclic.ensures.ok, same) (record {
       numbered = is-opened t c.self.invariant.numbered c.in-Some.token made c.in-Some.ensures.low c.in-Some.ensures.high;
-      owners = grouped_more (λ (x : Export). x.client) t.slots (owns m) (owns c.note.new.self.clients.items) c.self.invariant.owners c.in-Some.token made c.args.client c.in-Some.ensures.fresh refl c.in_default-note.ensures.ok;
+      owners = grouped_more (λ (x : Export). x.client) t.slots (has m) (has c.note.new.self) c.self.invariant.owners c.in-Some.token made c.args.client c.in-Some.ensures.fresh refl c.in_default-note.ensures.ok;
     })
 
 pub returns-clause-given : goal.returns-clause-given

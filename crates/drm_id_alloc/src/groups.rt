@@ -1,0 +1,129 @@
+//! Numbers by groups.
+
+ghost use Rattle.std.specs.Prelude.{◌≡◌, ◌≤◌, ℕ, false, length, slice_get, OnOk, OnErr, IfNone};
+ghost use Rattle.std.specs.FinMap as map;
+ghost use Rattle.drm_index_array.specs.Indexed.{without_item};
+ghost use Rattle.drm_index_array.specs.Least.{least};
+ghost use Rattle.drm_id_alloc.specs.Groups.{IsAdded, IsTaken, IsNoted, has, numbers_of};
+
+use crate::faults::NoMemory;
+use drm_index_array::{IndexArray, InsertFault};
+use std::alloc::Global;
+use std::marker::Model;
+
+/// Which numbers stand in which group: those of one group are found without the others. Groups and numbers are any numbers.
+/// A group that has no number takes no memory. Contracts see a map from each group to what has its numbers.
+#[derive(Drop)]
+pub struct Groups {
+    alloc: Global,
+    groups: IndexArray<IndexArray<()>>,
+}
+
+impl Model for Groups {
+    ghost use Rattle.drm_id_alloc.specs.Groups.{GroupMap, group_code};
+
+    ghost Value = { GroupMap };
+
+    ghost coded = { group_code };
+
+    ghost view = { λ a. a.groups.items };
+}
+
+impl Groups {
+    /// No group has a number. It takes no memory.
+    pub fn new(alloc: Global) -> Groups
+        ensures { (g n : ℕ) → has result g n ≡ false }
+    {
+        Groups {
+            alloc,
+            groups: IndexArray::new(alloc),
+        }
+    }
+
+    /// Notes a number of a group. One that the group has stays. Without memory nothing changes.
+    pub fn note(&mut self, group: u32, number: u32) -> Result<(), NoMemory>
+        ensures ok { OnOk result (IsAdded (has self.old) group number (has self.new)) }
+        ensures err { OnErr result (self.new ≡ self.old) }
+    {
+        if let Some(numbers) = self.groups.get_mut(group) {
+            return noted(numbers, number);
+        }
+        let mut numbers = IndexArray::new(self.alloc);
+        if let Err(_fault) = numbers.insert(number, ()) {
+            return Err(NoMemory);
+        }
+        if let Err(_fault) = self.groups.insert(group, numbers) {
+            return Err(NoMemory);
+        }
+        Ok(())
+    }
+
+    /// Forgets a number of a group, if the group has it. It takes no memory.
+    pub fn forget(&mut self, group: u32, number: u32)
+        ensures { IsTaken (has self.old) group number (has self.new) }
+    {
+        let Some(numbers) = self.groups.get_mut(group) else {
+            return;
+        };
+        let _number = numbers.remove(number);
+        let left = numbers.len();
+        if left == 0 {
+            take_out(&mut self.groups, group);
+        }
+    }
+
+    /// The least number of a group that is not below `from`.
+    pub fn next(&self, group: u32, from: u32) -> Option<u32>
+        ensures least { result ≡ least (has self.now group) from u32.MAX }
+        ensures none_above { IfNone result ((n : ℕ) → from ≤ n → has self.now group n ≡ false) }
+    {
+        self.groups.get(group)?.next(from)
+    }
+
+    /// The number at a place of a group's, rising, where 0 is the first; none past the last. A late place costs what an
+    /// early one does.
+    pub fn nth(&self, group: u32, place: usize) -> Option<u32>
+        ensures { result ≡ slice_get (numbers_of self.now group) place }
+    {
+        self.groups.get(group)?.nth(place)
+    }
+
+    /// How many numbers a group has.
+    pub fn len(&self, group: u32) -> usize
+        ensures { result ≡ length (numbers_of self.now group) }
+    {
+        match self.groups.get(group) {
+            Some(numbers) => numbers.len(),
+            None => 0,
+        }
+    }
+
+    /// Whether a group has a number.
+    pub fn has(&self, group: u32, number: u32) -> bool
+        ensures { result ≡ has self.now group number }
+    {
+        match self.groups.get(group) {
+            Some(numbers) => numbers.get(number).is_some(),
+            None => false,
+        }
+    }
+}
+
+/// Takes a group out.
+fn take_out(groups: &mut IndexArray<IndexArray<()>>, group: u32)
+    ensures { groups.new ≡ without_item groups.old group }
+{
+    let _numbers = groups.remove(group);
+}
+
+/// Adds a number, if it isn't there. Without memory nothing changes.
+fn noted(numbers: &mut IndexArray<()>, number: u32) -> Result<(), NoMemory>
+    ensures ok { OnOk result (IsNoted numbers.old number numbers.new) }
+    ensures err { OnErr result (numbers.new ≡ numbers.old) }
+{
+    match numbers.insert(number, ()) {
+        Ok(()) => Ok(()),
+        Err(InsertFault::Taken(())) => Ok(()),
+        Err(InsertFault::NoMemory(())) => Err(NoMemory),
+    }
+}

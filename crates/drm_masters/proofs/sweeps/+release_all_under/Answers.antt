@@ -1,0 +1,31 @@
+use Rattle.std.proofs.Common.{◌+◌, sym, arith}
+use Rattle.drm_index_array.proofs.Least.{least_some}
+use Rattle.drm_masters.specs.Masters.{is_option, lessor_of}
+use Rattle.drm_masters.proofs.Released.{none_yet, now_rise, now_older, one_released, all_released}
+use Rattle.drm_masters.proofs.sweeps.+release_all_under.Goals as goal
+
+pub loop-lessee-init : goal.loop-lessee-init
+loop-lessee-init t c = none_yet c.args.masters.now.items c.requires.rise c.requires.older c.args.top c.set_kept.new.self.items c.set_kept.ensures
+
+pub release_all_under-requires : goal.release_all_under-requires
+release_all_under-requires t c =
+    let is = least_some (λ n. is_option c.args.top (lessor_of c.loop-lessee.masters.items n)) (c.loop-lessee.after + 1) 4294967295 c.in-Some.lessee (sym c.in-Some.ensures.least) in
+    let low = is.at_least in
+    let high = is.at_most in
+    (omega (arith, low, high, c.loop-lessee.invariant.from, c.decreases), (now_rise c.args.masters.now.items c.requires.rise c.requires.older c.args.top c.loop-lessee.after c.loop-lessee.masters.items c.loop-lessee.invariant, now_older c.args.masters.now.items c.requires.rise c.requires.older c.args.top c.loop-lessee.after c.loop-lessee.masters.items c.loop-lessee.invariant))
+
+pub loop-lessee-smaller : goal.loop-lessee-smaller
+loop-lessee-smaller t c =
+    let is = least_some (λ n. is_option c.args.top (lessor_of c.loop-lessee.masters.items n)) (c.loop-lessee.after + 1) 4294967295 c.in-Some.lessee (sym c.in-Some.ensures.least) in
+    let low = is.at_least in
+    let high = is.at_most in
+    omega (arith, low, high)
+
+pub loop-lessee-preserved : goal.loop-lessee-preserved
+loop-lessee-preserved t c =
+    let is = least_some (λ n. is_option c.args.top (lessor_of c.loop-lessee.masters.items n)) (c.loop-lessee.after + 1) 4294967295 c.in-Some.lessee (sym c.in-Some.ensures.least) in
+    let low = is.at_least in
+    one_released c.args.masters.now.items c.requires.rise c.requires.older c.args.top c.loop-lessee.after c.loop-lessee.masters.items c.loop-lessee.invariant c.in-Some.lessee c.release_all_under.new.masters.items is.passes (omega (arith, low)) (λ k after less. is.none_below k (omega (arith, after)) less) c.release_all_under.ensures
+
+pub returns : goal.returns
+returns t c = all_released c.args.masters.now.items c.requires.rise c.requires.older c.args.top c.loop-lessee.after c.loop-lessee.masters.items c.loop-lessee.invariant c.in_default.ensures.none_above
