@@ -1,7 +1,6 @@
 -- What is left of masters and leases without a client.
-use Rattle.std.proofs.Common.{◌≡◌, ℕ, ◌==◌, Bool, true, false, cond, not, ◌&&◌, List, [], ◌∷◌, map, filter, find, Option, None, Some, refl, sym, ap, subst, ◌∙◌}
+use Rattle.std.proofs.Common.{◌≡◌, ℕ, ◌==◌, Bool, true, false, cond, not, ◌&&◌, List, [], ◌∷◌, map, filter, find, None, Some, refl, sym, ap, subst, ◌∙◌}
 use Rattle.std.specs.Prelude.{if◌then◌else◌}
-use Rattle.std.specs.List.{AllByRecursion}
 use Rattle.std.specs.Option.{option_map_or, option_and_then}
 use Rattle.std.proofs.lemmas.Bool.{eqb-true}
 use Rattle.drm_lists.proofs.Lists.{all_each, all_weaker, filter_all}
@@ -14,6 +13,8 @@ use Rattle.drm_masters.specs.Masters.{MasterSet, AreMasters, swept, is_birth}
 use Rattle.drm_masters.specs.Calls.{ClosedBy, ClosedOf, closed_own, without_member, released_under, kept_as}
 use Rattle.drm_leases.specs.Leases.{LeaseSet}
 use Rattle.drm_leases.specs.Calls as leases
+use Rattle.drm_leases.specs.Agreed.{AreAgreed}
+use Rattle.drm_leases.proofs.Agreeing.{agreed_closed_own}
 use Rattle.drm_lists.specs.Chains.{is_under}
 use Rattle.drm_lists.proofs.Chains.{itself}
 use Rattle.drm_state.specs.Parts.{device_without, own_master, is_below, released, ended, ends_with, without_its_master, without_its_leases}
@@ -98,6 +99,11 @@ module _ (v middle : MasterSet) (c : ℕ) (x : Member) (here : masters.member_of
       let top : ends_with v c x.master ≡ true = ap (λ (p : ℕ → Bool). p x.master) (sym below_is) ∙ itself (masters.lessor_of middle.masters) x.master x.master in
       f ∙ (λ i. swept (record middle { masters = released (below_is i) middle.masters })) ∙ (λ i. swept (record (is i) { masters = released (ends_with v c) (is i).masters }))
       ∙ (λ i. swept (record (without_member (number_is v c x here i) v) { masters = released_again (ends_with v c) x.master top v.masters i; device_master = device i }))
+
+  -- its leases agree with its master, which is kept
+  pub owner_agrees : (l : LeaseSet) → AreMasters v → AreAgreed l v → AreAgreed l middle
+  owner_agrees l are agreed =
+      subst (AreAgreed l) (sym is) (subst (λ n. AreAgreed l (closed_own n x.master v)) (sym (number_is v c x here)) (agreed_closed_own v c x l.lendings are.members_rise here agreed))
 
   pub owner_leases : (l new : LeaseSet) → new ≡ leases.ended middle.masters x.master l → new ≡ without_its_leases c v l
   owner_leases l new f = f ∙ (λ i. ended (below_is i) l)

@@ -26,7 +26,8 @@ use Rattle.drm_leases.specs.Leases.{LeaseSet, AreLeases}
 use Rattle.drm_model.specs.Rows.{Rows, ClientRow, MasterRow}
 use Rattle.drm_state.specs.declared.state.State.{State}
 use Rattle.drm_state.specs.Parts.{client_row_by, master_row_of, magic_row_of, clients_of, masters_of}
-use Rattle.drm_state.specs.Ties.{Tie, MembersOpen, ClientsHave, MastersAre, MagicsSuffice, LesseesFew, LeasesAre, TokensOfLessees, KeptHaveTokens, is_tied, IsTied, IsLater, HasMaster, AreOfLessees, AreKeptBy}
+use Rattle.drm_leases.specs.Agreed.{AreAgreed}
+use Rattle.drm_state.specs.Ties.{Tie, MembersOpen, ClientsHave, MastersAre, MagicsSuffice, LesseesFew, LeasesAre, TokensOfLessees, KeptHaveTokens, LeasesAgree, is_tied, IsTied, IsLater, HasMaster, AreOfLessees, AreKeptBy}
 use Rattle.drm_model.specs.Parts.{Part, Clients, Masters, Magics, DeviceMaster}
 use Rattle.drm_state.specs.Refinement.{stands_for, Represents}
 use Rattle.drm_state.proofs.Represented.{clients_are, masters_are, magics_are, members_open, masters_so, clients_have, magics_suffice, lessees_few}
@@ -82,22 +83,23 @@ have_more v set m e f h = ap (λ l. f.flags.render || is_some (masters.member_of
     by_render true k = refl
     by_render false k = is_some-find (masters.is_client f.client) (v.members ++ m ∷ []) ∙ list_any_left (masters.is_client f.client) v.members (m ∷ []) (sym (is_some-find (masters.is_client f.client) v.members) ∙ k)
 
-pub joined_tied : (s : State) (flags : FileFlags) (m : Member) (set : MasterSet) (l : LeaseSet) → IsTied s → set.members ≡ s.masters.members ++ m ∷ [] → AreMasters set → AreLeases l → AreOfLessees l.tokens set.masters → AreKeptBy l.tokens set.masters →
+pub joined_tied : (s : State) (flags : FileFlags) (m : Member) (set : MasterSet) (l : LeaseSet) → IsTied s → set.members ≡ s.masters.members ++ m ∷ [] → AreMasters set → AreLeases l → AreOfLessees l.tokens set.masters → AreKeptBy l.tokens set.masters → AreAgreed l set →
     set.last_magic ≡ s.masters.last_magic → set.last_lessee ≡ s.masters.last_lessee → (tie : Tie) → is_tied tie (joined s m.client flags set l)
 unfolding is_tied
-joined_tied s flags m set l t e are leases lessees kept last ids MembersOpen =
+joined_tied s flags m set l t e are leases lessees kept agreed last ids MembersOpen =
     let f : FileClient = record { client = m.client; flags = flags } in
     subst (AllByRecursion (λ (x : Member). is_present (with_file s.files m.client flags) x.client ≡ true)) (sym e) (all_append _ s.masters.members (m ∷ []) (members_open_yet f s.files.clients s.masters.members (members_open s t)) (found_last f s.files.clients, tt))
-joined_tied s flags m set l t e are leases lessees kept last ids ClientsHave =
+joined_tied s flags m set l t e are leases lessees kept agreed last ids ClientsHave =
     all_append (HasMaster set) s.files.clients (record { client = m.client; flags = flags } ∷ []) (all_weaker (HasMaster s.masters) (HasMaster set) (λ f h. have_more s.masters set m e f h) s.files.clients (clients_have s t))
     (ap (λ l. flags.render || is_some (masters.member_of l m.client)) e ∙ or_right flags.render _ (is_some-find (masters.is_client m.client) (s.masters.members ++ m ∷ []) ∙ list_any_right (masters.is_client m.client) s.masters.members (m ∷ []) (or_left (m.client == m.client) false (eq-eqb m.client m.client refl))), tt)
-joined_tied s flags m set l t e are leases lessees kept last ids MastersAre = are
-joined_tied s flags m set l t e are leases lessees kept last ids MagicsSuffice = last ∙ magics_suffice s t
-joined_tied s flags m set l t e are leases lessees kept last ids LesseesFew = subst (λ n. n ≤ 64) (sym ids) (lessees_few s t)
-joined_tied s flags m set l t e are leases lessees kept last ids LeasesAre = leases
-joined_tied s flags m set l t e are leases lessees kept last ids TokensOfLessees = lessees
-joined_tied s flags m set l t e are leases lessees kept last ids KeptHaveTokens = kept
-joined_tied s flags m set l t e are leases lessees kept last ids tie = t tie
+joined_tied s flags m set l t e are leases lessees kept agreed last ids MastersAre = are
+joined_tied s flags m set l t e are leases lessees kept agreed last ids MagicsSuffice = last ∙ magics_suffice s t
+joined_tied s flags m set l t e are leases lessees kept agreed last ids LesseesFew = subst (λ n. n ≤ 64) (sym ids) (lessees_few s t)
+joined_tied s flags m set l t e are leases lessees kept agreed last ids LeasesAre = leases
+joined_tied s flags m set l t e are leases lessees kept agreed last ids TokensOfLessees = lessees
+joined_tied s flags m set l t e are leases lessees kept agreed last ids KeptHaveTokens = kept
+joined_tied s flags m set l t e are leases lessees kept agreed last ids LeasesAgree = agreed
+joined_tied s flags m set l t e are leases lessees kept agreed last ids tie = t tie
 
 pub no_magic_more : (m : Member) → m.magic ≡ None → (xs : List Member) → filter_map magic_row_of (xs ++ m ∷ []) ≡ filter_map magic_row_of xs
 no_magic_more m e [] = ap (λ (g : Option Magic). cons_option (option_map (λ (d : Magic). record { master = m.master; number = d.number; client = m.client; spent = d.spent }) g) []) e

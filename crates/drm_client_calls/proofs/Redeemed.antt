@@ -24,7 +24,8 @@ use Rattle.drm_state.specs.declared.state.State.{State}
 use Rattle.drm_state.specs.Ties.{IsTied, IsLater, AreKeptBy, AreOfLessees}
 use Rattle.drm_model.specs.Parts.{Part, Clients, Masters, Magics}
 use Rattle.drm_state.specs.Refinement.{stands_for, Represents}
-use Rattle.drm_state.proofs.Represented.{clients_are, masters_are, magics_are, members_open, leases_so, tokens_of_lessees, kept_have_tokens}
+use Rattle.drm_leases.proofs.Agreeing.{agreed_redeemed}
+use Rattle.drm_state.proofs.Represented.{clients_are, masters_are, magics_are, members_open, leases_so, tokens_of_lessees, kept_have_tokens, leases_agree}
 use Rattle.drm_state.proofs.Ended.{rows_ended, rows_released, kept_ended, of_lessees_ended}
 use Rattle.drm_state.proofs.Members.{client_pushed}
 use Rattle.drm_client_calls.proofs.Opened.{joined, joined_tied, no_magic_more}
@@ -185,7 +186,8 @@ module _ (s : State) (t m : ℕ) (tied : IsTied s) (is : token_master s.leases.t
       let below : ℕ → Bool = λ n. n == m in
       joined_tied s (lease_flags root universal) (redeemer b m) (redeemed b m s.masters) (without_token t s.leases) tied refl are leases
       (subst (λ l. AreOfLessees l (released below s.masters.masters)) (sym spent_is) (of_lessees_ended below s.leases.tokens s.masters.masters (tokens_of_lessees s tied)))
-      (subst (λ l. AreKeptBy l (released below s.masters.masters)) (sym spent_is) (kept_ended below s.leases.tokens s.masters.masters (kept_have_tokens s tied))) refl refl
+      (subst (λ l. AreKeptBy l (released below s.masters.masters)) (sym spent_is) (kept_ended below s.leases.tokens s.masters.masters (kept_have_tokens s tied)))
+      (agreed_redeemed b m s.masters s.leases.lendings (leases_agree s tied)) refl refl
 
   module _ (w : Rows) (x : Master) (there : master_at s.masters.masters m ≡ Some x) (h : Represents s w) where
     pub its_row : lease_master w t ≡ Some (master_row_of s.leases.tokens x)

@@ -2,6 +2,7 @@
 
 ghost use Rattle.std.specs.Prelude.{◌≡◌, ℕ, List, true, false, ◌++◌};
 ghost use Rattle.drm_masters.specs.Masters.{AreMasters};
+ghost use Rattle.drm_leases.specs.Agreed.{AreAgreed};
 ghost use Rattle.drm_table.specs.declared.events.Event.TheVariants.{Close};
 ghost use Rattle.drm_files.specs.Files.{is_present, without_client};
 ghost use Rattle.drm_state.specs.Parts.{keys_of, token_keys, framebuffer_keys, without_tokens_of, LosesFramebuffersOf, without_its_master, without_its_leases};
@@ -47,7 +48,8 @@ pub fn close(state: &mut State, client: u32) -> Answer
 
 /// A client no more stands to masters. The leases of a master of its own end, and of all below it.
 fn close_master(masters: &mut Masters, leases: &mut Leases, client: u32)
-    requires { AreMasters masters.old }
+    requires are { AreMasters masters.old }
+    requires agreed { AreAgreed leases.old masters.old }
     ensures masters { masters.new ≡ without_its_master client masters.old }
     ensures leases { leases.new ≡ without_its_leases client masters.old leases.old }
 {

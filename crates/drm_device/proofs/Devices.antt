@@ -48,7 +48,8 @@ use Rattle.drm_leases.specs.Calls.{IsNewLessee}
 use Rattle.drm_state.specs.declared.state.State.{State}
 use Rattle.drm_device.specs.Device.{history_of, IsDevice}
 use Rattle.drm_state.specs.Parts.{client_row_of, master_row_of, magic_row_of, object_row_of, hold_row_of, holds_of, name_row_of, token_row_of, tokens_of, grant_row_of, grants_of, framebuffer_row_of, framebuffers_of, shown_row_of, keys_of, token_keys, framebuffer_keys, referring, referring_keys}
-use Rattle.drm_state.specs.Ties.{Tie, MembersOpen, ClientsHave, MastersAre, MagicsSuffice, LesseesFew, LeasesAre, TokensOfLessees, KeptHaveTokens, ModesAre, HasMaster, HoldsRise, ObjectsCounted, NamesHeld, is_tied, IsTied, IsLater, IsReady, AreTied, AreNamed, AreOfLessees, AreKeptBy}
+use Rattle.drm_leases.specs.Agreed.{AreAgreed}
+use Rattle.drm_state.specs.Ties.{Tie, MembersOpen, ClientsHave, MastersAre, MagicsSuffice, LesseesFew, LeasesAre, TokensOfLessees, KeptHaveTokens, LeasesAgree, ModesAre, HasMaster, HoldsRise, ObjectsCounted, NamesHeld, is_tied, IsTied, IsLater, IsReady, AreTied, AreNamed, AreOfLessees, AreKeptBy}
 use Rattle.drm_model.specs.Parts.{Part, Bounds, Masters, Magics, Holds, Clients, Objects, Names, Tokens, Grants, Framebuffers, Shown, DeviceMaster, LastToken, LastLeaseToken, count_in}
 use Rattle.drm_state.specs.Refinement.{stands_for, Represents, Stands}
 use Rattle.drm_state.proofs.Represented.{bounds_are, clients_are, masters_are, holds_are, objects_are, tokens_are, grants_are, framebuffers_are, modes_so, tokens_of_lessees}
@@ -227,7 +228,7 @@ start_represents t limits s is LastToken = sym (ap (λ (l : TokenList). unwrap_o
 start_represents t limits s is DeviceMaster = sym (ap (λ (v : MasterSet). v.device_master) is.masters)
 
 nobody : (clients lessees : ℕ) → AreMasters (no_masters clients lessees)
-nobody clients lessees = record { members_rise = tt; masters_rise = tt; lessors_older = tt; masters_there = tt; device_own = λ m e. absurd (let n : None ≡ Some m = e in cc); used = tt; magics_differ = tt; few = omega arith }
+nobody clients lessees = record { members_rise = tt; masters_rise = tt; lessors_older = tt; masters_there = tt; device_own = λ m e. absurd (let n : None ≡ Some m = e in cc); used = tt; magics_differ = tt; few = omega arith; device_owner = λ m e. absurd (let n : None ≡ Some m = e in cc); guests_of_owners = tt }
 
 start_tied : (t : Topology) (limits : Limits) (s : State) → IsStart s t limits → (tie : Tie) → is_tied tie s
 unfolding is_tied
@@ -238,6 +239,7 @@ start_tied t limits s is LesseesFew = subst (λ (v : MasterSet). v.last_lessee �
 start_tied t limits s is LeasesAre = is.leases_are
 start_tied t limits s is TokensOfLessees = subst (λ (l : LeaseSet). AreOfLessees l.tokens s.masters.masters) (sym is.leases) tt
 start_tied t limits s is KeptHaveTokens = subst (λ (v : MasterSet). AreKeptBy s.leases.tokens v.masters) (sym is.masters) tt
+start_tied t limits s is LeasesAgree = subst (λ (l : LeaseSet). AreAgreed l s.masters) (sym is.leases) tt
 start_tied t limits s is MagicsSuffice = ap (λ (v : MasterSet). v.last_magic) is.masters ∙ sym (ap (λ (f : FileLists). f.limit) is.files)
 start_tied t limits s is ModesAre = is.modes_are
 start_tied t limits s is HoldsRise = subst (λ (f : FileLists). InOrder (λ (x y : FileHold). hold_before x y ≡ true) f.holds) (sym is.files) tt

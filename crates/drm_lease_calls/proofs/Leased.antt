@@ -15,15 +15,16 @@ use Rattle.drm_masters.specs.Calls.{IsNewBirth, lessee, with_master}
 use Rattle.drm_leases.specs.declared.rows.LeaseToken.{LeaseToken}
 use Rattle.drm_leases.specs.Leases.{AreLeases, is_token_of, token_of}
 use Rattle.drm_leases.specs.Calls as leases
+use Rattle.drm_leases.proofs.Agreeing.{agreed_lent}
 use Rattle.drm_leases.specs.Calls.{IsNewLessee, lease_token, with_lease}
 use Rattle.drm_model.specs.Rows.{Rows}
 use Rattle.drm_model.specs.Leases as model
 use Rattle.drm_model.specs.Parts.{Part, Masters, Grants, LastLeaseToken}
 use Rattle.drm_state.specs.declared.state.State.{State}
 use Rattle.drm_state.specs.Parts.{master_row_of, masters_of, grant_row_of, grants_of}
-use Rattle.drm_state.specs.Ties.{Tie, MastersAre, LeasesAre, TokensOfLessees, KeptHaveTokens, is_tied, IsTied}
+use Rattle.drm_state.specs.Ties.{Tie, MastersAre, LeasesAre, TokensOfLessees, KeptHaveTokens, LeasesAgree, is_tied, IsTied}
 use Rattle.drm_state.specs.Refinement.{stands_for, Represents}
-use Rattle.drm_state.proofs.Represented.{masters_are, grants_are, tokens_of_lessees, kept_have_tokens}
+use Rattle.drm_state.proofs.Represented.{masters_are, grants_are, tokens_of_lessees, kept_have_tokens, leases_agree}
 use Rattle.drm_state.proofs.Ended.{of_lessees_more}
 
 -- the rows with a lease more: its lessee is the master b, with this lessor, id and token
@@ -39,7 +40,7 @@ same_append xs ys us vs h k = λ test. length-filter_append test xs us ∙ (λ i
 
 module _ (s : State) (key b m id token : ℕ) (objects : List ℕ) where
   abbrev pub leased : State
-  leased = record s { masters = with_master (lessee key b m id) s.masters; leases = with_lease token b objects s.leases }
+  leased = record s { masters = with_master (lessee key b m id) s.masters; leases = with_lease token b m objects s.leases }
 
   abbrev tokens_now : List LeaseToken
   tokens_now = s.leases.tokens ++ lease_token token b ∷ []
@@ -70,6 +71,7 @@ module _ (s : State) (key b m id token : ℕ) (objects : List ℕ) where
         (all_both (λ (x : Master). x.birth < b) (λ (x : Master). x.kept ≡ is_some (token_of s.leases.tokens x.birth)) (λ (x : Master). x.kept ≡ is_some (token_of tokens_now x.birth))
         (λ x lt e. e ∙ sym (ap is_some (token_yet x.birth (flipped x.birth b (less-differ x.birth b lt))))) s.masters.masters new (kept_have_tokens s t))
         (sym (ap is_some its_token), tt)
+    leased_tied t are leases_are LeasesAgree = agreed_lent s.masters.members s.masters.masters key b m id s.leases.lendings new (leases_agree s t)
     leased_tied t are leases_are tie = t tie
 
     rows_yet : (ms : List Master) → AllByRecursion (λ (x : Master). x.birth < b) ms → map (master_row_of s.leases.tokens) ms ≡ map (master_row_of tokens_now) ms

@@ -5,15 +5,16 @@ use Rattle.drm_masters.specs.Masters.{AreMasters}
 use Rattle.drm_masters.specs.Calls.{released_under}
 use Rattle.drm_leases.specs.Leases.{AreLeases}
 use Rattle.drm_leases.specs.Calls as leases
+use Rattle.drm_leases.proofs.Agreeing.{agreed_released}
 use Rattle.drm_model.specs.Rows.{Rows}
 use Rattle.drm_model.specs.Leases.{ended}
 use Rattle.drm_model.specs.Change.{swept}
 use Rattle.drm_model.specs.Parts.{Part, Masters, Objects, Names, Shown}
 use Rattle.drm_state.specs.declared.state.State.{State}
 use Rattle.drm_state.specs.Parts.{released, is_below, clients_of}
-use Rattle.drm_state.specs.Ties.{Tie, MastersAre, LeasesAre, TokensOfLessees, KeptHaveTokens, is_tied, IsTied, AreKeptBy}
+use Rattle.drm_state.specs.Ties.{Tie, MastersAre, LeasesAre, TokensOfLessees, KeptHaveTokens, LeasesAgree, is_tied, IsTied, AreKeptBy}
 use Rattle.drm_state.specs.Refinement.{stands_for, Represents}
-use Rattle.drm_state.proofs.Represented.{clients_are, masters_are, tokens_of_lessees, kept_have_tokens}
+use Rattle.drm_state.proofs.Represented.{clients_are, masters_are, tokens_of_lessees, kept_have_tokens, leases_agree}
 use Rattle.drm_state.proofs.Ended.{kept_ended, of_lessees_ended, kept_swept, of_lessees_swept}
 use Rattle.drm_state.proofs.Living.{swept_masters}
 use Rattle.drm_state.proofs.Sweeps.{with_ended, ended_represents, named_by_clients, unswept}
@@ -35,6 +36,7 @@ module _ (s : State) (top : ℕ) where
     revoked_tied LeasesAre = leases_are
     revoked_tied TokensOfLessees = of_lessees_swept s.masters.members revoked.leases.tokens (released below s.masters.masters) kept (of_lessees_ended below s.leases.tokens s.masters.masters (tokens_of_lessees s t))
     revoked_tied KeptHaveTokens = kept_swept s.masters.members revoked.leases.tokens (released below s.masters.masters) kept
+    revoked_tied LeasesAgree = agreed_released below s.masters.members s.masters.masters s.leases.lendings (leases_agree s t)
     revoked_tied tie = t tie
 
     module _ (w : Rows) (h : Represents s w) where

@@ -1,10 +1,11 @@
 -- Which mode objects a word stands for.
-use Rattle.std.proofs.Common.{◌≡◌, ℕ, zero, suc, ◌+◌, ◌-◌, ◌*◌, ◌%◌, ◌^◌, ◌<◌, ◌≤◌, ◌==◌, nat_lt, Bool, true, false, cond, ◌&&◌, ◌||◌, List, [], ◌∷◌, ◌++◌, filter, length, w64, eqb, refl, sym, ap, ◌∙◌, inl, inr, arith, append-nil}
+use Rattle.std.proofs.Common.{◌≡◌, ℕ, zero, suc, ◌+◌, ◌-◌, ◌*◌, ◌%◌, ◌^◌, ◌<◌, ◌≤◌, ◌==◌, nat_lt, Bool, true, false, cond, not, min, max, ◌&&◌, ◌||◌, List, [], ◌∷◌, ◌++◌, filter, length, w64, eqb, refl, sym, ap, ◌∙◌, inl, inr, arith, append-nil}
 use Rattle.std.specs.Prelude.{nat_le, if◌then◌else◌}
 use Rattle.std.specs.List.{AllByRecursion}
-use Rattle.std.specs.Int.RustNames.{bit_or}
+use Rattle.std.specs.Int.RustNames.{bit_and, bit_or}
 use Rattle.std.proofs.lemmas.Bool.{cases_eq, eqb-true}
-use Rattle.std.proofs.lemmas.Nat.Bits.{bit_at-zero, bit_at_set_same, bit_at_set_other}
+use Rattle.std.specs.Int.{bit_at, bit_not}
+use Rattle.std.proofs.lemmas.Nat.Bits.{bit_at-zero, bit_at-lt, bit_at_and, bit_at_or, bit_at_not, bit_at_set_same, bit_at_set_other}
 use Rattle.std.proofs.lemmas.Bool.Decides.{nat_tests}
 use Rattle.drm_lists.specs.Numbers.{is_among}
 use Rattle.drm_lists.proofs.Lists.{filter-same, filter-shorter}
@@ -163,3 +164,30 @@ among_pushed (y ∷ ys) id x = ap (λ b. (y == x) || b) (among_pushed ys id x) �
 pub few_objects : (mask : ℕ) → length (objects_in mask) ≤ 64
 unfolding numbers_from
 few_objects mask = let less = filter-shorter (has_object mask) (numbers_from 1 64) in omega (arith, less)
+
+-- ---- two masks
+
+in_both_ranges : (r b c : Bool) → (r && (b || c)) ≡ ((r && b) || (r && c))
+in_both_ranges true b c = refl
+in_both_ranges false b c = refl
+
+pub either_has : (a b x : ℕ) → has_object (bit_or a b) x ≡ (has_object a x || has_object b x)
+either_has a b x = ap (λ t. (nat_le 1 x && nat_le x 64) && t) (one (bit_at a (x - 1)) (bit_at b (x - 1)) (bit_at (bit_or a b) (x - 1)) (bit_at-lt a (x - 1)) (bit_at-lt b (x - 1)) (bit_at_or a b (x - 1))) ∙ in_both_ranges (nat_le 1 x && nat_le x 64) (has_bit a (x - 1)) (has_bit b (x - 1))
+  where
+    one : (m n k : ℕ) → m < 2 → n < 2 → k ≡ max m n → (k == 1) ≡ ((m == 1) || (n == 1))
+    one m n k lt less is = grind (arith, nat_tests)
+
+pub first_has : (a b x : ℕ) → b < 2 ^ 64 → has_object (bit_and a (bit_not w64 b)) x ≡ (has_object a x && not (has_object b x))
+first_has a b x small = by_range (nat_le 1 x && nat_le x 64) refl
+  where
+    low : (x : ℕ) → (nat_le 1 x && nat_le x 64) ≡ true → x - 1 < 64
+    low x h = grind (arith, nat_tests)
+
+    one : (m n k : ℕ) → m < 2 → n < 2 → k ≡ min m (1 - n) → (k == 1) ≡ ((m == 1) && not (n == 1))
+    one m n k lt less is = grind (arith, nat_tests)
+
+    by_range : (r : Bool) → (nat_le 1 x && nat_le x 64) ≡ r → (r && has_bit (bit_and a (bit_not w64 b)) (x - 1)) ≡ ((r && has_bit a (x - 1)) && not (r && has_bit b (x - 1)))
+    by_range true h =
+        one (bit_at a (x - 1)) (bit_at b (x - 1)) (bit_at (bit_and a (bit_not w64 b)) (x - 1)) (bit_at-lt a (x - 1)) (bit_at-lt b (x - 1))
+        (bit_at_and a (bit_not w64 b) (x - 1) ∙ ap (λ k. min (bit_at a (x - 1)) k) (bit_at_not w64 b (x - 1) small (low x h)))
+    by_range false h = refl

@@ -4,15 +4,27 @@ use denote.Param.Send.{IsSend, sendable, view_send, recorded_send, struct_send}
 use Rattle.std.proofs.Crossing.{Vec-send}
 use Rattle.drm_index_array.proofs.Crossing.{array_send}
 use Rattle.drm_leases.specs.contracts.rows.LeaseToken as token
+use Rattle.drm_leases.specs.contracts.rows.LeaseRecord as kept
+use Rattle.drm_leases.specs.contracts.lent.Lent as lent
 use Rattle.drm_leases.specs.contracts.granted.Granted as granted
+use Rattle.drm_leases.specs.contracts.granted.Granted.TheInside as granted_inside
 use Rattle.drm_leases.specs.contracts.leases.Leases as leases
 use Rattle.drm_leases.specs.contracts.leases.Leases.TheInside as inside
 
 token_send : IsSend token.the_row
 token_send = recorded_send token.the_field.row _ _ token.the_type.to_one (struct_send (shape token.the_type) (search sendable depth 20, (search sendable depth 20, tt)))
 
-granted_send : IsSend granted.the_field.row
-granted_send = struct_send (shape granted.the_type) (search (array_send, sendable) depth 20, tt)
+kept_send : IsSend kept.the_row
+kept_send = recorded_send kept.the_field.row _ _ kept.the_type.to_one (struct_send (shape kept.the_type) (search sendable depth 20, (search sendable depth 20, tt)))
+
+lent_send : IsSend lent.the_field.row
+lent_send = struct_send (shape lent.the_type) (search (array_send, sendable) depth 20, tt)
+
+granted_inside_send : IsSend granted_inside.the_row
+granted_inside_send = recorded_send granted_inside.the_field.row _ _ granted_inside.the_type.to_one (struct_send (shape granted_inside.the_type) (search (array_send, kept_send, sendable) depth 20, (lent_send, tt)))
+
+granted_send : IsSend granted.the_row
+granted_send = view_send granted_inside.the_row _ _ _ _ granted_inside_send
 
 inside_send : IsSend inside.the_row
 inside_send =

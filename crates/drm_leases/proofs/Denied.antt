@@ -2,7 +2,7 @@
 use Rattle.std.proofs.Common.{◌≡◌, ℕ, ◌+◌, ◌==◌, nat_lt, Bool, true, false, not, ◌&&◌, ◌||◌, List, [], ◌∷◌, ◌++◌, length, Option, None, Some, refl, sym, ap, ◌∙◌, eq-eqb, arith}
 use Rattle.std.specs.Prelude.{if◌then◌else◌, nat_le}
 use Rattle.std.specs.List.{list_any, AllByRecursion}
-use Rattle.std.proofs.lemmas.Bool.{or_right}
+use Rattle.std.proofs.lemmas.Bool.{or_right, eqb-true}
 use Rattle.std.proofs.lemmas.Bool.Decides.{nat_tests}
 use Rattle.drm_lists.specs.Numbers.{is_among}
 use Rattle.std.specs.Option.{is_some}
@@ -15,11 +15,11 @@ use Rattle.drm_lists.proofs.Numbers.{among-left}
 use Rattle.drm_lists.proofs.Rising.{found}
 use Rattle.drm_masters.specs.declared.rows.Member.{Member}
 use Rattle.drm_masters.specs.Masters.{MasterSet, AreMasters, is_client, member_of, master_at, free_lessee}
-use Rattle.drm_leases.specs.Leases.{LeaseSet, next_token}
+use Rattle.drm_leases.specs.Leases.{LeaseSet, is_leased_out, next_token}
 use Rattle.drm_leases.specs.Calls.{listed_objects}
-use Rattle.drm_leases.specs.Masks.{is_empty}
-use Rattle.drm_leases.specs.Rules.{lease_checks, is_lease}
-use Rattle.drm_leases.proofs.Bits.{among_passing}
+use Rattle.drm_leases.specs.Masks.{is_empty, has_object, objects_in}
+use Rattle.drm_leases.specs.Rules.{lease_checks, leased, is_lease}
+use Rattle.drm_leases.proofs.Bits.{among_passing, among_objects}
 
 both : (a b : Bool) → (a && b) ≡ true → (a ≡ true) × (b ≡ true)
 both true b h = (refl, h)
@@ -52,6 +52,30 @@ module _ (l : LeaseSet) (v : MasterSet) (s : ModeSet) (m : ℕ) where
   pub shaped : (universal : Bool) (ids : List ℕ) → first_failing (lease_checks l v s m universal ids) ≡ None → is_lease s.topology universal ids ≡ true
   unfolding lease_checks
   shaped universal ids h = (each_holds (lease_checks l v s m universal ids) h).1.1.1.1.0
+
+none_among : (p : ℕ → Bool) → (ids : List ℕ) (x : ℕ) → list_any p ids ≡ false → is_among ids x ≡ true → p x ≡ false
+none_among p [] x h k = absurd (let e : false ≡ true = k in cc)
+none_among p (id ∷ ids) x h k =
+    (elim (p id) as (λ b. p id ≡ b → (b || list_any p ids) ≡ false → p x ≡ false) [
+      | true ↦ λ e n. absurd (let j : true ≡ false = n in cc)
+      | false ↦ λ e n.
+          (elim (id == x) as (λ b. (id == x) ≡ b → (b || is_among ids x) ≡ true → p x ≡ false) [
+            | true ↦ λ same t. ap p (sym (eqb-true id x same)) ∙ e
+            | false ↦ λ differs t. none_among p ids x n t
+          ]) refl k
+    ]) refl h
+
+-- nothing that is leased is leased out already
+pub unlent : (l : LeaseSet) (v : MasterSet) (s : ModeSet) (m : ℕ) (universal : Bool) (ids : List ℕ) → first_failing (lease_checks l v s m universal ids) ≡ None → (mask : ℕ) → objects_in mask ≡ listed_objects s.topology (leased l v s m universal ids) → (x : ℕ) → has_object mask x ≡ true → is_leased_out l.grants v.masters m x ≡ false
+unfolding lease_checks
+unlent l v s m universal ids h mask listed x has =
+    let all = leased l v s m universal ids in
+    let among : (is_among all x && is_among (numbers_from 1 (object_count s.topology)) x) ≡ true = sym (among_passing (is_among all) x (numbers_from 1 (object_count s.topology))) ∙ ap (λ l. is_among l x) (sym listed) ∙ among_objects mask x ∙ has in
+    none_among (is_leased_out l.grants v.masters m) all x (none (list_any (is_leased_out l.grants v.masters m) all) (each_holds (lease_checks l v s m universal ids) h).1.1.1.1.1.0) (both (is_among all x) (is_among (numbers_from 1 (object_count s.topology)) x) among).0
+  where
+    none : (b : Bool) → not b ≡ true → b ≡ false
+    none true e = absurd (let j : false ≡ true = e in cc)
+    none false e = refl
 
 -- one that passes, and stands in the list
 passing : (p : ℕ → Bool) → (ids : List ℕ) → list_any p ids ≡ true → (x : ℕ) × (p x ≡ true) × (is_among ids x ≡ true)

@@ -1,5 +1,5 @@
 -- The leases as a list of grants, and how it changes.
-use Rattle.std.proofs.Common.{◌≡◌, ℕ, zero, suc, ◌-◌, ◌<◌, ◌≤◌, ◌==◌, nat_lt, Bool, true, false, not, cond, ◌&&◌, ◌||◌, T, List, [], ◌∷◌, ◌++◌, map, filter, find as find_row, flat_map, length, slice_get, Option, Some, None, option_map, option_and_then, is_some, refl, sym, ap, ◌∙◌, arith, append_assoc, append-nil, nat_cmp, is_lt, Greater}
+use Rattle.std.proofs.Common.{◌≡◌, ℕ, zero, suc, ◌-◌, ◌<◌, ◌≤◌, ◌==◌, nat_lt, Bool, true, false, not, cond, ◌&&◌, ◌||◌, T, List, [], ◌∷◌, ◌++◌, map, filter, find as find_row, length, slice_get, Option, Some, None, option_map, option_and_then, is_some, refl, sym, ap, ◌∙◌, arith, append_assoc, append-nil, nat_cmp, is_lt, Greater}
 use Rattle.std.specs.List.{list_any, AllByRecursion}
 use Rattle.std.specs.Option.{option_map_or}
 use Rattle.std.specs.Ordering.{eq_by_cmp}
@@ -13,25 +13,19 @@ use Rattle.std.proofs.lemmas.List.Folds.{list_any-append}
 use Rattle.drm_lists.specs.Orders.{InOrder}
 use Rattle.drm_lists.specs.Numbers.{is_among}
 use Rattle.drm_lists.proofs.Lists.{list_any-map}
-use Rattle.drm_index_array.proofs.MarkedLemmas.{get-insert, get-remove}
-use Rattle.drm_index_array.proofs.Keyed.{left, right, all_rows, rows_where, find_rows, row_at, rows_length, entries_removed}
-use Rattle.drm_leases.specs.declared.granted.Lease.{Lease}
+use Rattle.drm_index_array.proofs.Keyed.{left, right, rows_where, find_rows, row_at, rows_length, entries_removed}
+use Rattle.drm_leases.specs.declared.rows.Lease.{Lease}
+use Rattle.drm_leases.specs.declared.rows.LeaseRecord.{LeaseRecord}
 use Rattle.drm_leases.specs.declared.rows.Grant.{Grant}
-use Rattle.drm_leases.specs.Leases.{is_grant_of, is_granted, granted_objects}
-use Rattle.drm_leases.specs.Masks.{has_object, objects_in, is_empty, lease_row, leases_in, grants_of, grants_in, AreFull}
+use Rattle.drm_leases.specs.Leases.{Lending, is_grant_of, is_granted, granted_objects}
+use Rattle.drm_leases.specs.Masks.{has_object, objects_in, is_empty, lease_row, leases_in, grants_of, grants_in, lending_of, lendings_in, IsFull}
 use Rattle.drm_leases.proofs.Bits.{among_objects}
 
-abbrev pub Masks : Type 0
-Masks = fin.FinMap nat_cmp ℕ
+abbrev pub Kept : Type 0
+Kept = fin.FinMap nat_cmp LeaseRecord
 
 abbrev pub is_of : ℕ → Lease → Bool
 is_of m x = x.lessee == m
-
-abbrev pub all_grants : List Lease → List Grant
-all_grants xs = flat_map grants_of xs
-
-abbrev IsFull : Lease → Type 0
-IsFull x = is_empty (objects_in x.objects) ≡ false
 
 same_test : (c k : ℕ) → (k == c) ≡ eq_by_cmp nat_cmp c k
 same_test c k = grind (arith, nat_tests)
@@ -53,9 +47,9 @@ one_any true b (x ∷ xs) = ap (λ c. b x || c) (one_any true b xs)
 one_any false b (x ∷ xs) = one_any false b xs
 
 -- a test of the lessee and of the mode object
-pub any_grant : (p : Grant → Bool) (a b : ℕ → Bool) → ((g : Grant) → p g ≡ (a g.master && b g.mode_object)) → (xs : List Lease) → list_any p (all_grants xs) ≡ list_any (λ x. a x.lessee && list_any b (objects_in x.objects)) xs
+pub any_grant : (p : Grant → Bool) (a b : ℕ → Bool) → ((g : Grant) → p g ≡ (a g.master && b g.mode_object)) → (xs : List Lease) → list_any p (grants_in xs) ≡ list_any (λ x. a x.lessee && list_any b (objects_in x.objects)) xs
 any_grant p a b is [] = refl
-any_grant p a b is (x ∷ xs) = list_any-append p (grants_of x) (all_grants xs) ∙ (λ i. one i || any_grant p a b is xs i)
+any_grant p a b is (x ∷ xs) = list_any-append p (grants_of x) (grants_in xs) ∙ (λ i. one i || any_grant p a b is xs i)
   where
     each : (ids : List ℕ) → list_any (λ id. p (record { master = x.lessee; mode_object = id })) ids ≡ list_any (λ id. a x.lessee && b id) ids
     each [] = refl
@@ -65,7 +59,7 @@ any_grant p a b is (x ∷ xs) = list_any-append p (grants_of x) (all_grants xs) 
     one = list_any-map p (λ id. record { master = x.lessee; mode_object = id }) (objects_in x.objects) ∙ each (objects_in x.objects) ∙ one_any (a x.lessee) b (objects_in x.objects)
 
 -- whether some lease is of such a lessee and has the mode object
-pub any_with : (p : Grant → Bool) (a : ℕ → Bool) (id : ℕ) → ((g : Grant) → p g ≡ ((g.mode_object == id) && a g.master)) → (xs : List Lease) → list_any p (all_grants xs) ≡ list_any (λ x. has_object x.objects id && a x.lessee) xs
+pub any_with : (p : Grant → Bool) (a : ℕ → Bool) (id : ℕ) → ((g : Grant) → p g ≡ ((g.mode_object == id) && a g.master)) → (xs : List Lease) → list_any p (grants_in xs) ≡ list_any (λ x. has_object x.objects id && a x.lessee) xs
 any_with p a id is xs = any_grant p a (λ n. n == id) (λ g. is g ∙ swap (g.mode_object == id) (a g.master)) xs ∙ turned xs
   where
     swap : (b c : Bool) → (b && c) ≡ (c && b)
@@ -79,7 +73,7 @@ any_with p a id is xs = any_grant p a (λ n. n == id) (λ g. is g ∙ swap (g.mo
     turned (y ∷ ys) = λ i. (ap (λ b. a y.lessee && b) (among_objects y.objects id) ∙ swap (a y.lessee) (has_object y.objects id)) i || turned ys i
 
 -- whether some lease is of such a lessee, where each has a mode object
-pub any_of : (p : Grant → Bool) (a : ℕ → Bool) → ((g : Grant) → p g ≡ a g.master) → (xs : List Lease) → AllByRecursion IsFull xs → list_any p (all_grants xs) ≡ list_any (λ x. a x.lessee) xs
+pub any_of : (p : Grant → Bool) (a : ℕ → Bool) → ((g : Grant) → p g ≡ a g.master) → (xs : List Lease) → AllByRecursion IsFull xs → list_any p (grants_in xs) ≡ list_any (λ x. a x.lessee) xs
 any_of p a is xs full = any_grant p a (λ id. true) (λ g. is g ∙ sym (and_true (a g.master))) xs ∙ each xs full
   where
     and_true : (b : Bool) → (b && true) ≡ b
@@ -96,14 +90,14 @@ any_of p a is xs full = any_grant p a (λ id. true) (λ g. is g ∙ sym (and_tru
 
 -- ---- of one lessee
 
-abbrev Rise : List Lease → Type 0
+abbrev pub Rise : List Lease → Type 0
 Rise xs = InOrder (λ (x y : Lease). x.lessee < y.lessee) xs
 
 none_behind : (q : Lease → Bool) (m : ℕ) → (xs : List Lease) → AllByRecursion (λ (x : Lease). m < x.lessee) xs → list_any (λ x. is_of m x && q x) xs ≡ false
 none_behind q m [] h = refl
 none_behind q m (x ∷ xs) h = ap (λ b. (b && q x) || list_any (λ x. is_of m x && q x) xs) (apart m x.lessee h.0) ∙ none_behind q m xs h.1
 
-absent_behind : (m : ℕ) → (xs : List Lease) → AllByRecursion (λ (x : Lease). m < x.lessee) xs → find_row (is_of m) xs ≡ None
+pub absent_behind : (m : ℕ) → (xs : List Lease) → AllByRecursion (λ (x : Lease). m < x.lessee) xs → find_row (is_of m) xs ≡ None
 absent_behind m [] h = refl
 absent_behind m (x ∷ xs) h = ap (λ b. cond b (Some x) (find_row (is_of m) xs)) (apart m x.lessee h.0) ∙ absent_behind m xs h.1
 
@@ -148,12 +142,12 @@ its_own m n false e (id ∷ ids) =
     let rest = filter (is_grant_of m) (map (λ id. let h : Grant = record { master = n; mode_object = id } in h) ids) in
     ap (λ b. map (λ (g : Grant). g.mode_object) (cond b (g ∷ rest) rest)) e ∙ its_own m n false e ids
 
-objects_found : (m : ℕ) → (xs : List Lease) → Rise xs → granted_objects (all_grants xs) m ≡ objects_of_lease (find_row (is_of m) xs)
+objects_found : (m : ℕ) → (xs : List Lease) → Rise xs → granted_objects (grants_in xs) m ≡ objects_of_lease (find_row (is_of m) xs)
 objects_found m [] h = refl
 objects_found m (x ∷ xs) h =
-    ap (map (λ (g : Grant). g.mode_object)) (filter_both (is_grant_of m) (grants_of x) (all_grants xs))
-    ∙ map_both (λ (g : Grant). g.mode_object) (filter (is_grant_of m) (grants_of x)) (filter (is_grant_of m) (all_grants xs))
-    ∙ elim (is_of m x) as (λ b. is_of m x ≡ b → map (λ (g : Grant). g.mode_object) (filter (is_grant_of m) (grants_of x)) ++ granted_objects (all_grants xs) m ≡ objects_of_lease (cond b (Some x) (find_row (is_of m) xs))) [
+    ap (map (λ (g : Grant). g.mode_object)) (filter_both (is_grant_of m) (grants_of x) (grants_in xs))
+    ∙ map_both (λ (g : Grant). g.mode_object) (filter (is_grant_of m) (grants_of x)) (filter (is_grant_of m) (grants_in xs))
+    ∙ elim (is_of m x) as (λ b. is_of m x ≡ b → map (λ (g : Grant). g.mode_object) (filter (is_grant_of m) (grants_of x)) ++ granted_objects (grants_in xs) m ≡ objects_of_lease (cond b (Some x) (find_row (is_of m) xs))) [
       | true ↦ λ e. (λ i. its_own m x.lessee true e (objects_in x.objects) i ++ (objects_found m xs h.1 ∙ ap objects_of_lease (absent_behind m xs (further m x.lessee xs (sym (eqb-true x.lessee m e)) h.0))) i) ∙ append-nil (objects_in x.objects)
       | false ↦ λ e. λ i. its_own m x.lessee false e (objects_in x.objects) i ++ objects_found m xs h.1 i
     ] refl
@@ -161,17 +155,17 @@ objects_found m (x ∷ xs) h =
 -- ---- leases that go
 
 -- the grants of those leases whose lessees pass
-pub grants_where : (t : ℕ → Bool) → (xs : List Lease) → all_grants (filter (λ (x : Lease). t x.lessee) xs) ≡ filter (λ (g : Grant). t g.master) (all_grants xs)
+pub grants_where : (t : ℕ → Bool) → (xs : List Lease) → grants_in (filter (λ (x : Lease). t x.lessee) xs) ≡ filter (λ (g : Grant). t g.master) (grants_in xs)
 grants_where t [] = refl
 grants_where t (x ∷ xs) =
-    elim (t x.lessee) as (λ b. t x.lessee ≡ b → all_grants (cond b (x ∷ filter (λ (y : Lease). t y.lessee) xs) (filter (λ (y : Lease). t y.lessee) xs)) ≡ cond_grants b) [
+    elim (t x.lessee) as (λ b. t x.lessee ≡ b → grants_in (cond b (x ∷ filter (λ (y : Lease). t y.lessee) xs) (filter (λ (y : Lease). t y.lessee) xs)) ≡ cond_grants b) [
       | true ↦ λ e. ap (λ l. grants_of x ++ l) (grants_where t xs)
       | false ↦ λ e. grants_where t xs
     ] refl
-    ∙ sym (filter_both (λ (g : Grant). t g.master) (grants_of x) (all_grants xs) ∙ ap (λ l. l ++ filter (λ (g : Grant). t g.master) (all_grants xs)) (its (t x.lessee) refl (objects_in x.objects)))
+    ∙ sym (filter_both (λ (g : Grant). t g.master) (grants_of x) (grants_in xs) ∙ ap (λ l. l ++ filter (λ (g : Grant). t g.master) (grants_in xs)) (its (t x.lessee) refl (objects_in x.objects)))
   where
     cond_grants : Bool → List Grant
-    cond_grants b = cond b (grants_of x) [] ++ filter (λ (g : Grant). t g.master) (all_grants xs)
+    cond_grants b = cond b (grants_of x) [] ++ filter (λ (g : Grant). t g.master) (grants_in xs)
 
     its : (b : Bool) → t x.lessee ≡ b → (ids : List ℕ) → filter (λ (g : Grant). t g.master) (map (λ id. record { master = x.lessee; mode_object = id }) ids) ≡ cond b (map (λ id. record { master = x.lessee; mode_object = id }) ids) []
     its true e [] = refl
@@ -185,23 +179,35 @@ grants_where t (x ∷ xs) =
         let rest = filter (λ (g : Grant). t g.master) (map (λ id. let h : Grant = record { master = x.lessee; mode_object = id } in h) ids) in
         ap (λ c. cond c (g ∷ rest) rest) e ∙ its false e ids
 
-grants_both : (xs ys : List Lease) → all_grants (xs ++ ys) ≡ all_grants xs ++ all_grants ys
+pub grants_both : (xs ys : List Lease) → grants_in (xs ++ ys) ≡ grants_in xs ++ grants_in ys
 grants_both [] ys = refl
-grants_both (x ∷ xs) ys = ap (λ l. grants_of x ++ l) (grants_both xs ys) ∙ sym (append_assoc (grants_of x) (all_grants xs) (all_grants ys))
+grants_both (x ∷ xs) ys = ap (λ l. grants_of x ++ l) (grants_both xs ys) ∙ sym (append_assoc (grants_of x) (grants_in xs) (grants_in ys))
+
+pub lendings_both : (xs ys : List Lease) → lendings_in (xs ++ ys) ≡ lendings_in xs ++ lendings_in ys
+lendings_both [] ys = refl
+lendings_both (x ∷ xs) ys = ap (λ l. lending_of x ∷ l) (lendings_both xs ys)
+
+-- the leases whose lessees pass, without what they have
+pub lendings_where : (t : ℕ → Bool) → (xs : List Lease) → lendings_in (filter (λ (x : Lease). t x.lessee) xs) ≡ filter (λ (x : Lending). t x.lessee) (lendings_in xs)
+lendings_where t [] = refl
+lendings_where t (x ∷ xs) = elim (t x.lessee) as (λ b. lendings_in (cond b (x ∷ filter (λ (y : Lease). t y.lessee) xs) (filter (λ (y : Lease). t y.lessee) xs)) ≡ cond b (lending_of x ∷ filter (λ (y : Lending). t y.lessee) (lendings_in xs)) (filter (λ (y : Lending). t y.lessee) (lendings_in xs))) [
+  | true ↦ ap (λ l. lending_of x ∷ l) (lendings_where t xs)
+  | false ↦ lendings_where t xs
+]
 
 -- each lessee is older than a new one, where all grants' are
-all_older : (m : ℕ) → (xs : List Lease) → AllByRecursion IsFull xs → AllByRecursion (λ (g : Grant). g.master < m) (all_grants xs) → AllByRecursion (λ (x : Lease). x.lessee < m) xs
+pub all_older : (m : ℕ) → (xs : List Lease) → AllByRecursion IsFull xs → AllByRecursion (λ (g : Grant). g.master < m) (grants_in xs) → AllByRecursion (λ (x : Lease). x.lessee < m) xs
 all_older m [] full h = tt
 all_older m (x ∷ xs) full h = (first (objects_in x.objects) full.0 h, all_older m xs full.1 (behind (objects_in x.objects) h))
   where
     rows : List ℕ → List Grant
     rows ids = map (λ id. record { master = x.lessee; mode_object = id }) ids
 
-    first : (ids : List ℕ) → is_empty ids ≡ false → AllByRecursion (λ (g : Grant). g.master < m) (map (λ id. record { master = x.lessee; mode_object = id }) ids ++ all_grants xs) → x.lessee < m
+    first : (ids : List ℕ) → is_empty ids ≡ false → AllByRecursion (λ (g : Grant). g.master < m) (map (λ id. record { master = x.lessee; mode_object = id }) ids ++ grants_in xs) → x.lessee < m
     first [] e k = absurd (false≢true (sym e))
     first (id ∷ ids) e k = k.0
 
-    behind : (ids : List ℕ) → AllByRecursion (λ (g : Grant). g.master < m) (map (λ id. record { master = x.lessee; mode_object = id }) ids ++ all_grants xs) → AllByRecursion (λ (g : Grant). g.master < m) (all_grants xs)
+    behind : (ids : List ℕ) → AllByRecursion (λ (g : Grant). g.master < m) (map (λ id. record { master = x.lessee; mode_object = id }) ids ++ grants_in xs) → AllByRecursion (λ (g : Grant). g.master < m) (grants_in xs)
     behind [] k = k
     behind (id ∷ ids) k = behind ids k.1
 
@@ -226,103 +232,71 @@ grant_behind x rest i le = row_behind x.lessee rest (objects_in x.objects) i le
 pub not_less : (a b : ℕ) → false ≡ nat_lt a b → b ≤ a
 not_less a b h = grind (arith, nat_tests)
 
+-- ---- in a list
+
+module _ (rows : List Lease) (rise : Rise rows) where
+  -- what a lessee has
+  pub granted_by : (m id : ℕ) (o : Option Lease) → find_row (is_of m) rows ≡ o → is_granted (grants_in rows) m id ≡ option_map_or (λ (x : Lease). has_object x.objects id) o false
+  granted_by m id o at =
+      any_grant (λ (g : Grant). (g.master == m) && (g.mode_object == id)) (λ n. n == m) (λ n. n == id) (λ g. refl) rows
+      ∙ any_found (λ x. is_among (objects_in x.objects) id) m rows rise
+      ∙ ap (λ l. option_map_or (λ (x : Lease). is_among (objects_in x.objects) id) l false) at
+      ∙ by_row o
+    where
+      by_row : (o : Option Lease) → option_map_or (λ (x : Lease). is_among (objects_in x.objects) id) o false ≡ option_map_or (λ (x : Lease). has_object x.objects id) o false
+      by_row None = refl
+      by_row (Some x) = among_objects x.objects id
+
+  pub objects_by : (m : ℕ) (o : Option Lease) → find_row (is_of m) rows ≡ o → granted_objects (grants_in rows) m ≡ objects_of_lease o
+  objects_by m o at = objects_found m rows rise ∙ ap objects_of_lease at
+
 -- ---- in their map
 
-module _ (masks : Masks) where
+module _ (kept : Kept) where
   abbrev rows : List Lease
-  rows = leases_in masks
+  rows = leases_in kept
 
   pub leases_rise : Rise rows
-  leases_rise = rise (fin.entries masks) (fin.entries_sorted masks)
+  leases_rise = rise (fin.entries kept) (fin.entries_sorted kept)
     where
-      above : (c : ℕ) (es : List (ℕ × ℕ)) → T (below_all nat_cmp c es) → AllByRecursion (λ (y : Lease). c < y.lessee) (map lease_row es)
+      above : (c : ℕ) (es : List (ℕ × LeaseRecord)) → T (below_all nat_cmp c es) → AllByRecursion (λ (y : Lease). c < y.lessee) (map lease_row es)
       above c [] h = tt
       above c (e ∷ es) h = (less_of c e.0 (left _ _ h), above c es (right _ _ h))
 
-      rise : (es : List (ℕ × ℕ)) → T (is_sorted nat_cmp es) → Rise (map lease_row es)
+      rise : (es : List (ℕ × LeaseRecord)) → T (is_sorted nat_cmp es) → Rise (map lease_row es)
       rise [] h = tt
       rise (e ∷ es) h = (above e.0 es (left _ _ h), rise es (right _ _ h))
 
-  lease_of : (m : ℕ) → find_row (is_of m) rows ≡ option_map (λ v. lease_row (m, v)) (fin.get masks m)
-  lease_of m =
-      find_rows nat_cmp nat_cmp_total lease_row fin.nat_cmp-IsAntisymmetric m (is_of m) (λ e. same_test m e.0) (fin.entries masks)
-      ∙ ap (option_map (λ v. lease_row (m, v))) (sym (fin.get-entries masks m))
+  pub lease_of : (m : ℕ) (o : Option LeaseRecord) → fin.get kept m ≡ o → find_row (is_of m) rows ≡ option_map (λ v. lease_row (m, v)) o
+  lease_of m o at =
+      find_rows nat_cmp nat_cmp_total lease_row fin.nat_cmp-IsAntisymmetric m (is_of m) (λ e. same_test m e.0) (fin.entries kept)
+      ∙ ap (option_map (λ v. lease_row (m, v))) (sym (fin.get-entries kept m) ∙ at)
 
-  -- what a lessee has
-  pub granted_by : (m id : ℕ) (o : Option ℕ) → fin.get masks m ≡ o → is_granted (grants_in masks) m id ≡ option_map_or (λ objects. has_object objects id) o false
-  granted_by m id o at =
-      any_grant (λ (g : Grant). (g.master == m) && (g.mode_object == id)) (λ n. n == m) (λ n. n == id) (λ g. refl) rows
-      ∙ any_found (λ x. is_among (objects_in x.objects) id) m rows leases_rise
-      ∙ ap (λ l. option_map_or (λ (x : Lease). is_among (objects_in x.objects) id) l false) (lease_of m ∙ ap (option_map (λ v. lease_row (m, v))) at)
-      ∙ by_row o
-    where
-      by_row : (o : Option ℕ) → option_map_or (λ (x : Lease). is_among (objects_in x.objects) id) (option_map (λ v. lease_row (m, v)) o) false ≡ option_map_or (λ objects. has_object objects id) o false
-      by_row None = refl
-      by_row (Some v) = among_objects v id
+  pub leases_many : length rows ≡ fin.len kept
+  leases_many = rows_length kept 0 lease_row
 
-  pub objects_by : (m : ℕ) (o : Option ℕ) → fin.get masks m ≡ o → granted_objects (grants_in masks) m ≡ option_map_or objects_in o []
-  objects_by m o at = objects_found m rows leases_rise ∙ ap objects_of_lease (lease_of m ∙ ap (option_map (λ v. lease_row (m, v))) at) ∙ by_row o
-    where
-      by_row : (o : Option ℕ) → objects_of_lease (option_map (λ v. lease_row (m, v)) o) ≡ option_map_or objects_in o []
-      by_row None = refl
-      by_row (Some v) = refl
-
-  pub leases_many : length rows ≡ fin.len masks
-  leases_many = rows_length masks 0 lease_row
-
-  pub lease_at : (i : ℕ) → option_and_then (λ m. option_map (λ v. lease_row (m, v)) (fin.get masks m)) (slice_get (fin.keys masks) i) ≡ slice_get rows i
-  lease_at i = row_at masks 0 lease_row i
-
-  pub each_full : AreFull masks → AllByRecursion IsFull rows
-  each_full full = all_rows nat_cmp nat_cmp_total lease_row IsFull (fin.entries masks) (fin.entries_sorted masks) (λ m v found. full m v (fin.get-entries masks m ∙ found))
+  pub lease_at : (i : ℕ) → option_and_then (λ m. option_map (λ v. lease_row (m, v)) (fin.get kept m)) (slice_get (fin.keys kept) i) ≡ slice_get rows i
+  lease_at i = row_at kept 0 lease_row i
 
   -- a lease comes
-  pub lease_added : (m v : ℕ) → AreFull masks → AllByRecursion (λ (g : Grant). g.master < m) (grants_in masks) → grants_in (fin.insert masks m v) ≡ grants_in masks ++ grants_of (lease_row (m, v))
-  lease_added m v full newest =
-      ap (λ es. all_grants (map lease_row es)) (fin.entries-insert nat_cmp_total masks m v)
-      ∙ ap all_grants (last (fin.entries masks) (all_older m rows (each_full full) newest))
-      ∙ grants_both rows (lease_row (m, v) ∷ [])
-      ∙ ap (λ l. grants_in masks ++ l) (append-nil (grants_of (lease_row (m, v))))
+  pub lease_added : (m : ℕ) (v : LeaseRecord) → AllByRecursion (λ (x : Lease). x.lessee < m) rows → leases_in (fin.insert kept m v) ≡ rows ++ lease_row (m, v) ∷ []
+  lease_added m v newest = ap (map lease_row) (fin.entries-insert nat_cmp_total kept m v) ∙ last (fin.entries kept) newest
     where
-      last : (es : List (ℕ × ℕ)) → AllByRecursion (λ (x : Lease). x.lessee < m) (map lease_row es) → map lease_row (put nat_cmp m v es) ≡ map lease_row es ++ lease_row (m, v) ∷ []
+      last : (es : List (ℕ × LeaseRecord)) → AllByRecursion (λ (x : Lease). x.lessee < m) (map lease_row es) → map lease_row (put nat_cmp m v es) ≡ map lease_row es ++ lease_row (m, v) ∷ []
       last [] h = refl
       last (e ∷ es) h =
           ap (λ r. map lease_row (by_order r ((m, v) ∷ e ∷ es) ((e.0, v) ∷ es) (e ∷ put nat_cmp m v es))) (greater m e.0 h.0)
           ∙ ap (λ l. lease_row e ∷ l) (last es h.1)
 
-  pub added_full : (m v : ℕ) → AreFull masks → is_empty (objects_in v) ≡ false → AreFull (fin.insert masks m v)
-  added_full m v full some k w at =
-      by_key (k == m) refl
-    where
-      by_key : (b : Bool) → (k == m) ≡ b → is_empty (objects_in w) ≡ false
-      by_key true e =
-          let is : Some v ≡ Some w = sym (get-insert masks m v k ∙ ap (λ t. cond t (Some v) (fin.get masks k)) e) ∙ at in
-          let same : v ≡ w = cc in
-          ap (λ n. is_empty (objects_in n)) (sym same) ∙ some
-      by_key false e = full k w (sym (get-insert masks m v k ∙ ap (λ t. cond t (Some v) (fin.get masks k)) e) ∙ at)
-
   -- a lease goes
-  pub lease_removed : (m : ℕ) → leases_in (fin.remove masks m) ≡ filter (λ (x : Lease). not (x.lessee == m)) rows
+  pub lease_removed : (m : ℕ) → leases_in (fin.remove kept m) ≡ filter (λ (x : Lease). not (x.lessee == m)) rows
   lease_removed m =
-      ap (map lease_row) (entries_removed masks m)
-      ∙ rows_where nat_cmp nat_cmp_total lease_row (λ k. not (eq_by_cmp nat_cmp m k)) (λ (x : Lease). not (x.lessee == m)) (λ e. ap not (same_test m e.0)) (fin.entries masks)
-
-  pub grants_removed : (m : ℕ) → grants_in (fin.remove masks m) ≡ filter (λ (g : Grant). not (g.master == m)) (grants_in masks)
-  grants_removed m = ap all_grants (lease_removed m) ∙ grants_where (λ n. not (n == m)) rows
-
-  pub removed_full : (m : ℕ) → AreFull masks → AreFull (fin.remove masks m)
-  removed_full m full k w at = by_key (k == m) refl
-    where
-      by_key : (b : Bool) → (k == m) ≡ b → is_empty (objects_in w) ≡ false
-      by_key true e = absurd (false≢true (ap is_some (sym (get-remove masks m k ∙ ap (λ t. cond t None (fin.get masks k)) e) ∙ at)))
-      by_key false e = full k w (sym (get-remove masks m k ∙ ap (λ t. cond t None (fin.get masks k)) e) ∙ at)
+      ap (map lease_row) (entries_removed kept m)
+      ∙ rows_where nat_cmp nat_cmp_total lease_row (λ k. not (eq_by_cmp nat_cmp m k)) (λ (x : Lease). not (x.lessee == m)) (λ e. ap not (same_test m e.0)) (fin.entries kept)
 
 pub no_leases : leases_in fin.empty ≡ []
-no_leases = none (fin.entries fin.empty) (sym (fin.len-entries fin.empty) ∙ fin.len-empty nat_cmp ℕ)
+no_leases = none (fin.entries fin.empty) (sym (fin.len-entries fin.empty) ∙ fin.len-empty nat_cmp LeaseRecord)
   where
-    none : (es : List (ℕ × ℕ)) → length es ≡ 0 → map lease_row es ≡ []
+    none : (es : List (ℕ × LeaseRecord)) → length es ≡ 0 → map lease_row es ≡ []
     none [] e = refl
     none (x ∷ es) e = absurd (omega (arith, e))
-
-pub none_full : AreFull fin.empty
-none_full m v at = absurd (false≢true (ap is_some (sym (fin.get-empty nat_cmp m) ∙ at)))

@@ -1,9 +1,11 @@
 mod Bits
 mod Granting
-mod Left
+mod LentMasks
 mod Told
+mod Below
 mod Denied
 mod Sound
+pub mod Agreeing
 pub mod Crossing
 pub mod Keyed
 pub mod Listed

@@ -13,16 +13,10 @@ use Rattle.drm_lists.proofs.Lists.{all_weaker, all_each, all_append, all_filter,
 use Rattle.drm_lists.proofs.Numbers.{less-differ}
 use Rattle.drm_lists.proofs.Orders.{in_order_filter, in_order_append, in_order_map, in_order_weaker}
 use Rattle.drm_leases.specs.declared.rows.Grant.{Grant}
+use Rattle.drm_leases.specs.declared.rows.Lease.{Lease}
 use Rattle.drm_leases.specs.declared.rows.LeaseToken.{LeaseToken}
-use Rattle.drm_leases.specs.declared.leases.Leases.TheInside.{Inside}
-use Rattle.drm_leases.specs.Fields.{set_of, IsSound}
-use Rattle.drm_leases.specs.Leases.{LeaseSet, AreLeases, is_token, is_free, is_grant_of, grant_before, next_token, token_master}
-use Rattle.drm_leases.specs.Masks.{AreFull}
+use Rattle.drm_leases.specs.Leases.{LeaseSet, Lending, AreLeases, is_token, is_free, is_grant_of, grant_before, next_token, token_master}
 use Rattle.drm_leases.specs.Calls.{IsNewLessee, grant, lease_token, with_lease, without_token}
-
--- the fields stand for a set of which all of it is so
-pub sound : (a : Inside) (l : LeaseSet) → set_of a ≡ l → AreLeases l → AreFull a.granted.masks.items → IsSound a
-sound a l e are full = record { are = subst AreLeases (sym e) are; full = full }
 
 -- ---- rows go
 
@@ -48,8 +42,8 @@ module _ (l : LeaseSet) (a : AreLeases l) where
     few = a.few;
   }
 
-  pub fewer_grants : (p : Grant → Bool) → AreLeases (record l { grants = filter p l.grants })
-  fewer_grants p = record {
+  pub fewer_grants : (p : Grant → Bool) (xs : List Lending) → AreLeases (record l { grants = filter p l.grants; lendings = xs })
+  fewer_grants p xs = record {
     last_high = a.last_high;
     given_high = a.given_high;
     tokens_low = a.tokens_low;
@@ -99,7 +93,7 @@ none_pass p (x ∷ xs) h = ap (λ b. length (cond b (x ∷ filter p xs) (filter 
 its_grants : (m k : ℕ) (objects : List ℕ) → length (filter (is_grant_of k) (map (grant m) objects)) ≤ length objects
 its_grants m k objects = let less = filter-shorter (is_grant_of k) (map (grant m) objects) in let e = length-map objects (grant m) in omega (arith, less, e)
 
-module _ (l : LeaseSet) (a : AreLeases l) (t m : ℕ) (objects : List ℕ) (new : IsNewLessee l m) (next : next_token l ≡ Some t) (rise : InOrder (λ x y. x < y) objects) (few : length objects ≤ 64) where
+module _ (l : LeaseSet) (a : AreLeases l) (t m lessor : ℕ) (objects : List ℕ) (new : IsNewLessee l m) (next : next_token l ≡ Some t) (rise : InOrder (λ x y. x < y) objects) (few : length objects ≤ 64) where
   abbrev grants : List Grant
   grants = map (grant m) objects
 
@@ -122,7 +116,7 @@ module _ (l : LeaseSet) (a : AreLeases l) (t m : ℕ) (objects : List ℕ) (new 
       other : (k m : ℕ) → (k == m) ≡ false → (m == k) ≡ false
       other k m e = (elim (m == k) as (λ b. (m == k) ≡ b → b ≡ false) [ true ↦ λ h. absurd (let j : false ≡ true = sym e ∙ eq-eqb k m (sym (eqb-true m k h)) in cc) | false ↦ λ h. refl ]) refl
 
-  pub lease_are : AreLeases (with_lease t m objects l)
+  pub lease_are : AreLeases (with_lease t m lessor objects l)
   lease_are = record {
     last_high = a.last_high;
     given_high = is.1;
@@ -136,15 +130,11 @@ module _ (l : LeaseSet) (a : AreLeases l) (t m : ℕ) (objects : List ℕ) (new 
   }
 
 -- a lease that is taken back
-pub taken_back : (grants : List Grant) (m : ℕ) (objects : List ℕ) → AllByRecursion (λ (g : Grant). g.master < m) grants → filter (λ (g : Grant). not (g.master == m)) (grants ++ map (grant m) objects) ≡ grants
-taken_back [] m objects h = none objects
-  where
-    none : (ids : List ℕ) → filter (λ (g : Grant). not (g.master == m)) (map (grant m) ids) ≡ []
-    none [] = refl
-    none (id ∷ ids) = ap (λ b. cond (not b) (grant m id ∷ filter (λ (g : Grant). not (g.master == m)) (map (grant m) ids)) (filter (λ (g : Grant). not (g.master == m)) (map (grant m) ids))) (eq-eqb m m refl) ∙ none ids
-taken_back (g ∷ gs) m objects h =
-    ap (λ b. cond (not b) (g ∷ filter (λ (g : Grant). not (g.master == m)) (gs ++ map (grant m) objects)) (filter (λ (g : Grant). not (g.master == m)) (gs ++ map (grant m) objects))) (less-differ g.master m h.0)
-    ∙ ap (λ l. g ∷ l) (taken_back gs m objects h.1)
+pub taken_back : (rows : List Lease) (new : Lease) → AllByRecursion (λ (x : Lease). x.lessee < new.lessee) rows → filter (λ (x : Lease). not (x.lessee == new.lessee)) (rows ++ new ∷ []) ≡ rows
+taken_back [] new h = ap (λ b. cond (not b) (new ∷ []) []) (eq-eqb new.lessee new.lessee refl)
+taken_back (x ∷ xs) new h =
+    ap (λ b. cond (not b) (x ∷ filter (λ (x : Lease). not (x.lessee == new.lessee)) (xs ++ new ∷ [])) (filter (λ (x : Lease). not (x.lessee == new.lessee)) (xs ++ new ∷ []))) (less-differ x.lessee new.lessee h.0)
+    ∙ ap (λ l. x ∷ l) (taken_back xs new h.1)
 
 -- a token that isn't open is none that goes
 pub none_spent : (l new : LeaseSet) (t : ℕ) (o : Option ℕ) → new ≡ without_token t l → o ≡ token_master l.tokens t → IfNone o (new ≡ l)
@@ -162,3 +152,7 @@ none_spent l new t None is e = is ∙ ap (λ rows. record l { tokens = rows }) (
           | true ↦ λ k n. absurd (let j : Some row ≡ None = n in cc)
           | false ↦ λ k n. ap (λ b. cond (not b) (row ∷ filter (λ (row : LeaseToken). not (is_token t row)) rows) (filter (λ (row : LeaseToken). not (is_token t row)) rows)) k ∙ ap (λ l. row ∷ l) (stays rows n)
         ]) refl h
+
+-- the fields stand for a set of which all of it is so
+pub still : (v l : LeaseSet) → v ≡ l → AreLeases l → AreLeases v
+still v l e are = subst AreLeases (sym e) are

@@ -1,5 +1,5 @@
 -- What each call does.
-use Rattle.std.specs.Prelude.{◌≡◌, ℕ, ◌<◌, not, Bool, List, [], ◌∷◌, ◌++◌, None, Some, Result, Ok, Err, map, filter}
+use Rattle.std.specs.Prelude.{◌≡◌, ℕ, ◌<◌, ◌==◌, ◌&&◌, not, Bool, List, [], ◌∷◌, ◌++◌, None, Some, Result, Ok, Err, map, filter}
 use Rattle.std.specs.List.{AllByRecursion}
 use Rattle.drm_lists.specs.Chains.{is_under}
 use Rattle.drm_lists.specs.Numbers.{is_among}
@@ -15,7 +15,7 @@ use Rattle.drm_leases.specs.declared.faults.LeaseFault.TheVariants.{Denied, NoMe
 use Rattle.drm_leases.specs.declared.rows.Grant.{Grant}
 use Rattle.drm_leases.specs.declared.rows.LeaseToken.{LeaseToken}
 use Rattle.drm_leases.specs.declared.rows.Leased.{Leased}
-use Rattle.drm_leases.specs.Leases.{LeaseSet, is_token, next_token}
+use Rattle.drm_leases.specs.Leases.{LeaseSet, Lending, is_token, next_token}
 use Rattle.drm_leases.specs.Rules.{lease_checks, leased}
 
 -- each lessee that has a token or a grant is older
@@ -33,18 +33,31 @@ lease_token t m = record { token = t; master = m }
 abbrev pub listed_objects : Topology → List ℕ → List ℕ
 listed_objects t ids = filter (is_among ids) (numbers_from 1 (object_count t))
 
--- a lease of these objects, with an open token
-abbrev pub with_lease : ℕ → ℕ → List ℕ → LeaseSet → LeaseSet
-with_lease t m objects l = record l { last_given = Some t; tokens = l.tokens ++ lease_token t m ∷ []; grants = l.grants ++ map (grant m) objects }
+abbrev pub lending : ℕ → ℕ → Lending
+lending m lessor = record { lessee = m; lessor = lessor }
+
+-- a lease of these objects by a lessor, with an open token
+abbrev pub with_lease : ℕ → ℕ → ℕ → List ℕ → LeaseSet → LeaseSet
+with_lease t m lessor objects l = record l {
+  last_given = Some t;
+  tokens = l.tokens ++ lease_token t m ∷ [];
+  grants = l.grants ++ map (grant m) objects;
+  lendings = l.lendings ++ lending m lessor ∷ [];
+}
 
 abbrev pub without_token : ℕ → LeaseSet → LeaseSet
 without_token t l = record l { tokens = filter (λ (row : LeaseToken). not (is_token t row)) l.tokens }
 
--- the grants and open tokens of the master and of all below it go
+-- whether a master is below the one named top, and not that one
+abbrev pub is_below : List Master → ℕ → ℕ → Bool
+is_below masters top m = is_under (lessor_of masters) top m && not (m == top)
+
+-- the leases and open tokens of the master and of all below it go
 abbrev pub ended : List Master → ℕ → LeaseSet → LeaseSet
 ended masters top l = record l {
   tokens = filter (λ (row : LeaseToken). not (is_under (lessor_of masters) top row.master)) l.tokens;
   grants = filter (λ (g : Grant). not (is_under (lessor_of masters) top g.master)) l.grants;
+  lendings = filter (λ (x : Lending). not (is_under (lessor_of masters) top x.lessee)) l.lendings;
 }
 
 -- what making a lease of a master comes to
@@ -53,7 +66,7 @@ Created l v s m universal ids birth (Ok made) l2 v2 =
     (first_failing (lease_checks l v s m universal ids) ≡ None)
     × (free_lessee v m ≡ Some made.id)
     × (next_token l ≡ Some made.token)
-    × (l2 ≡ with_lease made.token birth (listed_objects s.topology (leased l v s m universal ids)) l)
+    × (l2 ≡ with_lease made.token birth m (listed_objects s.topology (leased l v s m universal ids)) l)
     × ((key : ℕ) × IsFreeKey v key × (v2 ≡ with_master (lessee key birth m made.id) v) × (made.master ≡ key))
 Created l v s m universal ids birth (Err (Denied rule)) l2 v2 = (first_failing (lease_checks l v s m universal ids) ≡ Some rule) × (l2 ≡ l) × (v2 ≡ v)
 Created l v s m universal ids birth (Err NoMemory) l2 v2 = (first_failing (lease_checks l v s m universal ids) ≡ None) × (l2 ≡ l) × (v2 ≡ v)

@@ -11,16 +11,22 @@ use Rattle.drm_masters.specs.Masters.{is_option, master_at, lessor_of, is_lessee
 use Rattle.drm_leases.specs.declared.rows.Grant.{Grant}
 use Rattle.drm_leases.specs.declared.rows.LeaseToken.{LeaseToken}
 
--- tokens run from 1 to `last`, of which `last_given` is the last one given, if any was. A lessee is named by its birth; tokens
--- and grants stand in the order of their lessees
+-- a lease: whose it is, and who lent it
+pub record Lending : Type 0 where
+  pub lessee : ℕ
+  pub lessor : ℕ
+
+-- tokens run from 1 to `last`, of which `last_given` is the last one given, if any was. A lessee is named by its birth; tokens,
+-- grants and leases stand in the order of their lessees
 pub record LeaseSet : Type 0 where
   pub last : ℕ
   pub last_given : Option ℕ
   pub tokens : List LeaseToken
   pub grants : List Grant
+  pub lendings : List Lending
 
 abbrev pub no_leases : ℕ → LeaseSet
-no_leases last = record { last = last; last_given = None; tokens = []; grants = [] }
+no_leases last = record { last = last; last_given = None; tokens = []; grants = []; lendings = [] }
 
 -- what a lease has
 

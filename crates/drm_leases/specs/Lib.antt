@@ -3,3 +3,5 @@ pub mod Rules
 pub mod Calls
 pub mod Fields
 pub mod Masks
+pub mod Records
+pub mod Agreed

@@ -1,11 +1,14 @@
--- Sets of fixed mode objects as words, and the grants that they stand for.
-use Rattle.std.specs.Prelude.{◌≡◌, ℕ, ◌≤◌, ◌-◌, nat_le, Bool, true, false, ◌&&◌, List, [], ◌∷◌, Some, map as list_map, filter, flat_map}
+-- Sets of fixed mode objects as words, and the leases that they stand for.
+use Rattle.std.specs.Prelude.{◌≡◌, ℕ, ◌≤◌, ◌-◌, ◌==◌, nat_le, Bool, true, false, ◌&&◌, List, [], ◌∷◌, map as list_map, filter, flat_map, unwrap_or}
+use Rattle.std.specs.List.{list_any}
 use Rattle.std.specs.Ordering.{nat_cmp}
 use Rattle.std.specs.FinMap as map
 use Rattle.drm_index_array.specs.Word.{has_bit}
 use Rattle.drm_modes.specs.Numbers.{numbers_from}
-use Rattle.drm_leases.specs.declared.granted.Lease.{Lease}
+use Rattle.drm_leases.specs.declared.rows.Lease.{Lease}
+use Rattle.drm_leases.specs.declared.rows.LeaseRecord.{LeaseRecord}
 use Rattle.drm_leases.specs.declared.rows.Grant.{Grant}
+use Rattle.drm_leases.specs.Leases.{Lending}
 
 -- there are 64 fixed mode objects at most
 abbrev pub IsFixed : ℕ → Type 0
@@ -22,19 +25,51 @@ abbrev pub is_empty : {X : Type 0} → List X → Bool
 is_empty [] = true
 is_empty (x ∷ xs) = false
 
-abbrev pub lease_row : ℕ × ℕ → Lease
-lease_row e = record { lessee = e.0; objects = e.1 }
+-- leases
 
--- the leases, in the order of their lessees' births
-abbrev pub leases_in : map.FinMap nat_cmp ℕ → List Lease
-leases_in masks = list_map lease_row (map.entries masks)
+-- in the order of their lessees' births
+pub record LeaseRows : Type 0 where
+  pub rows : List Lease
+
+abbrev pub lease : ℕ → ℕ → ℕ → Lease
+lease lessee lessor objects = record { lessee = lessee; lessor = lessor; objects = objects }
+
+abbrev pub lease_row : ℕ × LeaseRecord → Lease
+lease_row e = lease e.0 e.1.lessor e.1.objects
+
+abbrev pub leases_in : map.FinMap nat_cmp LeaseRecord → List Lease
+leases_in kept = list_map lease_row (map.entries kept)
 
 abbrev pub grants_of : Lease → List Grant
 grants_of x = list_map (λ id. record { master = x.lessee; mode_object = id }) (objects_in x.objects)
 
-abbrev pub grants_in : map.FinMap nat_cmp ℕ → List Grant
-grants_in masks = flat_map grants_of (leases_in masks)
+abbrev pub grants_in : List Lease → List Grant
+grants_in rows = flat_map grants_of rows
 
--- each lease has a mode object
-abbrev pub AreFull : map.FinMap nat_cmp ℕ → Type 0
-AreFull masks = (m objects : ℕ) → map.get masks m ≡ Some objects → is_empty (objects_in objects) ≡ false
+abbrev pub lending_of : Lease → Lending
+lending_of x = record { lessee = x.lessee; lessor = x.lessor }
+
+abbrev pub lendings_in : List Lease → List Lending
+lendings_in rows = list_map lending_of rows
+
+-- the lease has a mode object
+abbrev pub IsFull : Lease → Type 0
+IsFull x = is_empty (objects_in x.objects) ≡ false
+
+-- what is lent
+
+-- whether it is a lease by this lessor that has the mode object
+abbrev pub lends : ℕ → ℕ → Lease → Bool
+lends m x lease = (lease.lessor == m) && has_object lease.objects x
+
+-- whether the lessor has lent the mode object
+abbrev pub is_lent : List Lease → ℕ → ℕ → Bool
+is_lent rows m x = list_any (lends m x) rows
+
+-- no lessor lends a mode object by both
+abbrev pub AreApart : Lease → Lease → Type 0
+AreApart a b = (m x : ℕ) → lends m x a ≡ true → lends m x b ≡ false
+
+-- the mask of a lessor; who has none has lent nothing
+abbrev pub mask_at : map.FinMap nat_cmp ℕ → ℕ → ℕ
+mask_at masks m = unwrap_or (map.get masks m) 0

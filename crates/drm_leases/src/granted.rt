@@ -1,140 +1,137 @@
-//! What lessees control, a mask for each.
+//! What lessees control and what lessors have lent, a mask for each.
 
-ghost use Rattle.std.specs.Prelude.{◌≡◌, ℕ, ◌<◌, ◌≤◌, ◌==◌, ◌&&◌, ◌++◌, [], not, length, map, filter, slice_get, OnOk, OnErr, true, false};
-ghost use Rattle.std.specs.List.{list_any, AllByRecursion};
-ghost use Rattle.std.specs.Option.{option_map_or};
-ghost use Rattle.drm_lists.specs.Chains.{is_under};
-ghost use Rattle.drm_masters.specs.Masters as masters_sets;
+ghost use Rattle.std.specs.Prelude.{◌≡◌, ℕ, ◌<◌, ◌==◌, ◌++◌, ◌∷◌, [], not, length, filter, slice_get, OnOk, OnErr, true, false};
+ghost use Rattle.std.specs.List.{AllByRecursion};
+ghost use Rattle.drm_lists.specs.Orders.{InOrder};
 ghost use Rattle.drm_leases.specs.Leases as sets;
-ghost use Rattle.drm_leases.specs.Calls as calls;
-ghost use Rattle.drm_leases.specs.Masks.{objects_in, is_empty, grants_in, lease_row, leases_in, AreFull};
+ghost use Rattle.drm_leases.specs.Masks.{has_object, grants_in, is_lent, IsFull, lease};
 
+use crate::lent::Lent;
 use crate::masks;
-use crate::rows::Grant;
+use crate::rows::{Lease, LeaseRecord};
 use drm_index_array::IndexArray;
-use drm_masters::{Masters, NoMemory};
+use drm_masters::NoMemory;
 use drm_table::ShownList;
 use std::alloc::Global;
+use std::marker::Model;
 
-/// A lessee and what its lease has.
-#[derive(Clone, Copy)]
-pub struct Lease {
-    pub lessee: u32,
-    pub objects: u64,
-}
-
-/// The mode objects in the leases of lessees, by the births of these; a lease without a mode object is none.
+/// The leases, by the births of the lessees, and what each lessor has lent by them; a lease without a mode object is none, and
+/// no lessor lends a mode object twice. Contracts see a flat list, in the order of the lessees.
 #[derive(Drop)]
 pub struct Granted {
-    pub(crate) masks: IndexArray<u64>,
+    leases: IndexArray<LeaseRecord>,
+    lent: Lent,
+}
+
+impl Model for Granted {
+    ghost use Rattle.drm_leases.specs.Masks.{LeaseRows};
+
+    ghost Value = { LeaseRows };
+
+    ghost use Rattle.drm_leases.specs.Records.{rows_of, IsGranted};
+
+    ghost view = { rows_of };
+
+    ghost invariant = { IsGranted };
 }
 
 impl Granted {
     /// No lease. It takes no memory.
     pub fn new(alloc: Global) -> Granted
-        ensures none { grants_in result.masks.items ≡ [] }
-        ensures full { AreFull result.masks.items }
+        ensures { result ≡ record { rows = [] } }
     {
         Granted {
-            masks: IndexArray::new(alloc),
+            leases: IndexArray::new(alloc),
+            lent: Lent::new(alloc),
         }
+    }
+
+    /// What is so of leases at all times. It does nothing.
+    pub fn laws(&self)
+        ensures rise { InOrder (λ x y. x.lessee < y.lessee) self.now.rows }
+        ensures full { AllByRecursion IsFull self.now.rows }
+    {
+        let _ = &self.leases;
     }
 
     /// How many leases there are.
     pub fn len(&self) -> usize
-        ensures { result ≡ length (leases_in self.now.masks.items) }
+        ensures { result ≡ length self.now.rows }
     {
-        self.masks.len()
+        self.leases.len()
     }
 
     /// The lease at a place, from 0, in the order of the lessees' births; none past the last.
     pub fn nth(&self, place: usize) -> Option<Lease>
-        ensures { result ≡ slice_get (leases_in self.now.masks.items) place }
+        ensures { result ≡ slice_get self.now.rows place }
     {
-        let lessee = self.masks.nth(place)?;
-        let objects = *self.masks.get(lessee)?;
-        Some(Lease { lessee, objects })
+        let lessee = self.leases.nth(place)?;
+        let kept = *self.leases.get(lessee)?;
+        Some(lease_of(lessee, kept))
     }
 
     /// Whether the lease of a lessee has the mode object.
-    pub fn has(&self, master: u32, mode_object: u32) -> bool
-        ensures { result ≡ sets.is_granted (grants_in self.now.masks.items) master mode_object }
+    pub fn has(&self, lessee: u32, mode_object: u32) -> bool
+        ensures { result ≡ sets.is_granted (grants_in self.now.rows) lessee mode_object }
     {
-        match self.masks.get(master) {
-            Some(objects) => masks::has(*objects, mode_object),
+        match self.leases.get(lessee) {
+            Some(kept) => masks::has(kept.objects, mode_object),
             None => false,
         }
     }
 
     /// The mode objects in the lease of a lessee, rising.
-    pub fn objects_of(&self, master: u32) -> ShownList
-        ensures { result ≡ sets.granted_objects (grants_in self.now.masks.items) master }
+    pub fn objects_of(&self, lessee: u32) -> ShownList
+        ensures { result ≡ sets.granted_objects (grants_in self.now.rows) lessee }
     {
-        match self.masks.get(master) {
-            Some(objects) => masks::objects_of(*objects),
+        match self.leases.get(lessee) {
+            Some(kept) => masks::objects_of(kept.objects),
             None => ShownList::new(),
         }
     }
 
+    /// A mask of what the lessor has lent.
+    pub fn lent_by(&self, lessor: u32) -> u64
+        ensures { (x : ℕ) → has_object result x ≡ is_lent self.now.rows lessor x }
+    {
+        self.lent.mask(lessor)
+    }
+
     /// Adds the lease of a lessee that is younger than all. Without memory nothing changes.
-    pub fn add(&mut self, master: u32, objects: u64) -> Result<(), NoMemory>
-        requires newest { AllByRecursion (λ g. g.master < master) (grants_in self.old.masks.items) }
-        requires full { AreFull self.old.masks.items }
-        requires some { is_empty (objects_in objects) ≡ false }
-        ensures ok { OnOk result (grants_in self.new.masks.items ≡ grants_in self.old.masks.items ++ map (calls.grant master) (objects_in objects)) }
-        ensures full { AreFull self.new.masks.items }
+    pub fn add(&mut self, lessee: u32, lessor: u32, objects: u64) -> Result<(), NoMemory>
+        requires newest { AllByRecursion (λ x. x.lessee < lessee) self.old.rows }
+        requires some { IsFull (lease lessee lessor objects) }
+        requires unlent { (x : ℕ) → has_object objects x ≡ true → is_lent self.old.rows lessor x ≡ false }
+        ensures ok { OnOk result (self.new.rows ≡ self.old.rows ++ lease lessee lessor objects ∷ []) }
         ensures err { OnErr result (self.new ≡ self.old) }
     {
-        if let Err(_fault) = self.masks.insert(master, objects) {
+        if let Err(NoMemory) = self.lent.lend(lessor, objects) {
+            return Err(NoMemory);
+        }
+        if let Err(_fault) = self.leases.insert(lessee, LeaseRecord { lessor, objects }) {
+            self.lent.give_back(lessor, objects);
             return Err(NoMemory);
         }
         Ok(())
     }
 
-    /// Takes the lease of a lessee away.
-    pub fn remove(&mut self, master: u32)
-        ensures rows { grants_in self.new.masks.items ≡ filter (λ g. not (g.master == master)) (grants_in self.old.masks.items) }
-        ensures leases { leases_in self.new.masks.items ≡ filter (λ x. not (x.lessee == master)) (leases_in self.old.masks.items) }
-        ensures full { AreFull self.old.masks.items → AreFull self.new.masks.items }
+    /// Takes the lease of a lessee away. Its lessor has the mode objects back.
+    pub fn remove(&mut self, lessee: u32)
+        ensures { self.new.rows ≡ filter (λ x. not (x.lessee == lessee)) self.old.rows }
     {
-        let _objects = self.masks.remove(master);
+        let Some(kept) = self.leases.remove(lessee) else {
+            return;
+        };
+        self.lent.give_back(kept.lessor, kept.objects);
     }
+}
 
-    /// Takes the leases of a master and of all below it away.
-    pub fn remove_under(&mut self, masters: &Masters, top: u32)
-        ensures rows { grants_in self.new.masks.items ≡ filter (λ g. not (is_under (masters_sets.lessor_of masters.now.masters) top g.master)) (grants_in self.old.masks.items) }
-        ensures full { AreFull self.old.masks.items → AreFull self.new.masks.items }
-    {
-        let mut place = self.len();
-        while place > 0 {
-            place -= 1;
-            let Some(lease) = self.nth(place) else {
-                unreachable!()
-            };
-            if masters.is_under(top, lease.lessee) {
-                self.remove(lease.lessee);
-            }
-        }
-    }
-
-    /// The grant at a place, from 0, in the order of lessees and of ids in a lease; none past the last.
-    pub fn nth_grant(&self, place: usize) -> Option<Grant>
-        ensures { result ≡ slice_get (grants_in self.now.masks.items) place }
-    {
-        let mut left = place;
-        for at in 0..self.len() {
-            let Some(lease) = self.nth(at) else {
-                unreachable!()
-            };
-            let objects = masks::objects_of(lease.objects);
-            if let Some(mode_object) = objects.ids().get(left) {
-                return Some(Grant {
-                    master: lease.lessee,
-                    mode_object: *mode_object,
-                });
-            }
-            left -= objects.ids().len();
-        }
-        None
+fn lease_of(lessee: u32, kept: LeaseRecord) -> Lease
+    ensures { result ≡ lease lessee kept.lessor kept.objects }
+{
+    Lease {
+        lessee,
+        lessor: kept.lessor,
+        objects: kept.objects,
     }
 }

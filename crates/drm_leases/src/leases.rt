@@ -7,14 +7,16 @@ ghost use Rattle.drm_masters.specs.Calls as masters_calls;
 ghost use Rattle.drm_leases.specs.Leases as sets;
 ghost use Rattle.drm_leases.specs.Calls as calls;
 ghost use Rattle.drm_leases.specs.Rules as rules;
+ghost use Rattle.drm_leases.specs.Agreed.{AreAgreed};
 ghost use Rattle.drm_table.specs.Permit.{first_failing};
 
+use crate::endings::end_leases;
 use crate::faults::LeaseFault;
 use crate::granted::Granted;
 use crate::rows::{Grant, LeaseToken, Leased};
 use crate::rules::{are_leasable, are_seen, is_lease, may_lease, planes_along, stand_once};
 use crate::searches::{
-    any_leased_out, find_token, find_token_of, has_lease, is_leased_out, next_token,
+    any_leased_out, find_token, find_token_of, has_lease, is_leased_out, next_token, nth_grant,
 };
 use crate::writes::{listed_mask, remove_token, remove_tokens_under};
 use drm_masters::{Masters, NoMemory};
@@ -81,7 +83,9 @@ impl Leases {
         requires present { is_some (masters_sets.member_of masters.old.members client) ≡ true }
         requires new_birth { masters_calls.IsNewBirth masters.old birth }
         requires new_lessee { calls.IsNewLessee self.old birth }
-        ensures { IfSome (masters_sets.member_of masters.old.members client) (λ x. calls.Created self.old masters.old modes.now x.master universal ids.now birth result self.new masters.new) }
+        requires agreed { AreAgreed self.old masters.old }
+        ensures created { IfSome (masters_sets.member_of masters.old.members client) (λ x. calls.Created self.old masters.old modes.now x.master universal ids.now birth result self.new masters.new) }
+        ensures agreed { AreAgreed self.new masters.new }
     {
         let Some(member) = masters.member(client) else {
             unreachable!()
@@ -101,10 +105,11 @@ impl Leases {
         if self.tokens.reserve(1).is_err() {
             return Err(LeaseFault::NoMemory);
         }
-        if let Err(NoMemory) = self.granted.add(birth, objects) {
+        self.granted.laws();
+        if let Err(NoMemory) = self.granted.add(birth, member.master, objects) {
             return Err(LeaseFault::NoMemory);
         }
-        let Ok((master, id)) = masters.make_lessee(lessor.key, birth) else {
+        let Ok(made) = masters.make_lessee(lessor.key, birth) else {
             self.granted.remove(birth);
             return Err(LeaseFault::NoMemory);
         };
@@ -113,7 +118,11 @@ impl Leases {
             master: birth,
         });
         self.last_given = Some(token);
-        Ok(Leased { master, id, token })
+        Ok(Leased {
+            master: made.0,
+            id: made.1,
+            token,
+        })
     }
 
     /// Whether the lease of a lessee has a mode object. It takes no memory.
@@ -125,6 +134,7 @@ impl Leases {
 
     /// Whether the lease of a direct lessee of the master has a mode object. It takes no memory.
     pub fn leased_out(&self, masters: &Masters, master: u32, mode_object: u32) -> bool
+        requires { AreAgreed self.now masters.now }
         ensures { result ≡ sets.is_leased_out self.now.grants masters.now.masters master mode_object }
     {
         is_leased_out(&self.granted, masters, master, mode_object)
@@ -181,11 +191,13 @@ impl Leases {
     /// Empties the lease of a master and of all below it, takes their open tokens, and releases them: a lessee that nobody
     /// redeemed goes, and a master that was kept (drm-uapi, leases; what comes of tokens is own). It takes no memory.
     pub fn revoke(&mut self, masters: &mut Masters, master: u32)
+        requires { AreAgreed self.old masters.old }
         ensures leases { self.new ≡ calls.ended masters.old.masters master self.old }
         ensures masters { masters.new ≡ masters_sets.swept (masters_calls.released_under master masters.old) }
+        ensures agreed { AreAgreed self.new masters.new }
     {
         remove_tokens_under(&mut self.tokens, masters, master);
-        self.granted.remove_under(masters, master);
+        end_leases(&mut self.granted, masters, master);
         masters.release_under(master);
     }
 
@@ -200,7 +212,7 @@ impl Leases {
     pub fn nth_grant(&self, place: usize) -> Option<Grant>
         ensures { result ≡ slice_get self.now.grants place }
     {
-        self.granted.nth_grant(place)
+        nth_grant(&self.granted, place)
     }
 
     // the planes that come along with the CRTCs of a lease
@@ -228,7 +240,8 @@ impl Leases {
         ids: &[u32],
         along: &[u32],
     ) -> Option<Rule>
-        requires { along.now ≡ rules.brought_along self.now.grants masters.now.masters modes.now.topology master universal ids.now }
+        requires agreed { AreAgreed self.now masters.now }
+        requires along { along.now ≡ rules.brought_along self.now.grants masters.now.masters modes.now.topology master universal ids.now }
         ensures { result ≡ first_failing (rules.lease_checks self.now masters.now modes.now master universal ids.now) }
     {
         if !may_lease(masters, master) {

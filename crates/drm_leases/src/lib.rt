@@ -1,9 +1,11 @@
 //! Leases of outputs: which mode objects a lessee controls, and the tokens that open one (drm-uapi, leases; lease tokens are own).
 #![tactic(auto)]
 
+mod endings;
 mod faults;
 mod granted;
 mod leases;
+mod lent;
 mod masks;
 mod rows;
 mod rules;

@@ -1,6 +1,6 @@
 //! Sets of fixed mode objects, as words of 64 bits: bit x - 1 is object x (own).
 
-ghost use Rattle.std.specs.Prelude.{◌≡◌, ℕ};
+ghost use Rattle.std.specs.Prelude.{◌≡◌, ℕ, ◌&&◌, ◌||◌, not};
 ghost use Rattle.std.specs.List.{AllByRecursion};
 ghost use Rattle.drm_lists.specs.Numbers.{is_among};
 ghost use Rattle.drm_leases.specs.Masks.{has_object, objects_in, IsFixed};
@@ -24,6 +24,20 @@ pub fn mask_of(ids: &[u32]) -> u64
         mask |= 1 << (*id - 1);
     }
     mask
+}
+
+/// The mode objects of either mask.
+pub fn union(mask: u64, other: u64) -> u64
+    ensures { (x : ℕ) → has_object result x ≡ (has_object mask x || has_object other x) }
+{
+    mask | other
+}
+
+/// The mode objects of the first mask that the second lacks.
+pub fn without(mask: u64, other: u64) -> u64
+    ensures { (x : ℕ) → has_object result x ≡ (has_object mask x && not (has_object other x)) }
+{
+    mask & !other
 }
 
 /// The mode objects of a mask, rising.

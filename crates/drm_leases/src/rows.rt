@@ -20,6 +20,21 @@ pub struct LeaseToken {
     pub master: u32,
 }
 
+/// A lease: whose it is, who lent it, and what it has.
+#[derive(Clone, Copy)]
+pub struct Lease {
+    pub lessee: u32,
+    pub lessor: u32,
+    pub objects: u64,
+}
+
+/// What is kept of a lease under its lessee.
+#[derive(Clone, Copy)]
+pub struct LeaseRecord {
+    pub lessor: u32,
+    pub objects: u64,
+}
+
 /// A lease that was made.
 #[derive(Clone, Copy, PartialEq, Eq, Debug)]
 pub struct Leased {

@@ -34,7 +34,7 @@ pub fn are_seen(
     universal: bool,
     ids: &[u32],
 ) -> bool
-    ensures { result ≡ list_all (rules.is_seen (grants_in granted.now.masks.items) masters.now.masters modes.now master universal) ids.now }
+    ensures { result ≡ list_all (rules.is_seen (grants_in granted.now.rows) masters.now.masters modes.now master universal) ids.now }
 {
     for id in ids {
         if !is_seen(granted, masters, modes, master, universal, *id) {
@@ -52,7 +52,7 @@ fn is_seen(
     universal: bool,
     id: u32,
 ) -> bool
-    ensures { result ≡ rules.is_seen (grants_in granted.now.masks.items) masters.now.masters modes.now master universal id }
+    ensures { result ≡ rules.is_seen (grants_in granted.now.rows) masters.now.masters modes.now master universal id }
 {
     (modes.kind(id).is_some()
         && (modes.is_of_kind(Kind::Encoder, id)
@@ -76,7 +76,7 @@ pub fn planes_along(
     universal: bool,
     ids: &[u32],
 ) -> ShownList
-    ensures { result ≡ rules.brought_along (grants_in granted.now.masks.items) masters.now.masters modes.now.topology master universal ids.now }
+    ensures { result ≡ rules.brought_along (grants_in granted.now.rows) masters.now.masters modes.now.topology master universal ids.now }
 {
     if universal {
         return ShownList::new();
@@ -88,7 +88,7 @@ pub fn planes_along(
 /// The planes that a master controls.
 fn controlled(granted: &Granted, masters: &Masters, master: u32, planes: &[u32]) -> ShownList
     requires { length planes.now ≤ 64 }
-    ensures { result ≡ filter (sets.controls (grants_in granted.now.masks.items) masters.now.masters master) planes.now }
+    ensures { result ≡ filter (sets.controls (grants_in granted.now.rows) masters.now.masters master) planes.now }
 {
     let mut list = ShownList::new();
     for plane in planes {

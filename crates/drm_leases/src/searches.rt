@@ -1,17 +1,18 @@
 //! Searches among grants and tokens.
 
-ghost use Rattle.std.specs.Prelude.{◌≡◌, ◌==◌, ◌+◌, ◌&&◌, false, find, unwrap_or};
-ghost use Rattle.std.specs.List.{list_any};
+ghost use Rattle.std.specs.Prelude.{◌≡◌, ◌==◌, ◌+◌, ◌&&◌, false, find, slice_get, unwrap_or};
+ghost use Rattle.std.specs.List.{list_any, AllByRecursion};
 ghost use Rattle.std.specs.Option.{option_map_or};
 ghost use Rattle.drm_index_array.specs.Least.{least};
 ghost use Rattle.drm_id_alloc.specs.Table.{or_else};
 ghost use Rattle.drm_masters.specs.Masters as masters_sets;
 ghost use Rattle.drm_leases.specs.Leases as sets;
-ghost use Rattle.drm_leases.specs.Masks.{has_object, grants_in, AreFull};
+ghost use Rattle.drm_leases.specs.Agreed.{IsAgreed};
+ghost use Rattle.drm_leases.specs.Masks.{grants_in, lendings_in};
 
-use crate::granted::{Granted, Lease};
+use crate::granted::Granted;
 use crate::masks;
-use crate::rows::LeaseToken;
+use crate::rows::{Grant, LeaseToken};
 use drm_masters::Masters;
 
 /// The row of an open token.
@@ -62,14 +63,15 @@ fn free_above(tokens: &[LeaseToken], given: u32, last: u32) -> Option<u32>
 
 /// Whether a master controls a mode object: one without a lessor all, a lessee what its lease has.
 pub fn controls(granted: &Granted, masters: &Masters, master: u32, mode_object: u32) -> bool
-    ensures { result ≡ sets.controls (grants_in granted.now.masks.items) masters.now.masters master mode_object }
+    ensures { result ≡ sets.controls (grants_in granted.now.rows) masters.now.masters master mode_object }
 {
     lessor_of(masters, master).is_none() || granted.has(master, mode_object)
 }
 
 /// Whether one of the mode objects is in the lease of a direct lessee of the master.
 pub fn any_leased_out(granted: &Granted, masters: &Masters, master: u32, ids: &[u32]) -> bool
-    ensures { result ≡ list_any (sets.is_leased_out (grants_in granted.now.masks.items) masters.now.masters master) ids.now }
+    requires { AllByRecursion (IsAgreed masters.now.members masters.now.masters) (lendings_in granted.now.rows) }
+    ensures { result ≡ list_any (sets.is_leased_out (grants_in granted.now.rows) masters.now.masters master) ids.now }
 {
     for id in ids {
         if is_leased_out(granted, masters, master, *id) {
@@ -79,34 +81,34 @@ pub fn any_leased_out(granted: &Granted, masters: &Masters, master: u32, ids: &[
     false
 }
 
-/// Whether the lease of a direct lessee of the master has the mode object.
+/// Whether the lease of a direct lessee of the master has the mode object. Who is a lessee of whom the leases tell, as the
+/// masters do.
 pub fn is_leased_out(granted: &Granted, masters: &Masters, master: u32, mode_object: u32) -> bool
-    ensures { result ≡ sets.is_leased_out (grants_in granted.now.masks.items) masters.now.masters master mode_object }
+    requires { AllByRecursion (IsAgreed masters.now.members masters.now.masters) (lendings_in granted.now.rows) }
+    ensures { result ≡ sets.is_leased_out (grants_in granted.now.rows) masters.now.masters master mode_object }
 {
-    for place in 0..granted.len() {
-        let Some(lease) = granted.nth(place) else {
+    masks::has(granted.lent_by(master), mode_object)
+}
+
+/// The grant at a place, from 0, in the order of lessees and of ids in a lease; none past the last.
+pub fn nth_grant(granted: &Granted, place: usize) -> Option<Grant>
+    ensures { result ≡ slice_get (grants_in granted.now.rows) place }
+{
+    let mut left = place;
+    for at in 0..granted.len() {
+        let Some(lease) = granted.nth(at) else {
             unreachable!()
         };
-        if is_lent(masters, master, lease, mode_object) {
-            return true;
+        let objects = masks::objects_of(lease.objects);
+        if let Some(mode_object) = objects.ids().get(left) {
+            return Some(Grant {
+                master: lease.lessee,
+                mode_object: *mode_object,
+            });
         }
+        left -= objects.ids().len();
     }
-    false
-}
-
-fn is_lent(masters: &Masters, master: u32, lease: Lease, mode_object: u32) -> bool
-    ensures { result ≡ (has_object lease.objects mode_object && masters_sets.is_option master (masters_sets.lessor_of masters.now.masters lease.lessee)) }
-{
-    masks::has(lease.objects, mode_object) && is_below(masters, master, lease.lessee)
-}
-
-fn is_below(masters: &Masters, master: u32, lessee: u32) -> bool
-    ensures { result ≡ masters_sets.is_option master (masters_sets.lessor_of masters.now.masters lessee) }
-{
-    match lessor_of(masters, lessee) {
-        Some(lessor) => lessor == master,
-        None => false,
-    }
+    None
 }
 
 /// The lessor of a master, if it is a lessee.
@@ -121,9 +123,9 @@ pub fn lessor_of(masters: &Masters, master: u32) -> Option<u32>
 
 /// Whether the direct lessee of the master with this id has a lease that isn't empty.
 pub fn has_lease(granted: &Granted, masters: &Masters, master: u32, id: u32) -> bool
-    requires { AreFull granted.now.masks.items }
-    ensures { result ≡ sets.has_lease (grants_in granted.now.masks.items) masters.now.masters master id }
+    ensures { result ≡ sets.has_lease (grants_in granted.now.rows) masters.now.masters master id }
 {
+    granted.laws();
     for place in 0..granted.len() {
         let Some(lease) = granted.nth(place) else {
             unreachable!()

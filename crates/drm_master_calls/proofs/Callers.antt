@@ -1,18 +1,11 @@
 -- The caller of a call that is admitted.
 use Rattle.std.proofs.Common.{◌≡◌, ℕ, ◌==◌, Bool, true, false, not, cond, ◌||◌, ◌&&◌, List, [], ◌∷◌, filter, find, Option, None, Some, refl, sym, ap, ◌∙◌}
-use Rattle.std.specs.Prelude.{if◌then◌else◌}
-use Rattle.std.specs.List.{AllByRecursion}
-use Rattle.std.proofs.lemmas.Bool.{eqb-true}
-use Rattle.drm_lists.proofs.Lists.{all_each}
-use Rattle.std.specs.Option.{is_some, is_none, option_map, option_map_or, option_and_then}
+use Rattle.std.specs.Option.{is_some, is_none, option_map, option_map_or}
 use Rattle.drm_lists.proofs.Found.{is_some-find, is_some-map}
-use Rattle.drm_lists.proofs.Rising.{found}
 use Rattle.drm_files.specs.declared.rows.FileClient.{FileClient}
 use Rattle.drm_files.specs.declared.rows.FileFlags.{FileFlags}
 use Rattle.drm_files.specs.Files as files
-use Rattle.drm_table.specs.declared.calls.Call.{Call}
-use Rattle.drm_table.specs.Permit.{Check, check, first_failing, has_flag}
-use Rattle.drm_table.specs.Table.{flags_of}
+use Rattle.drm_table.specs.Permit.{check, first_failing}
 use Rattle.drm_masters.specs.declared.rows.Member.{Member}
 use Rattle.drm_masters.specs.Masters as masters
 use Rattle.drm_masters.specs.Masters.{member_of, is_current, is_current_member}
@@ -32,19 +25,17 @@ use Rattle.drm_state.specs.Parts.{magic_row_of, magics_of}
 use Rattle.drm_state.proofs.Magics.{any-filter_map}
 use Rattle.drm_state.proofs.Represented.{bounds_are, magics_are}
 use Rattle.drm_model.specs.Magics.{magics_under, free_magic, is_open_magic, magic_client, may_be_master, is_master, drop_master, set_master}
-use Rattle.drm_model.specs.Rows.{Rows, ClientRow, client_row}
-use Rattle.drm_model.specs.Masters.{standing_of, standing_in, master_of, lessor_of, is_lessee}
+use Rattle.drm_model.specs.Rows.{Rows, ClientRow}
+use Rattle.drm_model.specs.Masters.{standing_of, standing_in}
 use Rattle.drm_table.specs.declared.calls.Call.TheVariants.{SetMaster, DropMaster}
 use Rattle.drm_table.specs.declared.events.Event.TheVariants.{Ask}
 use Rattle.drm_model.specs.Calls.{meaning}
 use Rattle.drm_model.specs.Verdict.{admission_checks, verdict}
 use Rattle.drm_state.proofs.Outcomes.{call_verdict}
 use Rattle.drm_state.specs.declared.state.State.{State}
-use Rattle.drm_state.specs.Parts.{client_row_by, root_of}
-use Rattle.drm_state.specs.Ties.{IsTied, HasMaster}
+use Rattle.drm_state.specs.Parts.{root_of}
 use Rattle.drm_state.specs.Refinement.{Represents}
-use Rattle.drm_state.proofs.Represented.{clients_have, masters_are, device_master_is}
-use Rattle.drm_state.proofs.Living.{lessors_are}
+use Rattle.drm_state.proofs.Represented.{device_master_is}
 use Rattle.drm_state.proofs.Lookups.{standing_is}
 use Rattle.drm_state.proofs.Callers.{row_is, caller_row, lessee_is}
 

@@ -1,5 +1,5 @@
 -- What the calls leave of masters.
-use Rattle.std.proofs.Common.{◌≡◌, ℕ, ◌<◌, ◌==◌, ◌||◌, true, false, cond, List, [], ◌∷◌, ◌++◌, map, Option, None, Some, refl, sym, ap, subst, ◌∙◌}
+use Rattle.std.proofs.Common.{◌≡◌, ℕ, ◌<◌, ◌==◌, ◌&&◌, ◌||◌, true, false, cond, List, [], ◌∷◌, ◌++◌, map, Option, None, Some, refl, sym, ap, subst, ◌∙◌}
 use Rattle.std.specs.Prelude.{if◌then◌else◌}
 use Rattle.std.specs.Option.{is_some, option_map}
 use Rattle.std.proofs.lemmas.Bool.{eqb-true}
@@ -15,13 +15,14 @@ use Rattle.drm_lists.proofs.Orders.{last_first, same-cons, same-sym, same-trans}
 use Rattle.drm_masters.specs.Masters.{AreMasters, is_client, member_of}
 use Rattle.drm_masters.specs.Calls.{with_device, changed_member}
 use Rattle.drm_lists.proofs.Rising.{found}
+use Rattle.drm_leases.proofs.Agreeing.{agreed_changed}
 use Rattle.drm_model.specs.Rows.{Rows, MagicRow}
 use Rattle.drm_state.specs.Parts.{client_row_by, client_row_of, magic_row_of}
 use Rattle.drm_model.specs.Parts.{Part, DeviceMaster, Clients, Magics}
 use Rattle.drm_state.specs.declared.state.State.{State}
-use Rattle.drm_state.specs.Ties.{Tie, MembersOpen, ClientsHave, MastersAre, HasMaster, is_tied, IsTied}
+use Rattle.drm_state.specs.Ties.{Tie, MembersOpen, ClientsHave, MastersAre, LeasesAgree, HasMaster, is_tied, IsTied}
 use Rattle.drm_state.specs.Refinement.{stands_for, Represents}
-use Rattle.drm_state.proofs.Represented.{members_open, clients_have, clients_are, magics_are}
+use Rattle.drm_state.proofs.Represented.{members_open, clients_have, clients_are, magics_are, masters_so, leases_agree}
 
 -- another master of the device, or none
 pub device_tied : (s : State) (d : Option ℕ) → IsTied s → AreMasters (with_device d s.masters) → (tie : Tie) → is_tied tie (record s { masters = with_device d s.masters })
@@ -55,6 +56,8 @@ module _ (s : State) (x y : Member) (look : member_of s.masters.members x.client
   magic_tied t are MembersOpen = all_mapped (λ (z : Member). is_present s.files z.client ≡ true) put s.masters.members (all_weaker (λ (z : Member). is_present s.files z.client ≡ true) (λ z. is_present s.files (put z).client ≡ true) (λ z e. ap (is_present s.files) (put_client z) ∙ e) s.masters.members (members_open s t))
   magic_tied t are ClientsHave = all_weaker (HasMaster s.masters) (HasMaster (changed_member y s.masters)) (λ f h. ap (λ b. f.flags.render || b) (ap is_some (found_yet f.client) ∙ is_some-map put (member_of s.masters.members f.client)) ∙ h) s.files.clients (clients_have s t)
   magic_tied t are MastersAre = are
+  magic_tied t are LeasesAgree =
+      agreed_changed s.masters.members x y s.masters.masters s.leases.lendings (masters_so s t).members_rise (ap (member_of s.masters.members) client ∙ look) (λ n its. (λ i. own i && (master i == n)) ∙ its) (leases_agree s t)
   magic_tied t are tie = t tie
 
   -- of what is told of the client in its row nothing changes

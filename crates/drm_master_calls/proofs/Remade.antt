@@ -1,5 +1,5 @@
 -- A new master of a client, which authenticates it.
-use Rattle.std.proofs.Common.{◌≡◌, ℕ, ◌<◌, ◌==◌, true, false, not, cond, List, [], ◌∷◌, ◌++◌, map, filter, None, Some, refl, sym, ap, subst, ◌∙◌}
+use Rattle.std.proofs.Common.{◌≡◌, ℕ, ◌<◌, ◌==◌, ◌&&◌, true, false, not, cond, List, [], ◌∷◌, ◌++◌, map, filter, None, Some, refl, sym, ap, subst, ◌∙◌}
 use Rattle.std.specs.Prelude.{if◌then◌else◌}
 use Rattle.std.specs.List.{filter_map, cons_option, AllByRecursion}
 use Rattle.std.proofs.lemmas.List.{map-append}
@@ -11,6 +11,7 @@ use Rattle.drm_masters.specs.declared.rows.Member.{Member}
 use Rattle.drm_leases.specs.declared.rows.LeaseToken.{LeaseToken}
 use Rattle.drm_masters.specs.Masters.{AreMasters, is_client, member_of}
 use Rattle.drm_masters.specs.Calls.{owner, own_master, with_master, remade}
+use Rattle.drm_leases.proofs.Agreeing.{owns, agreed_swept, agreed_more, agreed_changed}
 use Rattle.drm_model.specs.Rows.{Rows, ClientRow, MasterRow, MagicRow, without}
 use Rattle.drm_model.specs.Masters.{new_master}
 use Rattle.drm_model.specs.Magics as model
@@ -22,7 +23,7 @@ use Rattle.drm_state.specs.Parts.{clients_of, masters_of, magics_of, magic_row_o
 use Rattle.drm_state.specs.Ties.{IsTied, AreKeptBy}
 use Rattle.drm_state.specs.Refinement.{stands_for, Represents}
 use Rattle.drm_state.proofs.Living.{swept_masters}
-use Rattle.drm_state.proofs.Represented.{clients_are, masters_are, magics_are, tokens_of_lessees, kept_have_tokens}
+use Rattle.drm_state.proofs.Represented.{clients_are, masters_are, magics_are, masters_so, tokens_of_lessees, kept_have_tokens, leases_agree}
 use Rattle.drm_state.proofs.Ended.{fresh_token, kept_more, kept_swept, of_lessees_more, of_lessees_swept}
 use Rattle.drm_state.proofs.Sweeps.{named_by_clients, magics_left, unswept}
 use Rattle.drm_master_calls.proofs.Authenticated.{put, changed_clients, changed_tied, authenticated_tied}
@@ -47,7 +48,7 @@ own_rows w c b = record w {
 }
 
 -- the state where it has it, and what it stands for
-module _ (s : State) (x : Member) (key b : ℕ) (t : IsTied s) (new : AllByRecursion (λ (row : LeaseToken). row.master < b) s.leases.tokens) (are : AreMasters (remade x.client key b s.masters)) where
+module _ (s : State) (x : Member) (key b : ℕ) (t : IsTied s) (new : AllByRecursion (λ (row : LeaseToken). row.master < b) s.leases.tokens) (are : AreMasters (remade x.client key b s.masters)) (look : member_of s.masters.members x.client ≡ Some x) (guest : x.is_master ≡ false) where
   abbrev remade_state : State
   remade_state = record s { files = with_authenticated s.files x.client; masters = remade x.client key b s.masters }
 
@@ -60,13 +61,20 @@ module _ (s : State) (x : Member) (key b : ℕ) (t : IsTied s) (new : AllByRecur
   kept : AreKeptBy s.leases.tokens all_masters
   kept = kept_more s.leases.tokens s.masters.masters (own_master key b) (kept_have_tokens s t) refl new
 
+  -- it owned nothing before
+  guest_owns : (n : ℕ) → owns n x ≡ true → ⊥
+  guest_owns n its = let no : false ≡ true = sym (ap (λ b. b && (x.master == n)) guest) ∙ its in cc
+
   pub remade_tied : IsTied remade_state
   remade_tied =
       authenticated_tied (record s { masters = remade x.client key b s.masters }) x.client
       (changed_tied s (owner x.client b) (remade x.client key b s.masters) t refl are
-      (of_lessees_swept all_members s.leases.tokens all_masters kept (of_lessees_more s.leases.tokens s.masters.masters (own_master key b) (tokens_of_lessees s t))) (kept_swept all_members s.leases.tokens all_masters kept) refl refl)
+      (of_lessees_swept all_members s.leases.tokens all_masters kept (of_lessees_more s.leases.tokens s.masters.masters (own_master key b) (tokens_of_lessees s t))) (kept_swept all_members s.leases.tokens all_masters kept)
+      (agreed_swept all_members all_masters s.leases.lendings
+      (agreed_more all_members s.masters.masters (own_master key b) s.leases.lendings
+      (agreed_changed s.masters.members x (owner x.client b) s.masters.masters s.leases.lendings (masters_so s t).members_rise look (λ n its. absurd (guest_owns n its)) (leases_agree s t)))) refl refl)
 
-  module _ (w : Rows) (look : member_of s.masters.members x.client ≡ Some x) (h : Represents s w) where
+  module _ (w : Rows) (h : Represents s w) where
     abbrev remade_rows : Rows
     remade_rows = own_rows w x.client b
 

@@ -1,7 +1,10 @@
 //! Leases and their tokens, call by call.
 
 ghost use Rattle.std.specs.Prelude.{ℕ, ◌+◌, IfOk};
+ghost use Rattle.drm_leases.specs.Leases.{LeaseSet};
 ghost use Rattle.drm_leases.specs.Calls.{IsNewLessee};
+ghost use Rattle.drm_leases.specs.Agreed.{AreAgreed};
+ghost use Rattle.drm_masters.specs.Masters.{MasterSet};
 ghost use Rattle.drm_part_tests.specs.Older.{IsBefore, HasRoom};
 
 use drm_leases::{LeaseFault, Leased, Leases};
@@ -42,8 +45,10 @@ fn lease(
 ) -> Option<Result<Leased, LeaseFault>>
     requires before { IsBefore masters.old birth }
     requires lessees { IsNewLessee leases.old birth }
+    requires agreed { AreAgreed leases.old masters.old }
     ensures before { IsBefore masters.new (birth + 1) }
     ensures lessees { IsNewLessee leases.new (birth + 1) }
+    ensures agreed { AreAgreed leases.new masters.new }
     ensures room { (n : ℕ) → HasRoom masters.old n → HasRoom masters.new n }
 {
     if masters.member(client).is_none() {
@@ -55,7 +60,8 @@ fn lease(
 /// Spends a token before the step of this number.
 fn redeem(leases: &mut Leases, token: u32, birth: u32) -> Option<u32>
     requires { IsNewLessee leases.old birth }
-    ensures { IsNewLessee leases.new birth }
+    ensures lessees { IsNewLessee leases.new birth }
+    ensures agreed { (v : MasterSet) → AreAgreed leases.old v → AreAgreed leases.new v }
 {
     leases.redeem(token)
 }
@@ -64,7 +70,8 @@ fn redeem(leases: &mut Leases, token: u32, birth: u32) -> Option<u32>
 fn enter(masters: &mut Masters, lessee: u32, client: u32) -> bool
     requires before { IsBefore masters.old client }
     requires room { HasRoom masters.old 1 }
-    ensures { IsBefore masters.new (client + 1) }
+    ensures before { IsBefore masters.new (client + 1) }
+    ensures agreed { (l : LeaseSet) → AreAgreed l masters.old → AreAgreed l masters.new }
 {
     masters.laws();
     let Some(row) = masters.master(lessee) else {
@@ -83,8 +90,10 @@ fn enter(masters: &mut Masters, lessee: u32, client: u32) -> bool
 fn revoke(leases: &mut Leases, masters: &mut Masters, master: u32, birth: u32)
     requires before { IsBefore masters.old birth }
     requires lessees { IsNewLessee leases.old birth }
+    requires agreed { AreAgreed leases.old masters.old }
     ensures before { IsBefore masters.new birth }
     ensures lessees { IsNewLessee leases.new birth }
+    ensures agreed { AreAgreed leases.new masters.new }
 {
     leases.revoke(masters, master);
 }
@@ -116,7 +125,9 @@ fn check_objects(
     master: u32,
     held: &[u32],
     leased_out: &[u32],
-) {
+)
+    requires { AreAgreed leases.now masters.now }
+{
     assert_eq!(rt; leases.objects_of(master).ids(), held);
     for object in 0..10 {
         assert_eq!(rt; leases.holds(master, object), held.contains(&object));

@@ -21,6 +21,8 @@ mod masters;
 #[cfg(test)]
 mod modes;
 #[cfg(test)]
+mod number_groups;
+#[cfg(test)]
 mod number_tables;
 #[cfg(test)]
 mod numbers;

@@ -1,13 +1,13 @@
 -- What ending leases leaves: of some masters, the lease tokens and grants go, and they are kept no more.
-use Rattle.std.proofs.Common.{◌≡◌, ℕ, ◌<◌, ◌==◌, Bool, true, false, cond, not, ◌&&◌, ◌||◌, List, [], ◌∷◌, ◌++◌, map, filter, find, length, Option, None, Some, refl, sym, ap, ◌∙◌, subst, eq-eqb}
+use Rattle.std.proofs.Common.{◌≡◌, ℕ, ◌<◌, ◌==◌, Bool, true, false, cond, not, ◌&&◌, ◌||◌, List, [], ◌∷◌, ◌++◌, map, filter, find, Option, None, Some, refl, sym, ap, ◌∙◌, subst}
 use Rattle.std.specs.Prelude.{if◌then◌else◌}
 use Rattle.std.specs.List.{list_any, AllByRecursion}
 use Rattle.std.specs.Option.{is_some, option_map, option_and_then}
-use Rattle.std.proofs.lemmas.Bool.{eqb-true, or_left}
+use Rattle.std.proofs.lemmas.Bool.{eqb-true}
 use Rattle.drm_lists.specs.Orders.{SameRows}
 use Rattle.drm_lists.specs.Chains as chains
 use Rattle.drm_lists.proofs.Chains.{itself}
-use Rattle.drm_lists.proofs.Lists.{all_each, all_weaker, all_both, all_append, all_filter, all_mapped, filter-map, filter_all, list_any-map}
+use Rattle.drm_lists.proofs.Lists.{all_each, all_weaker, all_both, all_append, all_filter, all_mapped, filter-map, filter_all}
 use Rattle.drm_lists.proofs.Found.{find-map, find_none, is_some-find}
 use Rattle.drm_lists.proofs.Numbers.{less-differ}
 use Rattle.drm_lists.proofs.Orders.{same-filter}
@@ -19,7 +19,7 @@ use Rattle.drm_masters.specs.Masters.{is_birth, is_lessee}
 use Rattle.drm_masters.specs.Calls.{kept_as}
 use Rattle.drm_leases.specs.declared.rows.Grant.{Grant}
 use Rattle.drm_leases.specs.declared.rows.LeaseToken.{LeaseToken}
-use Rattle.drm_leases.specs.Leases.{LeaseSet, is_token_of, token_of}
+use Rattle.drm_leases.specs.Leases.{LeaseSet, Lending, is_token_of, token_of}
 use Rattle.drm_model.specs.Rows.{MasterRow, GrantRow}
 use Rattle.drm_state.specs.Parts.{master_row_of, grant_row_of, released, ended}
 use Rattle.drm_state.specs.Ties.{AreOfLessees, AreKeptBy}
@@ -70,6 +70,7 @@ none_ended l =
     λ i. record l {
       tokens = filter_all (λ (row : LeaseToken). true) l.tokens (all_each (λ (row : LeaseToken). true ≡ true) (λ _. refl) l.tokens) i;
       grants = filter_all (λ (g : Grant). true) l.grants (all_each (λ (g : Grant). true ≡ true) (λ _. refl) l.grants) i;
+      lendings = filter_all (λ (x : Lending). true) l.lendings (all_each (λ (x : Lending). true ≡ true) (λ _. refl) l.lendings) i;
     }
 
 -- ---- what ties masters and leases

@@ -6,6 +6,7 @@ pub mod Frames
 pub mod Holding
 pub mod Living
 pub mod Ended
+pub mod Agreeing
 pub mod Sweeps
 pub mod Outcomes
 pub mod Lookups

@@ -11,7 +11,8 @@ use Rattle.drm_leases.specs.Leases.{AreLeases}
 use Rattle.drm_modes.specs.Modes.{AreModes}
 use Rattle.drm_state.specs.declared.state.State.{State}
 use Rattle.drm_state.specs.Parts.{clients_of, masters_of, magics_of, holds_of, objects_of, names_of, tokens_of, grants_of, framebuffers_of, shown_of, last_token_of, last_lease_token_of, keys_of, referring_keys}
-use Rattle.drm_state.specs.Ties.{MembersOpen, ClientsHave, MastersAre, MagicsSuffice, LesseesFew, LeasesAre, TokensOfLessees, KeptHaveTokens, ModesAre, HoldsRise, ObjectsCounted, NamesHeld, is_tied, IsTied, AreTied, AreNamed, AreOfLessees, AreKeptBy, HasMaster}
+use Rattle.drm_leases.specs.Agreed.{AreAgreed}
+use Rattle.drm_state.specs.Ties.{MembersOpen, ClientsHave, MastersAre, MagicsSuffice, LesseesFew, LeasesAre, TokensOfLessees, KeptHaveTokens, LeasesAgree, ModesAre, HoldsRise, ObjectsCounted, NamesHeld, is_tied, IsTied, AreTied, AreNamed, AreOfLessees, AreKeptBy, HasMaster}
 use Rattle.drm_model.specs.Parts.{Bounds, Clients, Masters, Magics, Holds, Objects, Names, Tokens, Grants, Framebuffers, Shown, DeviceMaster, LastToken, LastLeaseToken}
 use Rattle.drm_state.specs.Refinement.{stands_for, Represents, HaveBounds}
 
@@ -100,6 +101,10 @@ module _ (s : State) (t : IsTied s) where
   pub kept_have_tokens : AreKeptBy s.leases.tokens s.masters.masters
   unfolding is_tied
   kept_have_tokens = t KeptHaveTokens
+
+  pub leases_agree : AreAgreed s.leases s.masters
+  unfolding is_tied
+  leases_agree = t LeasesAgree
 
   pub magics_suffice : s.masters.last_magic ≡ s.files.limit
   unfolding is_tied

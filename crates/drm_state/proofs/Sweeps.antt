@@ -8,7 +8,7 @@ use Rattle.std.proofs.lemmas.Bool.{eqb-true}
 use Rattle.drm_lists.specs.Orders.{SameRows, InOrder}
 use Rattle.drm_lists.specs.Chains as chains
 use Rattle.drm_lists.specs.Numbers.{is_among}
-use Rattle.drm_lists.proofs.Lists.{list_any-map, filter-map, filter_all, all_weaker, filter-same, filter_true, all_both, all_filter}
+use Rattle.drm_lists.proofs.Lists.{list_any-map, filter-map, filter_all, all_weaker, filter-same, filter_true, all_both}
 use Rattle.drm_lists.proofs.Found.{find_others}
 use Rattle.drm_lists.proofs.Numbers.{among-append, among-left, among-right, fewer_among, among-more}
 use Rattle.drm_lists.proofs.Orders.{same-any, same-filter, in_order_filter}
@@ -39,14 +39,15 @@ use Rattle.drm_masters.specs.Masters.{MasterSet, AreMasters}
 use Rattle.drm_leases.specs.Leases.{LeaseSet, AreLeases}
 use Rattle.drm_state.specs.declared.state.State.{State}
 use Rattle.drm_state.specs.Parts.{clients_of, masters_of, magics_of, names_of, objects_of, client_row_by, magic_row_of, hold_row_of, name_row_of, token_row_of, framebuffer_row_of, framebuffers_of, shown_row_of, object_row_of, master_row_of, birth_at, keys_of, token_keys, framebuffer_keys, referring, referring_keys, without_tokens_of, LosesFramebuffersOf, grant_row_of, grants_of, device_without, own_master, is_below, released, ended, ends_with, without_its_master, without_its_leases}
-use Rattle.drm_state.specs.Ties.{Tie, MembersOpen, ClientsHave, MastersAre, MagicsSuffice, LesseesFew, LeasesAre, TokensOfLessees, KeptHaveTokens, ModesAre, HoldsRise, ObjectsCounted, NamesHeld, is_tied, IsTied, HasMaster, AreTied, AreNamed, AreThoseNamed, Leaves, names_among}
+use Rattle.drm_state.specs.Ties.{Tie, MembersOpen, ClientsHave, MastersAre, MagicsSuffice, LesseesFew, LeasesAre, TokensOfLessees, KeptHaveTokens, LeasesAgree, ModesAre, HoldsRise, ObjectsCounted, NamesHeld, is_tied, IsTied, HasMaster, AreTied, AreNamed, AreThoseNamed, Leaves, names_among}
 use Rattle.drm_model.specs.Parts.{Part, Bounds, Clients, Masters, Magics, Holds, Objects, Names, Tokens, Grants, Framebuffers, Shown, DeviceMaster, LastToken}
 use Rattle.drm_state.specs.Refinement.{stands_for, Represents}
-use Rattle.drm_state.proofs.Represented.{bounds_are, clients_are, masters_are, magics_are, holds_are, objects_are, names_are, tokens_are, grants_are, framebuffers_are, shown_are, device_master_is, last_token_is, members_open, clients_have, masters_so, lessees_few, tokens_of_lessees, kept_have_tokens, magics_suffice, modes_so, holds_rise, objects_counted, names_held}
+use Rattle.drm_state.proofs.Represented.{bounds_are, clients_are, masters_are, magics_are, holds_are, objects_are, names_are, tokens_are, grants_are, framebuffers_are, shown_are, device_master_is, last_token_is, members_open, clients_have, masters_so, lessees_few, tokens_of_lessees, kept_have_tokens, leases_agree, magics_suffice, modes_so, holds_rise, objects_counted, names_held}
 use Rattle.drm_state.proofs.Counting.{all_named}
 use Rattle.drm_state.proofs.Naming.{references, references_by, among_numbers, among_key, holds_naming, holds_as_before, tokens_as_before, framebuffers_as_before, names_as_before, rows_left}
 use Rattle.drm_state.proofs.Frames.{shown_left, shown_yet, some_framed, framed_left}
 use Rattle.drm_state.proofs.Members.{masters_named, members_open_left, rows_left as clients_left}
+use Rattle.drm_state.proofs.Agreeing.{agreed_yet}
 use Rattle.drm_state.proofs.Living.{above_is, swept_masters}
 use Rattle.drm_state.proofs.Ended.{rows_released, rows_ended, grants_ended, none_released, none_ended, kept_ended, of_lessees_ended, of_lessees_swept, kept_swept}
 
@@ -384,6 +385,7 @@ client_gone_tied s c ms names set t are leases_are modes_are left TokensOfLessee
 client_gone_tied s c ms names set t are leases_are modes_are left KeptHaveTokens =
     let below = ends_with s.masters c in
     kept_swept (without_its_master c s.masters).members (ended below s.leases).tokens (released below s.masters.masters) (kept_ended below s.leases.tokens s.masters.masters (kept_have_tokens s t))
+client_gone_tied s c ms names set t are leases_are modes_are left LeasesAgree = agreed_yet s.masters s.leases c (masters_so s t) (leases_agree s t)
 client_gone_tied s c ms names set t are leases_are modes_are left MagicsSuffice = magics_suffice s t
 client_gone_tied s c ms names set t are leases_are modes_are left ModesAre = modes_are
 client_gone_tied s c ms names set t are leases_are modes_are left HoldsRise = in_order_filter (λ (x y : FileHold). files.hold_before x y ≡ true) _ s.files.holds (holds_rise s t)

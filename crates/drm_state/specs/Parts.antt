@@ -22,7 +22,7 @@ use Rattle.drm_lists.specs.Chains.{is_under}
 use Rattle.drm_masters.specs.Calls.{kept_as}
 use Rattle.drm_leases.specs.declared.rows.Grant.{Grant}
 use Rattle.drm_leases.specs.declared.rows.LeaseToken.{LeaseToken}
-use Rattle.drm_leases.specs.Leases.{LeaseSet, token_of}
+use Rattle.drm_leases.specs.Leases.{LeaseSet, Lending, token_of}
 use Rattle.drm_state.specs.declared.state.State.{State}
 
 -- a render client does not stand to masters
@@ -183,7 +183,11 @@ released below ms = map (λ (x : Master). if below x.birth then kept_as false x 
 
 -- their leases and open lease tokens are gone
 abbrev pub ended : (ℕ → Bool) → LeaseSet → LeaseSet
-ended below l = record l { tokens = filter (λ (row : LeaseToken). not (below row.master)) l.tokens; grants = filter (λ (g : Grant). not (below g.master)) l.grants }
+ended below l = record l {
+  tokens = filter (λ (row : LeaseToken). not (below row.master)) l.tokens;
+  grants = filter (λ (g : Grant). not (below g.master)) l.grants;
+  lendings = filter (λ (x : Lending). not (below x.lessee)) l.lendings;
+}
 
 -- the masters that end with a client: its own, if it is one, and those below it
 abbrev pub ends_with : MasterSet → ℕ → ℕ → Bool

@@ -1,5 +1,5 @@
 -- Which rows the state of the device stands for, and what the function of each event owes.
-use Rattle.std.specs.Prelude.{◌≡◌, ℕ, ◌+◌, false, true, [], Option, None, Some, Result, Ok, Err}
+use Rattle.std.specs.Prelude.{◌≡◌, ℕ, ◌+◌, false, true, Option, None, Some, Result, Ok, Err}
 use Rattle.std.specs.declared.alloc.AllocError.{AllocError}
 use Rattle.drm_lists.specs.Orders.{SameRows}
 use Rattle.drm_table.specs.declared.answers.Answer.{Answer}

@@ -18,6 +18,7 @@ use Rattle.drm_masters.specs.Calls as masters
 use Rattle.drm_leases.specs.declared.rows.LeaseToken.{LeaseToken}
 use Rattle.drm_leases.specs.Leases.{AreLeases, token_of}
 use Rattle.drm_leases.specs.Calls.{IsNewLessee}
+use Rattle.drm_leases.specs.Agreed.{AreAgreed}
 use Rattle.drm_modes.specs.Modes.{AreModes}
 use Rattle.drm_state.specs.declared.state.State.{State}
 use Rattle.drm_state.specs.Parts.{keys_of, referring_keys}
@@ -73,7 +74,7 @@ AreKeptBy tokens ms = AllByRecursion (λ (x : Master). x.kept ≡ is_some (token
 
 -- what ties the parts: who stands to masters is open, and of the clients all but those of render nodes do; what is so of masters
 -- at all times, and there are as many magics as clients may be, and 64 ids of lessees at most; what is so of leases at all times,
--- whose open tokens are of lessees, and of masters those are kept that have one; what is so of mode objects at all times; handles stand in the order of their clients and numbers; objects are those that handles, tokens and framebuffers name, which they
+-- whose open tokens are of lessees, and of masters those are kept that have one; leases agree with masters; what is so of mode objects at all times; handles stand in the order of their clients and numbers; objects are those that handles, tokens and framebuffers name, which they
 -- count; names are of objects that handles name
 pub data Tie : Type 0 where
   MembersOpen : Tie
@@ -84,6 +85,7 @@ pub data Tie : Type 0 where
   LeasesAre : Tie
   TokensOfLessees : Tie
   KeptHaveTokens : Tie
+  LeasesAgree : Tie
   ModesAre : Tie
   HoldsRise : Tie
   ObjectsCounted : Tie
@@ -98,6 +100,7 @@ is_tied LesseesFew s = s.masters.last_lessee ≤ 64
 is_tied LeasesAre s = AreLeases s.leases
 is_tied TokensOfLessees s = AreOfLessees s.leases.tokens s.masters.masters
 is_tied KeptHaveTokens s = AreKeptBy s.leases.tokens s.masters.masters
+is_tied LeasesAgree s = AreAgreed s.leases s.masters
 is_tied ModesAre s = AreModes s.modes
 is_tied HoldsRise s = InOrder (λ (x y : FileHold). hold_before x y ≡ true) s.files.holds
 is_tied ObjectsCounted s = AreTied (keys_of s.files.holds) (referring_keys s) s.objects.objects

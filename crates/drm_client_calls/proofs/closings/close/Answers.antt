@@ -23,7 +23,7 @@ use Rattle.drm_state.specs.Refinement.{OwesAnswer, Represents}
 use Rattle.drm_state.proofs.Counting.{named_trans}
 use Rattle.drm_state.proofs.Frames.{some_framed}
 use Rattle.drm_state.proofs.Leaving.{names_stay, leaves_trans}
-use Rattle.drm_state.proofs.Represented.{objects_counted, names_held, masters_so}
+use Rattle.drm_state.proofs.Represented.{objects_counted, names_held, masters_so, leases_agree}
 use Rattle.drm_state.proofs.Lookups.{client_row_is, no_client}
 use Rattle.drm_state.proofs.Outcomes.{denied, carried}
 use Rattle.drm_state.proofs.Sweeps.{client_gone, client_gone_tied, without_its, keys_without, references_without, some_pass}
@@ -111,8 +111,11 @@ leases_are c = subst AreLeases c.close_master.ensures.leases c.laws-2.ensures
 gone_tied : (c : goal.After-release_all) → IsTied (without_its c.args.state.now c.args.client c.close_framebuffers.new.modes c.release_all.new.names c.release_all.new.objects)
 gone_tied c = client_gone_tied c.args.state.now c.args.client c.close_framebuffers.new.modes c.release_all.new.names c.release_all.new.objects c.requires (are c) (leases_are c) c.laws-3.ensures (leaves c)
 
-pub close_master-requires : goal.close_master-requires
-close_master-requires c = masters_so c.args.state.now c.requires
+pub close_master-requires-clause-are : goal.close_master-requires-clause-are
+close_master-requires-clause-are c = masters_so c.args.state.now c.requires
+
+pub close_master-requires-clause-agreed : goal.close_master-requires-clause-agreed
+close_master-requires-clause-agreed c = leases_agree c.args.state.now c.requires
 
 pub returns-clause-tied : goal.returns-clause-tied
 returns-clause-tied c = told IsTied c (gone_tied c)

@@ -1,12 +1,12 @@
-use Rattle.std.proofs.Common.{◌≡◌, ℕ, List, ◌∷◌, ◌++◌, refl, sym, ap, ◌∙◌, subst}
+use Rattle.std.proofs.Common.{ℕ, List, ◌∷◌, ◌++◌, refl, sym, ap, ◌∙◌, subst}
 use Rattle.drm_lists.specs.Orders.{SameRows}
 use Rattle.drm_lists.proofs.Orders.{same-refl, same-trans}
 use Rattle.drm_gem.specs.Objects.{ObjectSet}
 use Rattle.drm_modes.specs.declared.rows.Framebuffer.{Framebuffer}
-use Rattle.drm_modes.specs.Modes.{ModeSet, AreModes, without_framebuffer}
+use Rattle.drm_modes.specs.Modes.{ModeSet}
 use Rattle.drm_state.specs.Parts.{framebuffer_keys, LosesFramebuffersOf}
 use Rattle.drm_state.specs.Ties.{AreTied, AreThoseNamed}
-use Rattle.drm_state.proofs.Counting.{IsStep, all_named, same_references}
+use Rattle.drm_state.proofs.Counting.{all_named, same_references}
 use Rattle.drm_state.proofs.Contents.{has_reference, unreferred_step, unrefer_limit}
 use Rattle.drm_state.proofs.Frames.{all_shown, dark_further}
 use Rattle.drm_state.proofs.Naming.{same-append, same-middle}

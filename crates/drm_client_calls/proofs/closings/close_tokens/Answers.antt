@@ -1,4 +1,4 @@
-use Rattle.std.proofs.Common.{◌≡◌, ℕ, List, ◌∷◌, ◌++◌, refl, sym, ap, ◌∙◌, subst}
+use Rattle.std.proofs.Common.{ℕ, List, ◌∷◌, ◌++◌, refl, sym, ap, ◌∙◌, subst}
 use Rattle.drm_lists.specs.Orders.{SameRows}
 use Rattle.drm_lists.proofs.Orders.{same-refl}
 use Rattle.drm_gem.specs.Objects.{ObjectSet}
@@ -6,7 +6,7 @@ use Rattle.drm_share.specs.declared.rows.SharedToken.{SharedToken}
 use Rattle.drm_share.specs.Tokens.{TokenList}
 use Rattle.drm_state.specs.Parts.{token_keys, without_tokens_of}
 use Rattle.drm_state.specs.Ties.{AreTied, AreThoseNamed}
-use Rattle.drm_state.proofs.Counting.{IsStep, all_named, same_references}
+use Rattle.drm_state.proofs.Counting.{all_named, same_references}
 use Rattle.drm_state.proofs.Contents.{has_reference, unreferred_step, unrefer_limit}
 use Rattle.drm_state.proofs.Naming.{same-append}
 use Rattle.drm_state.proofs.Taken.{IsTaken, first_taken, none_taken}

@@ -1,4 +1,4 @@
-use Rattle.std.proofs.Common.{◌≡◌, ℕ, ◌+◌, ◌<◌, Bool, true, false, not, List, [], ◌∷◌, find, None, Some, Option, refl, sym, ap, subst, ◌∙◌, arith, inl, length, length-append}
+use Rattle.std.proofs.Common.{◌≡◌, ℕ, ◌<◌, Bool, true, false, not, List, [], ◌∷◌, find, None, Some, Option, refl, sym, ap, subst, ◌∙◌, arith, inl, length, length-append}
 use Rattle.std.specs.Option.{is_some, option_map, option_map_or, option_and_then}
 use Rattle.std.proofs.lemmas.Result.{err_from_is_err_and}
 use Rattle.drm_table.specs.declared.answers.Answer.TheVariants.{Opened}
@@ -26,7 +26,7 @@ use Rattle.drm_state.proofs.Members.{found_last}
 use Rattle.drm_state.proofs.Outcomes.{denied, carried_on, refused, opening_verdict, client_room}
 use Rattle.drm_state.proofs.Represented.{masters_are, masters_so, kept_have_tokens, tokens_of_lessees}
 use Rattle.drm_client_calls.proofs.Opened.{joined, with_file, not_full, newer, room_for, back, closed_again}
-use Rattle.drm_client_calls.proofs.Redeemed.{at_key, not_leased, no_token, of_lessee, lease_flags, opens, its_row, redeemed_tied, redeemed_represents, unredeemed, with_redeemer}
+use Rattle.drm_client_calls.proofs.Redeemed.{not_leased, no_token, of_lessee, lease_flags, opens, its_row, redeemed_tied, redeemed_represents, unredeemed, with_redeemer}
 use Rattle.drm_client_calls.proofs.openings.open_lease.Goals as goal
 
 accepted : (w : Rows) (token : ℕ) (root universal : Bool) → is_some (lease_master w token) ≡ true → has_client_room w ≡ true → verdict w (Open (Lease token root universal)) ≡ None

@@ -1,4 +1,4 @@
-use Rattle.std.proofs.Common.{◌≡◌, ℕ, Bool, ◌+◌, ◌<◌, true, false, not, [], ◌∷◌, None, Some, Option, refl, sym, ap, subst, ◌∙◌, arith, inl, length, length-append}
+use Rattle.std.proofs.Common.{◌≡◌, ℕ, Bool, ◌+◌, ◌<◌, true, false, not, [], ◌∷◌, None, Some, Option, refl, sym, ap, subst, ◌∙◌, arith, inl, length, length-append, ◌++◌}
 use Rattle.std.proofs.lemmas.Result.{err_from_is_err_and}
 use Rattle.drm_table.specs.declared.answers.Answer.TheVariants.{Opened}
 use Rattle.drm_table.specs.declared.events.Event.TheVariants.{Open}
@@ -10,21 +10,19 @@ use Rattle.drm_model.specs.Verdict.{verdict}
 use Rattle.drm_model.specs.Clients.{opening_checks, opened, opened_primary}
 use Rattle.drm_model.specs.Change.{changed}
 use Rattle.drm_model.specs.Reply.{answer_of}
-use Rattle.drm_masters.specs.declared.rows.Member.{Member}
 use Rattle.drm_masters.specs.Masters.{MasterSet, AreMasters}
 use Rattle.drm_masters.specs.Calls as masters
 use Rattle.drm_state.specs.Refinement.{Owes, Represents}
-use Rattle.std.specs.Prelude.{nat_le, if◌then◌else◌}
+use Rattle.std.specs.Prelude.{if◌then◌else◌}
 use Rattle.std.specs.Option.{is_none, is_some}
-use Rattle.drm_files.specs.Files.{FileLists}
-use Rattle.std.proofs.lemmas.Bool.Decides.{nat_tests}
-use Rattle.drm_lists.proofs.Lists.{all_weaker}
 use Rattle.drm_files.specs.Files.{is_present, without_client}
 use Rattle.drm_state.specs.declared.state.State.{State}
 use Rattle.drm_leases.specs.Calls.{IsNewLessee}
 use Rattle.drm_state.specs.Ties.{IsTied, IsLater, AreOfLessees, AreKeptBy}
-use Rattle.drm_state.proofs.Members.{older, found_last}
-use Rattle.drm_state.proofs.Represented.{device_master_is, members_open, masters_so, magics_suffice, leases_so, tokens_of_lessees, kept_have_tokens}
+use Rattle.drm_state.proofs.Members.{found_last}
+use Rattle.drm_leases.specs.Agreed.{AreAgreed}
+use Rattle.drm_leases.proofs.Agreeing.{agreed_joined, agreed_more}
+use Rattle.drm_state.proofs.Represented.{device_master_is, leases_so, tokens_of_lessees, kept_have_tokens, leases_agree}
 use Rattle.drm_state.proofs.Ended.{fresh_token, kept_more, of_lessees_more}
 use Rattle.drm_client_calls.proofs.Opened.{not_full, newer, room_for, back, closed_again, joined, joined_tied, guest_represents, founder_represents}
 use Rattle.drm_state.proofs.Outcomes.{denied, carried_on, refused, opening_verdict, client_room}
@@ -83,10 +81,12 @@ tied_by s b g new None t newest are h =
     joined_tied s g (masters.owner b b) new s.leases t (ap (λ (v : MasterSet). v.members) h.2) are (leases_so s t)
     (subst (λ (v : MasterSet). AreOfLessees s.leases.tokens v.masters) (sym h.2) (of_lessees_more s.leases.tokens s.masters.masters (masters.own_master h.0 b) (tokens_of_lessees s t)))
     (subst (λ (v : MasterSet). AreKeptBy s.leases.tokens v.masters) (sym h.2) (kept_more s.leases.tokens s.masters.masters (masters.own_master h.0 b) (kept_have_tokens s t) refl newest.tokens))
+    (subst (λ (v : MasterSet). AreAgreed s.leases v) (sym h.2) (agreed_joined s.masters.members (masters.owner b b) (s.masters.masters ++ masters.own_master h.0 b ∷ []) s.leases.lendings (agreed_more s.masters.members s.masters.masters (masters.own_master h.0 b) s.leases.lendings (leases_agree s t))))
     (ap (λ (v : MasterSet). v.last_magic) h.2) (ap (λ (v : MasterSet). v.last_lessee) h.2)
 tied_by s b g new (Some m) t newest are h =
     joined_tied s g (masters.guest b m) new s.leases t (ap (λ (v : MasterSet). v.members) h) are (leases_so s t)
     (subst (λ (v : MasterSet). AreOfLessees s.leases.tokens v.masters) (sym h) (tokens_of_lessees s t)) (subst (λ (v : MasterSet). AreKeptBy s.leases.tokens v.masters) (sym h) (kept_have_tokens s t))
+    (subst (λ (v : MasterSet). AreAgreed s.leases v) (sym h) (agreed_joined s.masters.members (masters.guest b m) s.masters.masters s.leases.lendings (leases_agree s t)))
     (ap (λ (v : MasterSet). v.last_magic) h) (ap (λ (v : MasterSet). v.last_lessee) h)
 
 pub returns-clause-tied : goal.returns-clause-tied

@@ -23,6 +23,7 @@ use Rattle.drm_state.specs.declared.state.State.{State}
 use Rattle.drm_state.specs.Ties.{IsTied}
 use Rattle.drm_state.specs.Refinement.{OwesCall, Represents}
 use Rattle.drm_state.specs.Seeing.{has_universal}
+use Rattle.drm_state.proofs.Represented.{leases_agree}
 use Rattle.drm_state.proofs.Outcomes.{denied, refused, carried_on}
 use Rattle.drm_state.proofs.Seeing.{topology_is}
 use Rattle.drm_state.proofs.Callers.{file_of, never_admitted, own_master_is}
@@ -46,6 +47,9 @@ unfolding OwesCall
 returns-in_default-clause-owes c = λ w r admitted.
     absurd (never_admitted c.args.state.now w c.args.client (CreateLease c.args.ids.now) c.requires.ready.tied c.requires.present r.rows (create_lease_flags c.args.ids.now) (sym c.member.ensures.member ∙ c.in_default.is) admitted)
 
+pub create-requires-clause-agreed : goal.create-requires-clause-agreed
+create-requires-clause-agreed c = leases_agree c.args.state.now c.requires.ready.tied
+
 pub returns-in-Ok-clause-tied : goal.returns-in-Ok-clause-tied
 returns-in-Ok-clause-tied c =
     let s = c.args.state.now in
@@ -54,9 +58,9 @@ returns-in-Ok-clause-tied c =
     let x = c.in-Some._member in
     let made = c.in-Ok.made in
     let objects = listed_objects s.modes.topology (leased s.leases s.masters s.modes x.master (has_universal s c.args.client) ids) in
-    let by = came s x step c.create.new.self c.create.new.masters (sym c.member.ensures.member ∙ c.in-Some.is) c.in-Ok.is c.ids.ensures.ids c.has_universal-universal.ensures c.create.ensures in
+    let by = came s x step c.create.new.self c.create.new.masters (sym c.member.ensures.member ∙ c.in-Some.is) c.in-Ok.is c.ids.ensures.ids c.has_universal-universal.ensures c.create.ensures.created in
     subst (λ (l : LeaseSet). IsTied (record s { masters = c.create.new.masters; leases = l })) (sym by.3)
-    (subst (λ (v : MasterSet). IsTied (record s { masters = v; leases = with_lease made.token step objects s.leases })) (sym by.4.2)
+    (subst (λ (v : MasterSet). IsTied (record s { masters = v; leases = with_lease made.token step x.master objects s.leases })) (sym by.4.2)
     (leased_tied s by.4.0 step x.master made.id made.token objects c.requires.ready.later.masters c.requires.ready.later.leases c.requires.ready.tied (subst AreMasters by.4.2 c.laws.ensures) (subst AreLeases by.3 c.laws-in-Ok.ensures)))
 
 pub returns-in-Ok-clause-owes : goal.returns-in-Ok-clause-owes
@@ -72,7 +76,7 @@ returns-in-Ok-clause-owes c = λ w r admitted.
     let made = c.in-Ok.made in
     let look = sym c.member.ensures.member ∙ c.in-Some.is in
     let objects = listed_objects s.modes.topology (leased s.leases s.masters s.modes x.master (has_universal s c.args.client) ids) in
-    let by = came s x step c.create.new.self c.create.new.masters look c.in-Ok.is c.ids.ensures.ids c.has_universal-universal.ensures c.create.ensures in
+    let by = came s x step c.create.new.self c.create.new.masters look c.in-Ok.is c.ids.ensures.ids c.has_universal-universal.ensures c.create.ensures.created in
     let file = file_of s client c.requires.present in
     let own = own_master_is s w client file.0 x h file.1 look in
     let none = create_verdict s w t h client x c.requires.present look ids own admitted ∙ by.0 in
@@ -84,7 +88,7 @@ returns-in-Ok-clause-owes c = λ w r admitted.
     carried_on new w (Ask client (CreateLease ids)) (Lease made.id made.token) (returns-in-Ok-clause-tied c) none (λ i. Lease (sym id_is i) (sym token_is i))
     (subst (Represents new) (sym (λ i. leased_rows w (own i) (r.birth_is i) (id_is i) (token_is i) all))
     (subst (λ (l : LeaseSet). Represents (record s { masters = c.create.new.masters; leases = l }) (leased_rows w x.master step made.id made.token all)) (sym by.3)
-    (subst (λ (v : MasterSet). Represents (record s { masters = v; leases = with_lease made.token step objects s.leases }) (leased_rows w x.master step made.id made.token all)) (sym by.4.2)
+    (subst (λ (v : MasterSet). Represents (record s { masters = v; leases = with_lease made.token step x.master objects s.leases }) (leased_rows w x.master step made.id made.token all)) (sym by.4.2)
     (leased_represents s by.4.0 step x.master made.id made.token objects c.requires.ready.later.masters c.requires.ready.later.leases w h all same))))
 
 pub returns-in-Err-Denied-clause-owes : goal.returns-in-Err-Denied-clause-owes
@@ -95,7 +99,7 @@ returns-in-Err-Denied-clause-owes c = λ w r admitted.
     let client = c.args.client in
     let x = c.in-Some._member in
     let look = sym c.member.ensures.member ∙ c.in-Some.is in
-    let by = came s x c.args.birth c.create.new.self c.create.new.masters look (c.in-Err-Denied.is ∙ ap Err c.in-Err-Denied.field-0-is) c.ids.ensures.ids c.has_universal-universal.ensures c.create.ensures in
+    let by = came s x c.args.birth c.create.new.self c.create.new.masters look (c.in-Err-Denied.is ∙ ap Err c.in-Err-Denied.field-0-is) c.ids.ensures.ids c.has_universal-universal.ensures c.create.ensures.created in
     let file = file_of s client c.requires.present in
     let own = own_master_is s w client file.0 x r.rows file.1 look in
     denied (record s { masters = c.create.new.masters; leases = c.create.new.self }) w (Ask client (CreateLease ids)) c.in-Err-Denied.rule
@@ -110,7 +114,7 @@ returns-in-Err-NoMemory-clause-owes c = λ w r admitted.
     let client = c.args.client in
     let x = c.in-Some._member in
     let look = sym c.member.ensures.member ∙ c.in-Some.is in
-    let by = came s x c.args.birth c.create.new.self c.create.new.masters look (c.in-Err-NoMemory.is ∙ ap Err c.in-Err-NoMemory.field-0-is) c.ids.ensures.ids c.has_universal-universal.ensures c.create.ensures in
+    let by = came s x c.args.birth c.create.new.self c.create.new.masters look (c.in-Err-NoMemory.is ∙ ap Err c.in-Err-NoMemory.field-0-is) c.ids.ensures.ids c.has_universal-universal.ensures c.create.ensures.created in
     let file = file_of s client c.requires.present in
     let own = own_master_is s w client file.0 x r.rows file.1 look in
     refused (record s { masters = c.create.new.masters; leases = c.create.new.self }) w (Ask client (CreateLease ids)) _

@@ -19,6 +19,7 @@ use Rattle.drm_model.specs.Change.{changed, swept}
 use Rattle.drm_model.specs.Reply.{answer_of}
 use Rattle.drm_state.specs.Ties.{IsTied}
 use Rattle.drm_state.specs.Refinement.{OwesReply, Represents}
+use Rattle.drm_state.proofs.Represented.{leases_agree}
 use Rattle.drm_state.proofs.Outcomes.{denied, carried}
 use Rattle.drm_state.proofs.Callers.{file_of, never_admitted, own_master_is}
 use Rattle.drm_lease_calls.proofs.Flags.{revoke_lease_flags}
@@ -64,6 +65,9 @@ returns-then-not-is_lent_by-clause-owes c = λ w h admitted.
     let one = looked s.masters x.master c.in-Some-master.master.key c.args.lessee c.lessee.result (Some lessee) c.in-Some-master.ensures.keyed c.lessee.ensures.lessee c.in-Some-lessee.is in
     denied s w (Ask client (RevokeLease c.args.lessee)) NotYourLessee
     (revoke_verdict s w h client x.master c.args.lessee (Some lessee) own admitted one ∙ ap (λ b. first_failing (check NotYourLessee b ∷ [])) (sym c.is_lent_by.ensures ∙ c.if-not-is_lent_by.true)) h
+
+pub revoke-requires : goal.revoke-requires
+revoke-requires c = leases_agree c.args.state.now c.requires.tied
 
 pub returns-clause-tied : goal.returns-clause-tied
 returns-clause-tied c =

@@ -7,6 +7,6 @@ use Rattle.drm_leases.proofs.rules.controlled.Given as goal
 abbrev pub invariant-loop-plane : goal.invariant-loop-plane
 invariant-loop-plane l =
     record {
-      told : l.list ++ filter (controls (grants_in l.granted.masks.items) l.masters.masters l.master) (drop l.plane-index l.planes) ≡ filter (controls (grants_in l.granted.masks.items) l.masters.masters l.master) l.planes;
+      told : l.list ++ filter (controls (grants_in l.granted.rows) l.masters.masters l.master) (drop l.plane-index l.planes) ≡ filter (controls (grants_in l.granted.rows) l.masters.masters l.master) l.planes;
       short : length l.list ≤ l.plane-index;
     }

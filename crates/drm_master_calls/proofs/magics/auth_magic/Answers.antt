@@ -6,29 +6,29 @@ use Rattle.std.specs.Option.{is_some}
 use Rattle.drm_table.specs.declared.events.Event.TheVariants.{Ask}
 use Rattle.drm_table.specs.declared.rules.Rule.TheVariants.{NoMagic}
 use Rattle.drm_table.specs.Permit.{check, first_failing}
-use Rattle.drm_masters.specs.Masters.{MasterSet, has_open_magic}
+use Rattle.drm_masters.specs.Masters.{MasterSet, has_open_magic, member_of}
 use Rattle.drm_masters.specs.Calls.{AuthenticatedBy}
 use Rattle.drm_model.specs.Magics as model
 use Rattle.drm_model.specs.Calls.{meaning}
 use Rattle.drm_state.specs.Refinement.{Represents}
 use Rattle.drm_state.specs.Ties.{IsTied, AreOfLessees, AreKeptBy}
 use Rattle.drm_state.proofs.Outcomes.{denied, call_verdict}
-use Rattle.drm_state.proofs.Represented.{members_open}
+use Rattle.drm_leases.specs.Agreed.{AreAgreed}
+use Rattle.drm_leases.proofs.Agreeing.{agreed_changed}
+use Rattle.drm_state.proofs.Represented.{members_open, leases_agree}
 use Rattle.drm_files.specs.Files.{is_present}
-use Rattle.drm_lists.proofs.Rising.{found}
+use Rattle.drm_lists.proofs.Rising.{found, all_found}
 use Rattle.drm_masters.specs.declared.rows.Member.{Member}
 use Rattle.drm_state.proofs.Callers.{file_of, never_admitted, its_master}
 use Rattle.drm_master_calls.proofs.Callers.{opens}
 use Rattle.drm_master_calls.proofs.Flags.{auth_magic_flags}
 use Rattle.drm_master_calls.proofs.Authenticated.{changed_tied, authenticated_tied}
 use Rattle.drm_master_calls.proofs.Spent.{client_is, spent_represents}
-use Rattle.drm_masters.specs.declared.rows.Master.{Master}
 use Rattle.drm_masters.specs.Calls.{with_magic}
 use Rattle.drm_files.specs.Files.{with_authenticated}
 use Rattle.drm_table.specs.declared.answers.Answer.TheVariants.{Done}
 use Rattle.drm_model.specs.Change.{changed}
 use Rattle.drm_model.specs.Reply.{answer_of}
-use Rattle.std.specs.List.{AllByRecursion}
 use Rattle.drm_state.proofs.Outcomes.{carried_on}
 use Rattle.drm_state.proofs.Represented.{tokens_of_lessees, kept_have_tokens, magics_are, masters_so}
 use Rattle.drm_master_calls.proofs.magics.auth_magic.Goals as goal
@@ -78,10 +78,13 @@ returns-in-Ok-clause-tied c =
     let look = sym c.member.ensures.member ∙ c.in-Some.is in
     let done = subst (λ o. IfSome o (λ y. AuthenticatedBy s.masters y.master c.args.number c.auth.result c.auth.new.self)) look c.auth.ensures in
     let by = subst (λ r. AuthenticatedBy s.masters x.master c.args.number r c.auth.new.self) c.in-Ok.is done in
+    let rise = (masters_so s c.requires.tied).members_rise in
+    let here = (found (has_open_magic x.master c.args.number) (λ (z : Member). member_of s.masters.members z.client ≡ Some z) by.0 s.masters.members (all_found (λ (z : Member). z.client) s.masters.members rise) by.1).1 in
     subst (λ fs. IsTied (record s { files = fs; masters = c.auth.new.self })) (sym c.set_authenticated.ensures)
     (authenticated_tied (record s { masters = c.auth.new.self }) c.in-Ok.authenticated
     (changed_tied s (with_magic c.args.number true by.0) c.auth.new.self c.requires.tied (ap (λ (v : MasterSet). v.members) by.3) c.laws.ensures
     (subst (λ (v : MasterSet). AreOfLessees s.leases.tokens v.masters) (sym by.3) (tokens_of_lessees s c.requires.tied)) (subst (λ (v : MasterSet). AreKeptBy s.leases.tokens v.masters) (sym by.3) (kept_have_tokens s c.requires.tied))
+    (subst (λ (v : MasterSet). AreAgreed s.leases v) (sym by.3) (agreed_changed s.masters.members by.0 (with_magic c.args.number true by.0) s.masters.masters s.leases.lendings rise here (λ n its. its) (leases_agree s c.requires.tied)))
     (ap (λ (v : MasterSet). v.last_magic) by.3) (ap (λ (v : MasterSet). v.last_lessee) by.3)))
 
 pub returns-in-Ok-clause-owes : goal.returns-in-Ok-clause-owes

@@ -87,10 +87,10 @@ returns-in-Ok-Made-clause-tied c =
     let look = sym c.member.ensures.member ∙ c.in-Some.is in
     let x = c.in-Some._member in
     let by = came s x c.is_root-root.result c.args.birth c.set.new.self look (c.in-Ok-Made.is ∙ ap Ok c.in-Ok-Made.field-0-is) c.set.ensures in
-    let num = (same_client s.masters.members c.args.client x look).0 in
-    subst (λ fs. IsTied (record s { files = fs; masters = c.set.new.self })) (sym (c.set_authenticated.ensures ∙ ap (with_authenticated s.files) (sym num)))
+    let same = same_client s.masters.members c.args.client x look in
+    subst (λ fs. IsTied (record s { files = fs; masters = c.set.new.self })) (sym (c.set_authenticated.ensures ∙ ap (with_authenticated s.files) (sym same.0)))
     (subst (λ v. IsTied (record s { files = with_authenticated s.files x.client; masters = v })) (sym by.1.2.2)
-    (remade_tied s x by.1.2.0 c.args.birth c.requires.ready.tied c.requires.ready.later.leases.tokens (subst AreMasters by.1.2.2 c.laws.ensures)))
+    (remade_tied s x by.1.2.0 c.args.birth c.requires.ready.tied c.requires.ready.later.leases.tokens (subst AreMasters by.1.2.2 c.laws.ensures) same.1 by.1.1))
 
 pub returns-in-Ok-Made-clause-owes : goal.returns-in-Ok-Made-clause-owes
 unfolding OwesCall meaning changed answer_of
@@ -112,7 +112,7 @@ returns-in-Ok-Made-clause-owes c = λ w r admitted.
     (subst (λ fs. Represents (record s { files = fs; masters = c.set.new.self }) (swept (own_rows w c.args.client c.args.birth))) (sym c.set_authenticated.ensures)
     (subst (λ n. Represents (record s { files = with_authenticated s.files n; masters = c.set.new.self }) (swept (own_rows w n c.args.birth))) same.0
     (subst (λ v. Represents (record s { files = with_authenticated s.files x.client; masters = v }) (swept (own_rows w x.client c.args.birth))) (sym by.1.2.2)
-    (remade_represents s x by.1.2.0 c.args.birth c.requires.ready.tied c.requires.ready.later.leases.tokens (subst AreMasters by.1.2.2 c.laws.ensures) w same.1 r.rows)))))))
+    (remade_represents s x by.1.2.0 c.args.birth c.requires.ready.tied c.requires.ready.later.leases.tokens (subst AreMasters by.1.2.2 c.laws.ensures) same.1 by.1.1 w r.rows)))))))
 
 pub returns-in-Err-Denied-clause-tied : goal.returns-in-Err-Denied-clause-tied
 returns-in-Err-Denied-clause-tied c =

@@ -5,4 +5,7 @@ pub enter-requires-clause-room : goal.enter-requires-clause-room
 enter-requires-clause-room g c = c.lease-made.ensures.room 1 c.in_ok-masters.ensures.room
 
 pub lease-below-requires-clause-lessees : goal.lease-below-requires-clause-lessees
-lease-below-requires-clause-lessees g c = later_lessees c.redeem-2.new.leases 3 (record { tokens = c.redeem-2.ensures.tokens; grants = c.redeem-2.ensures.grants })
+lease-below-requires-clause-lessees g c = later_lessees c.redeem-2.new.leases 3 (record { tokens = c.redeem-2.ensures.lessees.tokens; grants = c.redeem-2.ensures.lessees.grants })
+
+pub lease-below-requires-clause-agreed : goal.lease-below-requires-clause-agreed
+lease-below-requires-clause-agreed g c = c.enter.ensures.agreed c.redeem-2.new.leases (c.redeem-2.ensures.agreed c.lease-made.new.masters (c.redeem.ensures.agreed c.lease-made.new.masters c.lease-made.ensures.agreed))

@@ -1,11 +1,16 @@
-use Rattle.std.proofs.Common.{ℕ, ap, sym, subst, ◌∙◌}
+use Rattle.std.proofs.Common.{ap, sym, subst, ◌∙◌}
+use Rattle.std.specs.List.{AllByRecursion}
 use Rattle.drm_index_array.specs.Indexed.{Indexed}
-use Rattle.drm_leases.specs.Masks.{grants_in, AreFull}
-use Rattle.drm_leases.proofs.Granting.{all_grants, no_leases, none_full}
+use Rattle.drm_lists.specs.Orders.{InOrder}
+use Rattle.drm_leases.specs.declared.rows.LeaseRecord.{LeaseRecord}
+use Rattle.drm_leases.specs.Masks.{LeaseRows, leases_in, IsFull, AreApart, is_lent}
+use Rattle.drm_leases.proofs.Granting.{no_leases}
 use Rattle.drm_leases.proofs.granted.Granted.new.Goals as goal
 
-pub returns-clause-none : goal.returns-clause-none
-returns-clause-none c = ap (λ (a : Indexed ℕ). grants_in a.items) c.new.ensures ∙ ap all_grants no_leases
+pub invariant_of-result : goal.invariant_of-result
+invariant_of-result c =
+    let none = ap (λ (a : Indexed LeaseRecord). leases_in a.items) c.new.ensures ∙ no_leases in
+    record { full = subst (AllByRecursion IsFull) (sym none) tt; apart = subst (InOrder AreApart) (sym none) tt; lent = λ m x. c.new-2.ensures m x ∙ sym (ap (λ l. is_lent l m x) none) }
 
-pub returns-clause-full : goal.returns-clause-full
-returns-clause-full c = subst (λ (a : Indexed ℕ). AreFull a.items) (sym c.new.ensures) none_full
+pub returns : goal.returns
+returns c = ap (λ l. let rows : LeaseRows = record { rows = l } in rows) (ap (λ (a : Indexed LeaseRecord). leases_in a.items) c.new.ensures ∙ no_leases)

@@ -1,25 +1,27 @@
-use Rattle.std.proofs.Common.{option_map, option_and_then, ap, ◌∙◌}
+use Rattle.std.proofs.Common.{Some, option_map, option_and_then, ap, ◌∙◌}
+use Rattle.std.specs.Prelude.{slice_get}
 use Rattle.std.specs.FinMap as fin
-use Rattle.drm_leases.specs.Masks.{lease_row}
+use Rattle.drm_leases.specs.Masks.{LeaseRows, lease_row}
 use Rattle.drm_leases.proofs.Granting.{lease_at}
 use Rattle.drm_leases.proofs.granted.Granted.nth.Goals as goal
 
 pub returns-in_err-lessee : goal.returns-in_err-lessee
 returns-in_err-lessee c =
-    let masks = c.args.self.now.masks.items in
-    c.from_residual.ensures ∙ ap (option_and_then (λ m. option_map (λ v. lease_row (m, v)) (fin.get masks m))) c.in_err-lessee.ensures.nth ∙ lease_at masks c.args.place
+    let kept = c.self.inside.leases.items in
+    c.from_residual.ensures ∙ ap (option_and_then (λ m. option_map (λ v. lease_row (m, v)) (fin.get kept m))) c.in_err-lessee.ensures.nth ∙ lease_at kept c.args.place ∙ ap (λ (a : LeaseRows). slice_get a.rows c.args.place) c.self.view_is
 
-pub returns-in_err-objects : goal.returns-in_err-objects
-returns-in_err-objects c =
-    let masks = c.args.self.now.masks.items in
-    c.from_residual-in_err-objects.ensures
-    ∙ ap (option_map (λ v. lease_row (c.in_ok-lessee.lessee, v))) c.in_err-objects.ensures.value
-    ∙ ap (option_and_then (λ m. option_map (λ v. lease_row (m, v)) (fin.get masks m))) c.in_ok-lessee.ensures.nth
-    ∙ lease_at masks c.args.place
+pub returns-in_err-kept : goal.returns-in_err-kept
+returns-in_err-kept c =
+    let kept = c.self.inside.leases.items in
+    c.from_residual-in_err-kept.ensures
+    ∙ ap (option_map (λ v. lease_row (c.in_ok-lessee.lessee, v))) c.in_err-kept.ensures.value
+    ∙ ap (option_and_then (λ m. option_map (λ v. lease_row (m, v)) (fin.get kept m))) c.in_ok-lessee.ensures.nth
+    ∙ lease_at kept c.args.place ∙ ap (λ (a : LeaseRows). slice_get a.rows c.args.place) c.self.view_is
 
 pub returns : goal.returns
 returns c =
-    let masks = c.args.self.now.masks.items in
-    ap (option_map (λ v. lease_row (c.in_ok-lessee.lessee, v))) c.in_ok-objects.ensures.value
-    ∙ ap (option_and_then (λ m. option_map (λ v. lease_row (m, v)) (fin.get masks m))) c.in_ok-lessee.ensures.nth
-    ∙ lease_at masks c.args.place
+    let kept = c.self.inside.leases.items in
+    ap Some c.lease_of.ensures
+    ∙ ap (option_map (λ v. lease_row (c.in_ok-lessee.lessee, v))) c.in_ok-kept.ensures.value
+    ∙ ap (option_and_then (λ m. option_map (λ v. lease_row (m, v)) (fin.get kept m))) c.in_ok-lessee.ensures.nth
+    ∙ lease_at kept c.args.place ∙ ap (λ (a : LeaseRows). slice_get a.rows c.args.place) c.self.view_is

@@ -1,22 +1,28 @@
-use Rattle.std.proofs.Common.{◌≡◌, ℕ, ◌<◌, ◌≤◌, ◌==◌, not, [], ◌∷◌, ◌++◌, map, filter, length, None, Some, sym, ap, subst, ◌∙◌}
-use Rattle.std.specs.Prelude.{IfSome, Err}
+use Rattle.std.proofs.Common.{◌≡◌, ℕ, ◌<◌, ◌≤◌, ◌==◌, not, [], ◌∷◌, ◌++◌, map, filter, length, None, Some, refl, sym, ap, subst, ◌∙◌, append-nil}
+use Rattle.std.specs.Prelude.{IfSome, Ok, Err}
 use Rattle.std.specs.List.{AllByRecursion}
 use Rattle.drm_masters.specs.declared.faults.LesseeFault.{LesseeFault}
 use Rattle.drm_masters.specs.declared.faults.LesseeFault.TheVariants.{Full, NoMemory as LesseeNoMemory}
 use Rattle.drm_masters.specs.declared.rows.Member.{Member}
-use Rattle.drm_masters.specs.Masters.{MasterSet, member_of}
+use Rattle.drm_masters.specs.Masters.{MasterSet, member_of, birth_at}
 use Rattle.drm_masters.specs.Calls.{MadeLessee}
 use Rattle.drm_leases.specs.declared.faults.LeaseFault.TheVariants.{NoMemory}
 use Rattle.drm_table.specs.Permit.{first_failing}
 use Rattle.drm_leases.specs.declared.rows.Grant.{Grant}
 use Rattle.drm_leases.specs.Fields.{set_of}
-use Rattle.drm_leases.specs.Leases.{LeaseSet, AreLeases, next_token}
+use Rattle.drm_leases.specs.Leases.{LeaseSet, is_leased_out, AreLeases, next_token}
 use Rattle.drm_leases.specs.Rules.{lease_checks, leased}
-use Rattle.drm_leases.specs.Calls.{Created, grant, lease_token, with_lease, listed_objects}
-use Rattle.drm_leases.specs.Masks.{is_empty, objects_in, grants_in}
+use Rattle.drm_leases.specs.declared.rows.Lease.{Lease}
+use Rattle.drm_leases.specs.Calls.{Created, grant, lending, lease_token, with_lease, listed_objects}
+use Rattle.drm_leases.specs.Masks.{is_empty, objects_in, lease, grants_of, grants_in, lendings_in}
+use Rattle.drm_leases.specs.Agreed.{IsAgreed, AreAgreed}
+use Rattle.drm_leases.specs.declared.rows.Leased.{Leased}
 use Rattle.drm_leases.proofs.Bits.{few_objects}
-use Rattle.drm_leases.proofs.Denied.{passed, shaped, lease_filled, some_none, master_there}
-use Rattle.drm_leases.proofs.Sound.{sound, lease_are, taken_back}
+use Rattle.drm_leases.proofs.Keyed.{keyed_birth}
+use Rattle.drm_leases.proofs.Denied.{passed, unlent, shaped, lease_filled, some_none, master_there}
+use Rattle.drm_leases.proofs.Sound.{still, lease_are, taken_back}
+use Rattle.drm_leases.proofs.Granting.{all_older, grants_both, lendings_both}
+use Rattle.drm_leases.proofs.Agreeing.{agreed_lent, leased_out_is}
 use Rattle.drm_leases.proofs.Listed.{objects_rise}
 use Rattle.drm_leases.proofs.leases.Leases.create.Goals as goal
 
@@ -31,10 +37,9 @@ pub unreachable-requires-in_default-master : goal.unreachable-requires-in_defaul
 unreachable-requires-in_default-master c = some_none _ (master_there c.args.masters.now c.member.ensures.are c.args.client c.in-Some.member (sym c.member.ensures.member ∙ c.in-Some.is)) (sym c.master.ensures.master ∙ c.in_default-master.is)
 
 pub add-requires-clause-newest : goal.add-requires-clause-newest
-add-requires-clause-newest c = subst (λ (v : LeaseSet). AllByRecursion (λ (g : Grant). g.master < c.args.birth) v.grants) (sym c.self.view_is) c.requires.new_lessee.grants
-
-pub add-requires-clause-full : goal.add-requires-clause-full
-add-requires-clause-full c = c.self.invariant.full
+add-requires-clause-newest c =
+    let grants = subst (λ (v : LeaseSet). AllByRecursion (λ (g : Grant). g.master < c.args.birth) v.grants) (sym c.self.view_is) c.requires.new_lessee.grants in
+    all_older c.args.birth c.self.inside.granted.rows c.laws.ensures.full grants
 
 pub add-requires-clause-some : goal.add-requires-clause-some
 add-requires-clause-some c =
@@ -42,21 +47,39 @@ add-requires-clause-some c =
     let none : first_failing (lease_checks v c.args.masters.now c.args.modes.now c.in-Some.member.master c.args.universal c.args.ids.now) ≡ None = sym c.denied.ensures ∙ c.in_default-denied.is in
     ap is_empty c.listed_mask-objects.ensures ∙ lease_filled c.args.modes.now.topology c.args.universal c.args.ids.now c.ids-along.result.now (shaped v c.args.masters.now c.args.modes.now c.in-Some.member.master c.args.universal c.args.ids.now none)
 
+-- rule 34
+pub add-requires-clause-unlent : goal.add-requires-clause-unlent
+add-requires-clause-unlent c =
+    let l = c.args.self.now in
+    let v = c.args.masters.now in
+    let m = c.in-Some.member.master in
+    let rows = c.self.inside.granted.rows in
+    let none : first_failing (lease_checks l v c.args.modes.now m c.args.universal c.args.ids.now) ≡ None = sym c.denied.ensures ∙ c.in_default-denied.is in
+    let along = c.ids-along.ensures.ids ∙ c.brought_along-planes.ensures in
+    let listed : objects_in c.listed_mask-objects.result ≡ listed_objects c.args.modes.now.topology (leased l v c.args.modes.now m c.args.universal c.args.ids.now) = c.listed_mask-objects.ensures ∙ ap (λ l. listed_objects c.args.modes.now.topology (c.args.ids.now ++ l)) along in
+    let agreed = subst (λ (a : LeaseSet). AllByRecursion (IsAgreed v.members v.masters) a.lendings) (sym c.self.view_is) c.requires.agreed in
+    λ x has. sym (leased_out_is v.members v.masters rows agreed m x) ∙ ap (λ (a : LeaseSet). is_leased_out a.grants v.masters m x) c.self.view_is ∙ unlent l v c.args.modes.now m c.args.universal c.args.ids.now none c.listed_mask-objects.result listed x has
+
 pub invariant_of-self-2 : goal.invariant_of-self-2
 invariant_of-self-2 c =
-    let are : AreLeases c.args.self.now = subst AreLeases c.self.view_is c.self.invariant.are in
+    let are : AreLeases c.args.self.now = subst AreLeases c.self.view_is c.self.invariant in
     let token = c.in-Some-next_token.token in
     let m = c.args.birth in
-    let all = leased c.args.self.now c.args.masters.now c.args.modes.now c.in-Some.member.master c.args.universal c.args.ids.now in
+    let lessor = c.in-Some.member.master in
+    let all = leased c.args.self.now c.args.masters.now c.args.modes.now lessor c.args.universal c.args.ids.now in
     let objects = listed_objects c.args.modes.now.topology all in
     let next : next_token c.args.self.now ≡ Some token = sym (c.next_token.ensures ∙ ap (λ l. next_token (record (set_of c.self.inside) { tokens = l })) c.deref.ensures.value ∙ ap next_token c.self.view_is) ∙ c.in-Some-next_token.is in
-    let tokens : c.push_reserved.new.self.items ≡ c.self.inside.tokens.items ++ lease_token token m ∷ [] = c.push_reserved.ensures.items ∙ ap (λ l. l ++ lease_token token m ∷ []) c.reserve.ensures.items in
     let along = c.ids-along.ensures.ids ∙ c.brought_along-planes.ensures in
     let listed : objects_in c.listed_mask-objects.result ≡ objects = c.listed_mask-objects.ensures ∙ ap (λ l. listed_objects c.args.modes.now.topology (c.args.ids.now ++ l)) along in
-    let grants : grants_in c.add.new.self.masks.items ≡ grants_in c.self.inside.granted.masks.items ++ map (grant m) objects = c.in_default-add.ensures.ok ∙ ap (λ l. grants_in c.self.inside.granted.masks.items ++ map (grant m) l) listed in
     let few : length objects ≤ 64 = subst (λ l. length l ≤ 64) listed (few_objects c.listed_mask-objects.result) in
-    sound _ (with_lease token m objects c.args.self.now) ((λ i. record (set_of c.self.inside) { tokens = tokens i; grants = grants i; last_given = Some token }) ∙ ap (with_lease token m objects) c.self.view_is)
-    (lease_are c.args.self.now are token m objects c.requires.new_lessee next (objects_rise c.args.modes.now.topology all) few) c.in_default-add.ensures.full
+    let tokens : c.push_reserved.new.self.items ≡ c.self.inside.tokens.items ++ lease_token token m ∷ [] = c.push_reserved.ensures.items ∙ ap (λ l. l ++ lease_token token m ∷ []) c.reserve.ensures.items in
+    let new = lease m lessor c.listed_mask-objects.result in
+    let old = c.self.inside.granted.rows in
+    let grants : grants_in c.add.new.self.rows ≡ grants_in old ++ map (grant m) objects = ap grants_in c.in_default-add.ensures.ok ∙ grants_both old (new ∷ []) ∙ ap (λ l. grants_in old ++ l) (append-nil (grants_of new) ∙ ap (map (grant m)) listed) in
+    let lendings : lendings_in c.add.new.self.rows ≡ lendings_in old ++ lending m lessor ∷ [] = ap lendings_in c.in_default-add.ensures.ok ∙ lendings_both old (new ∷ []) in
+    let now = (λ i. record (set_of c.self.inside) { tokens = tokens i; grants = grants i; lendings = lendings i; last_given = Some token }) ∙ ap (with_lease token m lessor objects) c.self.view_is in
+    still _ (with_lease token m lessor objects c.args.self.now) now
+    (lease_are c.args.self.now are token m lessor objects c.requires.new_lessee next (objects_rise c.args.modes.now.topology all) few)
 
 not_made : (v new : MasterSet) (m birth : ℕ) (why : LesseeFault) → MadeLessee v m birth (Err why) new → new ≡ v
 not_made v new m birth Full h = h.1
@@ -64,21 +87,74 @@ not_made v new m birth LesseeNoMemory h = h.1
 
 pub invariant_of-self-in_default-make_lessee : goal.invariant_of-self-in_default-make_lessee
 invariant_of-self-in_default-make_lessee c =
-    let v = c.args.self.now in
-    let are : AreLeases v = subst AreLeases c.self.view_is c.self.invariant.are in
-    let newest : AllByRecursion (λ (g : Grant). g.master < c.args.birth) (grants_in c.self.inside.granted.masks.items) = subst (λ (v : LeaseSet). AllByRecursion (λ (g : Grant). g.master < c.args.birth) v.grants) (sym c.self.view_is) c.requires.new_lessee.grants in
-    let back : grants_in c.remove.new.self.masks.items ≡ grants_in c.self.inside.granted.masks.items =
-    c.remove.ensures.rows ∙ ap (filter (λ (g : Grant). not (g.master == c.args.birth))) c.in_default-add.ensures.ok ∙ taken_back (grants_in c.self.inside.granted.masks.items) c.args.birth (objects_in c.listed_mask-objects.result) newest in
-    sound _ v ((λ i. record (set_of c.self.inside) { tokens = c.reserve.ensures.items i; grants = back i }) ∙ c.self.view_is) are (c.remove.ensures.full c.in_default-add.ensures.full)
+    let are : AreLeases c.args.self.now = subst AreLeases c.self.view_is c.self.invariant in
+    let grants = subst (λ (v : LeaseSet). AllByRecursion (λ (g : Grant). g.master < c.args.birth) v.grants) (sym c.self.view_is) c.requires.new_lessee.grants in
+    let old = c.self.inside.granted.rows in
+    let back : c.remove.new.self.rows ≡ old =
+    c.remove.ensures ∙ ap (filter (λ (x : Lease). not (x.lessee == c.args.birth))) c.in_default-add.ensures.ok ∙ taken_back old (lease c.args.birth c.in-Some.member.master c.listed_mask-objects.result) (all_older c.args.birth old c.laws.ensures.full grants) in
+    still _ c.args.self.now ((λ i. record (set_of c.self.inside) { tokens = c.reserve.ensures.items i; grants = grants_in (back i); lendings = lendings_in (back i) }) ∙ c.self.view_is) are
 
-pub returns-in_default-make_lessee : goal.returns-in_default-make_lessee
-returns-in_default-make_lessee c =
+pub returns-in_default-make_lessee-clause-created : goal.returns-in_default-make_lessee-clause-created
+returns-in_default-make_lessee-clause-created c =
     let v = c.args.self.now in
-    let newest : AllByRecursion (λ (g : Grant). g.master < c.args.birth) (grants_in c.self.inside.granted.masks.items) = subst (λ (v : LeaseSet). AllByRecursion (λ (g : Grant). g.master < c.args.birth) v.grants) (sym c.self.view_is) c.requires.new_lessee.grants in
-    let back : grants_in c.remove.new.self.masks.items ≡ grants_in c.self.inside.granted.masks.items =
-    c.remove.ensures.rows ∙ ap (filter (λ (g : Grant). not (g.master == c.args.birth))) c.in_default-add.ensures.ok ∙ taken_back (grants_in c.self.inside.granted.masks.items) c.args.birth (objects_in c.listed_mask-objects.result) newest in
+    let grants = subst (λ (v : LeaseSet). AllByRecursion (λ (g : Grant). g.master < c.args.birth) v.grants) (sym c.self.view_is) c.requires.new_lessee.grants in
+    let old = c.self.inside.granted.rows in
+    let back : c.remove.new.self.rows ≡ old =
+    c.remove.ensures ∙ ap (filter (λ (x : Lease). not (x.lessee == c.args.birth))) c.in_default-add.ensures.ok ∙ taken_back old (lease c.args.birth c.in-Some.member.master c.listed_mask-objects.result) (all_older c.args.birth old c.laws.ensures.full grants) in
     let none : first_failing (lease_checks v c.args.masters.now c.args.modes.now c.in-Some.member.master c.args.universal c.args.ids.now) ≡ None = sym c.denied.ensures ∙ c.in_default-denied.is in
     let look : member_of c.args.masters.now.members c.args.client ≡ Some c.in-Some.member = sym c.member.ensures.member ∙ c.in-Some.is in
-    let new : LeaseSet = record (set_of c.self.inside) { tokens = c.reserve.new.self.items; grants = grants_in c.remove.new.self.masks.items } in
+    let new : LeaseSet = record (set_of c.self.inside) { tokens = c.reserve.new.self.items; grants = grants_in c.remove.new.self.rows; lendings = lendings_in c.remove.new.self.rows } in
     subst (λ o. IfSome o (λ (z : Member). Created v c.args.masters.now c.args.modes.now z.master c.args.universal c.args.ids.now c.args.birth (Err NoMemory) new c.make_lessee.new.self)) (sym look)
-    (none, (λ i. record (set_of c.self.inside) { tokens = c.reserve.ensures.items i; grants = back i }) ∙ c.self.view_is, not_made c.args.masters.now c.make_lessee.new.self _ c.args.birth c.in_default-make_lessee.field-0 c.in_default-make_lessee.ensures)
+    (none, (λ i. record (set_of c.self.inside) { tokens = c.reserve.ensures.items i; grants = grants_in (back i); lendings = lendings_in (back i) }) ∙ c.self.view_is, not_made c.args.masters.now c.make_lessee.new.self _ c.args.birth c.in_default-make_lessee.field-0 c.in_default-make_lessee.ensures)
+
+pub returns-in_default-make_lessee-clause-agreed : goal.returns-in_default-make_lessee-clause-agreed
+returns-in_default-make_lessee-clause-agreed c =
+    let v = c.args.masters.now in
+    let grants = subst (λ (v : LeaseSet). AllByRecursion (λ (g : Grant). g.master < c.args.birth) v.grants) (sym c.self.view_is) c.requires.new_lessee.grants in
+    let old = c.self.inside.granted.rows in
+    let back : c.remove.new.self.rows ≡ old =
+    c.remove.ensures ∙ ap (filter (λ (x : Lease). not (x.lessee == c.args.birth))) c.in_default-add.ensures.ok ∙ taken_back old (lease c.args.birth c.in-Some.member.master c.listed_mask-objects.result) (all_older c.args.birth old c.laws.ensures.full grants) in
+    let lendings : lendings_in c.remove.new.self.rows ≡ c.args.self.now.lendings = ap lendings_in back ∙ ap (λ (a : LeaseSet). a.lendings) c.self.view_is in
+    subst (λ xs. AllByRecursion (IsAgreed c.make_lessee.new.self.members c.make_lessee.new.self.masters) xs) (sym lendings)
+    (subst (λ (w : MasterSet). AreAgreed c.args.self.now w) (sym (not_made v c.make_lessee.new.self _ c.args.birth c.in_default-make_lessee.field-0 c.in_default-make_lessee.ensures)) c.requires.agreed)
+
+pub returns-clause-created : goal.returns-clause-created
+returns-clause-created c =
+    let token = c.in-Some-next_token.token in
+    let m = c.args.birth in
+    let lessor = c.in-Some.member.master in
+    let l = c.args.self.now in
+    let v = c.args.masters.now in
+    let all = leased l v c.args.modes.now lessor c.args.universal c.args.ids.now in
+    let objects = listed_objects c.args.modes.now.topology all in
+    let next : next_token l ≡ Some token = sym (c.next_token.ensures ∙ ap (λ l. next_token (record (set_of c.self.inside) { tokens = l })) c.deref.ensures.value ∙ ap next_token c.self.view_is) ∙ c.in-Some-next_token.is in
+    let along = c.ids-along.ensures.ids ∙ c.brought_along-planes.ensures in
+    let listed : objects_in c.listed_mask-objects.result ≡ objects = c.listed_mask-objects.ensures ∙ ap (λ l. listed_objects c.args.modes.now.topology (c.args.ids.now ++ l)) along in
+    let tokens : c.push_reserved.new.self.items ≡ c.self.inside.tokens.items ++ lease_token token m ∷ [] = c.push_reserved.ensures.items ∙ ap (λ l. l ++ lease_token token m ∷ []) c.reserve.ensures.items in
+    let new = lease m lessor c.listed_mask-objects.result in
+    let old = c.self.inside.granted.rows in
+    let grants : grants_in c.add.new.self.rows ≡ grants_in old ++ map (grant m) objects = ap grants_in c.in_default-add.ensures.ok ∙ grants_both old (new ∷ []) ∙ ap (λ l. grants_in old ++ l) (append-nil (grants_of new) ∙ ap (map (grant m)) listed) in
+    let lendings : lendings_in c.add.new.self.rows ≡ lendings_in old ++ lending m lessor ∷ [] = ap lendings_in c.in_default-add.ensures.ok ∙ lendings_both old (new ∷ []) in
+    let now = (λ i. record (set_of c.self.inside) { tokens = tokens i; grants = grants i; lendings = lendings i; last_given = Some token }) ∙ ap (with_lease token m lessor objects) c.self.view_is in
+    let key_is : birth_at v.masters c.in-Some-master.lessor.key ≡ lessor = keyed_birth v.masters lessor c.in-Some-master.lessor.key c.in-Some-master.ensures.keyed in
+    let made = subst (λ k. MadeLessee v k m (Ok c.in-Ok.made) c.make_lessee.new.self) key_is c.in-Ok.ensures in
+    let none : first_failing (lease_checks l v c.args.modes.now lessor c.args.universal c.args.ids.now) ≡ None = sym c.denied.ensures ∙ c.in_default-denied.is in
+    let look : member_of v.members c.args.client ≡ Some c.in-Some.member = sym c.member.ensures.member ∙ c.in-Some.is in
+    let told : Leased = record { master = c.in-Ok.made.0; id = c.in-Ok.made.1; token = token } in
+    let leases : LeaseSet = record (set_of c.self.inside) { tokens = c.push_reserved.new.self.items; grants = grants_in c.add.new.self.rows; lendings = lendings_in c.add.new.self.rows; last_given = Some token } in
+    subst (λ o. IfSome o (λ (z : Member). Created l v c.args.modes.now z.master c.args.universal c.args.ids.now m (Ok told) leases c.make_lessee.new.self)) (sym look)
+    (none, made.1, next, now, (c.in-Ok.made.0, made.0, made.2, refl))
+
+pub returns-clause-agreed : goal.returns-clause-agreed
+returns-clause-agreed c =
+    let m = c.args.birth in
+    let lessor = c.in-Some.member.master in
+    let v = c.args.masters.now in
+    let old = c.self.inside.granted.rows in
+    let new = lease m lessor c.listed_mask-objects.result in
+    let lendings : lendings_in c.add.new.self.rows ≡ c.args.self.now.lendings ++ lending m lessor ∷ [] = ap lendings_in c.in_default-add.ensures.ok ∙ lendings_both old (new ∷ []) ∙ ap (λ (a : LeaseSet). a.lendings ++ lending m lessor ∷ []) c.self.view_is in
+    let key_is : birth_at v.masters c.in-Some-master.lessor.key ≡ lessor = keyed_birth v.masters lessor c.in-Some-master.lessor.key c.in-Some-master.ensures.keyed in
+    let made = subst (λ k. MadeLessee v k m (Ok c.in-Ok.made) c.make_lessee.new.self) key_is c.in-Ok.ensures in
+    subst (λ xs. AllByRecursion (IsAgreed c.make_lessee.new.self.members c.make_lessee.new.self.masters) xs) (sym lendings)
+    (subst (λ (w : MasterSet). AllByRecursion (IsAgreed w.members w.masters) (c.args.self.now.lendings ++ lending m lessor ∷ [])) (sym made.2)
+    (agreed_lent v.members v.masters c.in-Ok.made.0 m lessor c.in-Ok.made.1 c.args.self.now.lendings c.requires.new_birth c.requires.agreed))

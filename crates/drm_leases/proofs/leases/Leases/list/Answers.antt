@@ -4,9 +4,6 @@ use Rattle.drm_leases.proofs.Told.{Looked, looked, one_longer, all_told}
 use Rattle.drm_leases.proofs.leases.Leases.list.Goals as goal
 use Rattle.drm_leases.proofs.leases.Leases.list.Goals.{then-has_lease, else-has_lease}
 
-pub has_lease-requires : goal.has_lease-requires
-has_lease-requires c = c.self.invariant.full
-
 pub loop-id-preserved : goal.loop-id-preserved
 loop-id-preserved c =
     let l = c.loop-id in

@@ -1,0 +1,261 @@
+-- Leases agree with masters after each change of these.
+use Rattle.std.proofs.Common.{◌≡◌, ℕ, ◌<◌, ◌==◌, Bool, true, false, cond, not, ◌&&◌, ◌||◌, List, [], ◌∷◌, ◌++◌, map, filter, find, Option, None, Some, refl, sym, ap, subst, ◌∙◌, eq-eqb}
+use Rattle.std.specs.Prelude.{if◌then◌else◌}
+use Rattle.std.specs.List.{list_any, AllByRecursion}
+use Rattle.std.specs.Option.{option_map, option_map_or, option_and_then}
+use Rattle.std.proofs.lemmas.Bool.{eqb-true, false≢true, or_left, or_right}
+use Rattle.drm_lists.specs.Orders.{InOrder}
+use Rattle.drm_lists.specs.Chains.{is_under}
+use Rattle.drm_lists.proofs.Chains.{itself}
+use Rattle.drm_lists.proofs.Lists.{list_any_left, list_any_right, all_each, all_weaker, all_append, list_any-map}
+use Rattle.drm_lists.proofs.Found.{find-map, find_last}
+use Rattle.drm_lists.proofs.Numbers.{less-differ}
+use Rattle.drm_lists.proofs.Rising.{found, find_where, any_found, any_left, all_found}
+use Rattle.drm_masters.specs.declared.rows.Master.{Master}
+use Rattle.drm_masters.specs.declared.rows.Member.{Member}
+use Rattle.drm_masters.specs.Masters.{MasterSet, is_client, is_birth, is_option, member_of, master_at, lessor_of, is_held, is_living}
+use Rattle.drm_masters.specs.Calls.{lessee, redeemer, kept_as, closed_own, redeemed}
+use Rattle.drm_leases.specs.declared.rows.Grant.{Grant}
+use Rattle.drm_leases.specs.declared.rows.Lease.{Lease}
+use Rattle.drm_leases.specs.Leases.{Lending, is_leased_out}
+use Rattle.drm_leases.specs.Masks.{has_object, grants_in, lendings_in, is_lent}
+use Rattle.drm_leases.proofs.Granting.{any_with}
+use Rattle.drm_leases.specs.Calls.{lending}
+use Rattle.drm_leases.specs.Agreed.{is_owned, IsAgreed}
+
+-- whether it is a client of that master of its own
+abbrev pub owns : ℕ → Member → Bool
+owns m y = y.is_master && (y.master == m)
+
+module _ (members members2 : List Member) (ms ms2 : List Master) (x : Lending) where
+  -- a lessee that is there yet, by the same lessor, and kept or a client's own
+  abbrev Stays : Type 0
+  Stays = (y : Master) → master_at ms x.lessee ≡ Some y → (y.birth ≡ x.lessee) → is_owned members y ≡ true → (z : Master) × (master_at ms2 x.lessee ≡ Some z) × (z.lessor ≡ y.lessor) × (is_owned members2 z ≡ true)
+
+  pub still_agreed : Stays → IsAgreed members ms x → IsAgreed members2 ms2 x
+  still_agreed stays h = by_row (master_at ms x.lessee) refl h.0 h.1
+    where
+      by_row : (o : Option Master) → master_at ms x.lessee ≡ o → option_and_then (λ (y : Master). y.lessor) o ≡ Some x.lessor → option_map_or (is_owned members) o false ≡ true → IsAgreed members2 ms2 x
+      by_row None e l k = absurd (false≢true k)
+      by_row (Some y) e l k =
+          let is : y.birth ≡ x.lessee = eqb-true y.birth x.lessee (found (is_birth x.lessee) (λ _. Unit {0}) y ms (all_each (λ _. Unit {0}) (λ _. tt) ms) e).0 in
+          let w = stays y e is k in (ap (option_and_then (λ (y : Master). y.lessor)) w.1 ∙ w.2 ∙ l, ap (λ o. option_map_or (is_owned members2) o false) w.1 ∙ w.3)
+
+-- ---- of one lease
+
+found_more : (p : Master → Bool) (y x : Master) → (ms : List Master) → find p ms ≡ Some x → find p (ms ++ y ∷ []) ≡ Some x
+found_more p y x [] e = absurd (let n : None ≡ Some x = e in cc)
+found_more p y x (z ∷ zs) e = elim (p z) as (λ b. cond b (Some z) (find p zs) ≡ Some x → cond b (Some z) (find p (zs ++ y ∷ [])) ≡ Some x) [ true ↦ λ k. k | false ↦ λ k. found_more p y x zs k ] e
+
+-- one more master
+one_more : (members : List Member) (ms : List Master) (z : Master) (x : Lending) → IsAgreed members ms x → IsAgreed members (ms ++ z ∷ []) x
+one_more members ms z x = still_agreed members members ms (ms ++ z ∷ []) x (λ y e is k. (y, found_more (is_birth x.lessee) z y ms e, refl, k))
+
+owned_yet : (members members2 : List Member) (y : Master) → (list_any (owns y.birth) members ≡ true → list_any (owns y.birth) members2 ≡ true) → is_owned members y ≡ true → is_owned members2 y ≡ true
+owned_yet members members2 y own k =
+    elim y.kept as (λ b. (b || list_any (owns y.birth) members) ≡ true → (b || list_any (owns y.birth) members2) ≡ true) [ true ↦ λ h. refl | false ↦ λ h. own h ] k
+
+other_members : (members members2 : List Member) (ms : List Master) (x : Lending) → (list_any (owns x.lessee) members ≡ true → list_any (owns x.lessee) members2 ≡ true) → IsAgreed members ms x → IsAgreed members2 ms x
+other_members members members2 ms x own = still_agreed members members2 ms ms x (λ y e is k. (y, e, refl, owned_yet members members2 y (subst (λ n. list_any (owns n) members ≡ true → list_any (owns n) members2 ≡ true) (sym is) own) k))
+
+held_of : (members : List Member) (y : Master) → is_owned members y ≡ true → is_held members y ≡ true
+held_of members y k = elim y.kept as (λ b. (b || list_any (owns y.birth) members) ≡ true → (b || list_any (λ (z : Member). z.master == y.birth) members) ≡ true) [ true ↦ λ h. refl | false ↦ λ h. named members h ] k
+  where
+    named : (zs : List Member) → list_any (owns y.birth) zs ≡ true → list_any (λ (z : Member). z.master == y.birth) zs ≡ true
+    named [] h = absurd (false≢true h)
+    named (z ∷ zs) h =
+        elim z.is_master as (λ b. ((b && (z.master == y.birth)) || list_any (owns y.birth) zs) ≡ true → ((z.master == y.birth) || list_any (λ (z : Member). z.master == y.birth) zs) ≡ true) [
+          | true ↦ elim (z.master == y.birth) as (λ b. (b || list_any (owns y.birth) zs) ≡ true → (b || list_any (λ (z : Member). z.master == y.birth) zs) ≡ true) [ true ↦ λ k. refl | false ↦ λ k. named zs k ]
+          | false ↦ λ k. or_right (z.master == y.birth) (list_any (λ (z : Member). z.master == y.birth) zs) (named zs k)
+        ] h
+
+-- those stay of a sweep
+after_sweep : (members : List Member) (ms : List Master) (x : Lending) → IsAgreed members ms x → IsAgreed members (filter (λ (y : Master). is_living members ms y.birth) ms) x
+after_sweep members ms x =
+    still_agreed members members ms (filter (λ (y : Master). is_living members ms y.birth) ms) x (λ y e is k.
+    let top : is_under (lessor_of ms) x.lessee y.birth ≡ true = ap (is_under (lessor_of ms) x.lessee) is ∙ itself (lessor_of ms) x.lessee x.lessee in
+    let lives : is_living members ms x.lessee ≡ true =
+    any_found (is_birth x.lessee) (λ (z : Master). is_held members z && is_under (lessor_of ms) x.lessee z.birth) y ms e (λ i. held_of members y k i && top i) in
+    (y, find_where (λ (z : Master). z.birth) (is_living members ms) x.lessee ms ∙ ap (λ b. cond b (master_at ms x.lessee) None) lives ∙ e, refl, k))
+
+-- masters that are kept, or not any more
+module _ (change : Master → Master) (births : (y : Master) → (change y).birth ≡ y.birth) (lessors : (y : Master) → (change y).lessor ≡ y.lessor) where
+  at_changed : (ms : List Master) (n : ℕ) (y : Master) → master_at ms n ≡ Some y → master_at (map change ms) n ≡ Some (change y)
+  at_changed ms n y e = find-map (is_birth n) change ms ∙ ap (λ (p : Master → Bool). option_map change (find p ms)) (λ i z. births z i == n) ∙ ap (option_map change) e
+
+  others_kept : (members members2 : List Member) (ms : List Master) (x : Lending) → ((y : Master) → y.birth ≡ x.lessee → is_owned members y ≡ true → is_owned members2 (change y) ≡ true) → IsAgreed members ms x → IsAgreed members2 (map change ms) x
+  others_kept members members2 ms x owned = still_agreed members members2 ms (map change ms) x (λ y e is k. (change y, at_changed ms x.lessee y e, lessors y, owned y is k))
+
+abbrev released : (ℕ → Bool) → Master → Master
+released below y = if below y.birth then kept_as false y else y
+
+released_birth : (below : ℕ → Bool) (y : Master) → (released below y).birth ≡ y.birth
+released_birth below y = elim (below y.birth) as (λ b. (if b then kept_as false y else y).birth ≡ y.birth) [ true ↦ refl | false ↦ refl ]
+
+released_lessor : (below : ℕ → Bool) (y : Master) → (released below y).lessor ≡ y.lessor
+released_lessor below y = elim (below y.birth) as (λ b. (if b then kept_as false y else y).lessor ≡ y.lessor) [ true ↦ refl | false ↦ refl ]
+
+-- those that aren't released
+unreleased : (below : ℕ → Bool) (members : List Member) (ms : List Master) (x : Lending) → below x.lessee ≡ false → IsAgreed members ms x → IsAgreed members (map (released below) ms) x
+unreleased below members ms x out =
+    others_kept (released below) (released_birth below) (released_lessor below) members members ms x (λ y is k. ap (λ b. is_owned members (if b then kept_as false y else y)) (ap below is ∙ out) ∙ k)
+
+-- ---- of all leases
+
+each : {P Q : Lending → Type 0} (xs : List Lending) → ((x : Lending) → P x → Q x) → AllByRecursion P xs → AllByRecursion Q xs
+each {P = P} {Q = Q} xs f h = all_weaker P Q f xs h
+
+-- the leases that do not end agree with the masters that are left
+pub agreed_released : (below : ℕ → Bool) (members : List Member) (ms : List Master) (xs : List Lending) → AllByRecursion (IsAgreed members ms) xs →
+    AllByRecursion (IsAgreed members (filter (λ (y : Master). is_living members (map (λ (y : Master). if below y.birth then kept_as false y else y) ms) y.birth) (map (λ (y : Master). if below y.birth then kept_as false y else y) ms))) (filter (λ (x : Lending). not (below x.lessee)) xs)
+agreed_released below members ms [] h = tt
+agreed_released below members ms (x ∷ xs) h =
+    let rest = filter (λ (x : Lending). not (below x.lessee)) xs in
+    let now = map (released below) ms in
+    let more = agreed_released below members ms xs h.1 in
+    elim (below x.lessee) as (λ b. below x.lessee ≡ b → AllByRecursion (IsAgreed members (filter (λ (y : Master). is_living members now y.birth) now)) (cond (not b) (x ∷ rest) rest)) [
+      | true ↦ λ e. more
+      | false ↦ λ e. (after_sweep members now x (unreleased below members ms x e h.0), more)
+    ] refl
+
+-- one more master
+pub agreed_more : (members : List Member) (ms : List Master) (z : Master) (xs : List Lending) → AllByRecursion (IsAgreed members ms) xs → AllByRecursion (IsAgreed members (ms ++ z ∷ [])) xs
+agreed_more members ms z xs h = each xs (one_more members ms z) h
+
+-- one more lease
+pub agreed_lent : (members : List Member) (ms : List Master) (key birth m id : ℕ) (xs : List Lending) → AllByRecursion (λ (y : Master). y.birth < birth) ms → AllByRecursion (IsAgreed members ms) xs → AllByRecursion (IsAgreed members (ms ++ lessee key birth m id ∷ [])) (xs ++ lending birth m ∷ [])
+agreed_lent members ms key birth m id xs newest h =
+    let z = lessee key birth m id in
+    let at : master_at (ms ++ z ∷ []) birth ≡ Some z = find_last (is_birth birth) z (eq-eqb birth birth refl) ms (all_weaker (λ (y : Master). y.birth < birth) (λ (y : Master). is_birth birth y ≡ false) (λ y lt. less-differ y.birth birth lt) ms newest) in
+    all_append (IsAgreed members (ms ++ z ∷ [])) xs (lending birth m ∷ []) (agreed_more members ms z xs h)
+    ((ap (option_and_then (λ (y : Master). y.lessor)) at, ap (λ o. option_map_or (is_owned members) o false) at), tt)
+
+-- a sweep
+pub agreed_swept : (members : List Member) (ms : List Master) (xs : List Lending) → AllByRecursion (IsAgreed members ms) xs → AllByRecursion (IsAgreed members (filter (λ (y : Master). is_living members ms y.birth) ms)) xs
+agreed_swept members ms xs h = each xs (after_sweep members ms) h
+
+-- ---- clients come, go and change
+
+-- one more client
+pub agreed_joined : (members : List Member) (c : Member) (ms : List Master) (xs : List Lending) → AllByRecursion (IsAgreed members ms) xs → AllByRecursion (IsAgreed (members ++ c ∷ []) ms) xs
+agreed_joined members c ms xs h = each xs (λ x. other_members members (members ++ c ∷ []) ms x (list_any_left (owns x.lessee) members (c ∷ []))) h
+
+-- one of a lessee that was kept
+pub agreed_redeemed : (c m : ℕ) (v : MasterSet) (xs : List Lending) → AllByRecursion (IsAgreed v.members v.masters) xs → AllByRecursion (IsAgreed (redeemed c m v).members (redeemed c m v).masters) xs
+agreed_redeemed c m v xs h = each xs (λ x. others_kept (released (λ n. n == m)) (released_birth (λ n. n == m)) (released_lessor (λ n. n == m)) v.members (v.members ++ redeemer c m ∷ []) v.masters x (λ y is. owned y)) h
+  where
+    owned : (y : Master) → is_owned v.members y ≡ true → is_owned (v.members ++ redeemer c m ∷ []) (released (λ n. n == m) y) ≡ true
+    owned y k =
+        elim (y.birth == m) as (λ b. (y.birth == m) ≡ b → is_owned (v.members ++ redeemer c m ∷ []) (if b then kept_as false y else y) ≡ true) [
+          | true ↦ λ e. list_any_right (owns y.birth) v.members (redeemer c m ∷ []) (ap (λ b. b || false) (eq-eqb m y.birth (sym (eqb-true y.birth m e))))
+          | false ↦ λ e. owned_yet v.members (v.members ++ redeemer c m ∷ []) y (list_any_left (owns y.birth) v.members (redeemer c m ∷ [])) k
+        ] refl
+
+-- a client owns nothing but its own
+abbrev Rise : List Member → Type 0
+Rise members = InOrder (λ (x y : Member). x.client < y.client) members
+
+own_left : (members : List Member) (c n : ℕ) → Rise members → ((x : Member) → member_of members c ≡ Some x → owns n x ≡ false) → list_any (owns n) members ≡ true → list_any (owns n) (filter (λ (x : Member). not (is_client c x)) members) ≡ true
+own_left members c n rise other =
+    any_left (λ (x : Member). member_of members x.client ≡ Some x) (is_client c) (owns n) (λ x here is. other x (ap (member_of members) (sym (eqb-true x.client c is)) ∙ here)) members (all_found (λ (x : Member). x.client) members rise)
+
+same_member : (members : List Member) (c : ℕ) (x z : Member) → member_of members c ≡ Some x → member_of members c ≡ Some z → z ≡ x
+same_member members c x z here there = let e : Some z ≡ Some x = sym there ∙ here in cc
+
+-- one client fewer: the leases of others' lessees
+pub agreed_left : (members : List Member) (c : ℕ) (ms : List Master) (below : ℕ → Bool) (xs : List Lending) → Rise members → ((x : Member) → member_of members c ≡ Some x → x.is_master ≡ true → below x.master ≡ true) → AllByRecursion (IsAgreed members ms) xs →
+    AllByRecursion (IsAgreed (filter (λ (x : Member). not (is_client c x)) members) ms) (filter (λ (x : Lending). not (below x.lessee)) xs)
+agreed_left members c ms below [] rise own h = tt
+agreed_left members c ms below (x ∷ xs) rise own h =
+    let rest = filter (λ (x : Lending). not (below x.lessee)) xs in
+    let left = filter (λ (x : Member). not (is_client c x)) members in
+    let more = agreed_left members c ms below xs rise own h.1 in
+    elim (below x.lessee) as (λ b. below x.lessee ≡ b → AllByRecursion (IsAgreed left ms) (cond (not b) (x ∷ rest) rest)) [
+      | true ↦ λ e. more
+      | false ↦ λ e. (other_members members left ms x (own_left members c x.lessee rise (λ y here. none y e (own y here))) h.0, more)
+    ] refl
+  where
+    none : (y : Member) → below x.lessee ≡ false → (y.is_master ≡ true → below y.master ≡ true) → owns x.lessee y ≡ false
+    none y out ends =
+        elim y.is_master as (λ b. (b ≡ true → below y.master ≡ true) → (b && (y.master == x.lessee)) ≡ false) [
+          | true ↦ λ f.
+              elim (y.master == x.lessee) as (λ b. (y.master == x.lessee) ≡ b → b ≡ false) [
+                | true ↦ λ e. absurd (false≢true (sym out ∙ ap below (sym (eqb-true y.master x.lessee e)) ∙ f refl))
+                | false ↦ λ e. refl
+              ] refl
+          | false ↦ λ f. refl
+        ] ends
+
+-- one whose own master is kept
+pub agreed_closed_own : (v : MasterSet) (c : ℕ) (x : Member) (xs : List Lending) → Rise v.members → member_of v.members c ≡ Some x → AllByRecursion (IsAgreed v.members v.masters) xs → AllByRecursion (IsAgreed (closed_own c x.master v).members (closed_own c x.master v).masters) xs
+agreed_closed_own v c x xs rise look h = each xs (λ a. others_kept change births lessors v.members left v.masters a (λ y is. owned y)) h
+  where
+    left : List Member
+    left = filter (λ (z : Member). not (is_client c z)) v.members
+
+    change : Master → Master
+    change y = if is_birth x.master y then kept_as true y else y
+
+    births : (y : Master) → (change y).birth ≡ y.birth
+    births y = elim (is_birth x.master y) as (λ b. (if b then kept_as true y else y).birth ≡ y.birth) [ true ↦ refl | false ↦ refl ]
+
+    lessors : (y : Master) → (change y).lessor ≡ y.lessor
+    lessors y = elim (is_birth x.master y) as (λ b. (if b then kept_as true y else y).lessor ≡ y.lessor) [ true ↦ refl | false ↦ refl ]
+
+    other : (y : Master) → is_birth x.master y ≡ false → (z : Member) → member_of v.members c ≡ Some z → owns y.birth z ≡ false
+    other y e z here =
+        elim z.is_master as (λ b. (b && (z.master == y.birth)) ≡ false) [
+          | true ↦
+              elim (z.master == y.birth) as (λ b. (z.master == y.birth) ≡ b → b ≡ false) [
+                | true ↦ λ k. absurd (false≢true (sym e ∙ eq-eqb y.birth x.master (sym (eqb-true z.master y.birth k) ∙ ap (λ (u : Member). u.master) (same_member v.members c x z look here))))
+                | false ↦ λ k. refl
+              ] refl
+          | false ↦ refl
+        ]
+
+    owned : (y : Master) → is_owned v.members y ≡ true → is_owned left (change y) ≡ true
+    owned y k =
+        elim (is_birth x.master y) as (λ b. is_birth x.master y ≡ b → is_owned left (if b then kept_as true y else y) ≡ true) [
+          | true ↦ λ e. refl
+          | false ↦ λ e. owned_yet v.members left y (own_left v.members c y.birth rise (other y e)) k
+        ] refl
+
+-- another row of a client, which owns what it owned
+any_more : {X : Type 0} (P : X → Type 0) (p q : X → Bool) → ((x : X) → P x → p x ≡ true → q x ≡ true) → (xs : List X) → AllByRecursion P xs → list_any p xs ≡ true → list_any q xs ≡ true
+any_more P p q f [] all h = h
+any_more P p q f (x ∷ xs) all h =
+    elim (p x) as (λ b. p x ≡ b → (b || list_any p xs) ≡ true → (q x || list_any q xs) ≡ true) [
+      | true ↦ λ e k. or_left (q x) (list_any q xs) (f x all.0 e)
+      | false ↦ λ e k. or_right (q x) (list_any q xs) (any_more P p q f xs all.1 k)
+    ] refl h
+
+pub agreed_changed : (members : List Member) (x y : Member) (ms : List Master) (xs : List Lending) → Rise members → member_of members y.client ≡ Some x → ((n : ℕ) → owns n x ≡ true → owns n y ≡ true) → AllByRecursion (IsAgreed members ms) xs → AllByRecursion (IsAgreed (map (λ (z : Member). if is_client y.client z then y else z) members) ms) xs
+agreed_changed members x y ms xs rise look own h = each xs (λ a. other_members members (map put members) ms a (owned a.lessee)) h
+  where
+    put : Member → Member
+    put z = if is_client y.client z then y else z
+
+    owned : (n : ℕ) → list_any (owns n) members ≡ true → list_any (owns n) (map put members) ≡ true
+    owned n k =
+        list_any-map (owns n) put members
+        ∙ any_more (λ (z : Member). member_of members z.client ≡ Some z) (owns n) (λ z. owns n (put z)) (λ z here its.
+        elim (is_client y.client z) as (λ b. is_client y.client z ≡ b → owns n (if b then y else z) ≡ true) [
+          | true ↦ λ e. own n (ap (owns n) (sym (same_member members y.client x z look (ap (member_of members) (sym (eqb-true z.client y.client e)) ∙ here))) ∙ its)
+          | false ↦ λ e. its
+        ] refl) members (all_found (λ (z : Member). z.client) members rise) k
+
+-- ---- what is lent
+
+-- the leases of the direct lessees of a master are those that it lent
+pub leased_out_is : (members : List Member) (ms : List Master) (rows : List Lease) → AllByRecursion (IsAgreed members ms) (lendings_in rows) → (m x : ℕ) → is_leased_out (grants_in rows) ms m x ≡ is_lent rows m x
+leased_out_is members ms rows h m x = any_with (λ (g : Grant). (g.mode_object == x) && is_option m (lessor_of ms g.master)) (λ n. is_option m (lessor_of ms n)) x (λ g. refl) rows ∙ lent rows h
+  where
+    swap : (a b : Bool) → (a && b) ≡ (b && a)
+    swap true true = refl
+    swap true false = refl
+    swap false true = refl
+    swap false false = refl
+
+    lent : (rows : List Lease) → AllByRecursion (IsAgreed members ms) (lendings_in rows) → list_any (λ (a : Lease). has_object a.objects x && is_option m (lessor_of ms a.lessee)) rows ≡ is_lent rows m x
+    lent [] h = refl
+    lent (a ∷ rows) h = λ i. (ap (λ o. has_object a.objects x && is_option m o) h.0.0 ∙ swap (has_object a.objects x) (a.lessor == m)) i || lent rows h.1 i
