@@ -96,17 +96,21 @@ fn open_row(
     })
 }
 
-/// A row for each client that was opened, in the order of their openings.
+/// A row for each client that was opened, in the order of their openings; for one alone where one is named.
 pub(crate) fn client_rows(
     alloc: Global,
     ledger: &Ledger,
     topology: &Topology,
     labels: &Labels,
+    only: Option<u64>,
 ) -> Result<Vec<ClientRow>, AllocError> {
     let mut rows = Vec::new(alloc);
     for step in ledger.steps() {
         if let (Event::Open(opening), Answer::Opened { client }) = (&step.event, &step.answer) {
             let client = u64::from(*client);
+            if only.is_some() && only != Some(client) {
+                continue;
+            }
             let (node, root) = node_of(opening);
             let closed = closed_at(ledger.steps(), client);
             let row = ClientRow {

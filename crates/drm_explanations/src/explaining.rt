@@ -1,5 +1,9 @@
 //! Explaining a history.
 
+ghost use Rattle.std.specs.Prelude.{◌≡◌, IfOk};
+ghost use Rattle.drm_authority.specs.Standing.{owner_in};
+ghost use Rattle.drm_explanations.specs.Rows as rows;
+
 use crate::clients::client_rows;
 use crate::leases::lease_rows;
 use crate::names::{Labels, at};
@@ -9,13 +13,17 @@ use drm_rights::Ledger;
 use std::alloc::{AllocError, Global};
 
 /// What a history gives, and by which of its steps: the device's master, each client with why it is authenticated, a master and
-/// current and with the chain of each of its handles, and each lease with who made it and what ended it. Labels name clients.
+/// current and with the chain of each of its handles, and each lease with who made it and what ended it. Labels name clients. Where
+/// one client is named there are no rows of others. Where memory is refused there is no explanation.
 pub fn explain(
     alloc: Global,
     ledger: &Ledger,
     topology: &Topology,
     labels: &Labels,
-) -> Result<Explanation, AllocError> {
+    only: Option<u64>,
+) -> Result<Explanation, AllocError>
+    ensures { IfOk result (λ told. told.device.master ≡ owner_in ledger.now) }
+{
     let steps = ledger.steps();
     Ok(Explanation {
         steps: steps.len() as u64,
@@ -23,39 +31,43 @@ pub fn explain(
             master: ledger.owner(),
             since: at(steps, ledger.owner_since()),
         },
-        clients: client_rows(alloc, ledger, topology, labels)?,
+        clients: client_rows(alloc, ledger, topology, labels, only)?,
         leases: lease_rows(alloc, ledger, topology)?,
     })
 }
 
 /// Whether a lease is a client's: it made it or redeemed it.
-fn is_lease_of(row: &LeaseRow, client: u64) -> bool {
+fn is_lease_of(row: &LeaseRow, client: u64) -> bool
+    ensures { result ≡ rows.is_lease_of client row.now }
+{
     row.leased.client == client || row.redeemed_by == Some(client)
 }
 
 impl Explanation {
+    ghost use Rattle.std.specs.Prelude.{◌≡◌, ◌==◌, find, filter, option_copied};
+    ghost use Rattle.drm_explanations.specs.Rows as rows;
+
     /// The row of a client; none where it was never opened.
-    pub fn client(&self, client: u64) -> Option<&ClientRow> {
-        for row in &self.clients {
-            if row.client == client {
-                return Some(row);
-            }
-        }
-        None
+    pub fn client(&self, client: u64) -> Option<&ClientRow>
+        ensures { option_copied result ≡ find (λ row. row.client == client) self.now.clients.items }
+    {
+        self.clients.iter().find(|row| row.client == client)
     }
 
-    /// The lease of a lessee.
-    pub fn lease(&self, master: u64) -> Option<&LeaseRow> {
-        for row in &self.leases {
-            if row.master == master {
-                return Some(row);
-            }
-        }
-        None
+    /// The lease of a lessee; none of a master that nobody lent.
+    pub fn lease(&self, master: u64) -> Option<&LeaseRow>
+        ensures { option_copied result ≡ find (λ row. row.master == master) self.now.leases.items }
+    {
+        self.leases.iter().find(|row| row.master == master)
     }
 
     /// Leaves the rows of one client, and the leases that it made or redeemed.
-    pub fn retain_client(&mut self, client: u64) {
+    pub fn retain_client(&mut self, client: u64)
+        ensures clients { self.new.clients.items ≡ filter (λ row. row.client == client) self.old.clients.items }
+        ensures leases { self.new.leases.items ≡ filter (rows.is_lease_of client) self.old.leases.items }
+        ensures device { self.new.device ≡ self.old.device }
+        ensures steps { self.new.steps ≡ self.old.steps }
+    {
         self.clients.retain(|row| row.client == client);
         self.leases.retain(|row| is_lease_of(row, client));
     }

@@ -10,8 +10,9 @@ mod reasons;
 mod rows;
 
 pub use explaining::explain;
-pub use lines::lines_of;
-pub use names::Labels;
+pub use lines::{Subject, line_about, lines_of};
+pub use names::{Labels, Name, at};
+pub use reasons::closed_at;
 pub use rows::{
     At, Authenticated, AuthenticatedBy, ClientRow, DeviceRow, Explanation, HoldRow, LeaseRow,
     LinkRow, Node, PublishedBy, PublishedRow, StandingRow,

@@ -23,7 +23,7 @@ impl Scene<'_> {
 }
 
 /// The explanation as lines: of the device, of each client with its handles, and of each lease; of one client alone where one is
-/// named, with the leases that it made or redeemed.
+/// named, with the leases that it made or redeemed. Where memory is refused there are no lines.
 pub fn lines_of(
     alloc: Global,
     explanation: &Explanation,
@@ -51,6 +51,77 @@ pub fn lines_of(
         }
     }
     Ok(text)
+}
+
+/// What a line of an explanation tells of: the device's master; who a client is, why it is authenticated or not, why it has
+/// universal planes off, why it is a master or not, and why it is current or not; the lease of a lessee.
+#[derive(Clone, Copy, PartialEq, Eq, Debug)]
+pub enum Subject {
+    Device,
+    Client(u64),
+    Authentication(u64),
+    UniversalPlanes(u64),
+    Master(u64),
+    Current(u64),
+    Lease(u64),
+}
+
+/// Puts the line of an explanation that tells of a subject; nothing where it has none. Where memory is refused, a front of the line
+/// is put.
+pub fn line_about(
+    alloc: Global,
+    explanation: &Explanation,
+    topology: &Topology,
+    labels: &Labels,
+    subject: Subject,
+    text: &mut String,
+) -> Result<(), AllocError> {
+    let scene = Scene {
+        explanation,
+        topology,
+        labels,
+    };
+    match subject {
+        Subject::Device => device_line(scene, text),
+        Subject::Client(client) => match explanation.client(client) {
+            Some(row) => identity_line(scene, row, text),
+            None => Ok(()),
+        },
+        Subject::Authentication(client) => match explanation.client(client) {
+            Some(row) => authenticated_line(scene, row, text),
+            None => Ok(()),
+        },
+        Subject::UniversalPlanes(client) => match explanation.client(client) {
+            Some(row) => universal_line(scene, row, text),
+            None => Ok(()),
+        },
+        Subject::Master(client) => match explanation.client(client) {
+            Some(row) => of_standing(scene, row, false, text),
+            None => Ok(()),
+        },
+        Subject::Current(client) => match explanation.client(client) {
+            Some(row) => of_standing(scene, row, true, text),
+            None => Ok(()),
+        },
+        Subject::Lease(master) => match explanation.lease(master) {
+            Some(row) => lease_line(alloc, scene, row, text),
+            None => Ok(()),
+        },
+    }
+}
+
+/// Why a client is current or not, or else why it is a master or not.
+fn of_standing(
+    scene: Scene<'_>,
+    row: &ClientRow,
+    of_current: bool,
+    text: &mut String,
+) -> Result<(), AllocError> {
+    match &row.standing {
+        Some(standing) if of_current => current_line(scene, row, standing, text),
+        Some(standing) => master_line(scene, row, standing, text),
+        None => Ok(()),
+    }
 }
 
 /// The device's master, and the step since which it is that.
@@ -385,6 +456,15 @@ fn lease_line(
     lease_chain(alloc, scene, row, text)
 }
 
+/// The lease of a master. Leases stand in the order in which they were made, so that none is older than the first.
+fn lease_of(explanation: &Explanation, master: u64) -> Option<&LeaseRow> {
+    let first = explanation.leases.first()?;
+    if master < first.master {
+        return None;
+    }
+    explanation.lease(master)
+}
+
 /// The lessees above one, by their leases: the nearest first. Each is older than the one below it.
 fn lessees_above(
     alloc: Global,
@@ -397,7 +477,7 @@ fn lessees_above(
         let Some(master) = lessor else {
             return Ok(above);
         };
-        let Some(lease) = explanation.lease(master) else {
+        let Some(lease) = lease_of(explanation, master) else {
             return Ok(above);
         };
         above.push(master)?;

@@ -26,17 +26,23 @@ pub(crate) fn label_of(labels: &Labels, client: u64) -> Option<char> {
 
 /// A client, by its label where it has one.
 #[derive(Clone, Copy, PartialEq, Eq, Debug)]
-pub(crate) struct Name {
+pub struct Name {
     client: u64,
     label: Option<char>,
 }
 
 impl Name {
-    pub(crate) fn of(labels: &Labels, client: u64) -> Name {
+    /// How a client is named where the labels stand for these.
+    pub fn of(labels: &Labels, client: u64) -> Name {
         Name {
             client,
             label: label_of(labels, client),
         }
+    }
+
+    /// The label that stands for the client, if one does.
+    pub fn label(&self) -> Option<char> {
+        self.label
     }
 }
 
@@ -61,7 +67,7 @@ fn word_of(number: u16) -> &'static str {
 }
 
 /// The step of a number, from 1. An accepted opening is a step of the client that it opens.
-pub(crate) fn at(steps: &[Step], number: u64) -> Option<At> {
+pub fn at(steps: &[Step], number: u64) -> Option<At> {
     let (client, call) = match &step_at(steps, number)?.event {
         Event::Open(_) => (number, "open"),
         Event::Ask(client, call) => (u64::from(*client), word_of(call.number())),

@@ -9,12 +9,14 @@ use drm_rights::{Key, Ledger, Link, Origin, Step, chain_of, handles_of};
 use drm_table::{Answer, Event};
 use std::alloc::{AllocError, Global};
 
-/// The step at which a client closed.
-pub(crate) fn closed_at(steps: &[Step], client: u64) -> Option<u64> {
-    for (place, step) in steps.iter().enumerate() {
+/// The step at which a client closed, behind the one that opened it.
+pub fn closed_at(steps: &[Step], client: u64) -> Option<u64> {
+    let opened = usize::try_from(client).ok()?;
+    let later = steps.get(opened..)?;
+    for (place, step) in later.iter().enumerate() {
         if let (Event::Close(closed), Answer::Closed) = (&step.event, &step.answer) {
             if u64::from(*closed) == client {
-                return Some(place as u64 + 1);
+                return client.checked_add(place as u64 + 1);
             }
         }
     }
@@ -98,18 +100,27 @@ fn chain_rows(alloc: Global, steps: &[Step], links: &[Link]) -> Result<Vec<LinkR
     Ok(rows)
 }
 
-/// The client's handles, each with its chain.
+/// The steps up to the one of a number.
+fn steps_to(steps: &[Step], number: u64) -> &[Step] {
+    match usize::try_from(number) {
+        Ok(count) => steps.get(..count).unwrap_or(steps),
+        Err(_) => steps,
+    }
+}
+
+/// The client's handles, each with its chain, which ends in the step that gave it.
 pub(crate) fn holds_of(
     alloc: Global,
     steps: &[Step],
     client: u64,
 ) -> Result<Vec<HoldRow>, AllocError> {
     let mut rows = Vec::new(alloc);
-    for handle in &handles_of(alloc, steps, client)? {
-        if let Some(links) = chain_of(alloc, steps, client, *handle)? {
+    for held in &handles_of(alloc, steps, client)? {
+        let past = steps_to(steps, held.step);
+        if let Some(links) = chain_of(alloc, past, client, held.handle)? {
             if let Some(made) = links.last() {
                 rows.push(HoldRow {
-                    handle: *handle,
+                    handle: held.handle,
                     object: made.step,
                     chain: chain_rows(alloc, steps, links.as_slice())?,
                 })?;

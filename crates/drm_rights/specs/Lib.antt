@@ -1,6 +1,7 @@
 pub mod Steps
 pub mod Answers
 pub mod Searches
+pub mod Handles
 pub mod Chains
 pub mod Deeds
 pub mod Leases

@@ -1,15 +1,22 @@
-//! Which handles a client has.
+//! Which handles a client has, and which steps gave them.
 
-ghost use Rattle.std.specs.Prelude.{◌≡◌, ◌==◌, ◌&&◌, ◌||◌, ℕ, not, IfOk};
+ghost use Rattle.std.specs.Prelude.{◌≡◌, ◌==◌, ◌&&◌, ◌||◌, ◌<◌, ◌+◌, ◌^◌, ℕ, not, IfOk, if◌then◌else◌};
 ghost use Rattle.std.specs.Option.{is_some};
-ghost use Rattle.drm_lists.specs.Numbers.{is_among};
 ghost use Rattle.drm_model.specs.Rows.{is_option};
 ghost use Rattle.drm_history.specs.Steps.{given, takes};
+ghost use Rattle.drm_rights.specs.Handles.{is_given_at, is_handle_held, is_held_since};
 ghost use Rattle.drm_rights.specs.Searches.{last_gift, source_for};
 ghost use Rattle.drm_rights.specs.Steps.{entry_of, givings_of, history_of};
 
 use crate::steps::{Giving, Step};
 use std::alloc::{AllocError, Global};
+
+/// A handle, and the number of the step that gave it.
+#[derive(Clone, Copy, PartialEq, Eq, Debug)]
+pub struct Held {
+    pub handle: u64,
+    pub step: u64,
+}
 
 /// The handle, if one is given and is this client's.
 fn handle_of(given: Option<Giving>, client: u64) -> Option<u64>
@@ -22,46 +29,72 @@ fn handle_of(given: Option<Giving>, client: u64) -> Option<u64>
     None
 }
 
-/// The handles with one more.
-fn with_handle(handles: Vec<u64>, handle: u64) -> Result<Vec<u64>, AllocError>
-    ensures { IfOk result (λ more. (h : ℕ) → is_among more.items h ≡ (is_among handles.items h || (handle == h))) }
+fn has_handle(held: &[Held], handle: u64) -> bool
+    ensures { result ≡ is_handle_held held.now handle }
 {
-    let mut handles = handles;
-    if handles.contains(&handle) {
-        return Ok(handles);
+    held.iter().any(|one| one.handle == handle)
+}
+
+/// The others of a client's handles.
+fn without(held: Vec<Held>, handle: u64) -> Vec<Held>
+    ensures { (h s : ℕ) → is_held_since result.items h s ≡ (is_held_since held.items h s && not (h == handle)) }
+{
+    if !has_handle(&held, handle) {
+        return held;
     }
-    handles.push(handle)?;
-    Ok(handles)
+    let mut others = held;
+    others.retain(|one| one.handle != handle);
+    others
+}
+
+/// The handles with one that a step gives, also where it was there.
+fn with_handle(held: Vec<Held>, handle: u64, step: u64) -> Result<Vec<Held>, AllocError>
+    ensures { IfOk result (λ more. (h s : ℕ) → is_held_since more.items h s ≡ (if h == handle then step == s else is_held_since held.items h s)) }
+{
+    let mut more = without(held, handle);
+    more.push(Held { handle, step })?;
+    Ok(more)
 }
 
 /// The handles that a step leaves.
-fn left_by(step: &Step, client: u64, handles: Vec<u64>) -> Vec<u64>
-    ensures { (h : ℕ) → is_among result.items h ≡ (is_among handles.items h && not (takes (entry_of step.now) client h)) }
+fn left_by(step: &Step, client: u64, held: Vec<Held>) -> Vec<Held>
+    ensures { (h s : ℕ) → is_held_since result.items h s ≡ (is_held_since held.items h s && not (takes (entry_of step.now) client h)) }
 {
-    let mut handles = handles;
-    handles.retain(|handle| !step.takes(client, *handle));
-    handles
+    if !step.takes_from(client) {
+        return held;
+    }
+    let mut left = held;
+    left.retain(|one| !step.takes(client, one.handle));
+    left
 }
 
-/// The client's handles after a step, by those before it.
-fn handles_after(step: &Step, client: u64, handles: Vec<u64>) -> Result<Vec<u64>, AllocError>
-    ensures { IfOk result (λ after. (h : ℕ) → is_among after.items h ≡ (is_some (source_for client h (given (entry_of step.now))) || (is_among handles.items h && not (takes (entry_of step.now) client h)))) }
+/// The client's handles after a step of this number, by those before it.
+fn held_after(
+    step: &Step,
+    number: u64,
+    client: u64,
+    held: Vec<Held>,
+) -> Result<Vec<Held>, AllocError>
+    ensures { IfOk result (λ after. (h s : ℕ) → is_held_since after.items h s ≡ (if is_some (source_for client h (given (entry_of step.now))) then number == s else (is_held_since held.items h s && not (takes (entry_of step.now) client h)))) }
 {
-    let handles = left_by(step, client, handles);
+    let left = left_by(step, client, held);
     match handle_of(step.given(), client) {
-        Some(handle) => with_handle(handles, handle),
-        None => Ok(handles),
+        Some(handle) => with_handle(left, handle, number),
+        None => Ok(left),
     }
 }
 
-/// The client's handles after these steps, rising: those that some step gave it and no later one took.
-pub fn handles_of(alloc: Global, steps: &[Step], client: u64) -> Result<Vec<u64>, AllocError>
-    ensures { IfOk result (λ handles. (h : ℕ) → is_among handles.items h ≡ is_some (last_gift (history_of steps.now) client h)) }
+/// The client's handles after these steps, rising, each with the last step that gave it: those that some step gave it and no later
+/// one took. Where memory is refused, nothing is told.
+pub fn handles_of(alloc: Global, steps: &[Step], client: u64) -> Result<Vec<Held>, AllocError>
+    ensures { IfOk result (λ held. (h s : ℕ) → is_held_since held.items h s ≡ is_given_at (last_gift (history_of steps.now) client h) s) }
 {
-    let mut handles = Vec::new(alloc);
+    let mut held = Vec::new(alloc);
+    let mut number = 0;
     for step in steps {
-        handles = handles_after(step, client, handles)?;
+        number += 1;
+        held = held_after(step, number, client, held)?;
     }
-    handles.sort_unstable();
-    Ok(handles)
+    held.sort_unstable_by_key(|one| one.handle);
+    Ok(held)
 }

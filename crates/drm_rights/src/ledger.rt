@@ -191,7 +191,7 @@ impl Ledger {
     }
 
     /// The client that was last told this magic of a master.
-    fn client_of(&self, master: u64, magic: u64) -> Option<u64>
+    pub fn client_of(&self, master: u64, magic: u64) -> Option<u64>
         ensures { result ≡ magic_in self.now master magic }
     {
         match last_magic(&self.magics, master, magic) {

@@ -14,7 +14,8 @@ mod steps;
 
 pub use chains::{Link, Origin, chain_of};
 pub use deeds::Deed;
-pub use handles::handles_of;
+pub use handles::{Held, handles_of};
 pub use ledger::Ledger;
 pub use notes::{Authentication, Capability, Lease, Magic, Standing};
+pub use searches::{LastPublishing, last_publishing};
 pub use steps::{Giving, Key, Publishing, Source, Step, step_at};

@@ -18,10 +18,10 @@ pub(crate) struct LastGiving {
 
 /// The last step that published under a key: how many steps came before it, and whose handle it was of.
 #[derive(Clone, Copy, PartialEq, Eq, Debug)]
-pub(crate) struct LastPublishing {
-    pub(crate) past: usize,
-    pub(crate) client: u64,
-    pub(crate) handle: u64,
+pub struct LastPublishing {
+    pub past: usize,
+    pub client: u64,
+    pub handle: u64,
 }
 
 /// Where the object comes from, if a handle is given and is this one.
@@ -67,7 +67,7 @@ pub(crate) fn last_giving(steps: &[Step], client: u64, handle: u64) -> Option<La
 }
 
 /// The last step that published under the key.
-pub(crate) fn last_publishing(steps: &[Step], key: Key) -> Option<LastPublishing>
+pub fn last_publishing(steps: &[Step], key: Key) -> Option<LastPublishing>
     ensures last { sharings_at steps.now result ≡ last_sharing (history_of steps.now) (key_of key) }
     ensures within { IfSome result (λ publishing. publishing.past < length steps.now) }
 {

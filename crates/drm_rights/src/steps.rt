@@ -200,6 +200,7 @@ fn closed_by(call: &Call) -> Option<u64>
 }
 
 impl Step {
+    ghost use Rattle.std.specs.Prelude.{◌≡◌, ℕ, false};
     ghost use Rattle.drm_history.specs.Steps.{given, published, takes};
     ghost use Rattle.drm_rights.specs.Steps.{entry_of, givings_of, publishings_of};
 
@@ -224,6 +225,18 @@ impl Step {
             Event::Open(_) => None,
             Event::Ask(client, call) => published_by(u64::from(*client), call, &self.answer),
             Event::Close(_) => None,
+        }
+    }
+
+    /// Whether the step takes some handle of the client.
+    #[tactic(auto, unfolding(drm_history::specs::Steps::takes))]
+    pub(crate) fn takes_from(&self, client: u64) -> bool
+        ensures { result ≡ false → (h : ℕ) → takes (entry_of self.now) client h ≡ false }
+    {
+        match &self.event {
+            Event::Open(_) => false,
+            Event::Ask(caller, call) => u64::from(*caller) == client && closed_by(call).is_some(),
+            Event::Close(closed) => u64::from(*closed) == client,
         }
     }
 

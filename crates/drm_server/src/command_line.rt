@@ -27,12 +27,14 @@ pub(crate) struct Serving<'a> {
     pub(crate) journal: Option<&'a str>,
 }
 
-/// Which script to explain, of which client, and in which form.
+/// Which script to explain, of which client or line, and in which form.
 #[derive(Clone, Copy, Debug, PartialEq, Eq)]
 pub(crate) struct Explaining<'a> {
     pub(crate) path: &'a str,
     /// The client alone of which is told: a label or a number.
     pub(crate) client: Option<&'a str>,
+    /// The line whose answer alone is told of.
+    pub(crate) line: Option<u64>,
     pub(crate) is_json: bool,
 }
 
@@ -111,6 +113,14 @@ fn explain_command<'a>(alloc: Global) -> Result<Command<'a>, Error> {
         .help(
             "Tells of this client alone, and of the leases that it made or redeemed: a label or a number",
         );
+    let line = Arg::new(alloc, "line")
+        .long("line")
+        .value_name("N")
+        .value_parser(ValueParser::unsigned(0, u64::MAX))
+        .conflicts_with("client")?
+        .help(
+            "Tells why the line of this number was answered as it was: which rule failed, and which steps made it so",
+        );
     let json = Arg::new(alloc, "json")
         .long("json")
         .action(ArgAction::SetTrue)
@@ -121,6 +131,7 @@ fn explain_command<'a>(alloc: Global) -> Result<Command<'a>, Error> {
         )
         .arg(file)?
         .arg(client)?
+        .arg(line)?
         .arg(json)?;
     Ok(command)
 }
@@ -227,6 +238,7 @@ fn explaining_of<'a>(matches: &ArgMatches<'a>) -> Option<Explaining<'a>> {
     Some(Explaining {
         path: matches.get_str("FILE")?,
         client: matches.get_str("client"),
+        line: matches.get_one("line"),
         is_json: matches.get_flag("json"),
     })
 }

@@ -6,6 +6,7 @@ use crate::faults::{Fault, FaultLine};
 use crate::outcomes::{Outcome, outcome_of_fault};
 use crate::recording::{Recording, Stop, record};
 use drm_explanations::{Explanation, Labels, explain, lines_of};
+use drm_refusals::{AnswerRow, explain_answer, lines_of_answer};
 use drm_runs::{ScriptEnd, test_topology};
 use drm_script::Label;
 use drm_streams::{ToWrite, put_all};
@@ -28,23 +29,24 @@ fn client_of(labels: &Labels, word: &str) -> Option<u64> {
     }
 }
 
-/// The client of which alone is told, if one is named. A word that names no client of the script is refused.
+/// A word that names no client of the script is refused.
+fn no_client<R: Log>(rt: &R, path: &str, word: &str) -> Fault {
+    error!(rt; "{path}: no client was opened as {word}");
+    Fault::CommandLine
+}
+
+/// The client of which alone is told, if one is named.
 fn only_of<R: Log>(
     rt: &R,
     explaining: &Explaining<'_>,
-    explanation: &Explanation,
     labels: &Labels,
 ) -> Result<Option<u64>, Fault> {
     let Some(word) = explaining.client else {
         return Ok(None);
     };
     match client_of(labels, word) {
-        Some(client) if explanation.client(client).is_some() => Ok(Some(client)),
-        _ => {
-            let path = explaining.path;
-            error!(rt; "{path}: no client was opened as {word}");
-            Err(Fault::CommandLine)
-        }
+        Some(client) => Ok(Some(client)),
+        None => Err(no_client(rt, explaining.path, word)),
     }
 }
 
@@ -70,14 +72,67 @@ fn text_of<R: Log>(
 ) -> Result<String, Fault> {
     let topology = test_topology();
     let labels = &recording.labels;
-    let explanation = explain(alloc, &recording.ledger, &topology, labels).map_err(
+    let only = only_of(rt, explaining, labels)?;
+    let explanation = explain(alloc, &recording.ledger, &topology, labels, only).map_err(
         |_| Fault::Memory,
     )?;
-    let only = only_of(rt, explaining, &explanation, labels)?;
+    if let (Some(client), Some(word)) = (only, explaining.client) {
+        if explanation.client(client).is_none() {
+            return Err(no_client(rt, explaining.path, word));
+        }
+    }
     if explaining.is_json {
         return json_of(alloc, explanation, only);
     }
     lines_of(alloc, &explanation, &topology, labels, only).map_err(|_| Fault::Memory)
+}
+
+/// A line that can't be explained is refused.
+fn no_answer<R: Log>(rt: &R, path: &str, number: u64, lines: u64) -> Fault {
+    if number == 0 || number > lines {
+        error!(rt; "{path}: there is no line {number}, and {lines} lines in all");
+    } else {
+        error!(rt; "{path}: line {number} asks nothing");
+    }
+    Fault::CommandLine
+}
+
+/// The row as JSON, with a line end.
+fn json_of_answer(alloc: Global, row: &AnswerRow) -> Result<String, Fault> {
+    let Ok(mut text) = serde_json::to_string_pretty(alloc, row) else {
+        return Err(Fault::Memory);
+    };
+    text.push('\n').map_err(|_| Fault::Memory)?;
+    Ok(text)
+}
+
+/// What is told of the answer of one line.
+fn text_of_answer<R: Log>(
+    rt: &R,
+    alloc: Global,
+    explaining: &Explaining<'_>,
+    number: u64,
+    recording: Recording,
+) -> Result<String, Fault> {
+    let Recording {
+        ledger,
+        labels,
+        limits,
+        lines,
+        last,
+    } = recording;
+    let Some(line) = last else {
+        return Err(no_answer(rt, explaining.path, number, lines));
+    };
+    let topology = test_topology();
+    let row = match explain_answer(alloc, &ledger, &topology, &labels, limits, line) {
+        Ok(row) => row,
+        Err(_) => return Err(Fault::Memory),
+    };
+    if explaining.is_json {
+        return json_of_answer(alloc, &row);
+    }
+    lines_of_answer(alloc, &row, &labels).map_err(|_| Fault::Memory)
 }
 
 /// The outcome of a script that could not be recorded: a malformed one is told of as a check tells it.
@@ -98,7 +153,7 @@ fn write_text<R: Print>(rt: &R, text: &str) -> Result<(), Fault> {
     fault_of(put_all(&mut sink, text.as_bytes(), &mut turns))
 }
 
-/// Explains what the clients of a script have, on standard output.
+/// Explains what the clients of a script have, or the answer of one of its lines, on standard output.
 pub(crate) fn explain_script<R: Files + Print + Log>(
     rt: &R,
     alloc: Global,
@@ -108,11 +163,15 @@ pub(crate) fn explain_script<R: Files + Print + Log>(
         Ok(source) => source,
         Err(fault) => return outcome_of_fault(fault),
     };
-    let recording = match record(alloc, &mut source, MOST_TURNS) {
+    let recording = match record(alloc, &mut source, MOST_TURNS, explaining.line) {
         Ok(recording) => recording,
         Err(stop) => return outcome_of_stop(rt, explaining.path, stop),
     };
-    let told = match text_of(rt, alloc, &explaining, &recording) {
+    let text = match explaining.line {
+        Some(number) => text_of_answer(rt, alloc, &explaining, number, recording),
+        None => text_of(rt, alloc, &explaining, &recording),
+    };
+    let told = match text {
         Ok(text) => write_text(rt, text.as_str()),
         Err(fault) => Err(fault),
     };

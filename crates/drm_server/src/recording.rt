@@ -3,20 +3,25 @@
 ghost use Rattle.std.specs.Prelude.{◌<◌, ◌+◌, ◌^◌};
 
 use drm_checks::script_of;
-use drm_device::Device;
 use drm_explanations::Labels;
+use drm_refusals::Line;
 use drm_rights::{Ledger, Step};
 use drm_runs::{Interpreter, LineReader, LineResult, NextLine, ScriptEnd, cause_of};
-use drm_script::Malformation;
+use drm_script::{Malformation, Reading, line_of, read_line};
 use drm_streams::Source;
-use drm_table::Answer;
+use drm_table::{Answer, Apart, Limits};
 use std::alloc::{AllocError, Global};
+use std::mem;
 
-/// What the lines of a script were noted as, and whom its labels stand for at the end.
+/// What the lines of a script were noted as, and whom its labels stand for at the end; the limits of its device, how many lines were
+/// used, and what the last of these was answered, where that is asked for and it asked anything.
 #[derive(Drop)]
 pub(crate) struct Recording {
     pub(crate) ledger: Ledger,
     pub(crate) labels: Labels,
+    pub(crate) limits: Limits,
+    pub(crate) lines: u64,
+    pub(crate) last: Option<Line>,
 }
 
 /// Why there is no recording: a line can't be used, or reading ended early.
@@ -31,21 +36,81 @@ pub(crate) struct Stop {
 struct Recorder {
     reader: LineReader,
     interpreter: Interpreter,
-    /// The answers that were noted.
-    answers: Vec<Answer>,
+    /// What was noted so far.
+    ledger: Ledger,
+    limits: Limits,
     /// How many lines were used.
     lines: u64,
+    /// The line that is the last to be used, and what it was answered.
+    until: Option<u64>,
+    last: Option<Line>,
+}
+
+/// The line of an answer, without its end.
+fn text_of(alloc: Global, answer: &Result<Answer, Apart>) -> Result<String, AllocError> {
+    let line = line_of(answer);
+    let text = str::from_utf8(line.as_bytes()).unwrap_or("");
+    String::from_str(alloc, text.trim_end())
 }
 
 impl Recorder {
     ghost use Rattle.std.specs.Prelude.{◌≡◌, ◌<◌, ◌+◌, ◌*◌, ◌^◌, length, IfNone};
 
-    fn new(alloc: Global) -> Recorder {
+    fn new(alloc: Global, until: Option<u64>) -> Recorder {
         Recorder {
             reader: LineReader::new(),
             interpreter: Interpreter::new(),
-            answers: Vec::new(alloc),
+            ledger: Ledger::new(alloc),
+            limits: Limits::PROGRAM,
             lines: 0,
+            until,
+            last: None,
+        }
+    }
+
+    /// Notes the last event of the device's journal with its answer. Where memory is refused, what was noted before is gone.
+    fn note(&mut self, alloc: Global, answer: Answer) -> Result<(), AllocError>
+        ensures { self.new.reader ≡ self.old.reader }
+    {
+        let Some(device) = self.interpreter.device() else {
+            return Ok(());
+        };
+        let Some(event) = device.journal().last() else {
+            return Ok(());
+        };
+        let event = event.clone()?;
+        let before = mem::replace(&mut self.ledger, Ledger::new(alloc));
+        self.ledger = before.note(Step { event, answer })?;
+        Ok(())
+    }
+
+    /// Keeps what the line was answered, where that is the last one, and notes it, where it is a step.
+    fn keep(&mut self, alloc: Global, answer: Result<Answer, Apart>) -> Result<(), AllocError>
+        ensures { self.new.reader ≡ self.old.reader }
+    {
+        if self.until == Some(self.lines) {
+            let apart = match &answer {
+                Ok(_) => None,
+                Err(apart) => Some(*apart),
+            };
+            self.last = Some(Line {
+                number: self.lines,
+                answer: text_of(alloc, &answer)?,
+                apart,
+            });
+        }
+        match answer {
+            Ok(answer) => self.note(alloc, answer),
+            Err(_) => Ok(()),
+        }
+    }
+
+    /// Keeps the limits that a line sets, where it sets some.
+    fn keep_limits(&mut self)
+        ensures { self.new.reader ≡ self.old.reader }
+    {
+        if let Reading::Limits(limits) = read_line(script_of(self.reader.line())) {
+            self.limits = limits;
         }
     }
 
@@ -56,12 +121,14 @@ impl Recorder {
         self.lines = self.lines.saturating_add(1);
         let line = script_of(self.reader.line());
         match self.interpreter.interpret(alloc, line) {
-            LineResult::Unanswered => None,
-            LineResult::Answered(Ok(answer)) => match self.answers.push(answer) {
+            LineResult::Unanswered => {
+                self.keep_limits();
+                None
+            }
+            LineResult::Answered(answer) => match self.keep(alloc, answer) {
                 Ok(()) => None,
                 Err(_) => Some(ScriptEnd::NoMemory),
             },
-            LineResult::Answered(Err(_)) => None,
             LineResult::Malformed => Some(ScriptEnd::Malformed(self.lines)),
             LineResult::NoMemory => Some(ScriptEnd::NoMemory),
         }
@@ -95,44 +162,47 @@ impl Recorder {
         }
     }
 
+    /// Whether the line was used that is the last to be.
+    fn is_at_last(&self) -> bool {
+        self.until == Some(self.lines)
+    }
+
     /// What was recorded.
-    fn finish(self, alloc: Global) -> Result<Recording, AllocError> {
+    fn finish(self) -> Recording {
         let Recorder {
             interpreter,
-            answers,
+            ledger,
+            limits,
+            lines,
+            last,
             ..
         } = self;
         let labels = *interpreter.labels();
-        let ledger = match interpreter.device() {
-            Some(device) => ledger_of(alloc, device, answers)?,
-            None => Ledger::new(alloc),
-        };
-        Ok(Recording { ledger, labels })
+        Recording {
+            ledger,
+            labels,
+            limits,
+            lines,
+            last,
+        }
     }
 }
 
-/// The events of a device's journal, each with its answer.
-fn ledger_of(alloc: Global, device: &Device, answers: Vec<Answer>) -> Result<Ledger, AllocError> {
-    let mut ledger = Ledger::new(alloc);
-    for (event, answer) in device.journal().iter().zip(answers) {
-        let event = event.clone()?;
-        ledger = ledger.note(Step { event, answer })?;
-    }
-    Ok(ledger)
-}
-
-/// Runs a script on a device of its own, and notes its steps. Answers that lines expect are passed over.
+/// Runs a script on a device of its own up to the line of a number, or to its end, and notes its steps. Answers that lines expect are
+/// passed over.
 pub(crate) fn record<S: Source>(
     alloc: Global,
     source: &mut S,
     turns: u64,
+    until: Option<u64>,
 ) -> Result<Recording, Stop>
     requires { (S.account source.old).counts.calls + turns < 2 ^ 48 }
 {
-    let mut recorder = Recorder::new(alloc);
+    let mut recorder = Recorder::new(alloc, until);
     let mut left = turns;
     'lines: loop {
         match recorder.use_next(alloc, source, &mut left) {
+            None if recorder.is_at_last() => break,
             None => {}
             Some(ScriptEnd::Done) => break,
             Some(end) => {
@@ -142,8 +212,5 @@ pub(crate) fn record<S: Source>(
             }
         }
     }
-    recorder.finish(alloc).map_err(|_| Stop {
-        end: ScriptEnd::NoMemory,
-        cause: None,
-    })
+    Ok(recorder.finish())
 }

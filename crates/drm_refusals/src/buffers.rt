@@ -1,0 +1,218 @@
+//! Handles, names and tokens that are not there.
+
+use crate::scene::{Scene, first_steps};
+use drm_explanations::{At, at};
+use drm_rights::{Key, LastPublishing, Step, chain_of, handles_of, last_publishing};
+use drm_table::{Answer, Call, Event};
+use std::alloc::{AllocError, Global};
+
+/// How many handles of a client are told.
+const MOST_HANDLES: usize = 16;
+
+/// The handle that a call names.
+fn handle_in(call: &Call) -> Option<u32> {
+    match call {
+        Call::GemClose { handle } => Some(*handle),
+        Call::GemFlink { handle } => Some(*handle),
+        Call::PrimeHandleToFd { handle } => Some(*handle),
+        Call::StampWrite { handle, .. } => Some(*handle),
+        Call::StampRead { handle } => Some(*handle),
+        Call::AddFb { handle, .. } => Some(*handle),
+        Call::DestroyDumb { handle } => Some(*handle),
+        _ => None,
+    }
+}
+
+/// The last step that took the client's handle.
+fn last_taking(steps: &[Step], client: u64, handle: u64) -> Option<u64> {
+    let mut number = steps.len() as u64;
+    for step in steps.iter().rev() {
+        if step.takes(client, handle) {
+            return Some(number);
+        }
+        number = number.saturating_sub(1);
+    }
+    None
+}
+
+/// Puts which handles a client holds, the first of them.
+fn held_line(
+    alloc: Global,
+    scene: Scene<'_>,
+    client: u64,
+    text: &mut String,
+) -> Result<(), AllocError> {
+    let name = scene.name(client);
+    let held = handles_of(alloc, scene.ledger.steps(), client)?;
+    let count = held.len();
+    if count == 0 {
+        return writeln!(text, "{name} holds no handle");
+    }
+    write!(text, "{name} holds {count} of its own: ")?;
+    for (place, one) in held.iter().enumerate() {
+        if place == MOST_HANDLES {
+            text.push_str(", ..")?;
+            break;
+        }
+        let between = if place == 0 { "" } else { ", " };
+        let handle = one.handle;
+        write!(text, "{between}{handle}")?;
+    }
+    text.push_str("\n")
+}
+
+/// Puts why a client doesn't hold the handle of a call.
+pub(crate) fn no_handle(
+    alloc: Global,
+    scene: Scene<'_>,
+    client: u64,
+    call: &Call,
+    text: &mut String,
+) -> Result<(), AllocError> {
+    let Some(handle) = handle_in(call) else {
+        return Ok(());
+    };
+    let name = scene.name(client);
+    let steps = scene.ledger.steps();
+    let taken = last_taking(steps, client, u64::from(handle)).and_then(|number| at(steps, number));
+    match taken {
+        Some(At { step, call, .. }) => writeln!(
+            text,
+            "{name} does not hold handle {handle}: it gave it back at step {step} ({call})"
+        )?,
+        None => writeln!(
+            text,
+            "{name} does not hold handle {handle}: no step gave it that"
+        )?,
+    }
+    held_line(alloc, scene, client, text)
+}
+
+/// The object that a client's handle was of after these steps, by the step that made it.
+pub(crate) fn object_of(
+    alloc: Global,
+    steps: &[Step],
+    client: u64,
+    handle: u64,
+) -> Result<Option<u64>, AllocError> {
+    let Some(links) = chain_of(alloc, steps, client, handle)? else {
+        return Ok(None);
+    };
+    Ok(links.last().map(|link| link.step))
+}
+
+/// Whether a step gave back a handle of an object, which stood behind these others.
+fn gives_back(
+    alloc: Global,
+    before: &[Step],
+    step: &Step,
+    object: u64,
+) -> Result<bool, AllocError> {
+    match (&step.event, &step.answer) {
+        (Event::Ask(client, Call::GemClose { handle }), Answer::Done)
+        | (Event::Ask(client, Call::DestroyDumb { handle }), Answer::Done) => {
+            let of = object_of(alloc, before, u64::from(*client), u64::from(*handle))?;
+            Ok(of == Some(object))
+        }
+        (Event::Close(client), Answer::Closed) => {
+            let client = u64::from(*client);
+            for held in &handles_of(alloc, before, client)? {
+                let past = match usize::try_from(held.step) {
+                    Ok(count) => first_steps(before, count),
+                    Err(_) => before,
+                };
+                if object_of(alloc, past, client, held.handle)? == Some(object) {
+                    return Ok(true);
+                }
+            }
+            Ok(false)
+        }
+        _ => Ok(false),
+    }
+}
+
+/// The last step that gave back a handle of an object.
+fn last_giving_back(alloc: Global, steps: &[Step], object: u64) -> Result<Option<u64>, AllocError> {
+    let mut before = steps.len();
+    for step in steps.iter().rev() {
+        before = before.saturating_sub(1);
+        if gives_back(alloc, first_steps(steps, before), step, object)? {
+            return Ok(Some(before as u64 + 1));
+        }
+    }
+    Ok(None)
+}
+
+/// Puts why no object has a name.
+pub(crate) fn no_name(
+    alloc: Global,
+    scene: Scene<'_>,
+    name: u32,
+    text: &mut String,
+) -> Result<(), AllocError> {
+    let steps = scene.ledger.steps();
+    let Some(named) = last_publishing(steps, Key::Name(u64::from(name))) else {
+        return writeln!(text, "no buffer has name {name}: no step gave one that");
+    };
+    let before = first_steps(steps, named.past);
+    let Some(object) = object_of(alloc, before, named.client, named.handle)? else {
+        return Ok(());
+    };
+    let by = scene.name(named.client);
+    let step = named.past as u64 + 1;
+    write!(
+        text,
+        "no buffer has name {name}: buffer {object} had it since {by} named it at step {step}, up to its last handle"
+    )?;
+    match last_giving_back(alloc, steps, object)?.and_then(|number| at(steps, number)) {
+        Some(At { step, client, call }) => {
+            let by = scene.name(client);
+            writeln!(text, ", which went at step {step} ({call} by {by})")
+        }
+        None => text.push_str("\n"),
+    }
+}
+
+/// The step that closed a token, behind the one that exported it.
+fn token_closed(steps: &[Step], exported: LastPublishing, token: u32) -> Option<u64> {
+    let mut number = (exported.past as u64).saturating_add(1);
+    for step in steps.get(exported.past..)?.iter().skip(1) {
+        number = number.saturating_add(1);
+        match (&step.event, &step.answer) {
+            (Event::Ask(_, Call::TokenClose { token: closed }), Answer::Done) if *closed == token =>
+                {
+                    return Some(number);
+                }
+            (Event::Close(client), Answer::Closed) if u64::from(*client) == exported.client => {
+                return Some(number);
+            }
+            _ => {}
+        }
+    }
+    None
+}
+
+/// Puts why a token isn't open, or is another's.
+pub(crate) fn no_token(scene: Scene<'_>, token: u32, text: &mut String) -> Result<(), AllocError> {
+    let steps = scene.ledger.steps();
+    let Some(exported) = last_publishing(steps, Key::Token(u64::from(token))) else {
+        return writeln!(text, "token {token} is not open: no step gave it");
+    };
+    let by = scene.name(exported.client);
+    let step = exported.past as u64 + 1;
+    match token_closed(steps, exported, token).and_then(|number| at(steps, number)) {
+        Some(closed) => {
+            let At { client, call, .. } = closed;
+            let last = closed.step;
+            let closer = scene.name(client);
+            writeln!(
+                text,
+                "token {token} is not open: {by} exported it at step {step}, and it was closed at step {last} ({call} by {closer})"
+            )
+        }
+        None => writeln!(
+            text,
+            "token {token} is {by}'s, which exported it at step {step}"
+        ),
+    }
+}
