@@ -72,51 +72,61 @@ fn line_of_event(namings: &Namings, event: &Event) -> EventLine {
     }
 }
 
-/// A journal that is being written.
-#[derive(Drop)]
-struct Writing {
-    device: Device,
-    namings: Namings,
-    text: Vec<u8>,
+/// Writes a line with the answer that it expects. One for which both are too long expects none.
+fn write_line(
+    text: &mut Vec<u8>,
+    line: &Line,
+    outcome: &Result<Answer, Apart>,
+) -> Result<(), AllocError> {
+    let asked = line.as_bytes();
+    let answer = line_of(outcome);
+    text.extend_from_slice(asked)?;
+    // the answer has its line end
+    if asked.len() + ARROW.len() + answer.as_bytes().len() > LONGEST + 1 {
+        return text.extend_from_slice(b"\n");
+    }
+    text.extend_from_slice(ARROW)?;
+    text.extend_from_slice(answer.as_bytes())
 }
 
-impl Writing {
-    /// Writes a line with the answer that it expects. One for which both are too long expects none.
-    fn write_line(
-        &mut self,
-        line: &Line,
-        outcome: &Result<Answer, Apart>,
-    ) -> Result<(), AllocError> {
-        let asked = line.as_bytes();
-        let answer = line_of(outcome);
-        self.text.extend_from_slice(asked)?;
-        // the answer has its line end
-        if asked.len() + ARROW.len() + answer.as_bytes().len() > LONGEST + 1 {
-            return self.text.extend_from_slice(b"\n");
-        }
-        self.text.extend_from_slice(ARROW)?;
-        self.text.extend_from_slice(answer.as_bytes())
+/// Writes an event, and its answer. It says whether there was a label for it.
+fn write_event(
+    text: &mut Vec<u8>,
+    device: &mut Device,
+    namings: &mut Namings,
+    event: &Event,
+) -> Result<bool, AllocError> {
+    let event = fitting(event);
+    let EventLine::Line(line, binds) = line_of_event(namings, &event) else {
+        text.extend_from_slice(LABELS_USED)?;
+        return Ok(false);
+    };
+    if let Event::Close(client) = &event {
+        namings.close(*client);
     }
+    let outcome = device.step(event);
+    if let Some(place) = binds {
+        if let Ok(Answer::Opened { client }) = &outcome {
+            namings.bind(place, *client);
+        }
+    }
+    write_line(text, &line, &outcome)?;
+    Ok(true)
+}
 
-    /// Writes an event, and its answer. It says whether there was a label for it.
-    fn write_event(&mut self, event: &Event) -> Result<bool, AllocError> {
-        let event = fitting(event);
-        let EventLine::Line(line, binds) = line_of_event(&self.namings, &event) else {
-            self.text.extend_from_slice(LABELS_USED)?;
+/// Writes events, and what the device answers. It says whether there was a label for each.
+fn write_events(
+    text: &mut Vec<u8>,
+    device: &mut Device,
+    events: &[Event],
+) -> Result<bool, AllocError> {
+    let mut namings = Namings::new();
+    for event in events {
+        if !write_event(text, device, &mut namings, event)? {
             return Ok(false);
-        };
-        if let Event::Close(client) = &event {
-            self.namings.close(*client);
         }
-        let outcome = self.device.step(event);
-        if let Some(place) = binds {
-            if let Ok(Answer::Opened { client }) = &outcome {
-                self.namings.bind(place, *client);
-            }
-        }
-        self.write_line(&line, &outcome)?;
-        Ok(true)
     }
+    Ok(true)
 }
 
 /// The events of a journal as a script (own).
@@ -131,24 +141,10 @@ pub fn journal_of(
     limits: Limits,
     device: Device,
 ) -> Result<Journal, AllocError> {
-    let mut writing = Writing {
-        device,
-        namings: Namings::new(),
-        text: Vec::new(alloc),
-    };
-    writing
-        .text
-        .extend_from_slice(limits_line(limits).as_bytes())?;
-    writing.text.extend_from_slice(b"\n")?;
-    let mut is_whole = true;
-    for event in events {
-        if !writing.write_event(event)? {
-            is_whole = false;
-            break;
-        }
-    }
-    Ok(Journal {
-        text: writing.text,
-        is_whole,
-    })
+    let mut device = device;
+    let mut text = Vec::new(alloc);
+    text.extend_from_slice(limits_line(limits).as_bytes())?;
+    text.extend_from_slice(b"\n")?;
+    let is_whole = write_events(&mut text, &mut device, events)?;
+    Ok(Journal { text, is_whole })
 }
