@@ -161,7 +161,7 @@ def audit_by(client: Client) -> Audit:
     return Audit(auditor=client.opened.client, mode_objects=dict(sorted(found)), **kinds)
 
 
-def read_audit(path: str, timeout: float) -> Audit:
+def read_audit(path: str, timeout: float = DEFAULT_TIMEOUT) -> Audit:
     """The audit of the server with this root socket."""
     with Client(path, timeout=timeout) as client:
         return audit_by(client)

@@ -780,7 +780,8 @@ def talk(arguments: argparse.Namespace) -> None:
                 print(client.ask(line), flush=True)
 
 
-def main() -> int:
+def command() -> int:
+    """Does what the command line asks for, and gives the status."""
     arguments = parse(sys.argv[1:])
     try:
         talk(arguments)
@@ -792,10 +793,14 @@ def main() -> int:
     return 0
 
 
-if __name__ == "__main__":
-    STATUS = main()
+def main() -> int:
+    status = command()
     try:
         sys.stdout.flush()
     except OSError:  # who read the answers has gone
         os.dup2(os.open(os.devnull, os.O_WRONLY), sys.stdout.fileno())
-    sys.exit(STATUS)
+    return status
+
+
+if __name__ == "__main__":
+    sys.exit(main())
