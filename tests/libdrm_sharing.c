@@ -3,6 +3,7 @@
  */
 #include <errno.h>
 #include <fcntl.h>
+#include <poll.h>
 #include <pthread.h>
 #include <signal.h>
 #include <stdbool.h>
@@ -114,13 +115,17 @@ static void *ask_until_done(void *argument)
     return NULL;
 }
 
-/* A handler that closes descriptors, as programs have. */
+static int waited_for;
+
+/* A handler that closes descriptors and looks whether there is something to read, as programs have. */
 static void close_one(int signal)
 {
+    struct pollfd waited = {waited_for, POLLIN, 0};
     int error = errno;
 
     (void)signal;
     close(dup(STDOUT_FILENO));
+    poll(&waited, 1, 0);
     errno = error;
 }
 
@@ -133,6 +138,7 @@ static void fork_while_asking(int times)
     pthread_t thread;
     int at, failed = 0;
 
+    waited_for = asker.fd;
     sigaction(SIGALRM, &action, NULL);
     setitimer(ITIMER_REAL, &often, NULL);
     pthread_create(&thread, NULL, ask_until_done, &asker);

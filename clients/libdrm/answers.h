@@ -11,7 +11,13 @@
 #include <drm_fourcc.h>
 #include <drm_mode.h>
 
+/* how wide and how high a cursor may be, which a capability tells */
+#define MOST_CURSOR_SIDE 64
+
 typedef int answer(struct connection *connection, void *argument);
+
+/* The same where the connection isn't held yet, but is this descriptor. */
+typedef int free_answer(struct connection *connection, int fd, void *argument);
 
 /* core_calls.c: the driver, its capabilities, masters and magics */
 answer answer_version, answer_get_unique, answer_get_client, answer_nothing, answer_set_version, answer_get_cap,
@@ -34,10 +40,17 @@ int give_connector_properties(struct drm_mode_get_connector *connector);
 
 /* lease_calls.c; the making of a lease holds the connection itself, since it opens another one */
 answer answer_list_lessees, answer_get_lease, answer_revoke_lease;
-int answer_create_lease(struct connection *connection, int fd, void *argument);
+free_answer answer_create_lease;
+
+/* vblank_calls.c; a wait holds the connection itself, and not while it waits */
+answer answer_get_sequence, answer_queue_sequence;
+free_answer answer_wait_vblank;
+
+/* flip_calls.c */
+answer answer_page_flip, answer_cursor;
 
 /* lacking_calls.c: what a driver answers that lacks the call */
-answer lacks_support, lacks_object, lacks_page_flip, lacks_cursor, lacks_dirty, lacks_gamma_size, lacks_gamma;
+answer lacks_support, lacks_object, lacks_dirty, lacks_gamma_size, lacks_gamma;
 
 /* formats.c: the bits of a pixel in a format, or 0; the format that stands for so many bits, or 0; all formats */
 uint32_t bits_of_format(uint32_t format);

@@ -46,7 +46,27 @@ static uint64_t cookie_of(int fd)
     return getsockopt(fd, SOL_SOCKET, SO_COOKIE, &cookie, &size) == 0 ? cookie : 0;
 }
 
-/* Whether the socket is connected to one of the server's, and to which. */
+/* A mark on the socket, which all who have it see: that this library made it and, meanwhile, that an answer is to come. A socket to
+ * the server that a program made itself has none. (Unix sockets have no other use for a priority.)
+ */
+enum mark { MARK_NONE, MARK_OURS, MARK_ASKING };
+
+static void set_mark(int fd, enum mark mark)
+{
+    int priority = (int)mark;
+
+    setsockopt(fd, SOL_SOCKET, SO_PRIORITY, &priority, sizeof priority);
+}
+
+static enum mark mark_of(int fd)
+{
+    int priority = MARK_NONE;
+    socklen_t size = sizeof priority;
+
+    return getsockopt(fd, SOL_SOCKET, SO_PRIORITY, &priority, &size) == 0 ? (enum mark)priority : MARK_NONE;
+}
+
+/* Whether the socket is one of this library's to the server, and to which node. */
 static bool is_of_server(int fd, enum node *node)
 {
     static const enum node nodes[] = {NODE_CARD, NODE_RENDER, NODE_ROOT};
@@ -55,6 +75,8 @@ static bool is_of_server(int fd, enum node *node)
     size_t at;
 
     memset(&peer, 0, sizeof peer);
+    if (mark_of(fd) == MARK_NONE)
+        return false;
     if (getpeername(fd, (struct sockaddr *)&peer, &size) != 0 || peer.sun_family != AF_UNIX)
         return false;
     for (at = 0; at < sizeof nodes / sizeof nodes[0]; at++) {
@@ -76,6 +98,7 @@ static struct connection *make_connection(enum node node)
         connection->node = node;
         connection->users = 1;
         connection->client.socket = -1;
+        events_begin(&connection->events);
     }
     return connection;
 }
@@ -131,6 +154,7 @@ int connection_open(enum node node, bool is_lease, uint32_t token, int flags)
     fd = connection->client.socket;
     connection->client.socket = -1;
     connection->cookie = cookie_of(fd);
+    set_mark(fd, MARK_OURS);
     fcntl(fd, F_SETFD, flags & O_CLOEXEC ? FD_CLOEXEC : 0);
     fcntl(fd, F_SETFL, flags & O_NONBLOCK);
     hold_list(&before);
@@ -195,6 +219,7 @@ void connection_release(struct connection *connection)
     is_unused = --connection->users == 0;
     let_list_go(&before);
     if (is_unused) {
+        events_end(&connection->events);
         pthread_mutex_destroy(&connection->client.turn);
         free(connection);
     }
@@ -226,8 +251,10 @@ static bool is_shared(const struct connection *connection)
     return connection->is_forked || connection->is_received || connection->is_sent;
 }
 
-/* Keeps handlers of signals and cancellation away while an answer is to come, as they don't come in between in a kernel. */
-static void take_calm(struct connection *connection)
+/* No handler of signals runs in a thread that has the turn: it might wait for the list, and who forks has that and waits for the
+ * turn. Signals of faults stay, which come at once or never.
+ */
+void connection_lock(struct connection *connection, sigset_t *before)
 {
     sigset_t all;
     int faults[] = {SIGSEGV, SIGBUS, SIGFPE, SIGILL, SIGTRAP, SIGSYS, SIGABRT};
@@ -236,7 +263,25 @@ static void take_calm(struct connection *connection)
     sigfillset(&all);
     for (at = 0; at < sizeof faults / sizeof faults[0]; at++)
         sigdelset(&all, faults[at]);
-    pthread_sigmask(SIG_BLOCK, &all, &connection->signals);
+    pthread_sigmask(SIG_BLOCK, &all, before);
+    zirkoshe_lock(&connection->client);
+}
+
+void connection_unlock(struct connection *connection, const sigset_t *before)
+{
+    zirkoshe_unlock(&connection->client);
+    pthread_sigmask(SIG_SETMASK, before, NULL);
+}
+
+/* Takes the turn, and keeps handlers of signals and cancellation away while an answer is to come: in a kernel they don't come in
+ * between either.
+ */
+static void take_turn(struct connection *connection)
+{
+    sigset_t signals;
+
+    connection_lock(connection, &signals);
+    connection->signals = signals;
     pthread_setcancelstate(PTHREAD_CANCEL_DISABLE, &connection->cancel_state);
 }
 
@@ -248,20 +293,6 @@ static void end_turn(struct connection *connection)
     zirkoshe_unlock(&connection->client);
     pthread_setcancelstate(cancel_state, NULL);
     pthread_sigmask(SIG_SETMASK, &signals, NULL);
-}
-
-/* A mark on the socket that all who have it see: an answer is to come. (Unix sockets have no other use for a priority.) */
-static void set_mark(int fd, int is_asking)
-{
-    setsockopt(fd, SOL_SOCKET, SO_PRIORITY, &is_asking, sizeof is_asking);
-}
-
-static bool has_mark(int fd)
-{
-    int is_asking = 0;
-    socklen_t size = sizeof is_asking;
-
-    return getsockopt(fd, SOL_SOCKET, SO_PRIORITY, &is_asking, &size) == 0 && is_asking != 0;
 }
 
 /* Keeps other processes from asking, or lets them. The lock is the process's own, and goes with it. */
@@ -281,8 +312,8 @@ static void lock_out_processes(int fd, short kind)
 static int hold_against_processes(int fd)
 {
     lock_out_processes(fd, F_WRLCK);
-    if (!has_mark(fd)) {
-        set_mark(fd, 1);
+    if (mark_of(fd) != MARK_ASKING) {
+        set_mark(fd, MARK_ASKING);
         return 0;
     }
     shutdown(fd, SHUT_RDWR);
@@ -294,8 +325,7 @@ int connection_hold(struct connection *connection, int fd)
 {
     int duplicate, failed;
 
-    zirkoshe_lock(&connection->client);
-    take_calm(connection);
+    take_turn(connection);
     duplicate = libc_duplicate(fd);
     failed = duplicate < 0 ? -errno : cookie_of(duplicate) != connection->cookie ? -EBADF : 0;
     if (!failed && is_shared(connection))
@@ -337,7 +367,7 @@ int connection_let_go(struct connection *connection, int fd, int failed)
         failed = -ENODEV;
     } else {
         if (is_shared(connection)) {
-            set_mark(duplicate, 0);
+            set_mark(duplicate, MARK_OURS);
             lock_out_processes(duplicate, F_UNLCK);
         }
         libc_close(duplicate);
@@ -359,18 +389,21 @@ static void find_others(const struct connection *connection, int fd, bool *is_la
 int connection_close(struct connection *connection, int fd)
 {
     bool is_last_here, is_last;
+    sigset_t before;
     int result;
 
-    zirkoshe_lock(&connection->client);
+    connection_lock(connection, &before);
     find_others(connection, fd, &is_last_here, &is_last);
     if (is_last && connection_hold(connection, fd) == 0) {
         zirkoshe_close(&connection->client);
         connection_let_go(connection, fd, 0);
     }
-    if (is_last_here)
+    if (is_last_here) {
         buffers_clear(&connection->buffers);
+        events_end(&connection->events);
+    }
     result = libc_close(fd);
-    zirkoshe_unlock(&connection->client);
+    connection_unlock(connection, &before);
     if (is_last_here)
         unlist(connection);
     return result;
@@ -379,12 +412,13 @@ int connection_close(struct connection *connection, int fd)
 void connection_is_sent(int fd)
 {
     struct connection *connection = connection_find(fd);
+    sigset_t before;
 
     if (connection == NULL)
         return;
-    zirkoshe_lock(&connection->client);
+    connection_lock(connection, &before);
     connection->is_sent = true;
-    zirkoshe_unlock(&connection->client);
+    connection_unlock(connection, &before);
     connection_release(connection);
 }
 
@@ -400,6 +434,7 @@ static void before_fork(void)
         zirkoshe_lock(&each->client);
         each->is_forked = true;
     }
+    events_before_fork();
 }
 
 static void after_fork_in_parent(void)
@@ -407,21 +442,26 @@ static void after_fork_in_parent(void)
     sigset_t before = forking_signals;
     struct connection *each;
 
+    events_after_fork(false);
     for (each = connections; each != NULL; each = each->next)
         zirkoshe_unlock(&each->client);
     let_list_go(&before);
 }
 
-/* The turns were taken by a thread of the parent: they are made anew. The parent alone closes the tokens that it exported. */
+/* The turns were taken by a thread of the parent: they are made anew. The parent alone closes the tokens that it exported, and gets
+ * the events that it asked for.
+ */
 static void after_fork_in_child(void)
 {
     struct connection *each;
 
     own_process = getpid();
     pthread_mutex_init(&list_turn, NULL);
+    events_after_fork(true);
     for (each = connections; each != NULL; each = each->next) {
         zirkoshe_prepare_turn(&each->client.turn);
         buffers_forget_exports(&each->buffers);
+        events_end(&each->events);
     }
     pthread_sigmask(SIG_SETMASK, &forking_signals, NULL);
 }

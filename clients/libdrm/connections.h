@@ -9,15 +9,19 @@
 
 #include "libc.h"
 
+#include <poll.h>
 #include <signal.h>
 #include <unistd.h>
 
-/* The client closes duplicates alone, which are none of the program's closings. */
+/* The client closes duplicates alone, which are none of the program's closings, and waits for the sockets themselves. */
 #define close libc_close
+#define poll libc_poll
 #include "drm_client.h"
+#undef poll
 #undef close
 
 #include "buffers.h"
+#include "events.h"
 
 enum node { NODE_CARD, NODE_RENDER, NODE_ROOT };
 
@@ -30,6 +34,7 @@ struct connection {
     bool is_received; /* this process has it from somewhere else: anybody may have it */
     bool is_sent;     /* this process has sent it away, and it may still be under way */
     struct buffers buffers;
+    struct events events;
     struct zirkoshe_client client; /* its socket is a duplicate while the connection is held, and else -1 */
     sigset_t signals;              /* what the holder had blocked before, */
     int cancel_state;              /* and whether it could be cancelled */
@@ -47,6 +52,10 @@ bool connections_exist(void);
 /* The connection that this descriptor is, until connection_release; NULL where it is none. */
 struct connection *connection_find(int fd);
 void connection_release(struct connection *connection);
+
+/* Keeps other threads of this process away from the connection, and handlers of signals from this one, or lets them. */
+void connection_lock(struct connection *connection, sigset_t *before);
+void connection_unlock(struct connection *connection, const sigset_t *before);
 
 /* Holds the connection, so that nobody else asks, in whichever thread or process; 0, or a negative errno. Calls may follow. */
 int connection_hold(struct connection *connection, int fd);

@@ -81,17 +81,32 @@ SHOWN int dup3(int from, int to, int flags)
     return REAL(dup3)(from, to, flags);
 }
 
-/* Reading a node gives events, of which there are none: who may wait does so until a signal comes. */
+/* Reading a node gives events. Who may wait does so until one is due or a signal comes. */
 SHOWN ssize_t read(int fd, void *bytes, size_t size)
 {
-    struct connection *connection = connections_exist() ? connection_find(fd) : NULL;
+    for (;;) {
+        struct connection *connection = connections_exist() ? connection_find(fd) : NULL;
+        uint64_t expired;
+        int taken, timer;
 
-    if (connection == NULL)
-        return REAL(read)(fd, bytes, size);
-    connection_release(connection);
-    if (fcntl(fd, F_GETFL) & O_NONBLOCK)
-        return result_of(-EAGAIN);
-    return poll(NULL, 0, -1);
+        if (connection == NULL)
+            return REAL(read)(fd, bytes, size);
+        taken = events_take(&connection->events, bytes, size);
+        timer = events_timer(&connection->events);
+        connection_release(connection);
+        if (taken != -EAGAIN || (fcntl(fd, F_GETFL) & O_NONBLOCK))
+            return result_of(taken);
+        if (REAL(read)(timer, &expired, sizeof expired) < 0)
+            return -1;
+    }
+}
+
+ssize_t __read_chk(int, void *, size_t, size_t);
+
+/* What a call of it becomes where a program was compiled with checks. */
+SHOWN ssize_t __read_chk(int fd, void *bytes, size_t size, size_t room)
+{
+    return size > room ? REAL(__read_chk)(fd, bytes, size, room) : read(fd, bytes, size);
 }
 
 /* Notes which connections a message carries to another process. */
@@ -134,10 +149,11 @@ SHOWN int sendmmsg(int socket, struct mmsghdr *messages, unsigned count, int fla
 static void *map(struct connection *connection, void *address, size_t length, int protection, int flags, uint64_t offset)
 {
     void *mapped = MAP_FAILED;
+    sigset_t before;
     uint64_t size;
     int memory;
 
-    zirkoshe_lock(&connection->client);
+    connection_lock(connection, &before);
     memory = buffers_memory(&connection->buffers, handle_at(offset), &size);
     if (memory < 0)
         errno = -memory;
@@ -145,7 +161,7 @@ static void *map(struct connection *connection, void *address, size_t length, in
         errno = EINVAL;
     else
         mapped = REAL(mmap)(address, length, protection, flags, memory, (off_t)place_at(offset));
-    zirkoshe_unlock(&connection->client);
+    connection_unlock(connection, &before);
     return mapped;
 }
 

@@ -15,10 +15,12 @@ struct row {
     uint32_t request;
     const char *name;
     answer *answer;
+    free_answer *free_answer; /* in its place, of a request that holds the connection itself */
     enum wants wants;
 };
 
-#define ROW(name, answer, wants) {DRM_IOCTL_##name, #name, answer, wants}
+#define ROW(name, answer, wants) {DRM_IOCTL_##name, #name, answer, NULL, wants}
+#define FREE_ROW(name, answer, wants) {DRM_IOCTL_##name, #name, NULL, answer, wants}
 
 static const struct row rows[] = {
     ROW(VERSION, answer_version, WANTS_NOTHING),
@@ -37,13 +39,13 @@ static const struct row rows[] = {
     ROW(DROP_MASTER, answer_drop_master, WANTS_NOTHING),
     ROW(PRIME_HANDLE_TO_FD, answer_prime_export, WANTS_NOTHING),
     ROW(PRIME_FD_TO_HANDLE, answer_prime_import, WANTS_NOTHING),
-    ROW(WAIT_VBLANK, lacks_support, WANTS_PRIMARY),
-    ROW(CRTC_GET_SEQUENCE, lacks_support, WANTS_PRIMARY),
-    ROW(CRTC_QUEUE_SEQUENCE, lacks_support, WANTS_PRIMARY),
+    FREE_ROW(WAIT_VBLANK, answer_wait_vblank, WANTS_PRIMARY),
+    ROW(CRTC_GET_SEQUENCE, answer_get_sequence, WANTS_PRIMARY),
+    ROW(CRTC_QUEUE_SEQUENCE, answer_queue_sequence, WANTS_PRIMARY),
     ROW(MODE_GETRESOURCES, answer_get_resources, WANTS_NOTHING),
     ROW(MODE_GETCRTC, answer_get_crtc, WANTS_NOTHING),
     ROW(MODE_SETCRTC, answer_set_crtc, WANTS_NOTHING),
-    ROW(MODE_CURSOR, lacks_cursor, WANTS_MASTER),
+    ROW(MODE_CURSOR, answer_cursor, WANTS_MASTER),
     ROW(MODE_GETGAMMA, lacks_gamma_size, WANTS_PRIMARY),
     ROW(MODE_SETGAMMA, lacks_gamma, WANTS_MASTER),
     ROW(MODE_GETENCODER, answer_get_encoder, WANTS_NOTHING),
@@ -56,7 +58,7 @@ static const struct row rows[] = {
     ROW(MODE_GETFB, answer_get_fb, WANTS_NOTHING),
     ROW(MODE_ADDFB, answer_add_fb, WANTS_NOTHING),
     ROW(MODE_RMFB, answer_rm_fb, WANTS_NOTHING),
-    ROW(MODE_PAGE_FLIP, lacks_page_flip, WANTS_MASTER),
+    ROW(MODE_PAGE_FLIP, answer_page_flip, WANTS_PRIMARY),
     ROW(MODE_DIRTYFB, lacks_dirty, WANTS_MASTER),
     ROW(MODE_CREATE_DUMB, answer_create_dumb, WANTS_NOTHING),
     ROW(MODE_MAP_DUMB, answer_map_dumb, WANTS_PRIMARY),
@@ -67,7 +69,7 @@ static const struct row rows[] = {
     ROW(MODE_ADDFB2, answer_add_fb2, WANTS_PRIMARY),
     ROW(MODE_OBJ_GETPROPERTIES, answer_get_object_properties, WANTS_PRIMARY),
     ROW(MODE_OBJ_SETPROPERTY, answer_set_object_property, WANTS_MASTER),
-    ROW(MODE_CURSOR2, lacks_cursor, WANTS_MASTER),
+    ROW(MODE_CURSOR2, answer_cursor, WANTS_MASTER),
     ROW(MODE_ATOMIC, lacks_support, WANTS_MASTER),
     ROW(MODE_CREATEPROPBLOB, lacks_support, WANTS_PRIMARY),
     ROW(MODE_DESTROYPROPBLOB, lacks_object, WANTS_PRIMARY),
@@ -82,6 +84,7 @@ static const struct row rows[] = {
     ROW(SYNCOBJ_QUERY, lacks_support, WANTS_NOTHING),
     ROW(SYNCOBJ_TRANSFER, lacks_support, WANTS_NOTHING),
     ROW(SYNCOBJ_TIMELINE_SIGNAL, lacks_support, WANTS_NOTHING),
+    FREE_ROW(MODE_CREATE_LEASE, answer_create_lease, WANTS_NOTHING),
     ROW(MODE_LIST_LESSEES, answer_list_lessees, WANTS_NOTHING),
     ROW(MODE_GET_LEASE, answer_get_lease, WANTS_NOTHING),
     ROW(MODE_REVOKE_LEASE, answer_revoke_lease, WANTS_NOTHING),
@@ -115,22 +118,23 @@ static const struct row *row_of(uint32_t request)
     return NULL;
 }
 
-/* Who is current is told by a call that changes nothing and that they alone may make. */
+/* Who is current is told by a call that changes nothing and that they alone may make. (A page flip asks by itself.) */
 static int permit(struct connection *connection, enum wants wants)
 {
     struct zirkoshe_ids lessees;
 
-    if (wants == WANTS_NOTHING)
-        return 0;
-    if (connection->node == NODE_RENDER)
-        return -EACCES;
     return wants == WANTS_MASTER ? zirkoshe_drmModeListLessees(&connection->client, &lessees) : 0;
 }
 
 static int ask(struct connection *connection, int fd, const struct row *row, void *argument)
 {
-    int failed = connection_hold(connection, fd);
+    int failed;
 
+    if (row->wants != WANTS_NOTHING && connection->node == NODE_RENDER)
+        return -EACCES;
+    if (row->free_answer != NULL)
+        return row->free_answer(connection, fd, argument);
+    failed = connection_hold(connection, fd);
     if (failed)
         return failed;
     buffers_close_tokens(connection, false);
@@ -162,9 +166,7 @@ static size_t least(size_t one, size_t other)
 /* The core takes a struct that is shorter or longer than it knows: what is missing is 0, and what is too much is left alone. */
 int carry_out(struct connection *connection, int fd, uint32_t request, void *argument)
 {
-    static const struct row lease = ROW(MODE_CREATE_LEASE, NULL, WANTS_NOTHING);
-    bool is_lease = _IOC_NR(request) == _IOC_NR(lease.request);
-    const struct row *row = is_lease ? &lease : row_of(request);
+    const struct row *row = row_of(request);
     union argument held;
     size_t size;
     int failed;
@@ -179,7 +181,7 @@ int carry_out(struct connection *connection, int fd, uint32_t request, void *arg
     memset(&held, 0, sizeof held);
     if (request & row->request & IOC_IN)
         memcpy(&held, argument, size);
-    failed = is_lease ? answer_create_lease(connection, fd, &held) : ask(connection, fd, row, &held);
+    failed = ask(connection, fd, row, &held);
     if (failed)
         trace(row->name, connection_refused_by(), -failed);
     if (request & row->request & IOC_OUT)

@@ -21,30 +21,6 @@ static int shown(struct connection *connection, uint32_t crtc_id, uint32_t *fb_i
     return zirkoshe_drmModeGetCrtc(&connection->client, crtc_id, fb_id);
 }
 
-int lacks_page_flip(struct connection *connection, void *argument)
-{
-    const struct drm_mode_crtc_page_flip *flip = argument;
-    uint32_t fb_id;
-    int failed = shown(connection, flip->crtc_id, &fb_id);
-
-    return failed ? failed : -EINVAL;
-}
-
-/* The older struct of a cursor begins as the newer one does. */
-int lacks_cursor(struct connection *connection, void *argument)
-{
-    const struct drm_mode_cursor *cursor = argument;
-    uint32_t fb_id;
-    int failed;
-
-    if (cursor->flags == 0 || (cursor->flags & ~(uint32_t)DRM_MODE_CURSOR_FLAGS) != 0)
-        return -EINVAL;
-    failed = shown(connection, cursor->crtc_id, &fb_id);
-    if (failed)
-        return failed;
-    return cursor->flags & DRM_MODE_CURSOR_BO ? -ENXIO : -EFAULT;
-}
-
 int lacks_dirty(struct connection *connection, void *argument)
 {
     (void)connection;

@@ -9,6 +9,11 @@ int libc_close(int fd)
     return REAL(close)(fd);
 }
 
+int libc_poll(struct pollfd *waited, nfds_t count, int timeout)
+{
+    return REAL(poll)(waited, count, timeout);
+}
+
 int libc_duplicate(int fd)
 {
     int duplicate = fcntl(fd, F_DUPFD_CLOEXEC, LEAST_HIDDEN);

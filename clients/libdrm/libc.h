@@ -7,6 +7,7 @@
 #endif
 
 #include <dlfcn.h>
+#include <poll.h>
 #include <stdatomic.h>
 #include <stddef.h>
 
@@ -31,6 +32,9 @@
 
 /* Closes a descriptor that is this library's own. */
 int libc_close(int fd);
+
+/* Waits for descriptors as they are. */
+int libc_poll(struct pollfd *waited, nfds_t count, int timeout);
 
 /* A duplicate that is this library's own, out of the program's way where that is possible; -1 with errno. */
 int libc_duplicate(int fd);

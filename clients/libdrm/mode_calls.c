@@ -1,6 +1,8 @@
 /* Answers to requests of mode objects and of what they show. */
 #include "answers.h"
 
+#include "crtcs.h"
+
 /* the sizes of framebuffers, which are the server's */
 #define LEAST_SIDE 1
 #define MOST_SIDE 65535
@@ -27,22 +29,23 @@ int answer_get_resources(struct connection *connection, void *argument)
     return failed;
 }
 
-/* A CRTC that shows something is told to do so from its corner, in the preferred mode. */
+/* A CRTC that shows something is told to do so from its corner, in the mode that this process set, or else in the preferred one. */
 int answer_get_crtc(struct connection *connection, void *argument)
 {
     struct drm_mode_crtc *crtc = argument;
-    uint32_t fb_id, count;
+    uint32_t fb_id;
     int failed = zirkoshe_drmModeGetCrtc(&connection->client, crtc->crtc_id, &fb_id);
 
     if (failed)
         return failed;
+    crtc_is_seen(crtc->crtc_id, fb_id != 0);
     crtc->fb_id = fb_id;
     crtc->x = crtc->y = 0;
     crtc->gamma_size = 0;
     crtc->mode_valid = fb_id != 0;
     memset(&crtc->mode, 0, sizeof crtc->mode);
     if (crtc->mode_valid)
-        crtc->mode = all_modes(&count)[0];
+        crtc->mode = crtc_mode(crtc->crtc_id);
     return 0;
 }
 
@@ -72,7 +75,7 @@ static int find_fb(struct zirkoshe_client *client, const struct drm_mode_crtc *c
     return failed;
 }
 
-/* The server takes one connector at most, and no mode. */
+/* The server takes one connector at most, and no mode: that is kept here. */
 int answer_set_crtc(struct connection *connection, void *argument)
 {
     const struct drm_mode_crtc *crtc = argument;
@@ -87,7 +90,13 @@ int answer_set_crtc(struct connection *connection, void *argument)
     if (crtc->count_connectors == 1)
         memcpy(&connector_id, (const void *)(uintptr_t)crtc->set_connectors_ptr, sizeof connector_id);
     failed = find_fb(client, crtc, &fb_id);
-    return failed ? failed : zirkoshe_drmModeSetCrtc(client, crtc->crtc_id, fb_id, connector_id);
+    if (!failed)
+        failed = zirkoshe_drmModeSetCrtc(client, crtc->crtc_id, fb_id, connector_id);
+    if (!failed && fb_id != 0)
+        crtc_is_lit(crtc->crtc_id, &crtc->mode, connector_id);
+    else if (!failed)
+        crtc_is_seen(crtc->crtc_id, false);
+    return failed;
 }
 
 int answer_get_encoder(struct connection *connection, void *argument)

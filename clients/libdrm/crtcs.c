@@ -1,0 +1,179 @@
+/* What this process knows of CRTCs, and their vertical blanking. */
+#include "answers.h"
+
+#include "crtcs.h"
+
+/* masks of CRTCs have 32 bits, so that a device has no more */
+#define MOST_CRTCS 32
+/* how far behind a number may be to be one that has passed, as in the core */
+#define PASSED ((uint64_t)1 << 23)
+
+struct crtc {
+    uint32_t id; /* 0 where the place is free */
+    uint32_t connector_id;
+    bool is_lit;
+    int64_t flip_due;
+    struct blanking blanking;
+    struct drm_mode_modeinfo mode;
+};
+
+/* Taken while a connection is held alone, so that no handler of signals comes in between, and no fork. */
+static pthread_mutex_t turn = PTHREAD_MUTEX_INITIALIZER;
+static struct crtc crtcs[MOST_CRTCS];
+
+struct vblank last_vblank(const struct blanking *blanking, int64_t now)
+{
+    int64_t passed = (now - blanking->begin) / blanking->period;
+
+    return (struct vblank){blanking->count + (uint64_t)passed, blanking->begin + passed * blanking->period};
+}
+
+struct vblank vblank_of(const struct blanking *blanking, uint64_t sequence)
+{
+    struct vblank found = {sequence, 0};
+
+    if (__builtin_mul_overflow((int64_t)(sequence - blanking->count), blanking->period, &found.time)
+        || __builtin_add_overflow(found.time, blanking->begin, &found.time))
+        found.time = INT64_MAX;
+    return found;
+}
+
+bool has_passed(uint64_t sequence, uint64_t wanted)
+{
+    return sequence - wanted <= PASSED;
+}
+
+/* What is known of a CRTC. Where a device had more than it can have, the last place is anybody's. */
+static struct crtc *find(uint32_t id)
+{
+    size_t at = 0;
+
+    while (at < MOST_CRTCS - 1 && crtcs[at].id != id && crtcs[at].id != 0)
+        at++;
+    if (crtcs[at].id != id) {
+        memset(&crtcs[at], 0, sizeof crtcs[at]);
+        crtcs[at].id = id;
+    }
+    return &crtcs[at];
+}
+
+/* From one frame to the next in a mode; of a mode without timings, in the preferred one. */
+static int64_t period_of(const struct drm_mode_modeinfo *mode)
+{
+    uint32_t count;
+    const struct drm_mode_modeinfo *timed = mode->clock != 0 && mode->htotal != 0 && mode->vtotal != 0 ? mode : all_modes(&count);
+    int64_t period = (int64_t)timed->htotal * timed->vtotal * MILLISECOND / timed->clock;
+
+    if (timed->flags & DRM_MODE_FLAG_INTERLACE)
+        period /= 2;
+    return period > 0 ? period : 1;
+}
+
+/* Begins to blank now. The number goes on where it was. */
+static void begin(struct crtc *crtc, const struct drm_mode_modeinfo *mode)
+{
+    int64_t now = time_now();
+
+    if (crtc->is_lit)
+        crtc->blanking.count = last_vblank(&crtc->blanking, now).sequence;
+    crtc->mode = *mode;
+    crtc->blanking.begin = now;
+    crtc->blanking.period = period_of(mode);
+    crtc->is_lit = true;
+}
+
+/* Ends the blanking. Who waits for one gets the last that there was. */
+static void end(struct crtc *crtc)
+{
+    struct vblank last;
+
+    if (!crtc->is_lit)
+        return;
+    last = last_vblank(&crtc->blanking, time_now());
+    crtc->blanking.count = last.sequence;
+    crtc->is_lit = false;
+    crtc->flip_due = 0;
+    events_hasten(crtc->id, last.sequence, last.time);
+}
+
+void crtc_is_seen(uint32_t crtc_id, bool is_lit)
+{
+    struct crtc *crtc;
+    uint32_t count;
+
+    pthread_mutex_lock(&turn);
+    crtc = find(crtc_id);
+    if (!is_lit)
+        end(crtc);
+    else if (!crtc->is_lit)
+        begin(crtc, crtc->mode.clock != 0 ? &crtc->mode : all_modes(&count));
+    pthread_mutex_unlock(&turn);
+}
+
+void crtc_is_lit(uint32_t crtc_id, const struct drm_mode_modeinfo *mode, uint32_t connector_id)
+{
+    struct crtc *crtc;
+
+    pthread_mutex_lock(&turn);
+    crtc = find(crtc_id);
+    crtc->connector_id = connector_id;
+    if (crtc->is_lit && memcmp(&crtc->mode, mode, sizeof *mode) != 0)
+        end(crtc);
+    if (!crtc->is_lit)
+        begin(crtc, mode);
+    pthread_mutex_unlock(&turn);
+}
+
+struct drm_mode_modeinfo crtc_mode(uint32_t crtc_id)
+{
+    struct drm_mode_modeinfo mode;
+
+    pthread_mutex_lock(&turn);
+    mode = find(crtc_id)->mode;
+    pthread_mutex_unlock(&turn);
+    return mode;
+}
+
+struct blanking crtc_blanking(uint32_t crtc_id)
+{
+    struct blanking blanking;
+
+    pthread_mutex_lock(&turn);
+    blanking = find(crtc_id)->blanking;
+    pthread_mutex_unlock(&turn);
+    return blanking;
+}
+
+uint32_t crtc_connector(uint32_t crtc_id)
+{
+    uint32_t connector_id;
+
+    pthread_mutex_lock(&turn);
+    connector_id = find(crtc_id)->connector_id;
+    pthread_mutex_unlock(&turn);
+    return connector_id;
+}
+
+void crtc_has_connector(uint32_t crtc_id, uint32_t connector_id)
+{
+    pthread_mutex_lock(&turn);
+    find(crtc_id)->connector_id = connector_id;
+    pthread_mutex_unlock(&turn);
+}
+
+bool crtc_flips(uint32_t crtc_id)
+{
+    bool flips;
+
+    pthread_mutex_lock(&turn);
+    flips = time_now() < find(crtc_id)->flip_due;
+    pthread_mutex_unlock(&turn);
+    return flips;
+}
+
+void crtc_flips_until(uint32_t crtc_id, int64_t due)
+{
+    pthread_mutex_lock(&turn);
+    find(crtc_id)->flip_due = due;
+    pthread_mutex_unlock(&turn);
+}

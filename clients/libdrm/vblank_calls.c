@@ -1,0 +1,194 @@
+/* Answers to requests of vertical blanking, which is made here, by the rules of the core. */
+#include "answers.h"
+
+#include "crtcs.h"
+
+#include <time.h>
+
+/* how long the core waits for a vertical blanking at most */
+#define MOST_WAIT ((int64_t)3 * SECOND)
+#define HIGH_CRTC ((unsigned)_DRM_VBLANK_HIGH_CRTC_MASK)
+#define KNOWN_TYPES ((unsigned)(_DRM_VBLANK_TYPES_MASK | _DRM_VBLANK_FLAGS_MASK) | HIGH_CRTC)
+
+/* What is waited for: a vertical blanking, and where the caller is told of. */
+struct goal {
+    uint32_t crtc_id;
+    struct blanking blanking;
+    struct vblank last; /* as it is asked */
+    struct vblank wanted;
+};
+
+/* Asks what a CRTC shows. One that is dark doesn't blank. */
+static int find_blanking(struct connection *connection, struct goal *goal)
+{
+    uint32_t fb_id;
+    int failed = zirkoshe_drmModeGetCrtc(&connection->client, goal->crtc_id, &fb_id);
+
+    if (failed)
+        return failed;
+    crtc_is_seen(goal->crtc_id, fb_id != 0);
+    if (fb_id == 0)
+        return -EINVAL;
+    goal->blanking = crtc_blanking(goal->crtc_id);
+    goal->last = last_vblank(&goal->blanking, time_now());
+    return 0;
+}
+
+/* The CRTC that a request counts to, among those that the caller sees. */
+static int find_crtc(struct connection *connection, unsigned type, uint32_t *crtc_id)
+{
+    struct zirkoshe_resources resources;
+    unsigned place = (type & HIGH_CRTC) >> _DRM_VBLANK_HIGH_CRTC_SHIFT;
+    int failed = zirkoshe_drmModeGetResources(&connection->client, &resources);
+
+    if (failed)
+        return failed;
+    if (place == 0 && (type & _DRM_VBLANK_SECONDARY))
+        place = 1;
+    if (place >= resources.count_crtcs)
+        return -EINVAL;
+    *crtc_id = resources.crtcs[place];
+    return 0;
+}
+
+/* The number that has 32 bits at its end and is nearest to another one. */
+static uint64_t widen(uint32_t narrow, uint64_t near)
+{
+    return near + (uint64_t)(int64_t)(int32_t)(narrow - (uint32_t)near);
+}
+
+/* Which vertical blanking is wanted. A request that is made again, as after a signal, wants the same one. */
+static void find_wanted(struct drm_wait_vblank_request *request, struct goal *goal)
+{
+    uint64_t last = goal->last.sequence, wanted = widen(request->sequence, last);
+    unsigned type = (unsigned)request->type;
+
+    if (type & _DRM_VBLANK_RELATIVE) {
+        wanted = last + request->sequence;
+        request->sequence = (uint32_t)wanted;
+        type &= ~(unsigned)_DRM_VBLANK_RELATIVE;
+    }
+    if ((type & _DRM_VBLANK_NEXTONMISS) && has_passed(last, wanted)) {
+        wanted = last + 1;
+        request->sequence = (uint32_t)wanted;
+        type &= ~(unsigned)_DRM_VBLANK_NEXTONMISS;
+    }
+    request->type = (enum drm_vblank_seq_type)type;
+    goal->wanted = has_passed(last, wanted) ? goal->last : vblank_of(&goal->blanking, wanted);
+}
+
+static int queue(struct connection *connection, struct event *event, const struct goal *goal)
+{
+    if (!events_have_room(&connection->events))
+        return -ENOMEM;
+    event->crtc_id = goal->crtc_id;
+    event->told.base.length = sizeof event->told;
+    events_add(&connection->events, event, goal->wanted.sequence, goal->wanted.time);
+    return 0;
+}
+
+static int queue_vblank(struct connection *connection, union drm_wait_vblank *wait, const struct goal *goal)
+{
+    struct event event = {0};
+    int failed;
+
+    event.told.base.type = DRM_EVENT_VBLANK;
+    event.told.vblank.user_data = wait->request.signal;
+    failed = queue(connection, &event, goal);
+    if (!failed)
+        wait->reply.sequence = (uint32_t)goal->wanted.sequence;
+    return failed;
+}
+
+/* What is done of a request while the connection is held. */
+static int begin_wait(struct connection *connection, union drm_wait_vblank *wait, struct goal *goal)
+{
+    unsigned type = (unsigned)wait->request.type;
+    int failed;
+
+    if ((type & _DRM_VBLANK_SIGNAL) || (type & ~KNOWN_TYPES))
+        return -EINVAL;
+    failed = find_crtc(connection, type, &goal->crtc_id);
+    if (!failed)
+        failed = find_blanking(connection, goal);
+    if (failed)
+        return failed;
+    find_wanted(&wait->request, goal);
+    return type & _DRM_VBLANK_EVENT ? queue_vblank(connection, wait, goal) : 0;
+}
+
+/* Waits for a time, as the core does: not for ever, and until a signal is handled. The thread isn't cancelled meanwhile. */
+static int wait_until(int64_t time)
+{
+    int64_t most = time_now() + MOST_WAIT, end = time < most ? time : most;
+    struct timespec until = {(time_t)(end / SECOND), (long)(end % SECOND)};
+    int cancel_state, failed;
+
+    pthread_setcancelstate(PTHREAD_CANCEL_DISABLE, &cancel_state);
+    failed = clock_nanosleep(CLOCK_MONOTONIC, TIMER_ABSTIME, &until, NULL);
+    pthread_setcancelstate(cancel_state, NULL);
+    return failed ? -EINTR : time < most ? 0 : -EBUSY;
+}
+
+int answer_wait_vblank(struct connection *connection, int fd, void *argument)
+{
+    union drm_wait_vblank *wait = argument;
+    struct vblank last;
+    struct goal goal;
+    int failed = connection_hold(connection, fd);
+
+    if (failed)
+        return failed;
+    failed = connection_let_go(connection, fd, begin_wait(connection, wait, &goal));
+    if (failed || ((unsigned)wait->request.type & _DRM_VBLANK_EVENT))
+        return failed;
+    failed = goal.wanted.time <= time_now() ? 0 : wait_until(goal.wanted.time);
+    if (failed == -EINTR)
+        return failed;
+    last = last_vblank(&goal.blanking, time_now());
+    wait->reply.sequence = (uint32_t)last.sequence;
+    wait->reply.tval_sec = (long)(last.time / SECOND);
+    wait->reply.tval_usec = (long)(last.time % SECOND / 1000);
+    return failed;
+}
+
+int answer_get_sequence(struct connection *connection, void *argument)
+{
+    struct drm_crtc_get_sequence *asked = argument;
+    struct goal goal = {.crtc_id = asked->crtc_id};
+    int failed = find_blanking(connection, &goal);
+
+    if (failed)
+        return failed;
+    asked->active = 1;
+    asked->sequence = goal.last.sequence;
+    asked->sequence_ns = goal.last.time;
+    return 0;
+}
+
+int answer_queue_sequence(struct connection *connection, void *argument)
+{
+    struct drm_crtc_queue_sequence *asked = argument;
+    struct goal goal = {.crtc_id = asked->crtc_id};
+    struct event event = {0};
+    uint64_t wanted = asked->sequence;
+    bool is_known = (asked->flags & ~(uint32_t)(DRM_CRTC_SEQUENCE_RELATIVE | DRM_CRTC_SEQUENCE_NEXT_ON_MISS)) == 0;
+    int failed = find_blanking(connection, &goal);
+
+    /* the core looks the CRTC up, then at the flags, and then whether it blanks */
+    if (!is_known && (!failed || failed == -EINVAL))
+        return -EINVAL;
+    if (failed)
+        return failed;
+    if (asked->flags & DRM_CRTC_SEQUENCE_RELATIVE)
+        wanted += goal.last.sequence;
+    if ((asked->flags & DRM_CRTC_SEQUENCE_NEXT_ON_MISS) && has_passed(goal.last.sequence, wanted))
+        wanted = goal.last.sequence + 1;
+    goal.wanted = has_passed(goal.last.sequence, wanted) ? goal.last : vblank_of(&goal.blanking, wanted);
+    event.told.base.type = DRM_EVENT_CRTC_SEQUENCE;
+    event.told.sequence.user_data = asked->user_data;
+    failed = queue(connection, &event, &goal);
+    if (!failed)
+        asked->sequence = goal.wanted.sequence;
+    return failed;
+}
