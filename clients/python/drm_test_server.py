@@ -103,6 +103,11 @@ class Server:
                 raise
 
     @property
+    def pid(self) -> Optional[int]:
+        """The number of the server's process; none once it was ended."""
+        return None if self._process is None else self._process.pid
+
+    @property
     def environment(self) -> Dict[str, str]:
         """The paths as a program that is tested may want them: DRM_SERVER_CARD, DRM_SERVER_RENDER and DRM_SERVER_ROOT."""
         return {f"DRM_SERVER_{name.upper()}": os.path.join(self.folder, name) for name in CLASSES}
