@@ -1,6 +1,6 @@
 //! What a closed client leaves to be released.
 
-ghost use Rattle.std.specs.Prelude.{◌≡◌, slice_get, drop};
+ghost use Rattle.std.specs.Prelude.{◌≡◌, slice_get, drop, IfNone};
 ghost use Rattle.drm_files.specs.Records.{pairs_of};
 
 use crate::files::Held;
@@ -32,10 +32,11 @@ impl FileRest {
         FileRest { handles }
     }
 
-    /// Takes the next handle with its object. There is none exactly where the list is empty.
+    /// Takes the next handle with its object. There is none exactly where the list is empty, and then it stays so.
     pub fn take_next(&mut self) -> Option<(u32, ObjectKey)>
         ensures first { result ≡ slice_get self.old 0 }
         ensures rest { self.new ≡ drop 1 self.old }
+        ensures none { IfNone result (self.new ≡ self.old) }
     {
         let handle = self.handles.next(0)?;
         let Some(held) = self.handles.remove(handle) else {

@@ -14,10 +14,9 @@ use Rattle.drm_lists.proofs.Found.{all_at}
 use Rattle.drm_lists.proofs.Orders.{in_order_filter, in_order_map}
 use Rattle.drm_lists.proofs.Rising.{found, any_found, all_found}
 use Rattle.drm_masters.specs.declared.rows.Master.{Master}
-use Rattle.drm_masters.specs.Masters.{MasterSet, AreMasters, HasOlderLessor, is_birth, is_option, master_at, lessor_of, lessees_of}
+use Rattle.drm_masters.specs.Masters.{MasterSet, AreMasters, HasOlderLessor, is_birth, is_option, master_at, lessor_of, lessees_of, is_below}
 use Rattle.drm_masters.proofs.Looked.{any_pushed}
 use Rattle.drm_leases.specs.declared.rows.Lease.{Lease}
-use Rattle.drm_leases.specs.Calls.{is_below}
 
 -- numbers that rise from one on are at their places or beyond
 risen : (k : ℕ) (xs : List ℕ) (i n : ℕ) → AllByRecursion (λ x. k ≤ x) xs → InOrder (λ x y. x < y) xs → slice_get xs i ≡ Some n → i + k ≤ n

@@ -5,6 +5,7 @@ mod Told
 mod Below
 mod Denied
 mod Sound
+mod Ending
 pub mod Agreeing
 pub mod Crossing
 pub mod Keyed

@@ -1,5 +1,5 @@
 -- What each call does.
-use Rattle.std.specs.Prelude.{◌≡◌, ℕ, ◌<◌, ◌==◌, ◌&&◌, not, Bool, List, [], ◌∷◌, ◌++◌, None, Some, Result, Ok, Err, map, filter}
+use Rattle.std.specs.Prelude.{◌≡◌, ℕ, ◌<◌, not, Bool, List, [], ◌∷◌, ◌++◌, None, Some, Result, Ok, Err, map, filter}
 use Rattle.std.specs.List.{AllByRecursion}
 use Rattle.drm_lists.specs.Chains.{is_under}
 use Rattle.drm_lists.specs.Numbers.{is_among}
@@ -8,7 +8,7 @@ use Rattle.drm_modes.specs.Numbers.{numbers_from}
 use Rattle.drm_modes.specs.Topology.{Topology, object_count}
 use Rattle.drm_modes.specs.Modes.{ModeSet}
 use Rattle.drm_masters.specs.declared.rows.Master.{Master}
-use Rattle.drm_masters.specs.Masters.{MasterSet, lessor_of, free_lessee}
+use Rattle.drm_masters.specs.Masters.{MasterSet, lessor_of, is_below, free_lessee}
 use Rattle.drm_masters.specs.Calls.{IsFreeKey, lessee, with_master}
 use Rattle.drm_leases.specs.declared.faults.LeaseFault.{LeaseFault}
 use Rattle.drm_leases.specs.declared.faults.LeaseFault.TheVariants.{Denied, NoMemory}
@@ -48,16 +48,20 @@ with_lease t m lessor objects l = record l {
 abbrev pub without_token : ℕ → LeaseSet → LeaseSet
 without_token t l = record l { tokens = filter (λ (row : LeaseToken). not (is_token t row)) l.tokens }
 
--- whether a master is below the one named top, and not that one
-abbrev pub is_below : List Master → ℕ → ℕ → Bool
-is_below masters top m = is_under (lessor_of masters) top m && not (m == top)
-
 -- the leases and open tokens of the master and of all below it go
 abbrev pub ended : List Master → ℕ → LeaseSet → LeaseSet
 ended masters top l = record l {
   tokens = filter (λ (row : LeaseToken). not (is_under (lessor_of masters) top row.master)) l.tokens;
   grants = filter (λ (g : Grant). not (is_under (lessor_of masters) top g.master)) l.grants;
   lendings = filter (λ (x : Lending). not (is_under (lessor_of masters) top x.lessee)) l.lendings;
+}
+
+-- those of all below the master go, and not its own
+abbrev pub ended_below : List Master → ℕ → LeaseSet → LeaseSet
+ended_below masters top l = record l {
+  tokens = filter (λ (row : LeaseToken). not (is_below masters top row.master)) l.tokens;
+  grants = filter (λ (g : Grant). not (is_below masters top g.master)) l.grants;
+  lendings = filter (λ (x : Lending). not (is_below masters top x.lessee)) l.lendings;
 }
 
 -- what making a lease of a master comes to

@@ -3,7 +3,6 @@
 ghost use Rattle.std.specs.Prelude.{◌≡◌, not, filter};
 ghost use Rattle.drm_lists.specs.Chains.{is_under};
 ghost use Rattle.drm_masters.specs.Masters as masters_sets;
-ghost use Rattle.drm_leases.specs.Calls.{is_below};
 
 use crate::granted::Granted;
 use drm_masters::Masters;
@@ -18,7 +17,7 @@ pub fn end_leases(granted: &mut Granted, masters: &Masters, top: u32)
 
 /// Takes the leases of all below a master away, those of each direct lessee with all below it. No other lease is looked at.
 pub fn end_leases_below(granted: &mut Granted, masters: &Masters, top: u32)
-    ensures { granted.new.rows ≡ filter (λ x. not (is_below masters.now.masters top x.lessee)) granted.old.rows }
+    ensures { granted.new.rows ≡ filter (λ x. not (masters_sets.is_below masters.now.masters top x.lessee)) granted.old.rows }
 {
     masters.laws();
     let mut place = 0;

@@ -1,6 +1,6 @@
 //! The leases.
 
-ghost use Rattle.std.specs.Prelude.{◌≡◌, ◌≤◌, ◌<◌, true, None, find, slice_get, length, IfSome, IfNone};
+ghost use Rattle.std.specs.Prelude.{◌≡◌, ◌≤◌, ◌<◌, true, None, find, slice_get, length, IfSome, IfNone, OnErr};
 ghost use Rattle.std.specs.Option.{is_some, option_map, option_map_or};
 ghost use Rattle.drm_masters.specs.Masters as masters_sets;
 ghost use Rattle.drm_masters.specs.Calls as masters_calls;
@@ -10,7 +10,7 @@ ghost use Rattle.drm_leases.specs.Rules as rules;
 ghost use Rattle.drm_leases.specs.Agreed.{AreAgreed};
 ghost use Rattle.drm_table.specs.Permit.{first_failing};
 
-use crate::endings::end_leases;
+use crate::endings::{end_leases, end_leases_below};
 use crate::faults::LeaseFault;
 use crate::granted::Granted;
 use crate::rows::{Grant, LeaseToken, Leased};
@@ -18,7 +18,7 @@ use crate::rules::{are_leasable, are_seen, is_lease, may_lease, planes_along, st
 use crate::searches::{
     any_leased_out, find_token, find_token_of, has_lease, is_leased_out, next_token, nth_grant,
 };
-use crate::writes::{listed_mask, remove_token, remove_tokens_under};
+use crate::writes::{listed_mask, remove_token, remove_tokens_below, remove_tokens_under};
 use drm_masters::{Masters, NoMemory};
 use drm_modes::Modes;
 use drm_table::{Rule, ShownList};
@@ -85,6 +85,7 @@ impl Leases {
         requires new_lessee { calls.IsNewLessee self.old birth }
         requires agreed { AreAgreed self.old masters.old }
         ensures created { IfSome (masters_sets.member_of masters.old.members client) (λ x. calls.Created self.old masters.old modes.now x.master universal ids.now birth result self.new masters.new) }
+        ensures err { OnErr result ((self.new ≡ self.old) × (masters.new ≡ masters.old)) }
         ensures agreed { AreAgreed self.new masters.new }
     {
         let Some(member) = masters.member(client) else {
@@ -199,6 +200,20 @@ impl Leases {
         remove_tokens_under(&mut self.tokens, masters, master);
         end_leases(&mut self.granted, masters, master);
         masters.release_under(master);
+    }
+
+    /// Empties the leases of all below a master, takes their open tokens, and releases them. Its own lease, open token and stay
+    /// remain; it goes only where nothing but what was below it held it (drm-uapi, leases; what comes of tokens is own). It takes
+    /// no memory.
+    pub fn revoke_below(&mut self, masters: &mut Masters, master: u32)
+        requires { AreAgreed self.old masters.old }
+        ensures leases { self.new ≡ calls.ended_below masters.old.masters master self.old }
+        ensures masters { masters.new ≡ masters_sets.swept (masters_calls.released_below master masters.old) }
+        ensures agreed { AreAgreed self.new masters.new }
+    {
+        remove_tokens_below(&mut self.tokens, masters, master);
+        end_leases_below(&mut self.granted, masters, master);
+        masters.release_below(master);
     }
 
     /// The last token given; none before the first.

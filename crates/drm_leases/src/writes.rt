@@ -56,3 +56,16 @@ pub fn remove_tokens_under(tokens: &mut Vec<LeaseToken>, masters: &Masters, top:
 {
     tokens.retain(|row| !masters.is_under(top, row.master));
 }
+
+/// Takes the open tokens of all below a master away.
+pub fn remove_tokens_below(tokens: &mut Vec<LeaseToken>, masters: &Masters, top: u32)
+    ensures { tokens.new.items ≡ filter (λ row. not (masters_sets.is_below masters.now.masters top row.master)) tokens.old.items }
+{
+    tokens.retain(|row| !is_below(masters, top, row.master));
+}
+
+fn is_below(masters: &Masters, top: u32, master: u32) -> bool
+    ensures { result ≡ masters_sets.is_below masters.now.masters top master }
+{
+    masters.is_under(top, master) && master != top
+}

@@ -12,6 +12,8 @@ use Rattle.drm_masters.specs.contracts.rows.Master as master
 use Rattle.drm_masters.specs.contracts.members.Membership as membership
 use Rattle.drm_masters.specs.contracts.members.Members as members
 use Rattle.drm_masters.specs.contracts.members.Members.TheInside as members_inside
+use Rattle.drm_masters.specs.contracts.ids.OwnerIds as ids
+use Rattle.drm_masters.specs.contracts.ids.OwnerIds.TheInside as ids_inside
 use Rattle.drm_masters.specs.contracts.table.MasterTable as table
 use Rattle.drm_masters.specs.contracts.table.MasterTable.TheInside as table_inside
 use Rattle.drm_masters.specs.contracts.masters.Masters as masters
@@ -40,9 +42,15 @@ members_send = view_send members_inside.the_row _ _ _ _ members_inside_send
 slab_send : IsSend (slabs.the_row master.the_row heap.the_row heap_impl.ghosts)
 slab_send = slab.the_send master.the_row heap.the_row heap_impl.ghosts master_send send frees
 
+ids_inside_send : IsSend ids_inside.the_row
+ids_inside_send = recorded_send ids_inside.the_field.row _ _ ids_inside.the_type.to_one (struct_send (shape ids_inside.the_type) (search sendable depth 20, (search (array_send, sendable) depth 20, tt)))
+
+ids_send : IsSend ids.the_row
+ids_send = view_send ids_inside.the_row _ _ _ _ ids_inside_send
+
 table_inside_send : IsSend table_inside.the_row
 table_inside_send =
-    recorded_send table_inside.the_field.row _ _ table_inside.the_type.to_one (struct_send (shape table_inside.the_type) (search (array_send, sendable) depth 20, (search (slab_send, sendable) depth 20, (groups_send, tt))))
+    recorded_send table_inside.the_field.row _ _ table_inside.the_type.to_one (struct_send (shape table_inside.the_type) (search (array_send, sendable) depth 20, (search (slab_send, sendable) depth 20, (groups_send, (ids_send, tt)))))
 
 table_send : IsSend table.the_row
 table_send = view_send table_inside.the_row _ _ _ _ table_inside_send

@@ -1,5 +1,6 @@
 pub mod Looked
 mod Listed
+mod IdLemmas
 mod Lessees
 mod Named
 mod Kept
@@ -11,6 +12,7 @@ mod Below
 mod SweptBelow
 mod Pushed
 mod Released
+mod Owned
 mod Swept
 mod Numbered
 mod Flagged

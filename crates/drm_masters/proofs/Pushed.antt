@@ -32,12 +32,15 @@ lessor_stays m kept x = elim (x.birth == m) as (λ b. (if b then kept_as kept x 
 pub key_stays : (m : ℕ) (kept : Bool) (x : Master) → (kept_at m kept x).key ≡ x.key
 key_stays m kept x = elim (x.birth == m) as (λ b. (if b then kept_as kept x else x).key ≡ x.key) [ true ↦ refl | false ↦ refl ]
 
+pub lessee_id_stays : (m : ℕ) (kept : Bool) (x : Master) → (kept_at m kept x).lessee_id ≡ x.lessee_id
+lessee_id_stays m kept x = elim (x.birth == m) as (λ b. (if b then kept_as kept x else x).lessee_id ≡ x.lessee_id) [ true ↦ refl | false ↦ refl ]
+
 -- masters that are written over, of the same births and lessors
 module _ (g : Master → Master) (births : (x : Master) → (g x).birth ≡ x.birth) (lessors : (x : Master) → (g x).lessor ≡ x.lessor) (ms : List Master) where
   abbrev over : List Master
   over = map g ms
 
-  over_at : (n : ℕ) → master_at over n ≡ option_map g (master_at ms n)
+  pub over_at : (n : ℕ) → master_at over n ≡ option_map g (master_at ms n)
   over_at n = find-map (is_birth n) g ms ∙ ap (option_map g) (find-same (λ x. is_birth n (g x)) (is_birth n) ms (all_each (λ x. is_birth n (g x) ≡ is_birth n x) (λ x. ap (λ b. b == n) (births x)) ms))
 
   pub over_there : (n : ℕ) → is_some (master_at over n) ≡ is_some (master_at ms n)

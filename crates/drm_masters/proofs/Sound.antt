@@ -6,7 +6,7 @@ use Rattle.std.specs.Option.{is_some, option_map, option_map_or}
 use Rattle.std.specs.FinSet as set
 use Rattle.std.proofs.Math.Bool.{and-false}
 use Rattle.std.proofs.lemmas.List.{length-map}
-use Rattle.std.proofs.lemmas.Bool.{eqb-true, or_left, or_right}
+use Rattle.std.proofs.lemmas.Bool.{eqb-true, false≢true, or_left, or_right}
 use Rattle.drm_lists.specs.Orders.{InOrder}
 use Rattle.drm_lists.specs.Chains.{is_under}
 use Rattle.drm_lists.proofs.Lists.{all_weaker, all_both, all_each, all_append, all_filter, all_mapped, filter-shorter, list_any-map, list_any_agree, list_any_left, list_any_right, some_passing}
@@ -19,10 +19,10 @@ use Rattle.drm_masters.specs.declared.rows.Master.{Master}
 use Rattle.drm_masters.specs.Masters.{MasterSet, AreMasters, HaveOtherMagics, HasOlderLessor, is_client, is_birth, is_key, is_option, IsKeyOf, birth_at, member_of, master_at, lessor_of, owner_of, is_held, is_used, is_living, is_current, has_magic, has_open_magic, swept}
 use Rattle.drm_masters.specs.declared.masters.Masters.TheInside.{Inside}
 use Rattle.drm_masters.specs.Fields.{set_of, IsSound}
-use Rattle.drm_masters.specs.Calls.{with_member, with_master, with_device, without_member, changed_member, with_kept, with_magic, closed_own, released_under}
+use Rattle.drm_masters.specs.Calls.{with_member, with_master, with_device, without_member, changed_member, with_kept, with_magic, closed_own}
 use Rattle.drm_masters.proofs.Living.{both_true, and_true}
-use Rattle.drm_masters.proofs.Pushed.{birth_stays, lessor_stays, kept_at, kept_there, kept_rise, kept_older, kept_used, same_used, there_too, new_there, pushed_older, pushed_used, over_there, over_lessors, over_rise, over_older, kept_lessors, pushed_owner, pushed_lessor, new_lessor}
-use Rattle.drm_masters.proofs.Released.{released, released_birth, released_lessor}
+use Rattle.drm_masters.proofs.Pushed.{birth_stays, lessor_stays, kept_at, kept_there, kept_rise, kept_older, kept_used, same_used, there_too, new_there, pushed_older, pushed_used, over_there, over_lessors, over_rise, over_older, over_keyed, kept_lessors, pushed_owner, pushed_lessor, new_lessor}
+use Rattle.drm_masters.proofs.Released.{marked, marked_birth, marked_lessor, marked_key}
 use Rattle.drm_masters.proofs.Upward.{OthersUsed, all_living_used}
 use Rattle.drm_masters.proofs.Flagged.{same_owners, under_same, one_more}
 use Rattle.drm_masters.proofs.Swept.{none_left, swept_older, swept_used, swept_owner, named_lives, named_there}
@@ -36,6 +36,10 @@ Flags a v = (c : ℕ) → set.contains a.members.flags c ≡ is_current v c
 
 abbrev MembersRise : List Member → Type 0
 MembersRise xs = InOrder (λ (x y : Member). x.client < y.client) xs
+
+-- some masters are kept no more
+abbrev pub freed : (ℕ → Bool) → MasterSet → MasterSet
+freed under v = record v { masters = map (marked under) v.masters }
 
 -- all of it but that each master is used
 pub record AreTied (v : MasterSet) : Type 0 where
@@ -204,12 +208,12 @@ module _ (v : MasterSet) (a : AreMasters v) where
     few = a.few;
   }
 
-  -- a master and all below it are kept no more
-  pub released_ties : (top : ℕ) → AreTied (released_under top v)
-  released_ties top =
-      let g = released v.masters top in
-      let births = released_birth v.masters top in
-      let lessors = released_lessor v.masters top in
+  -- some are kept no more
+  pub freed_ties : (under : ℕ → Bool) → AreTied (freed under v)
+  freed_ties under =
+      let g = marked under in
+      let births = marked_birth under in
+      let lessors = marked_lessor under in
       record {
         members_rise = a.members_rise;
         masters_rise = over_rise g births lessors v.masters a.masters_rise;
@@ -492,24 +496,28 @@ released_used v a m =
     ap (λ (u : Master). is_used v.members (with_kept m false v).masters u) same ∙ ap (λ b. is_held v.members z || b) (list_any-map (λ (y : Master). is_option z.birth y.lessor) (kept_at m false) v.masters ∙ list_any_agree (λ (y : Master). is_option z.birth (kept_at m false y).lessor) (λ (y : Master). is_option z.birth y.lessor) (λ y. ap (is_option z.birth) (lessor_stays m false y)) v.masters) ∙ used
     ) v.masters (all_living_used v.members v.masters a.masters_rise a.lessors_older a.used))
 
--- those that aren't below the one that is released are used
-pub released_others : (v : MasterSet) → AreMasters v → (top : ℕ) → AllByRecursion (λ (x : Master). is_under (lessor_of (released_under top v).masters) top x.birth ≡ false → is_used v.members (released_under top v).masters x ≡ true) (released_under top v).masters
-released_others v a top =
+-- where those that are released are below one, those that aren't are used
+pub freed_others : (v : MasterSet) → AreMasters v → (top : ℕ) (under : ℕ → Bool) → ((n : ℕ) → under n ≡ true → is_under (lessor_of v.masters) top n ≡ true) → AllByRecursion (λ (x : Master). is_under (lessor_of (freed under v).masters) top x.birth ≡ false → is_used v.members (freed under v).masters x ≡ true) (freed under v).masters
+freed_others v a top under within =
     all_mapped (λ (z : Master). is_under (lessor_of new) top z.birth ≡ false → is_used v.members new z ≡ true) g v.masters
     (all_weaker (λ (z : Master). is_used v.members v.masters z ≡ true) (λ (z : Master). is_under (lessor_of new) top (g z).birth ≡ false → is_used v.members new (g z) ≡ true) each v.masters (all_living_used v.members v.masters a.masters_rise a.lessors_older a.used))
   where
     g : Master → Master
-    g = released v.masters top
+    g = marked under
 
     new : List Master
     new = map g v.masters
 
+    apart_not : (n : ℕ) (b : Bool) → under n ≡ b → is_under (lessor_of v.masters) top n ≡ false → under n ≡ false
+    apart_not n true e apart = absurd (false≢true (sym apart ∙ within n e))
+    apart_not n false e apart = e
+
     each : (z : Master) → is_used v.members v.masters z ≡ true → is_under (lessor_of new) top (g z).birth ≡ false → is_used v.members new (g z) ≡ true
     each z used apart =
-        let births = released_birth v.masters top in
-        let lessors = released_lessor v.masters top in
+        let births = marked_birth under in
+        let lessors = marked_lessor under in
         let test : is_under (lessor_of v.masters) top z.birth ≡ false = ap (λ (above : ℕ → Option ℕ). is_under above top z.birth) (λ i n. sym (over_lessors g births lessors v.masters n) i) ∙ ap (is_under (lessor_of new) top) (sym (births z)) ∙ apart in
-        let same : g z ≡ z = ap (λ b. if b then record z { kept = false } else z) test in
+        let same : g z ≡ z = ap (λ b. if b then record z { kept = false } else z) (apart_not z.birth (under z.birth) refl test) in
         ap (λ (u : Master). is_used v.members new u) same
         ∙ ap (λ b. is_held v.members z || b) (list_any-map (λ (y : Master). is_option z.birth y.lessor) g v.masters ∙ list_any_agree (λ (y : Master). is_option z.birth (g y).lessor) (λ (y : Master). is_option z.birth y.lessor) (λ y. ap (is_option z.birth) (lessors y)) v.masters) ∙ used
 
@@ -532,8 +540,8 @@ pushed_same v a z newest =
 pub kept_same : (v : MasterSet) (m : ℕ) (kept : Bool) → (c : ℕ) → is_current (with_kept m kept v) c ≡ is_current v c
 kept_same v m kept = under_same v.members v.masters (with_kept m kept v).masters v.device_master (kept_lessors m kept v.masters)
 
-pub released_same : (v : MasterSet) (top : ℕ) → (c : ℕ) → is_current (released_under top v) c ≡ is_current v c
-released_same v top = under_same v.members v.masters (released_under top v).masters v.device_master (over_lessors (released v.masters top) (released_birth v.masters top) (released_lessor v.masters top) v.masters)
+pub freed_same : (v : MasterSet) (under : ℕ → Bool) → (c : ℕ) → is_current (freed under v) c ≡ is_current v c
+freed_same v under = under_same v.members v.masters (freed under v).masters v.device_master (over_lessors (marked under) (marked_birth under) (marked_lessor under) v.masters)
 
 -- a client that is no master is not current
 pub guest_same : (v : MasterSet) (y : Member) → y.is_master ≡ false → AllByRecursion (λ (x : Member). x.client < y.client) v.members → (c : ℕ) → is_current (with_member y v) c ≡ is_current v c
@@ -598,3 +606,13 @@ pub at_birth : (ms : List Master) (m : ℕ) (x : Master) → master_at ms m ≡ 
 at_birth ms m x e =
     let num : x.birth ≡ m = eqb-true x.birth m (found (is_birth m) (λ _. Unit {0}) x ms (all_each (λ _. Unit {0}) (λ _. tt) ms) e).0 in
     (num, ap (master_at ms) num ∙ e)
+
+-- some masters are kept no more, and a sweep takes those that nothing holds
+pub freed_sound : (a b : Inside) (v : MasterSet) (under : ℕ → Bool) → set_of a ≡ v → IsSound a → ((c : ℕ) → set.contains b.members.flags c ≡ set.contains a.members.flags c) → set_of b ≡ swept (freed under v) → IsSound b
+freed_sound a b v under is sound_a flags now =
+    let are : AreMasters v = subst AreMasters is sound_a.are in
+    let keyed : Keyed v.masters = subst (λ (w : MasterSet). Keyed w.masters) is sound_a.keyed in
+    let new = freed under v in
+    sound b (swept new) now (swept_are new (freed_ties v are under))
+    (keyed_fewer new.masters (λ (u : Master). is_living v.members new.masters u.birth) (over_keyed (marked under) (marked_birth under) (marked_lessor under) v.masters (marked_key under) keyed))
+    (λ k. flags k ∙ sound_a.flagged k ∙ ap (λ (w : MasterSet). is_current w k) is ∙ sym (swept_same new (freed_ties v are under) k ∙ freed_same v under k))

@@ -15,7 +15,7 @@ use Rattle.drm_masters.specs.declared.rows.Magic.{Magic}
 use Rattle.drm_masters.specs.declared.rows.Master.{Master}
 use Rattle.drm_masters.specs.declared.rows.Member.{Member}
 use Rattle.drm_lists.specs.Chains.{is_under}
-use Rattle.drm_masters.specs.Masters.{MasterSet, is_client, is_birth, is_key, is_option, IsKeyOf, lessor_of, is_lessee, is_current_member, has_open_magic, free_magic, free_lessee, swept}
+use Rattle.drm_masters.specs.Masters.{MasterSet, is_client, is_birth, is_key, is_option, IsKeyOf, lessor_of, is_lessee, is_below, is_current_member, has_open_magic, free_magic, free_lessee, swept}
 
 -- each client that is there is older
 abbrev pub IsNewClient : MasterSet → ℕ → Type 0
@@ -80,6 +80,10 @@ with_kept m kept v = record v { masters = map (λ (x : Master). if is_birth m x 
 -- the master is kept no more, nor is any below it
 abbrev pub released_under : ℕ → MasterSet → MasterSet
 released_under top v = record v { masters = map (λ (x : Master). if is_under (lessor_of v.masters) top x.birth then kept_as false x else x) v.masters }
+
+-- all below the master are kept no more; it stays kept if it is
+abbrev pub released_below : ℕ → MasterSet → MasterSet
+released_below top v = record v { masters = map (λ (x : Master). if is_below v.masters top x.birth then kept_as false x else x) v.masters }
 
 abbrev pub with_magic : ℕ → Bool → Member → Member
 with_magic n spent x = record x { magic = Some (record { number = n; spent = spent }) }

@@ -76,6 +76,10 @@ owner_of masters m = top_of (lessor_of masters) m
 abbrev pub depth_of : List Master → ℕ → ℕ
 depth_of masters m = chains.depth_of (lessor_of masters) m
 
+-- whether a master is below the one named top, and not that one
+abbrev pub is_below : List Master → ℕ → ℕ → Bool
+is_below masters top m = is_under (lessor_of masters) top m && not (m == top)
+
 -- current: a client that is a master, whose master's owner is the device's
 abbrev pub is_current_among : List Master → Option ℕ → Member → Bool
 is_current_among masters device x = x.is_master && is_option (owner_of masters x.master) device

@@ -3,6 +3,7 @@
 
 mod current;
 mod faults;
+mod ids;
 mod masters;
 mod members;
 mod rows;

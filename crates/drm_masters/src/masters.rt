@@ -11,10 +11,9 @@ use crate::faults::{LesseeFault, NoMemory, SetDone, SetFault};
 use crate::members::Members;
 use crate::rows::{Master, MasterKey, Member};
 use crate::searches::{
-    depth_of, find_lessee, find_open_magic, free_lessee, free_magic, is_option, is_under,
-    lessor_of, owner_of,
+    depth_of, find_open_magic, free_magic, is_option, is_under, lessor_of, owner_of,
 };
-use crate::sweeps::{release_all_under, sweep_under, sweep_up};
+use crate::sweeps::{release_all_below, release_all_under, sweep_under, sweep_up};
 use crate::table::MasterTable;
 use crate::writes::{device_without, guest, lessee, own_master, owner, redeemer, with_magic};
 use drm_table::Rule;
@@ -209,7 +208,8 @@ impl Masters {
     pub fn set(&mut self, client: u32, root: bool, birth: u32) -> Result<SetDone, SetFault>
         requires present { is_some (sets.member_of self.old.members client) ≡ true }
         requires new_birth { calls.IsNewBirth self.old birth }
-        ensures { IfSome (sets.member_of self.old.members client) (λ x. calls.SetOf self.old x root birth result self.new) }
+        ensures set { IfSome (sets.member_of self.old.members client) (λ x. calls.SetOf self.old x root birth result self.new) }
+        ensures err { OnErr result (self.new ≡ self.old) }
     {
         let Some(member) = self.members.get(client) else {
             unreachable!()
@@ -243,7 +243,8 @@ impl Masters {
     #[tactic(auto, unfolding(crate::specs::Calls::drop_checks))]
     pub fn drop_master(&mut self, client: u32, root: bool) -> Result<(), Rule>
         requires { is_some (sets.member_of self.old.members client) ≡ true }
-        ensures { IfSome (sets.member_of self.old.members client) (λ x. calls.DroppedBy self.old x root result self.new) }
+        ensures dropped { IfSome (sets.member_of self.old.members client) (λ x. calls.DroppedBy self.old x root result self.new) }
+        ensures err { OnErr result (self.new ≡ self.old) }
     {
         let Some(member) = self.members.get(client) else {
             unreachable!()
@@ -286,7 +287,8 @@ impl Masters {
     /// that no client has there, or that is spent, is refused (25), and then nothing changes.
     pub fn auth(&mut self, client: u32, number: u32) -> Result<u32, Rule>
         requires { is_some (sets.member_of self.old.members client) ≡ true }
-        ensures { IfSome (sets.member_of self.old.members client) (λ x. calls.AuthenticatedBy self.old x.master number result self.new) }
+        ensures authenticated { IfSome (sets.member_of self.old.members client) (λ x. calls.AuthenticatedBy self.old x.master number result self.new) }
+        ensures err { OnErr result (self.new ≡ self.old) }
     {
         let Some(member) = self.members.get(client) else {
             unreachable!()
@@ -329,7 +331,8 @@ impl Masters {
     ) -> Result<(MasterKey, u32), LesseeFault>
         requires present { sets.is_there self.old.masters master ≡ true }
         requires new_birth { calls.IsNewBirth self.old birth }
-        ensures { calls.MadeLessee self.old (sets.birth_at self.old.masters master) birth result self.new }
+        ensures made { calls.MadeLessee self.old (sets.birth_at self.old.masters master) birth result self.new }
+        ensures err { OnErr result (self.new ≡ self.old) }
     {
         let Some(lessor) = self.masters.of_key(master) else {
             unreachable!()
@@ -352,7 +355,7 @@ impl Masters {
     {
         let birth = self.masters.of_key(master)?.birth;
         let owner = owner_of(&self.masters, birth);
-        find_lessee(&self.masters, owner, id)
+        self.masters.lessee(owner, id)
     }
 
     /// The last id that a lessee may have.
@@ -367,7 +370,7 @@ impl Masters {
         ensures { result ≡ sets.free_lessee self.now master }
     {
         let owner = owner_of(&self.masters, master);
-        free_lessee(&self.masters, owner, self.last_lessee)
+        self.masters.free_id(owner, self.last_lessee)
     }
 
     /// Ends the stay of a kept master. It goes, and those above it, as far as nothing else holds them. It takes no memory.
@@ -388,6 +391,15 @@ impl Masters {
         ensures { self.new ≡ sets.swept (calls.released_under top self.old) }
     {
         release_all_under(&mut self.masters, top);
+        sweep_under(&self.members, &mut self.masters, top);
+    }
+
+    /// Ends the stay of all below a master, where they are kept, and not its own. Each goes, and those above it, as far as
+    /// nothing else holds them. It takes no memory.
+    pub fn release_below(&mut self, top: u32)
+        ensures { self.new ≡ sets.swept (calls.released_below top self.old) }
+    {
+        release_all_below(&mut self.masters, top);
         sweep_under(&self.members, &mut self.masters, top);
     }
 

@@ -126,39 +126,3 @@ pub fn free_magic(members: &Members, master: u32, last: u32) -> Option<u32>
     }
     None
 }
-
-/// The lessee of this id under the owner.
-pub fn find_lessee(masters: &MasterTable, owner: u32, id: u32) -> Option<Master>
-    requires older { AllByRecursion (sets.HasOlderLessor masters.now.items) masters.now.items }
-    ensures { result ≡ find (sets.is_lessee_of masters.now.items owner id) masters.now.items }
-{
-    for place in 0..masters.len() {
-        let Some(master) = masters.nth(place) else {
-            unreachable!()
-        };
-        if is_lessee_of(masters, master, owner, id) {
-            return masters.nth(place);
-        }
-    }
-    None
-}
-
-fn is_lessee_of(masters: &MasterTable, master: Master, owner: u32, id: u32) -> bool
-    requires older { AllByRecursion (sets.HasOlderLessor masters.now.items) masters.now.items }
-    ensures { result ≡ sets.is_lessee_of masters.now.items owner id master }
-{
-    master.lessor.is_some() && master.lessee_id == id && owner_of(masters, master.birth) == owner
-}
-
-/// The least id up to the last that no lessee has under the owner.
-pub fn free_lessee(masters: &MasterTable, owner: u32, last: u32) -> Option<u32>
-    requires older { AllByRecursion (sets.HasOlderLessor masters.now.items) masters.now.items }
-    ensures { result ≡ least (λ id. not (list_any (sets.is_lessee_of masters.now.items owner id) masters.now.items)) 1 last }
-{
-    for id in 1..=last {
-        let Some(_taken) = find_lessee(masters, owner, id) else {
-            return Some(id);
-        };
-    }
-    None
-}

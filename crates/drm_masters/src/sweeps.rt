@@ -76,9 +76,19 @@ pub fn release_all_under(masters: &mut MasterTable, top: u32)
     ensures { masters.new.items ≡ map (λ x. if is_under (sets.lessor_of masters.old.items) top x.birth then kept_as false x else x) masters.old.items }
 {
     masters.set_kept(top, false);
+    release_all_below(masters, top);
+}
+
+/// Has all below a master be kept no more, each direct lessee with all below it. No other is looked at.
+pub fn release_all_below(masters: &mut MasterTable, top: u32)
+    requires rise { InOrder (λ x y. x.birth < y.birth) masters.old.items }
+    requires older { AllByRecursion (sets.HasOlderLessor masters.old.items) masters.old.items }
+    ensures { masters.new.items ≡ map (λ x. if sets.is_below masters.old.items top x.birth then kept_as false x else x) masters.old.items }
+{
     let mut after = top;
     while let Some(lessee) = masters.lessee_after(top, after) {
-        release_all_under(masters, lessee);
+        masters.set_kept(lessee, false);
+        release_all_below(masters, lessee);
         after = lessee;
     }
 }

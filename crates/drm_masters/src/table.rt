@@ -1,19 +1,23 @@
 //! The masters that are there.
 
-ghost use Rattle.std.specs.Prelude.{◌≡◌, ◌+◌, ◌<◌, ◌≤◌, ◌++◌, ◌∷◌, ℕ, [], None, false, not, find, filter, map as list_map, length, slice_get, OnOk, OnErr, IfOk, IfNone, if◌then◌else◌};
+ghost use Rattle.std.specs.Prelude.{◌≡◌, ◌+◌, ◌<◌, ◌≤◌, ◌++◌, ◌∷◌, ℕ, [], None, Some, true, false, not, find, filter, map as list_map, length, slice_get, OnOk, OnErr, IfOk, IfNone, if◌then◌else◌};
 ghost use Rattle.std.specs.List.{list_any, AllByRecursion};
+ghost use Rattle.std.specs.Option.{is_some, option_map_or};
 ghost use Rattle.std.specs.FinMap as map;
 ghost use Rattle.drm_index_array.specs.Indexed.{with_item};
 ghost use Rattle.drm_index_array.specs.Least.{least};
 ghost use Rattle.drm_id_alloc.specs.Groups.{has};
 ghost use Rattle.drm_masters.specs.Masters as sets;
 ghost use Rattle.drm_masters.specs.Calls as calls;
+ghost use Rattle.drm_masters.specs.Ids.{IsNamed, IsUnnamed, id_at};
 ghost use Rattle.drm_masters.specs.Tables.{IsListed, IsUnlisted};
 
 use crate::faults::NoMemory;
+use crate::ids::{OwnerIds, put_new};
 use crate::rows::{Master, MasterKey};
+use crate::searches::owner_of;
 use drm_id_alloc::Groups;
-use drm_index_array::{IndexArray, InsertFault};
+use drm_index_array::IndexArray;
 use slab::Slab;
 use std::alloc::Global;
 use std::marker::Model;
@@ -26,6 +30,8 @@ pub struct MasterTable {
     kept: Slab<Master>,
     // the births of lessees, by those of their lessors
     lessees: Groups,
+    // and by their owners and ids
+    ids: OwnerIds,
 }
 
 impl Model for MasterTable {
@@ -49,6 +55,7 @@ impl MasterTable {
             keys: IndexArray::new(alloc),
             kept: Slab::new(alloc),
             lessees: Groups::new(alloc),
+            ids: OwnerIds::new(alloc),
         }
     }
 
@@ -84,13 +91,21 @@ impl MasterTable {
         self.at(birth)
     }
 
-    /// Adds a master under a key of its own, which is given back. Without memory nothing changes.
+    /// Adds a master under a key of its own, which is given back; a lessee has an id that no other of its owner has. Without memory
+    /// nothing changes.
     pub fn insert(&mut self, master: Master) -> Result<MasterKey, NoMemory>
         requires newest { AllByRecursion (λ x. x.birth < master.birth) self.old.items }
+        requires older { AllByRecursion (sets.HasOlderLessor self.old.items) self.old.items }
+        requires there { (l : ℕ) → master.lessor ≡ Some l → is_some (sets.master_at self.old.items l) ≡ true }
+        requires other_id { (l : ℕ) → master.lessor ≡ Some l → list_any (sets.is_lessee_of self.old.items (sets.owner_of self.old.items l) master.lessee_id) self.old.items ≡ false }
         ensures ok { IfOk result (λ key. self.new.items ≡ self.old.items ++ calls.keyed_as key master ∷ []) }
         ensures free { IfOk result (λ key. find (sets.is_key key) self.old.items ≡ None) }
         ensures err { OnErr result (self.new ≡ self.old) }
     {
+        let birth = master.birth;
+        let lessor = master.lessor;
+        let id = master.lessee_id;
+        let owner = owner_to_be(self, lessor, birth);
         // a slab gives low keys, of which its contract says nothing: those of 32 bits end long after the memory
         let number = self.kept.vacant_key();
         if number > u32::MAX as usize {
@@ -99,13 +114,16 @@ impl MasterTable {
         if let Err(_fault) = self.kept.reserve(1) {
             return Err(NoMemory);
         }
-        let birth = master.birth;
-        let lessor = master.lessor;
-        if let Err(NoMemory) = list(&mut self.lessees, lessor, birth) {
+        if let Err(NoMemory) = name(&mut self.ids, owner, lessor, id, birth) {
             return Err(NoMemory);
         }
-        if let Err(NoMemory) = add_key(&mut self.keys, birth, number as u32) {
+        if let Err(NoMemory) = list(&mut self.lessees, lessor, birth) {
+            unname(&mut self.ids, owner, lessor, id);
+            return Err(NoMemory);
+        }
+        if let Err(NoMemory) = put_new(&mut self.keys, birth, number as u32) {
             unlist(&mut self.lessees, lessor, birth);
+            unname(&mut self.ids, owner, lessor, id);
             return Err(NoMemory);
         }
         let key = MasterKey::from_number(number as u32);
@@ -127,10 +145,13 @@ impl MasterTable {
         *master = Master { kept, ..*master };
     }
 
-    /// Takes the master of a birth away, if it is there. Its key may be given again.
+    /// Takes the master of a birth away, if it is there; it is nobody's lessor. Its key may be given again.
     pub fn remove(&mut self, birth: u32)
+        requires older { AllByRecursion (sets.HasOlderLessor self.old.items) self.old.items }
+        requires no_lessee { list_any (λ x. sets.is_option birth x.lessor) self.old.items ≡ false }
         ensures { self.new.items ≡ filter (λ x. not (sets.is_birth birth x)) self.old.items }
     {
+        let owner = owner_of(self, birth);
         let Some(key) = self.keys.remove(birth) else {
             return;
         };
@@ -138,6 +159,22 @@ impl MasterTable {
             unreachable!()
         };
         unlist(&mut self.lessees, master.lessor, birth);
+        unname(&mut self.ids, owner, master.lessor, master.lessee_id);
+    }
+
+    /// The lessee of this id under the owner. It looks at no other.
+    pub fn lessee(&self, owner: u32, id: u32) -> Option<Master>
+        ensures { result ≡ find (sets.is_lessee_of self.now.items owner id) self.now.items }
+    {
+        let birth = self.ids.at(owner, id)?;
+        self.at(birth)
+    }
+
+    /// The least id up to the last that no lessee has under the owner.
+    pub fn free_id(&self, owner: u32, last: u32) -> Option<u32>
+        ensures { result ≡ least (λ id. not (list_any (sets.is_lessee_of self.now.items owner id) self.now.items)) 1 last }
+    {
+        self.ids.free(owner, last)
     }
 
     /// Whether a master names it as its lessor. It looks at no other.
@@ -167,17 +204,41 @@ impl MasterTable {
     }
 }
 
-/// Adds a birth's key, where the birth has none. Without memory nothing changes.
-fn add_key(keys: &mut IndexArray<u32>, birth: u32, key: u32) -> Result<(), NoMemory>
-    requires vacant { map.get keys.old.items birth ≡ None }
-    ensures ok { OnOk result (keys.new ≡ with_item keys.old birth key) }
-    ensures err { OnErr result (keys.new ≡ keys.old) }
-    ensures fits { birth ≤ u32.MAX }
+/// The owner of a master that is to come: that of its lessor, or else itself.
+fn owner_to_be(masters: &MasterTable, lessor: Option<u32>, birth: u32) -> u32
+    requires older { AllByRecursion (sets.HasOlderLessor masters.now.items) masters.now.items }
+    ensures { result ≡ option_map_or (sets.owner_of masters.now.items) lessor birth }
 {
-    match keys.insert(birth, key) {
-        Ok(()) => Ok(()),
-        Err(InsertFault::NoMemory(_)) => Err(NoMemory),
-        Err(InsertFault::Taken(_)) => unreachable!(),
+    match lessor {
+        Some(lessor) => owner_of(masters, lessor),
+        None => birth,
+    }
+}
+
+/// Has a master be found by its id under its owner, if it is a lessee. Without memory nothing changes.
+fn name(
+    ids: &mut OwnerIds,
+    owner: u32,
+    lessor: Option<u32>,
+    id: u32,
+    birth: u32,
+) -> Result<(), NoMemory>
+    requires { (l : ℕ) → lessor ≡ Some l → id_at ids.old owner id ≡ None }
+    ensures ok { OnOk result (IsNamed (id_at ids.old) owner lessor id birth (id_at ids.new)) }
+    ensures err { OnErr result (ids.new ≡ ids.old) }
+{
+    let Some(_lessor) = lessor else {
+        return Ok(());
+    };
+    ids.note(owner, id, birth)
+}
+
+/// Not any more.
+fn unname(ids: &mut OwnerIds, owner: u32, lessor: Option<u32>, id: u32)
+    ensures { IsUnnamed (id_at ids.old) owner lessor id (id_at ids.new) }
+{
+    if let Some(_lessor) = lessor {
+        ids.forget(owner, id);
     }
 }
 

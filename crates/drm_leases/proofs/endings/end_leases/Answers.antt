@@ -1,6 +1,6 @@
 use Rattle.std.proofs.Common.{not, filter, ap, ◌∙◌}
+use Rattle.drm_masters.specs.Masters.{is_below}
 use Rattle.drm_leases.specs.declared.rows.Lease.{Lease}
-use Rattle.drm_leases.specs.Calls.{is_below}
 use Rattle.drm_leases.proofs.Below.{under_ended}
 use Rattle.drm_leases.proofs.endings.end_leases.Goals as goal
 

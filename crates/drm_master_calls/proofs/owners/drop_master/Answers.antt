@@ -24,7 +24,7 @@ returns-in_default-clause-owes c = λ w h admitted. absurd (never_admitted c.arg
 pub returns-in-Ok-clause-tied : goal.returns-in-Ok-clause-tied
 returns-in-Ok-clause-tied c =
     let s = c.args.state.now in
-    let done = subst (λ o. IfSome o (λ x. DroppedBy s.masters x c.is_root-root.result c.drop_master.result c.drop_master.new.self)) (sym c.member.ensures.member ∙ c.in-Some.is) c.drop_master.ensures in
+    let done = subst (λ o. IfSome o (λ x. DroppedBy s.masters x c.is_root-root.result c.drop_master.result c.drop_master.new.self)) (sym c.member.ensures.member ∙ c.in-Some.is) c.drop_master.ensures.dropped in
     let now = (subst (λ r. DroppedBy s.masters c.in-Some._member c.is_root-root.result r c.drop_master.new.self) c.in-Ok.is done).1 in
     subst (λ v. IsTied (record s { masters = v })) (sym now) (device_tied s None c.requires.tied (subst AreMasters now c.laws.ensures))
 
@@ -34,7 +34,7 @@ returns-in-Ok-clause-owes c = λ w h admitted.
     let s = c.args.state.now in
     let file = file_of s c.args.client c.requires.present in
     let look = sym c.member.ensures.member ∙ c.in-Some.is in
-    let done = subst (λ o. IfSome o (λ x. DroppedBy s.masters x c.is_root-root.result c.drop_master.result c.drop_master.new.self)) look c.drop_master.ensures in
+    let done = subst (λ o. IfSome o (λ x. DroppedBy s.masters x c.is_root-root.result c.drop_master.result c.drop_master.new.self)) look c.drop_master.ensures.dropped in
     let by = subst (λ r. DroppedBy s.masters c.in-Some._member c.is_root-root.result r c.drop_master.new.self) c.in-Ok.is done in
     let none = drop_verdict s w c.args.client file.0 c.in-Some._member h file.1 look c.is_root-root.result c.is_root-root.ensures admitted ∙ by.0 in
     carried_on (record s { masters = c.drop_master.new.self }) w (Ask c.args.client DropMaster) Done (returns-in-Ok-clause-tied c) none refl
@@ -46,7 +46,7 @@ returns-in-Err-clause-owes c = λ w h admitted.
     let s = c.args.state.now in
     let file = file_of s c.args.client c.requires.present in
     let look = sym c.member.ensures.member ∙ c.in-Some.is in
-    let done = subst (λ o. IfSome o (λ x. DroppedBy s.masters x c.is_root-root.result c.drop_master.result c.drop_master.new.self)) look c.drop_master.ensures in
+    let done = subst (λ o. IfSome o (λ x. DroppedBy s.masters x c.is_root-root.result c.drop_master.result c.drop_master.new.self)) look c.drop_master.ensures.dropped in
     let by = subst (λ r. DroppedBy s.masters c.in-Some._member c.is_root-root.result r c.drop_master.new.self) c.in-Err.is done in
     denied (record s { masters = c.drop_master.new.self }) w (Ask c.args.client DropMaster) c.in-Err.rule
     (drop_verdict s w c.args.client file.0 c.in-Some._member h file.1 look c.is_root-root.result c.is_root-root.ensures admitted ∙ by.0)

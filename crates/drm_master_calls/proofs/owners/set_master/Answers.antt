@@ -40,7 +40,7 @@ returns-in-Ok-Already-clause-tied c =
     let s = c.args.state.now in
     let look = sym c.member.ensures.member ∙ c.in-Some.is in
     let x = c.in-Some._member in
-    let by = came s x c.is_root-root.result c.args.birth c.set.new.self look (c.in-Ok-Already.is ∙ ap Ok c.in-Ok-Already.field-0-is) c.set.ensures in
+    let by = came s x c.is_root-root.result c.args.birth c.set.new.self look (c.in-Ok-Already.is ∙ ap Ok c.in-Ok-Already.field-0-is) c.set.ensures.set in
     subst (λ v. IsTied (record s { masters = v })) (sym by.1.1) c.requires.ready.tied
 
 pub returns-in-Ok-Already-clause-owes : goal.returns-in-Ok-Already-clause-owes
@@ -49,7 +49,7 @@ returns-in-Ok-Already-clause-owes c = λ w r admitted.
     let s = c.args.state.now in
     let look = sym c.member.ensures.member ∙ c.in-Some.is in
     let x = c.in-Some._member in
-    let by = came s x c.is_root-root.result c.args.birth c.set.new.self look (c.in-Ok-Already.is ∙ ap Ok c.in-Ok-Already.field-0-is) c.set.ensures in
+    let by = came s x c.is_root-root.result c.args.birth c.set.new.self look (c.in-Ok-Already.is ∙ ap Ok c.in-Ok-Already.field-0-is) c.set.ensures.set in
     let file = file_of s c.args.client c.requires.present in
     let checks = set_verdict s w c.args.client file.0 x r.rows file.1 look c.is_root-root.result c.is_root-root.ensures admitted ∙ by.0 in
     let current : is_current w c.args.client ≡ true = current_is s w c.args.client file.0 x r.rows file.1 look ∙ by.1.0 in
@@ -61,7 +61,7 @@ returns-in-Ok-Again-clause-tied c =
     let s = c.args.state.now in
     let look = sym c.member.ensures.member ∙ c.in-Some.is in
     let x = c.in-Some._member in
-    let by = came s x c.is_root-root.result c.args.birth c.set.new.self look (c.in-Ok-Again.is ∙ ap Ok c.in-Ok-Again.field-0-is) c.set.ensures in
+    let by = came s x c.is_root-root.result c.args.birth c.set.new.self look (c.in-Ok-Again.is ∙ ap Ok c.in-Ok-Again.field-0-is) c.set.ensures.set in
     subst (λ v. IsTied (record s { masters = v })) (sym by.1.2) (device_tied s (Some x.master) c.requires.ready.tied (subst AreMasters by.1.2 c.laws-in-Ok-Again.ensures))
 
 pub returns-in-Ok-Again-clause-owes : goal.returns-in-Ok-Again-clause-owes
@@ -70,7 +70,7 @@ returns-in-Ok-Again-clause-owes c = λ w r admitted.
     let s = c.args.state.now in
     let look = sym c.member.ensures.member ∙ c.in-Some.is in
     let x = c.in-Some._member in
-    let by = came s x c.is_root-root.result c.args.birth c.set.new.self look (c.in-Ok-Again.is ∙ ap Ok c.in-Ok-Again.field-0-is) c.set.ensures in
+    let by = came s x c.is_root-root.result c.args.birth c.set.new.self look (c.in-Ok-Again.is ∙ ap Ok c.in-Ok-Again.field-0-is) c.set.ensures.set in
     let file = file_of s c.args.client c.requires.present in
     let checks = set_verdict s w c.args.client file.0 x r.rows file.1 look c.is_root-root.result c.is_root-root.ensures admitted ∙ by.0 in
     let current : is_current w c.args.client ≡ false = current_is s w c.args.client file.0 x r.rows file.1 look ∙ by.1.0 in
@@ -86,7 +86,7 @@ returns-in-Ok-Made-clause-tied c =
     let s = c.args.state.now in
     let look = sym c.member.ensures.member ∙ c.in-Some.is in
     let x = c.in-Some._member in
-    let by = came s x c.is_root-root.result c.args.birth c.set.new.self look (c.in-Ok-Made.is ∙ ap Ok c.in-Ok-Made.field-0-is) c.set.ensures in
+    let by = came s x c.is_root-root.result c.args.birth c.set.new.self look (c.in-Ok-Made.is ∙ ap Ok c.in-Ok-Made.field-0-is) c.set.ensures.set in
     let same = same_client s.masters.members c.args.client x look in
     subst (λ fs. IsTied (record s { files = fs; masters = c.set.new.self })) (sym (c.set_authenticated.ensures ∙ ap (with_authenticated s.files) (sym same.0)))
     (subst (λ v. IsTied (record s { files = with_authenticated s.files x.client; masters = v })) (sym by.1.2.2)
@@ -98,7 +98,7 @@ returns-in-Ok-Made-clause-owes c = λ w r admitted.
     let s = c.args.state.now in
     let look = sym c.member.ensures.member ∙ c.in-Some.is in
     let x = c.in-Some._member in
-    let by = came s x c.is_root-root.result c.args.birth c.set.new.self look (c.in-Ok-Made.is ∙ ap Ok c.in-Ok-Made.field-0-is) c.set.ensures in
+    let by = came s x c.is_root-root.result c.args.birth c.set.new.self look (c.in-Ok-Made.is ∙ ap Ok c.in-Ok-Made.field-0-is) c.set.ensures.set in
     let file = file_of s c.args.client c.requires.present in
     let checks = set_verdict s w c.args.client file.0 x r.rows file.1 look c.is_root-root.result c.is_root-root.ensures admitted ∙ by.0 in
     let current : is_current w c.args.client ≡ false = current_is s w c.args.client file.0 x r.rows file.1 look ∙ by.1.0 in
@@ -119,7 +119,7 @@ returns-in-Err-Denied-clause-tied c =
     let s = c.args.state.now in
     let look = sym c.member.ensures.member ∙ c.in-Some.is in
     let x = c.in-Some._member in
-    let by = came s x c.is_root-root.result c.args.birth c.set.new.self look (c.in-Err-Denied.is ∙ ap Err c.in-Err-Denied.field-0-is) c.set.ensures in
+    let by = came s x c.is_root-root.result c.args.birth c.set.new.self look (c.in-Err-Denied.is ∙ ap Err c.in-Err-Denied.field-0-is) c.set.ensures.set in
     subst (λ v. IsTied (record s { masters = v })) (sym by.1) c.requires.ready.tied
 
 pub returns-in-Err-Denied-clause-owes : goal.returns-in-Err-Denied-clause-owes
@@ -128,7 +128,7 @@ returns-in-Err-Denied-clause-owes c = λ w r admitted.
     let s = c.args.state.now in
     let look = sym c.member.ensures.member ∙ c.in-Some.is in
     let x = c.in-Some._member in
-    let by = came s x c.is_root-root.result c.args.birth c.set.new.self look (c.in-Err-Denied.is ∙ ap Err c.in-Err-Denied.field-0-is) c.set.ensures in
+    let by = came s x c.is_root-root.result c.args.birth c.set.new.self look (c.in-Err-Denied.is ∙ ap Err c.in-Err-Denied.field-0-is) c.set.ensures.set in
     let file = file_of s c.args.client c.requires.present in
     let checks = set_verdict s w c.args.client file.0 x r.rows file.1 look c.is_root-root.result c.is_root-root.ensures admitted ∙ by.0 in
     denied (record s { masters = c.set.new.self }) w (Ask c.args.client SetMaster) c.in-Err-Denied.rule checks (subst (λ v. Represents (record s { masters = v }) w) (sym by.1) r.rows)
@@ -138,7 +138,7 @@ returns-in-Err-NoMemory-clause-tied c =
     let s = c.args.state.now in
     let look = sym c.member.ensures.member ∙ c.in-Some.is in
     let x = c.in-Some._member in
-    let by = came s x c.is_root-root.result c.args.birth c.set.new.self look (c.in-Err-NoMemory.is ∙ ap Err c.in-Err-NoMemory.field-0-is) c.set.ensures in
+    let by = came s x c.is_root-root.result c.args.birth c.set.new.self look (c.in-Err-NoMemory.is ∙ ap Err c.in-Err-NoMemory.field-0-is) c.set.ensures.set in
     subst (λ v. IsTied (record s { masters = v })) (sym by.3) c.requires.ready.tied
 
 pub returns-in-Err-NoMemory-clause-owes : goal.returns-in-Err-NoMemory-clause-owes
@@ -147,7 +147,7 @@ returns-in-Err-NoMemory-clause-owes c = λ w r admitted.
     let s = c.args.state.now in
     let look = sym c.member.ensures.member ∙ c.in-Some.is in
     let x = c.in-Some._member in
-    let by = came s x c.is_root-root.result c.args.birth c.set.new.self look (c.in-Err-NoMemory.is ∙ ap Err c.in-Err-NoMemory.field-0-is) c.set.ensures in
+    let by = came s x c.is_root-root.result c.args.birth c.set.new.self look (c.in-Err-NoMemory.is ∙ ap Err c.in-Err-NoMemory.field-0-is) c.set.ensures.set in
     let file = file_of s c.args.client c.requires.present in
     let checks = set_verdict s w c.args.client file.0 x r.rows file.1 look c.is_root-root.result c.is_root-root.ensures admitted ∙ by.0 in
     let current : is_current w c.args.client ≡ false = current_is s w c.args.client file.0 x r.rows file.1 look ∙ by.1 in

@@ -1,7 +1,10 @@
-use Rattle.std.proofs.Common.{◌≡◌, ◌+◌, Some, sym, subst, ◌∙◌, arith}
+use Rattle.std.proofs.Common.{◌≡◌, ◌+◌, false, Some, sym, subst, ◌∙◌, arith}
 use Rattle.drm_index_array.proofs.Least.{least_some}
+use Rattle.std.specs.List.{list_any}
+use Rattle.drm_masters.specs.declared.rows.Master.{Master}
 use Rattle.drm_masters.specs.Masters.{is_option, master_at, lessor_of}
 use Rattle.drm_masters.specs.Sweeps.{IsSweptBelow}
+use Rattle.drm_masters.proofs.Owned.{unnamed}
 use Rattle.drm_masters.proofs.Sound.{at_birth}
 use Rattle.drm_masters.proofs.SweptBelow.{none_swept, one_swept, swept_absent, swept_kept, swept_gone}
 use Rattle.drm_masters.proofs.sweeps.+sweep_below.Goals as goal
@@ -29,6 +32,13 @@ loop-lessee-preserved t c =
     let low = is.at_least in
     one_swept c.args.members.now.items c.args.masters.now.items c.requires.rise c.requires.older c.args.top c.loop-lessee.after c.loop-lessee.masters.items c.loop-lessee.invariant c.in-Some.lessee c.sweep_below.new.masters.items is.passes (omega (arith, low))
     (λ k after less. is.none_below k (omega (arith, after)) less) c.sweep_below.ensures
+
+pub remove-requires-clause-no_lessee : goal.remove-requires-clause-no_lessee
+remove-requires-clause-no_lessee t c =
+    let ms = c.loop-lessee.masters.items in
+    let x = c.in-Some-at.master in
+    let is = at_birth ms c.args.top x (sym c.at.ensures ∙ c.in-Some-at.is) in
+    subst (λ b. list_any (λ (y : Master). is_option b y.lessor) ms ≡ false) is.0 (unnamed c.args.members.now.items ms x (sym c.is_used.ensures ∙ c.if-not-is_used.true))
 
 pub returns-in_default-at : goal.returns-in_default-at
 returns-in_default-at t c =

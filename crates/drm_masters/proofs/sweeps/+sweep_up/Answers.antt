@@ -1,10 +1,11 @@
 use Rattle.std.proofs.Common.{◌≡◌, ◌<◌, true, false, not, filter, is_some, Option, None, Some, sym, ap, subst, ◌∙◌, arith}
-use Rattle.std.specs.List.{AllByRecursion}
+use Rattle.std.specs.List.{list_any, AllByRecursion}
 use Rattle.std.proofs.lemmas.Bool.{eqb-true, false≢true}
 use Rattle.drm_lists.specs.Orders.{InOrder}
 use Rattle.drm_masters.specs.declared.rows.Master.{Master}
-use Rattle.drm_masters.specs.Masters.{is_birth, is_used, is_living, master_at, HasOlderLessor}
+use Rattle.drm_masters.specs.Masters.{is_birth, is_option, is_used, is_living, master_at, HasOlderLessor}
 use Rattle.drm_masters.proofs.Living.{falls}
+use Rattle.drm_masters.proofs.Owned.{unnamed}
 use Rattle.drm_masters.proofs.Sound.{at_birth}
 use Rattle.drm_masters.proofs.Upward.{OthersUsed, all_stay, all_used, gone, gone_rise, gone_older, top_left, lessor_left, same_left}
 use Rattle.drm_masters.proofs.sweeps.+sweep_up.Goals as goal
@@ -26,6 +27,14 @@ returns-then-is_used t c =
     let used : is_used members ms x ≡ true = sym c.is_used.ensures ∙ c.if-is_used.true in
     all_stay members ms c.requires.rise c.requires.older
     (all_used members ms c.args.birth c.requires.others (λ z here e. let one : Some z ≡ Some x = sym here ∙ ap (master_at ms) (eqb-true z.birth c.args.birth e) ∙ at in let same : z ≡ x = cc in ap (is_used members ms) same ∙ used) c.requires.rise)
+
+pub remove-requires-clause-no_lessee : goal.remove-requires-clause-no_lessee
+remove-requires-clause-no_lessee t c =
+    let members = c.args.members.now.items in
+    let ms = c.args.masters.now.items in
+    let x = c.in-Some.master in
+    let is = at_birth ms c.args.birth x (sym c.at.ensures ∙ c.in-Some.is) in
+    subst (λ b. list_any (λ (y : Master). is_option b y.lessor) ms ≡ false) is.0 (unnamed members ms x (sym c.is_used.ensures ∙ c.if-is_used.false))
 
 pub sweep_up-requires : goal.sweep_up-requires
 sweep_up-requires t c =

@@ -105,7 +105,16 @@ returns-in_default-make_lessee-clause-created c =
     let look : member_of c.args.masters.now.members c.args.client ≡ Some c.in-Some.member = sym c.member.ensures.member ∙ c.in-Some.is in
     let new : LeaseSet = record (set_of c.self.inside) { tokens = c.reserve.new.self.items; grants = grants_in c.remove.new.self.rows; lendings = lendings_in c.remove.new.self.rows } in
     subst (λ o. IfSome o (λ (z : Member). Created v c.args.masters.now c.args.modes.now z.master c.args.universal c.args.ids.now c.args.birth (Err NoMemory) new c.make_lessee.new.self)) (sym look)
-    (none, (λ i. record (set_of c.self.inside) { tokens = c.reserve.ensures.items i; grants = grants_in (back i); lendings = lendings_in (back i) }) ∙ c.self.view_is, not_made c.args.masters.now c.make_lessee.new.self _ c.args.birth c.in_default-make_lessee.field-0 c.in_default-make_lessee.ensures)
+    (none, (λ i. record (set_of c.self.inside) { tokens = c.reserve.ensures.items i; grants = grants_in (back i); lendings = lendings_in (back i) }) ∙ c.self.view_is, not_made c.args.masters.now c.make_lessee.new.self _ c.args.birth c.in_default-make_lessee.field-0 c.in_default-make_lessee.ensures.made)
+
+pub returns-in_default-make_lessee-clause-err : goal.returns-in_default-make_lessee-clause-err
+returns-in_default-make_lessee-clause-err c =
+    let v = c.args.self.now in
+    let grants = subst (λ (v : LeaseSet). AllByRecursion (λ (g : Grant). g.master < c.args.birth) v.grants) (sym c.self.view_is) c.requires.new_lessee.grants in
+    let old = c.self.inside.granted.rows in
+    let back : c.remove.new.self.rows ≡ old =
+    c.remove.ensures ∙ ap (filter (λ (x : Lease). not (x.lessee == c.args.birth))) c.in_default-add.ensures.ok ∙ taken_back old (lease c.args.birth c.in-Some.member.master c.listed_mask-objects.result) (all_older c.args.birth old c.laws.ensures.full grants) in
+    ((λ i. record (set_of c.self.inside) { tokens = c.reserve.ensures.items i; grants = grants_in (back i); lendings = lendings_in (back i) }) ∙ c.self.view_is, c.in_default-make_lessee.ensures.err)
 
 pub returns-in_default-make_lessee-clause-agreed : goal.returns-in_default-make_lessee-clause-agreed
 returns-in_default-make_lessee-clause-agreed c =
@@ -116,7 +125,7 @@ returns-in_default-make_lessee-clause-agreed c =
     c.remove.ensures ∙ ap (filter (λ (x : Lease). not (x.lessee == c.args.birth))) c.in_default-add.ensures.ok ∙ taken_back old (lease c.args.birth c.in-Some.member.master c.listed_mask-objects.result) (all_older c.args.birth old c.laws.ensures.full grants) in
     let lendings : lendings_in c.remove.new.self.rows ≡ c.args.self.now.lendings = ap lendings_in back ∙ ap (λ (a : LeaseSet). a.lendings) c.self.view_is in
     subst (λ xs. AllByRecursion (IsAgreed c.make_lessee.new.self.members c.make_lessee.new.self.masters) xs) (sym lendings)
-    (subst (λ (w : MasterSet). AreAgreed c.args.self.now w) (sym (not_made v c.make_lessee.new.self _ c.args.birth c.in_default-make_lessee.field-0 c.in_default-make_lessee.ensures)) c.requires.agreed)
+    (subst (λ (w : MasterSet). AreAgreed c.args.self.now w) (sym (not_made v c.make_lessee.new.self _ c.args.birth c.in_default-make_lessee.field-0 c.in_default-make_lessee.ensures.made)) c.requires.agreed)
 
 pub returns-clause-created : goal.returns-clause-created
 returns-clause-created c =
@@ -137,7 +146,7 @@ returns-clause-created c =
     let lendings : lendings_in c.add.new.self.rows ≡ lendings_in old ++ lending m lessor ∷ [] = ap lendings_in c.in_default-add.ensures.ok ∙ lendings_both old (new ∷ []) in
     let now = (λ i. record (set_of c.self.inside) { tokens = tokens i; grants = grants i; lendings = lendings i; last_given = Some token }) ∙ ap (with_lease token m lessor objects) c.self.view_is in
     let key_is : birth_at v.masters c.in-Some-master.lessor.key ≡ lessor = keyed_birth v.masters lessor c.in-Some-master.lessor.key c.in-Some-master.ensures.keyed in
-    let made = subst (λ k. MadeLessee v k m (Ok c.in-Ok.made) c.make_lessee.new.self) key_is c.in-Ok.ensures in
+    let made = subst (λ k. MadeLessee v k m (Ok c.in-Ok.made) c.make_lessee.new.self) key_is c.in-Ok.ensures.made in
     let none : first_failing (lease_checks l v c.args.modes.now lessor c.args.universal c.args.ids.now) ≡ None = sym c.denied.ensures ∙ c.in_default-denied.is in
     let look : member_of v.members c.args.client ≡ Some c.in-Some.member = sym c.member.ensures.member ∙ c.in-Some.is in
     let told : Leased = record { master = c.in-Ok.made.0; id = c.in-Ok.made.1; token = token } in
@@ -154,7 +163,7 @@ returns-clause-agreed c =
     let new = lease m lessor c.listed_mask-objects.result in
     let lendings : lendings_in c.add.new.self.rows ≡ c.args.self.now.lendings ++ lending m lessor ∷ [] = ap lendings_in c.in_default-add.ensures.ok ∙ lendings_both old (new ∷ []) ∙ ap (λ (a : LeaseSet). a.lendings ++ lending m lessor ∷ []) c.self.view_is in
     let key_is : birth_at v.masters c.in-Some-master.lessor.key ≡ lessor = keyed_birth v.masters lessor c.in-Some-master.lessor.key c.in-Some-master.ensures.keyed in
-    let made = subst (λ k. MadeLessee v k m (Ok c.in-Ok.made) c.make_lessee.new.self) key_is c.in-Ok.ensures in
+    let made = subst (λ k. MadeLessee v k m (Ok c.in-Ok.made) c.make_lessee.new.self) key_is c.in-Ok.ensures.made in
     subst (λ xs. AllByRecursion (IsAgreed c.make_lessee.new.self.members c.make_lessee.new.self.masters) xs) (sym lendings)
     (subst (λ (w : MasterSet). AllByRecursion (IsAgreed w.members w.masters) (c.args.self.now.lendings ++ lending m lessor ∷ [])) (sym made.2)
     (agreed_lent v.members v.masters c.in-Ok.made.0 m lessor c.in-Ok.made.1 c.args.self.now.lendings c.requires.new_birth c.requires.agreed))

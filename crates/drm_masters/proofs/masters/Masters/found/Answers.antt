@@ -1,18 +1,21 @@
 use Rattle.std.proofs.Common.{◌≡◌, ℕ, ◌<◌, ◌==◌, true, false, not, List, [], ◌∷◌, ◌++◌, Some, map, filter, find, refl, sym, ap, subst, ◌∙◌, nat_cmp}
 use Rattle.std.specs.Prelude.{if◌then◌else◌}
 use Rattle.std.specs.FinSet as set
-use Rattle.std.specs.List.{AllByRecursion}
-use Rattle.std.specs.Option.{option_map_or}
+use Rattle.std.specs.List.{list_any, AllByRecursion}
+use Rattle.std.specs.Option.{is_some, option_map_or}
+use Rattle.std.proofs.lemmas.Bool.{false≢true}
 use Rattle.drm_lists.proofs.Numbers.{less-differ}
 use Rattle.drm_lists.specs.Orders.{InOrder}
 use Rattle.drm_masters.specs.declared.rows.Master.{Master}
 use Rattle.drm_masters.specs.declared.rows.Member.{Member}
 use Rattle.drm_masters.specs.Fields.{set_of}
-use Rattle.drm_masters.specs.Masters.{MasterSet, AreMasters, HasOlderLessor, member_of, is_birth, is_client, is_key, is_living, is_current, swept}
+use Rattle.drm_masters.specs.Masters.{MasterSet, AreMasters, HasOlderLessor, member_of, is_birth, is_client, is_option, is_key, is_living, is_current, swept}
 use Rattle.drm_masters.specs.Calls as calls
 use Rattle.drm_masters.specs.Tables.{MemberRows}
 use Rattle.drm_masters.proofs.Upward.{OthersUsed}
-use Rattle.drm_masters.proofs.Pushed.{birth_below, taken_back}
+use Rattle.drm_masters.proofs.Pushed.{birth_below, pushed_older, taken_back}
+use Rattle.drm_masters.proofs.Living.{Older}
+use Rattle.drm_masters.proofs.Owned.{unnamed_yet}
 use Rattle.drm_masters.proofs.Flagged.{current_in, no_device}
 use Rattle.drm_masters.proofs.Sound.{Keyed, sound, swept_are, remade_ties, remade_used, client_found, master_there, keyed_more, keyed_fewer}
 use Rattle.drm_masters.proofs.masters.Masters.found.Goals as goal
@@ -31,6 +34,22 @@ remake-requires c =
           subst (λ (u : Member). option_map_or (λ (y : Member). not (y.master == u.master)) (member_of c.self.inside.members.items u.client) false ≡ true) (sym c.owner.ensures)
           (ap (λ o. option_map_or (λ (y : Member). not (y.master == b)) o false) look ∙ ap not (less-differ x.master b lt));
     }
+
+pub remove-requires-clause-older : goal.remove-requires-clause-older
+remove-requires-clause-older c =
+    let z = calls.own_master c.in-Ok.key c.args.birth in
+    let ms = c.self.inside.masters.items in
+    let newest = rw (← c.self.view_is) at c.requires.new_birth in
+    let masters : c.insert.new.self.items ≡ ms ++ z ∷ [] = c.in-Ok.ensures.ok ∙ ap (λ (x : Master). ms ++ calls.keyed_as c.in-Ok.key x ∷ []) c.own_master.ensures in
+    subst Older (sym masters) (pushed_older ms z newest (λ l e. absurd (false≢true (ap is_some e))) c.self.invariant.are.lessors_older)
+
+pub remove-requires-clause-no_lessee : goal.remove-requires-clause-no_lessee
+remove-requires-clause-no_lessee c =
+    let z = calls.own_master c.in-Ok.key c.args.birth in
+    let ms = c.self.inside.masters.items in
+    let newest = rw (← c.self.view_is) at c.requires.new_birth in
+    let masters : c.insert.new.self.items ≡ ms ++ z ∷ [] = c.in-Ok.ensures.ok ∙ ap (λ (x : Master). ms ++ calls.keyed_as c.in-Ok.key x ∷ []) c.own_master.ensures in
+    subst (λ l. list_any (λ (y : Master). is_option c.args.birth y.lessor) l ≡ false) (sym masters) (unnamed_yet ms z newest c.self.invariant.are.lessors_older refl)
 
 pub invariant_of-self-in-Err-remake : goal.invariant_of-self-in-Err-remake
 invariant_of-self-in-Err-remake c =

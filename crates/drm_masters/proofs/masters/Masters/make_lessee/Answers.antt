@@ -1,12 +1,36 @@
-use Rattle.std.proofs.Common.{◌≡◌, ℕ, true, [], ◌∷◌, ◌++◌, Some, find, refl, sym, ap, subst, ◌∙◌}
+use Rattle.std.proofs.Common.{◌≡◌, ℕ, Bool, true, false, not, [], ◌∷◌, ◌++◌, Some, find, refl, sym, ap, subst, ◌∙◌}
+use Rattle.std.specs.List.{list_any}
 use Rattle.std.specs.Option.{is_some}
+use Rattle.drm_index_array.proofs.Least.{least_some}
 use Rattle.drm_masters.specs.declared.rows.Master.{Master}
 use Rattle.drm_masters.specs.Fields.{set_of}
-use Rattle.drm_masters.specs.Masters.{MasterSet, AreMasters, master_at, birth_at, is_key, is_current, free_lessee}
+use Rattle.drm_masters.specs.Masters.{MasterSet, AreMasters, master_at, birth_at, is_key, is_current, owner_of, is_lessee_of, free_lessee}
 use Rattle.drm_masters.specs.Calls as calls
 use Rattle.drm_masters.proofs.Sound.{Keyed, sound, lessee_are, keyed_more, pushed_same, of_key}
 use Rattle.std.specs.FinSet as set
 use Rattle.drm_masters.proofs.masters.Masters.make_lessee.Goals as goal
+
+not_true : (b : Bool) → not b ≡ true → b ≡ false
+not_true true e = sym e
+not_true false e = refl
+
+pub insert-requires-clause-there : goal.insert-requires-clause-there
+insert-requires-clause-there c =
+    let ms = c.self.inside.masters.items in
+    let m = c.in-Some.lessor.birth in
+    let there = (of_key ms c.args.master c.in-Some.lessor (sym c.of_key.ensures ∙ c.in-Some.is)).1 in
+    subst (λ (u : Master). (l : ℕ) → u.lessor ≡ Some l → is_some (master_at ms l) ≡ true) (sym c.lessee.ensures)
+    (λ l e. subst (λ n. is_some (master_at ms n) ≡ true) (let s : Some m ≡ Some l = e in let t : m ≡ l = cc in t) there)
+
+pub insert-requires-clause-other_id : goal.insert-requires-clause-other_id
+insert-requires-clause-other_id c =
+    let ms = c.self.inside.masters.items in
+    let m = c.in-Some.lessor.birth in
+    let id = c.in-Some-free_lessee.id in
+    let free : free_lessee (set_of c.self.inside) m ≡ Some id = ap (λ (w : MasterSet). free_lessee w m) c.self.view_is ∙ sym c.free_lessee.ensures ∙ c.in-Some-free_lessee.is in
+    let is = least_some (λ k. not (list_any (is_lessee_of ms (owner_of ms m) k) ms)) 1 c.self.inside.last_lessee id free in
+    subst (λ (u : Master). (l : ℕ) → u.lessor ≡ Some l → list_any (is_lessee_of ms (owner_of ms l) u.lessee_id) ms ≡ false) (sym c.lessee.ensures)
+    (λ l e. subst (λ n. list_any (is_lessee_of ms (owner_of ms n) id) ms ≡ false) (let s : Some m ≡ Some l = e in let t : m ≡ l = cc in t) (not_true (list_any (is_lessee_of ms (owner_of ms m) id) ms) is.passes))
 
 pub invariant_of-self-2 : goal.invariant_of-self-2
 invariant_of-self-2 c =
@@ -23,8 +47,8 @@ invariant_of-self-2 c =
     (keyed_more c.args.self.now.masters z c.in-Ok.key keyed (ap (λ (w : MasterSet). find (is_key c.in-Ok.key) w.masters) (sym c.self.view_is) ∙ c.in-Ok.ensures.free) refl)
     (λ k. old k ∙ sym (pushed_same c.args.self.now are z c.requires.new_birth k))
 
-pub returns : goal.returns
-returns c =
+pub returns-clause-made : goal.returns-clause-made
+returns-clause-made c =
     let are : AreMasters c.args.self.now = subst AreMasters c.self.view_is c.self.invariant.are in
     let keyed : Keyed c.args.self.now.masters = subst (λ (w : MasterSet). Keyed w.masters) c.self.view_is c.self.invariant.keyed in
     let m = c.in-Some.lessor.birth in

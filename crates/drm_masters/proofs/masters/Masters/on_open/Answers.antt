@@ -1,15 +1,19 @@
-use Rattle.std.proofs.Common.{◌≡◌, ℕ, ◌<◌, List, [], ◌∷◌, ◌++◌, not, filter, find, None, Some, refl, sym, ap, subst, ◌∙◌, nat_cmp}
+use Rattle.std.proofs.Common.{◌≡◌, ℕ, ◌<◌, true, false, List, [], ◌∷◌, ◌++◌, not, filter, find, None, Some, refl, sym, ap, subst, ◌∙◌, nat_cmp}
 use Rattle.std.specs.FinSet as set
-use Rattle.std.specs.List.{AllByRecursion}
+use Rattle.std.specs.List.{list_any, AllByRecursion}
+use Rattle.std.specs.Option.{is_some}
+use Rattle.std.proofs.lemmas.Bool.{false≢true}
 use Rattle.drm_lists.specs.Orders.{InOrder}
 use Rattle.drm_lists.proofs.Orders.{in_order_append}
 use Rattle.drm_masters.specs.Tables.{MemberRows}
 use Rattle.drm_masters.specs.declared.rows.Master.{Master}
 use Rattle.drm_masters.specs.declared.rows.Member.{Member}
 use Rattle.drm_masters.specs.Fields.{set_of}
-use Rattle.drm_masters.specs.Masters.{MasterSet, AreMasters, HasOlderLessor, is_key, is_birth, is_current}
+use Rattle.drm_masters.specs.Masters.{MasterSet, AreMasters, HasOlderLessor, is_key, is_birth, is_option, master_at, owner_of, is_lessee_of, is_current}
 use Rattle.drm_masters.specs.Calls as calls
 use Rattle.drm_masters.proofs.Flagged.{current_in, no_device}
+use Rattle.drm_masters.proofs.Living.{Older}
+use Rattle.drm_masters.proofs.Owned.{unnamed_yet}
 use Rattle.drm_masters.proofs.Pushed.{pushed_older, taken_back}
 use Rattle.drm_masters.proofs.Sound.{Keyed, sound, device_there, guest_are, founder_are, keyed_more, guest_same}
 use Rattle.drm_masters.proofs.masters.Masters.on_open.Goals as goal
@@ -30,7 +34,29 @@ invariant_of-self-in-Some c =
 pub insert-requires : goal.insert-requires
 insert-requires c =
     let newest = rw (← c.self.view_is) at c.requires.new_birth in
-    record { newest = subst (λ (u : Master). AllByRecursion (λ (x : Master). x.birth < u.birth) c.self.inside.masters.items) (sym c.own_master.ensures) newest }
+    let ms = c.self.inside.masters.items in
+    record {
+      newest = subst (λ (u : Master). AllByRecursion (λ (x : Master). x.birth < u.birth) ms) (sym c.own_master.ensures) newest;
+      older = c.self.invariant.are.lessors_older;
+      there = subst (λ (u : Master). (l : ℕ) → u.lessor ≡ Some l → is_some (master_at ms l) ≡ true) (sym c.own_master.ensures) (λ l e. absurd (false≢true (ap is_some e)));
+      other_id = subst (λ (u : Master). (l : ℕ) → u.lessor ≡ Some l → list_any (is_lessee_of ms (owner_of ms l) u.lessee_id) ms ≡ false) (sym c.own_master.ensures) (λ l e. absurd (false≢true (ap is_some e)));
+    }
+
+pub remove-requires-clause-older : goal.remove-requires-clause-older
+remove-requires-clause-older c =
+    let z = calls.own_master c.in_default-insert.field-0 c.args.birth in
+    let ms = c.self.inside.masters.items in
+    let newest = rw (← c.self.view_is) at c.requires.new_birth in
+    let masters : c.insert.new.self.items ≡ ms ++ z ∷ [] = c.in_default-insert.ensures.ok ∙ ap (λ (x : Master). ms ++ calls.keyed_as c.in_default-insert.field-0 x ∷ []) c.own_master.ensures in
+    subst Older (sym masters) (pushed_older ms z newest (λ l e. absurd (false≢true (ap is_some e))) c.self.invariant.are.lessors_older)
+
+pub remove-requires-clause-no_lessee : goal.remove-requires-clause-no_lessee
+remove-requires-clause-no_lessee c =
+    let z = calls.own_master c.in_default-insert.field-0 c.args.birth in
+    let ms = c.self.inside.masters.items in
+    let newest = rw (← c.self.view_is) at c.requires.new_birth in
+    let masters : c.insert.new.self.items ≡ ms ++ z ∷ [] = c.in_default-insert.ensures.ok ∙ ap (λ (x : Master). ms ++ calls.keyed_as c.in_default-insert.field-0 x ∷ []) c.own_master.ensures in
+    subst (λ l. list_any (λ (y : Master). is_option c.args.birth y.lessor) l ≡ false) (sym masters) (unnamed_yet ms z newest c.self.invariant.are.lessors_older refl)
 
 pub add-requires-2 : goal.add-requires-2
 add-requires-2 c =

@@ -53,8 +53,8 @@ verdict : (v : MasterSet) (x : Member) (root : Bool) → (x.once_master || root)
 unfolding set_checks
 verdict v x root may current none own = rw (may, current, none, own) refl
 
-pub returns-then-not-member : goal.returns-then-not-member
-returns-then-not-member c =
+pub returns-then-not-member-clause-set : goal.returns-then-not-member-clause-set
+returns-then-not-member-clause-set c =
     let v = c.args.self.now in
     let are : AreMasters v = subst AreMasters c.self.view_is c.self.invariant.are in
     let keyed : Keyed v.masters = subst (λ (w : MasterSet). Keyed w.masters) c.self.view_is c.self.invariant.keyed in

@@ -12,8 +12,10 @@ use Rattle.drm_lists.proofs.Lists.{all_weaker, all_mapped}
 use Rattle.std.specs.List.{AllByRecursion}
 use Rattle.drm_masters.specs.Records.{items_of}
 use Rattle.drm_masters.specs.Tables.{nothing, AreLesseesOf}
-use Rattle.drm_masters.proofs.Pushed.{kept_at, birth_stays, kept_lessors}
+use Rattle.drm_masters.proofs.Pushed.{kept_at, birth_stays, lessor_stays, lessee_id_stays, kept_lessors}
 use Rattle.drm_masters.proofs.Lessees.{same_lessees}
+use Rattle.drm_masters.proofs.Owned.{same_ids}
+use Rattle.drm_masters.specs.Ids.{id_at, AreIdsOf}
 use Rattle.drm_masters.proofs.Kept.{key_of, birth_of, key_there, none_changed, at_key}
 use Rattle.drm_masters.proofs.table.MasterTable.set_kept.Goals as goal
 
@@ -41,6 +43,9 @@ invariant_of-self c =
       lessees =
           subst (λ (l : List Master). AreLesseesOf l (has c.self.inside.lessees)) (sym all)
           (same_lessees (items_of c.self.inside) (map (kept_at x.birth c.args.kept) (items_of c.self.inside)) (kept_lessors x.birth c.args.kept (items_of c.self.inside)) (has c.self.inside.lessees) c.self.invariant.lessees);
+      ids =
+          subst (λ (l : List Master). AreIdsOf l (id_at c.self.inside.ids)) (sym all)
+          (same_ids (kept_at x.birth c.args.kept) (birth_stays x.birth c.args.kept) (lessor_stays x.birth c.args.kept) (lessee_id_stays x.birth c.args.kept) (items_of c.self.inside) (id_at c.self.inside.ids) c.self.invariant.ids);
     }
 
 pub returns : goal.returns

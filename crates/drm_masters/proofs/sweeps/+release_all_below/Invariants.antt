@@ -1,6 +1,6 @@
 use Rattle.std.proofs.Common.{◌-◌}
 use Rattle.drm_masters.proofs.Released.{Releasing}
-use Rattle.drm_masters.proofs.sweeps.+release_all_under.Given as goal
+use Rattle.drm_masters.proofs.sweeps.+release_all_below.Given as goal
 
 -- those below its lessees up to this birth are kept no more
 abbrev pub invariant-loop-lessee : goal.invariant-loop-lessee
@@ -9,5 +9,5 @@ invariant-loop-lessee l = Releasing l.fn.masters.items l.top l.after l.masters.i
 abbrev pub decreases-loop-lessee : goal.decreases-loop-lessee
 decreases-loop-lessee l = 4294967296 - l.after
 
-abbrev pub decreases-release_all_under : goal.decreases-release_all_under
-decreases-release_all_under l = 4294967296 - l.top
+abbrev pub decreases-release_all_below : goal.decreases-release_all_below
+decreases-release_all_below l = 4294967296 - l.top
