@@ -226,16 +226,26 @@ fn compare(rt: &impl Abort, array: &IndexArray<u32>, plain: &Plain, numbers: &mu
     let slot = numbers.below(SLOTS);
     let mark = numbers.below(3);
     let index = index_of(slot);
-    assert_eq!(rt; array.get(index).copied(), plain.values[slot]);
-    assert_eq!(rt; array.marked(index, MARKS[mark]), plain.marked[mark][slot]);
-    assert_eq!(rt; array.len(), plain.len());
-    assert_eq!(rt; array.next(index), plain.next(index));
-    assert_eq!(rt; array.nth(slot), plain.nth(slot));
-    assert_eq!(rt;
+    let told = [
+        array.get(index).copied(),
+        array.next(index),
+        array.nth(slot),
         array.next_marked(index, MARKS[mark]),
-        plain.next_marked(index, mark)
+        array.next_vacant(index),
+    ];
+    let plain_told = [
+        plain.values[slot],
+        plain.next(index),
+        plain.nth(slot),
+        plain.next_marked(index, mark),
+        plain.next_vacant(index),
+    ];
+    assert_eq!(rt; told, plain_told);
+    let is_marked = array.marked(index, MARKS[mark]);
+    assert_eq!(rt;
+        (array.len(), is_marked),
+        (plain.len(), plain.marked[mark][slot])
     );
-    assert_eq!(rt; array.next_vacant(index), plain.next_vacant(index));
 }
 
 #[test]

@@ -8,7 +8,7 @@ use drm_frames::{
     Decoded, Frame, FrameBytes, Hello, answer_of, call_of, decode, encode_answer, encode_call,
     encode_hello, hello_of,
 };
-use drm_table::{Answer, Apart, AuditKind, Call, Rule};
+use drm_table::{Answer, Apart, AuditKind, AuditRow, Call, Rule};
 use std::process::Abort;
 
 /// The frame that is all of the bytes.
@@ -70,26 +70,35 @@ fn answer_bytes(outcome: &Result<Answer, Apart>) -> Option<FrameBytes> {
     Some(encode_answer(outcome))
 }
 
+/// Lengths that no frame has.
+const NO_LENGTHS: [u32; 4] = [0, 1, 1025, u32::MAX];
+
+/// What no frame ends in.
+const FRONTS: [&[u8]; 5] = [
+    &[2, 0, 0, 0],
+    &[0, 4, 0, 0],
+    &[],
+    &[255, 255, 255],
+    &[2, 0, 0, 0, 0],
+];
+
+const TWO_FRAMES: [u8; 13] = [3, 0, 0, 0, 9, 1, 7, 2, 0, 0, 0, 0, 0];
+
 #[test]
 fn lengths_of_frames(rt: HostRuntime) {
-    for length in [0, 1, 1025, u32::MAX] {
+    for length in NO_LENGTHS {
         assert!(&rt; matches!(decode(&length.to_le_bytes()), Decoded::TooLong));
     }
-    let fronts: [&[u8]; 5] = [
-        &[2, 0, 0, 0],
-        &[0, 4, 0, 0],
-        &[],
-        &[255, 255, 255],
-        &[2, 0, 0, 0, 0],
-    ];
-    for front in fronts {
+    for front in FRONTS {
         assert!(&rt; matches!(decode(front), Decoded::NeedMore));
     }
-    let two_frames = [3, 0, 0, 0, 9, 1, 7, 2, 0, 0, 0, 0, 0];
-    match decode(&two_frames) {
+}
+
+#[test]
+fn first_of_two_frames(rt: HostRuntime) {
+    match decode(&TWO_FRAMES) {
         Decoded::Whole(frame, used) => {
-            assert_eq!(&rt; used, 7);
-            assert_eq!(&rt; frame.number(), 0x0109);
+            assert_eq!(&rt; (frame.number(), used), (0x0109, 7));
             assert_eq!(&rt; frame.fields(), [7].as_slice());
         }
         _ => assert!(&rt; false, "no frame"),
@@ -314,31 +323,39 @@ fn check_call(rt: &impl Abort, bytes: &[u8], call: &Call) {
     assert_eq!(rt; call_in(bytes).as_ref(), Some(call));
 }
 
+/// Leases of mode objects with their bytes.
+const LEASES: [(&[u8], &[u32]); 3] = [
+    (
+        &[
+            18, 0, 0, 0, 0xC6, 0, 3, 0, 0, 0, 2, 0, 0, 0, 4, 0, 0, 0, 8, 0, 0, 0,
+        ],
+        &[2, 4, 8],
+    ),
+    (&[6, 0, 0, 0, 0xC6, 0, 0, 0, 0, 0], &[]),
+    (
+        &[
+            134, 0, 0, 0, 0xC6, 0, 32, 0, 0, 0, 1, 0, 0, 0, 2, 0, 0, 0, 3, 0, 0, 0, 4, 0, 0, 0, 5,
+            0, 0, 0, 6, 0, 0, 0, 7, 0, 0, 0, 8, 0, 0, 0, 9, 0, 0, 0, 10, 0, 0, 0, 11, 0, 0, 0, 12,
+            0, 0, 0, 13, 0, 0, 0, 14, 0, 0, 0, 15, 0, 0, 0, 16, 0, 0, 0, 17, 0, 0, 0, 18, 0, 0, 0,
+            19, 0, 0, 0, 20, 0, 0, 0, 21, 0, 0, 0, 22, 0, 0, 0, 23, 0, 0, 0, 24, 0, 0, 0, 25, 0, 0,
+            0, 26, 0, 0, 0, 27, 0, 0, 0, 28, 0, 0, 0, 29, 0, 0, 0, 30, 0, 0, 0, 31, 0, 0, 0, 32, 0,
+            0, 0,
+        ],
+        &[
+            1, 2, 3, 4, 5, 6, 7, 8, 9, 10, 11, 12, 13, 14, 15, 16, 17, 18, 19, 20, 21, 22, 23, 24,
+            25, 26, 27, 28, 29, 30, 31, 32,
+        ],
+    ),
+];
+
 #[test]
 fn calls_have_their_bytes(rt: HostRuntime) {
     for (bytes, call) in &CALLS {
         check_call(&rt, bytes, call);
     }
-    let lease = Call::CreateLease {
-        ids: named(&[2, 4, 8]),
-    };
-    let bytes = [
-        18, 0, 0, 0, 0xC6, 0, 3, 0, 0, 0, 2, 0, 0, 0, 4, 0, 0, 0, 8, 0, 0, 0,
-    ];
-    check_call(&rt, &bytes, &lease);
-    let none = Call::CreateLease { ids: named(&[]) };
-    check_call(&rt, &[6, 0, 0, 0, 0xC6, 0, 0, 0, 0, 0], &none);
-    let mut ids = [0; 32];
-    let mut bytes = [0; 138];
-    bytes[0] = 134;
-    bytes[4] = 0xC6;
-    bytes[6] = 32;
-    for number in 0..32u8 {
-        let place = usize::from(number);
-        ids[place] = u32::from(number) + 1;
-        bytes[10 + 4 * place] = number + 1;
+    for (bytes, ids) in LEASES {
+        check_call(&rt, bytes, &Call::CreateLease { ids: named(ids) });
     }
-    check_call(&rt, &bytes, &Call::CreateLease { ids: named(&ids) });
 }
 
 /// The numbers of calls that have no fields.
@@ -398,17 +415,28 @@ fn check_sizes(rt: &impl Abort, number: u16, sizes: &[usize]) {
     }
 }
 
+const TO_EIGHT: [usize; 8] = [1, 2, 3, 4, 5, 6, 7, 8];
+
 #[test]
 fn other_sizes_have_another_layout(rt: HostRuntime) {
     for number in WITHOUT_FIELDS {
-        check_sizes(&rt, number, &[1, 2, 3, 4, 5, 6, 7, 8]);
+        check_sizes(&rt, number, &TO_EIGHT);
     }
-    for (number, sizes) in OTHER_SIZES {
-        check_sizes(&rt, number, &sizes);
+    for (number, sizes) in &OTHER_SIZES {
+        check_sizes(&rt, *number, sizes);
     }
+}
+
+#[test]
+fn lists_and_kinds_have_another_layout(rt: HostRuntime) {
     for (number, bytes) in BAD_LAYOUTS {
         assert_eq!(&rt; call_in(bytes), Some(Call::BadLayout(number)));
     }
+}
+
+/// A lease of 33 ids, and a number that has no row.
+#[test]
+fn longer_lists_and_other_numbers(rt: HostRuntime) {
     let mut many = [0; 142];
     many[0] = 138;
     many[4] = 0xC6;
@@ -503,54 +531,76 @@ fn check_answer(rt: &impl Abort, bytes: &[u8], outcome: &Result<Answer, Apart>) 
     assert_eq!(rt; answer_in(bytes).as_ref(), Some(outcome));
 }
 
+/// Lists with their bytes.
+const LISTS: [(&[u8], &[u32]); 2] = [
+    (&[6, 0, 0, 0, 7, 16, 0, 0, 0, 0], &[]),
+    (
+        &[
+            14, 0, 0, 0, 7, 16, 2, 0, 0, 0, 1, 0, 0, 0, 255, 255, 255, 255,
+        ],
+        &[1, 4_294_967_295],
+    ),
+];
+
+/// Resources with their bytes.
+const RESOURCES: [(&[u8], [&[u32]; 4]); 3] = [
+    (
+        &[
+            18, 0, 0, 0, 6, 16, 0, 0, 0, 0, 0, 0, 0, 0, 0, 0, 0, 0, 0, 0, 0, 0,
+        ],
+        [&[], &[], &[], &[]],
+    ),
+    (
+        &[
+            42, 0, 0, 0, 6, 16, 2, 0, 0, 0, 1, 0, 0, 0, 2, 0, 0, 0, 2, 0, 0, 0, 7, 0, 0, 0, 8, 0,
+            0, 0, 2, 0, 0, 0, 5, 0, 0, 0, 6, 0, 0, 0, 0, 0, 0, 0,
+        ],
+        [&[1, 2], &[7, 8], &[5, 6], &[]],
+    ),
+    (
+        &[
+            30, 0, 0, 0, 6, 16, 0, 0, 0, 0, 1, 0, 0, 0, 8, 0, 0, 0, 0, 0, 0, 0, 2, 0, 0, 0, 2, 1,
+            0, 0, 255, 255, 255, 255,
+        ],
+        [&[], &[8], &[], &[258, 4_294_967_295]],
+    ),
+];
+
+/// Pages with their bytes.
+const PAGES: [(&[u8], &[AuditRow]); 2] = [
+    (&[6, 0, 0, 0, 0x0B, 0x10, 0, 0, 0, 0], &[]),
+    (
+        &[
+            38, 0, 0, 0, 0x0B, 0x10, 1, 0, 0, 0, 1, 0, 0, 0, 0, 0, 0, 0, 28, 0, 0, 0, 0, 0, 0, 0,
+            2, 1, 0, 0, 0, 0, 0, 0, 255, 255, 255, 255, 255, 255, 255, 255,
+        ],
+        &[AuditRow {
+            a: 1,
+            b: 28,
+            c: 258,
+            d: u64::MAX,
+        }],
+    ),
+];
+
 #[test]
 fn answers_have_their_bytes(rt: HostRuntime) {
     for (bytes, outcome) in &ANSWERS {
         check_answer(&rt, bytes, outcome);
     }
-    let lists: [(&[u8], &[u32]); 2] = [
-        (&[6, 0, 0, 0, 7, 16, 0, 0, 0, 0], &[]),
-        (
-            &[
-                14, 0, 0, 0, 7, 16, 2, 0, 0, 0, 1, 0, 0, 0, 255, 255, 255, 255,
-            ],
-            &[1, 4_294_967_295],
-        ),
-    ];
-    for (bytes, ids) in lists {
+}
+
+#[test]
+fn answers_with_lists_have_their_bytes(rt: HostRuntime) {
+    for (bytes, ids) in LISTS {
         check_answer(&rt, bytes, &list_of(ids));
     }
-    let resources: [(&[u8], [&[u32]; 4]); 3] = [
-        (
-            &[
-                18, 0, 0, 0, 6, 16, 0, 0, 0, 0, 0, 0, 0, 0, 0, 0, 0, 0, 0, 0, 0, 0,
-            ],
-            [&[], &[], &[], &[]],
-        ),
-        (
-            &[
-                42, 0, 0, 0, 6, 16, 2, 0, 0, 0, 1, 0, 0, 0, 2, 0, 0, 0, 2, 0, 0, 0, 7, 0, 0, 0, 8,
-                0, 0, 0, 2, 0, 0, 0, 5, 0, 0, 0, 6, 0, 0, 0, 0, 0, 0, 0,
-            ],
-            [&[1, 2], &[7, 8], &[5, 6], &[]],
-        ),
-        (
-            &[
-                30, 0, 0, 0, 6, 16, 0, 0, 0, 0, 1, 0, 0, 0, 8, 0, 0, 0, 0, 0, 0, 0, 2, 0, 0, 0, 2,
-                1, 0, 0, 255, 255, 255, 255,
-            ],
-            [&[], &[8], &[], &[258, 4_294_967_295]],
-        ),
-    ];
-    for (bytes, ids) in resources {
+    for (bytes, ids) in RESOURCES {
         check_answer(&rt, bytes, &resources_of(ids));
     }
-    check_answer(&rt, &[6, 0, 0, 0, 0x0B, 0x10, 0, 0, 0, 0], &page_of(&[]));
-    let bytes = [
-        38, 0, 0, 0, 0x0B, 0x10, 1, 0, 0, 0, 1, 0, 0, 0, 0, 0, 0, 0, 28, 0, 0, 0, 0, 0, 0, 0, 2, 1,
-        0, 0, 0, 0, 0, 0, 255, 255, 255, 255, 255, 255, 255, 255,
-    ];
-    check_answer(&rt, &bytes, &page_of(&[row(1, 28, 258, u64::MAX)]));
+    for (bytes, rows) in PAGES {
+        check_answer(&rt, bytes, &page_of(rows));
+    }
 }
 
 /// A list of 64 ids, resources of 251, and a page of 16 rows.

@@ -3,7 +3,6 @@
 use drm_files::{FileClient, FileFault, FileFlags, FileHold, Files};
 use drm_gem::ObjectKey;
 use std::process::Abort;
-use std::test::Fail;
 
 /// A call of the open clients, with the flags of an opening, a handle or an object, and a PRIME place. An object is named by the
 /// number of its key.
@@ -159,23 +158,27 @@ const GIVEN_AGAIN: [Case; 13] = [
     (1, Ask::FirstFrom(3), Told::Nothing),
 ];
 
+/// What a closing gives back: the handles of the objects 9 and 8.
+fn check_closing(rt: &impl Abort, files: &mut Files) {
+    let Some(_flags) = files.flags_of(1) else {
+        assert!(rt; false, "no client");
+        return;
+    };
+    let mut rest = files.close(1);
+    let told = [rest.take_next(), rest.take_next(), rest.take_next()];
+    let [first, second] = [9, 8].map(ObjectKey::from_number);
+    assert_eq!(rt; told, [Some((1, first)), Some((2, second)), None]);
+}
+
 #[test]
-fn handles_are_given_again(rt: HostRuntime) -> Result<(), Fail> {
+fn handles_are_given_again(rt: HostRuntime) {
     let mut files = Files::new(rt.alloc(), 1, 2);
     check(&rt, &mut files, &GIVEN_AGAIN);
     check_holds(&rt, &files, &[(1, 1, 9, None), (1, 2, 8, None)]);
     assert!(&rt; files.is_full());
-    let Some(_flags) = files.flags_of(1) else {
-        return Err("no client".into());
-    };
-    let mut rest = files.close(1);
-    let [first, second] = [9, 8].map(ObjectKey::from_number);
-    assert_eq!(&rt; rest.take_next(), Some((1, first)));
-    assert_eq!(&rt; rest.take_next(), Some((2, second)));
-    assert_eq!(&rt; rest.take_next(), None);
+    check_closing(&rt, &mut files);
     assert_eq!(&rt; files.len(), 0);
     check_holds(&rt, &files, &[]);
-    Ok(())
 }
 
 /// A render client, which is authenticated and turns universal planes off, and a root client, which is authenticated from its
@@ -208,32 +211,44 @@ const TWO_CLIENTS: [Case; 9] = [
     (2, Ask::Object(1), Told::Nothing),
 ];
 
+/// The clients with their flags.
+const FLAGS: [FileClient; 2] = [
+    FileClient {
+        client: 2,
+        flags: FileFlags {
+            render: false,
+            root: true,
+            authenticated: true,
+            universal: false,
+        },
+    },
+    FileClient {
+        client: 4,
+        flags: FileFlags {
+            render: true,
+            root: false,
+            authenticated: true,
+            universal: false,
+        },
+    },
+];
+
+fn check_flags(rt: &impl Abort, files: &Files) {
+    for (place, told) in FLAGS.iter().enumerate() {
+        assert_eq!(rt; files.nth_client(place), Some(*told));
+        assert_eq!(rt; files.flags_of(told.client), Some(told.flags));
+    }
+    assert_eq!(rt; files.nth_client(2), None);
+    assert_eq!(rt; files.flags_of(3), None);
+}
+
 #[test]
 fn clients_have_their_flags(rt: HostRuntime) {
     let mut files = Files::new(rt.alloc(), 3, 3);
     check(&rt, &mut files, &TWO_CLIENTS);
     check_holds(&rt, &files, &[(4, 1, 5, Some(6))]);
-    let root = FileFlags {
-        render: false,
-        root: true,
-        authenticated: true,
-        universal: false,
-    };
-    let render = FileFlags {
-        render: true,
-        root: false,
-        authenticated: true,
-        universal: false,
-    };
-    assert_eq!(&rt; files.len(), 2);
-    assert!(&rt; !files.is_full());
-    for (place, client, flags) in [(0, 2, root), (1, 4, render)] {
-        let told = FileClient { client, flags };
-        assert_eq!(&rt; files.nth_client(place), Some(told));
-        assert_eq!(&rt; files.flags_of(client), Some(flags));
-    }
-    assert_eq!(&rt; files.nth_client(2), None);
-    assert_eq!(&rt; files.flags_of(3), None);
+    assert!(&rt; files.len() == 2 && !files.is_full());
+    check_flags(&rt, &files);
 }
 
 /// The handle of an object with the least place, and at a tie the least handle. Handles of other objects and of other clients

@@ -1,5 +1,7 @@
 //! Leases and their tokens, call by call.
 
+mod endings;
+
 ghost use Rattle.std.specs.Prelude.{ℕ, ◌+◌, IfOk};
 ghost use Rattle.drm_leases.specs.Leases.{LeaseSet};
 ghost use Rattle.drm_leases.specs.Calls.{IsNewLessee};
@@ -98,23 +100,79 @@ fn revoke(leases: &mut Leases, masters: &mut Masters, master: u32, birth: u32)
     leases.revoke(masters, master);
 }
 
-fn denied(rule: Rule) -> Option<Result<Leased, LeaseFault>> {
-    Some(Err(LeaseFault::Denied(rule)))
+/// Who leases what, with universal planes on or off.
+#[derive(Clone, Copy)]
+struct Asked {
+    client: u32,
+    universal: bool,
+    ids: &'static [u32],
 }
 
-/// The lessee of the step of this number was made.
-fn leased(
-    masters: &Masters,
+/// Client 1 leases these with universal planes on.
+fn of(ids: &'static [u32]) -> Asked {
+    Asked {
+        client: 1,
+        universal: true,
+        ids,
+    }
+}
+
+/// Client 1 leases these with universal planes off.
+fn unseen(ids: &'static [u32]) -> Asked {
+    Asked {
+        client: 1,
+        universal: false,
+        ids,
+    }
+}
+
+/// What came of a lease. `Another` is a lessee that isn't the one that the step made.
+#[derive(Clone, Copy, PartialEq, Eq, Debug)]
+enum Told {
+    Unasked,
+    Lessee(u32, u32),
+    Another,
+    Denied(Rule),
+    NoMemory,
+}
+
+fn told_of(masters: &Masters, birth: u32, made: Option<Result<Leased, LeaseFault>>) -> Told {
+    match made {
+        Some(Ok(made)) => match masters.master(birth) {
+            Some(row) if row.key == made.master => Told::Lessee(made.id, made.token),
+            _ => Told::Another,
+        },
+        Some(Err(LeaseFault::Denied(rule))) => Told::Denied(rule),
+        Some(Err(LeaseFault::NoMemory)) => Told::NoMemory,
+        None => Told::Unasked,
+    }
+}
+
+/// Leases by the step of this number, and compares what came of it.
+fn check_lease(
+    rt: &impl Abort,
+    leases: &mut Leases,
+    masters: &mut Masters,
+    modes: &Modes,
+    asked: Asked,
     birth: u32,
-    id: u32,
-    token: u32,
-) -> Option<Result<Leased, LeaseFault>> {
-    let lessee = masters.master(birth)?;
-    Some(Ok(Leased {
-        master: lessee.key,
-        id,
-        token,
-    }))
+    told: Told,
+)
+    requires before { IsBefore masters.old birth }
+    requires lessees { IsNewLessee leases.old birth }
+    requires agreed { AreAgreed leases.old masters.old }
+    ensures before { IsBefore masters.new (birth + 1) }
+    ensures lessees { IsNewLessee leases.new (birth + 1) }
+    ensures agreed { AreAgreed leases.new masters.new }
+    ensures room { (n : ℕ) → HasRoom masters.old n → HasRoom masters.new n }
+{
+    let Asked {
+        client,
+        universal,
+        ids,
+    } = asked;
+    let made = lease(leases, masters, modes, client, universal, ids, birth);
+    assert_eq!(rt; told_of(masters, birth, made), told);
 }
 
 /// Which of the mode objects 1 to 8 the lease of a lessee has, and which those of the direct lessees of a master have.
@@ -130,12 +188,51 @@ fn check_objects(
 {
     assert_eq!(rt; leases.objects_of(master).ids(), held);
     for object in 0..10 {
-        assert_eq!(rt; leases.holds(master, object), held.contains(&object));
+        let is_held = leases.holds(master, object);
+        let is_leased_out = leases.leased_out(masters, master, object);
         assert_eq!(rt;
-            leases.leased_out(masters, master, object),
-            leased_out.contains(&object)
+            [is_held, is_leased_out],
+            [held.contains(&object), leased_out.contains(&object)]
         );
     }
+}
+
+/// What is told of the leases of a device.
+fn check_told(
+    rt: &impl Abort,
+    leases: &Leases,
+    last_given: Option<u32>,
+    of_token: [Option<u32>; 2],
+    of_master: [Option<u32>; 2],
+) {
+    assert_eq!(rt; leases.last_given(), last_given);
+    assert_eq!(rt; [1, 2].map(|token| leases.token_master(token)), of_token);
+    assert_eq!(rt; [1, 2].map(|master| leases.token_of(master)), of_master);
+}
+
+fn check_grants(rt: &impl Abort, leases: &Leases, grants: &[(u32, u32)]) {
+    for (place, grant) in grants.iter().enumerate() {
+        let found = leases.nth_grant(place);
+        let told = found.map(|found| (found.master, found.mode_object));
+        assert_eq!(rt; told, Some(*grant));
+    }
+    assert!(rt; leases.nth_grant(grants.len()).is_none());
+}
+
+/// A lease is told.
+fn check_one(rt: &impl Abort, leases: &mut Leases, masters: &mut Masters, modes: &Modes)
+    requires before { IsBefore masters.old 2 }
+    requires lessees { IsNewLessee leases.old 2 }
+    requires agreed { AreAgreed leases.old masters.old }
+{
+    check_told(rt, leases, None, [None; 2], [None; 2]);
+    let lessee = Told::Lessee(1, 1);
+    check_lease(rt, leases, masters, modes, of(&[8, 2, 4]), 2, lessee);
+    check_told(rt, leases, Some(1), [Some(2), None], [None, Some(1)]);
+    assert_eq!(rt; leases.list(masters, 1).ids(), [1].as_slice());
+    check_objects(rt, leases, masters, 2, &[2, 4, 8], &[]);
+    check_objects(rt, leases, masters, 1, &[], &[2, 4, 8]);
+    check_grants(rt, leases, &[(2, 2), (2, 4), (2, 8)]);
 }
 
 #[test]
@@ -144,20 +241,7 @@ fn a_lease_is_told(rt: HostRuntime) -> Result<(), Fail> {
     let mut masters = test_masters(&rt)?;
     let mut leases = Leases::new(rt.alloc(), 4);
     leases.laws();
-    assert_eq!(&rt; leases.last_given(), None);
-    let made = lease(&mut leases, &mut masters, &modes, 1, true, &[8, 2, 4], 2);
-    assert_eq!(&rt; made, leased(&masters, 2, 1, 1));
-    assert_eq!(&rt; leases.last_given(), Some(1));
-    assert_eq!(&rt; leases.token_master(1), Some(2));
-    assert_eq!(&rt; leases.token_master(2), None);
-    assert_eq!(&rt; leases.token_of(2), Some(1));
-    assert_eq!(&rt; leases.token_of(1), None);
-    assert_eq!(&rt; leases.list(&masters, 1).ids(), [1].as_slice());
-    check_objects(&rt, &leases, &masters, 2, &[2, 4, 8], &[]);
-    check_objects(&rt, &leases, &masters, 1, &[], &[2, 4, 8]);
-    let grants = [0, 1, 2, 3].map(|place| leases.nth_grant(place));
-    let told = grants.map(|grant| grant.map(|grant| (grant.master, grant.mode_object)));
-    assert_eq!(&rt; told, [Some((2, 2)), Some((2, 4)), Some((2, 8)), None]);
+    check_one(&rt, &mut leases, &mut masters, &modes);
     Ok(())
 }
 
@@ -166,19 +250,75 @@ fn a_lessee_stays_past_its_lease(rt: HostRuntime) -> Result<(), Fail> {
     let modes = test_modes(&rt)?;
     let mut masters = test_masters(&rt)?;
     let mut leases = Leases::new(rt.alloc(), 4);
-    let made = lease(&mut leases, &mut masters, &modes, 1, true, &[2, 4, 8], 2);
-    assert_eq!(rt; made, leased(&masters, 2, 1, 1));
+    check_lease(
+        &rt,
+        &mut leases,
+        &mut masters,
+        &modes,
+        of(&[2, 4, 8]),
+        2,
+        Told::Lessee(1, 1),
+    );
     assert_eq!(rt; redeem(&mut leases, 1, 3), Some(2));
     assert_eq!(rt; redeem(&mut leases, 1, 3), None);
     assert!(rt; enter(&mut masters, 2, 3));
-    let below = lease(&mut leases, &mut masters, &modes, 3, true, &[2, 4, 8], 4);
-    assert_eq!(rt; below, leased(&masters, 4, 2, 2));
+    let below = Asked {
+        client: 3,
+        ..of(&[2, 4, 8])
+    };
+    check_lease(
+        &rt,
+        &mut leases,
+        &mut masters,
+        &modes,
+        below,
+        4,
+        Told::Lessee(2, 2),
+    );
     revoke(&mut leases, &mut masters, 2, 5);
     assert_eq!(rt; leases.list(&masters, 1).ids(), [].as_slice());
     assert_eq!(rt; leases.objects_of(2).ids(), [].as_slice());
-    let next = lease(&mut leases, &mut masters, &modes, 1, true, &[2, 4, 8], 5);
-    assert_eq!(rt; next, leased(&masters, 5, 2, 3));
+    check_lease(
+        &rt,
+        &mut leases,
+        &mut masters,
+        &modes,
+        of(&[2, 4, 8]),
+        5,
+        Told::Lessee(2, 3),
+    );
     Ok(())
+}
+
+/// The rules of leases, of which one may be there.
+fn check_rules(rt: &impl Abort, leases: &mut Leases, masters: &mut Masters, modes: &Modes)
+    requires before { IsBefore masters.old 2 }
+    requires lessees { IsNewLessee leases.old 2 }
+    requires agreed { AreAgreed leases.old masters.old }
+{
+    let shape = Told::Denied(Rule::LeaseShape);
+    let repeated = Told::Denied(Rule::Repeated);
+    let not_leasable = Told::Denied(Rule::NotLeasable);
+    let no_object = Told::Denied(Rule::NoModeObject);
+    let leased_out = Told::Denied(Rule::LeasedOut);
+    let full = Told::Denied(Rule::Full);
+    check_lease(rt, leases, masters, modes, of(&[]), 2, shape);
+    check_lease(rt, leases, masters, modes, of(&[2, 2, 4, 8]), 3, repeated);
+    check_lease(rt, leases, masters, modes, of(&[2, 8]), 4, shape);
+    check_lease(rt, leases, masters, modes, of(&[5, 5]), 5, not_leasable);
+    check_lease(rt, leases, masters, modes, of(&[5, 99]), 6, no_object);
+    check_lease(
+        rt,
+        leases,
+        masters,
+        modes,
+        of(&[2, 4, 8]),
+        7,
+        Told::Lessee(1, 1),
+    );
+    check_lease(rt, leases, masters, modes, of(&[2, 4, 8]), 8, leased_out);
+    check_lease(rt, leases, masters, modes, of(&[1, 3, 8]), 9, leased_out);
+    check_lease(rt, leases, masters, modes, of(&[1, 3, 7]), 10, full);
 }
 
 #[test]
@@ -186,25 +326,75 @@ fn rules_in_their_order(rt: HostRuntime) -> Result<(), Fail> {
     let modes = test_modes(&rt)?;
     let mut masters = test_masters(&rt)?;
     let mut leases = Leases::new(rt.alloc(), 1);
-    let empty = lease(&mut leases, &mut masters, &modes, 1, true, &[], 2);
-    assert_eq!(rt; empty, denied(Rule::LeaseShape));
-    let twice = lease(&mut leases, &mut masters, &modes, 1, true, &[2, 2, 4, 8], 3);
-    assert_eq!(rt; twice, denied(Rule::Repeated));
-    let no_plane = lease(&mut leases, &mut masters, &modes, 1, true, &[2, 8], 4);
-    assert_eq!(rt; no_plane, denied(Rule::LeaseShape));
-    let encoder = lease(&mut leases, &mut masters, &modes, 1, true, &[5, 5], 5);
-    assert_eq!(rt; encoder, denied(Rule::NotLeasable));
-    let nothing = lease(&mut leases, &mut masters, &modes, 1, true, &[5, 99], 6);
-    assert_eq!(rt; nothing, denied(Rule::NoModeObject));
-    let first = lease(&mut leases, &mut masters, &modes, 1, true, &[2, 4, 8], 7);
-    assert_eq!(rt; first, leased(&masters, 7, 1, 1));
-    let again = lease(&mut leases, &mut masters, &modes, 1, true, &[2, 4, 8], 8);
-    assert_eq!(rt; again, denied(Rule::LeasedOut));
-    let connector = lease(&mut leases, &mut masters, &modes, 1, true, &[1, 3, 8], 9);
-    assert_eq!(rt; connector, denied(Rule::LeasedOut));
-    let full = lease(&mut leases, &mut masters, &modes, 1, true, &[1, 3, 7], 10);
-    assert_eq!(rt; full, denied(Rule::Full));
+    check_rules(&rt, &mut leases, &mut masters, &modes);
     Ok(())
+}
+
+/// Two leases, of which one goes, and its token and its id are given again.
+fn check_tokens(rt: &impl Abort, leases: &mut Leases, masters: &mut Masters, modes: &Modes)
+    requires before { IsBefore masters.old 2 }
+    requires lessees { IsNewLessee leases.old 2 }
+    requires agreed { AreAgreed leases.old masters.old }
+{
+    check_lease(
+        rt,
+        leases,
+        masters,
+        modes,
+        of(&[1, 3, 7]),
+        2,
+        Told::Lessee(1, 1),
+    );
+    check_lease(
+        rt,
+        leases,
+        masters,
+        modes,
+        of(&[2, 4, 8]),
+        3,
+        Told::Lessee(2, 2),
+    );
+    revoke(leases, masters, 2, 4);
+    check_lease(
+        rt,
+        leases,
+        masters,
+        modes,
+        of(&[7, 3, 1]),
+        4,
+        Told::Lessee(1, 1),
+    );
+    assert_eq!(rt; leases.objects_of(4).ids(), [1, 3, 7].as_slice());
+}
+
+/// With universal planes off a primary plane is not seen, and comes along with its CRTC.
+fn check_planes(rt: &impl Abort, leases: &mut Leases, masters: &mut Masters, modes: &Modes)
+    requires before { IsBefore masters.old 2 }
+    requires lessees { IsNewLessee leases.old 2 }
+    requires agreed { AreAgreed leases.old masters.old }
+{
+    let no_object = Told::Denied(Rule::NoModeObject);
+    check_lease(rt, leases, masters, modes, unseen(&[1, 3, 7]), 2, no_object);
+    check_lease(
+        rt,
+        leases,
+        masters,
+        modes,
+        unseen(&[1, 7]),
+        3,
+        Told::Lessee(1, 1),
+    );
+    assert_eq!(rt; leases.objects_of(3).ids(), [1, 3, 7].as_slice());
+    check_lease(
+        rt,
+        leases,
+        masters,
+        modes,
+        unseen(&[2, 8]),
+        4,
+        Told::Lessee(2, 2),
+    );
+    assert_eq!(rt; leases.objects_of(4).ids(), [2, 8].as_slice());
 }
 
 #[test]
@@ -212,14 +402,7 @@ fn tokens_in_turn(rt: HostRuntime) -> Result<(), Fail> {
     let modes = test_modes(&rt)?;
     let mut masters = test_masters(&rt)?;
     let mut leases = Leases::new(rt.alloc(), 2);
-    let first = lease(&mut leases, &mut masters, &modes, 1, true, &[1, 3, 7], 2);
-    assert_eq!(rt; first, leased(&masters, 2, 1, 1));
-    let second = lease(&mut leases, &mut masters, &modes, 1, true, &[2, 4, 8], 3);
-    assert_eq!(rt; second, leased(&masters, 3, 2, 2));
-    revoke(&mut leases, &mut masters, 2, 4);
-    let third = lease(&mut leases, &mut masters, &modes, 1, true, &[7, 3, 1], 4);
-    assert_eq!(rt; third, leased(&masters, 4, 1, 1));
-    assert_eq!(rt; leases.objects_of(4).ids(), [1, 3, 7].as_slice());
+    check_tokens(&rt, &mut leases, &mut masters, &modes);
     Ok(())
 }
 
@@ -228,13 +411,6 @@ fn a_primary_plane_comes_along(rt: HostRuntime) -> Result<(), Fail> {
     let modes = test_modes(&rt)?;
     let mut masters = test_masters(&rt)?;
     let mut leases = Leases::new(rt.alloc(), 2);
-    let unseen = lease(&mut leases, &mut masters, &modes, 1, false, &[1, 3, 7], 2);
-    assert_eq!(rt; unseen, denied(Rule::NoModeObject));
-    let first = lease(&mut leases, &mut masters, &modes, 1, false, &[1, 7], 3);
-    assert_eq!(rt; first, leased(&masters, 3, 1, 1));
-    assert_eq!(rt; leases.objects_of(3).ids(), [1, 3, 7].as_slice());
-    let second = lease(&mut leases, &mut masters, &modes, 1, false, &[2, 8], 4);
-    assert_eq!(rt; second, leased(&masters, 4, 2, 2));
-    assert_eq!(rt; leases.objects_of(4).ids(), [2, 8].as_slice());
+    check_planes(&rt, &mut leases, &mut masters, &modes);
     Ok(())
 }

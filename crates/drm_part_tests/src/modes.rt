@@ -59,28 +59,39 @@ const NO_KINDS: [&[PlaneKind]; 6] = [
     &[PlaneKind::Cursor(2), PlaneKind::Cursor(2)],
 ];
 
+fn check_no_topology(
+    rt: &impl Abort,
+    crtcs: u32,
+    planes: &[u32],
+    encoders: &[u32],
+    connectors: &[u32],
+) {
+    let is_none = Topology::new(crtcs, planes, encoders, connectors).is_none();
+    assert!(rt; is_none, "{crtcs} {planes:?} {encoders:?} {connectors:?}");
+}
+
 #[test]
-fn topologies(rt: HostRuntime) -> Result<(), Fail> {
-    for (crtcs, planes, encoders, connectors) in NO_TOPOLOGIES {
-        let made = Topology::new(crtcs, planes, encoders, connectors);
-        assert!(&rt;
-            made.is_none(),
-            "{crtcs} {planes:?} {encoders:?} {connectors:?}"
-        );
+fn topologies(rt: HostRuntime) {
+    for (crtcs, planes, encoders, connectors) in &NO_TOPOLOGIES {
+        check_no_topology(&rt, *crtcs, planes, encoders, connectors);
     }
     assert!(&rt; Topology::new(8, &[0; 56], &[], &[]).is_some());
+}
+
+/// The test topology's mode objects, and its CRTCs and planes.
+#[test]
+fn counts_of_a_topology(rt: HostRuntime) -> Result<(), Fail> {
     let topology = test_topology().ok_or("no topology")?;
     topology.laws();
-    assert_eq!(&rt; topology.object_count(), 8);
-    assert_eq!(&rt; topology.screen_count(), 4);
+    assert_eq!(&rt; (topology.object_count(), topology.screen_count()), (8, 4));
     Ok(())
 }
 
 #[test]
 fn topologies_with_kinds(rt: HostRuntime) {
-    for kinds in NO_KINDS {
-        let made = Topology::with_kinds(2, &[3, 3], kinds, &[], &[]);
-        assert!(&rt; made.is_none(), "{kinds:?}");
+    for kinds in &NO_KINDS {
+        let is_none = Topology::with_kinds(2, &[3, 3], kinds, &[], &[]).is_none();
+        assert!(&rt; is_none, "{kinds:?}");
     }
 }
 
@@ -118,16 +129,17 @@ const PLANES: [Plane; 4] = [
     (5, None, None),
 ];
 
-#[test]
-fn planes_and_what_they_are_for(rt: HostRuntime) -> Result<(), Fail> {
-    let modes = test_modes(&rt, 4)?;
-    for (id, kind, crtc) in PLANES {
-        assert_eq!(&rt; modes.plane_kind(id), kind, "{id}");
-        assert_eq!(&rt; modes.crtc_of_plane(id), crtc, "{id}");
+fn check_planes(rt: &impl Abort, modes: &Modes) {
+    for (id, kind, crtc) in &PLANES {
+        assert_eq!(rt; modes.plane_kind(*id), *kind, "{id}");
+        assert_eq!(rt; modes.crtc_of_plane(*id), *crtc, "{id}");
     }
-    assert_eq!(&rt; modes.planes_of(&[2, 1]).ids(), [3].as_slice());
-    assert_eq!(&rt; modes.planes_of(&[2]).ids(), [].as_slice());
-    Ok(())
+}
+
+/// The primary planes of CRTCs.
+fn check_planes_of(rt: &impl Abort, modes: &Modes) {
+    assert_eq!(rt; modes.planes_of(&[2, 1]).ids(), [3].as_slice());
+    assert_eq!(rt; modes.planes_of(&[2]).ids(), [].as_slice());
 }
 
 /// A mode object: its kind, its encoder where it is a connector, and its possible CRTCs.
@@ -166,58 +178,63 @@ const WAYS: [(u32, u32, bool, bool); 8] = [
     (7, 3, false, false),
 ];
 
-#[test]
-fn mode_objects(rt: HostRuntime) -> Result<(), Fail> {
-    let modes = test_modes(&rt, 4)?;
-    modes.laws();
-    assert_eq!(&rt; modes.object_count(), 8);
-    for (id, kind, encoder, possible) in MODE_OBJECTS {
-        assert_eq!(&rt; modes.kind(id), kind, "{id}");
-        assert_eq!(&rt; modes.encoder_of(id), encoder, "{id}");
-        assert_eq!(&rt; modes.possible_crtcs(id), possible, "{id}");
+fn check_objects(rt: &impl Abort, modes: &Modes) {
+    for (id, kind, encoder, possible) in &MODE_OBJECTS {
+        assert_eq!(rt; modes.kind(*id), *kind, "{id}");
+        assert_eq!(rt; modes.encoder_of(*id), *encoder, "{id}");
+        assert_eq!(rt; modes.possible_crtcs(*id), *possible, "{id}");
     }
-    Ok(())
 }
 
-#[test]
-fn ids_of_each_kind(rt: HostRuntime) -> Result<(), Fail> {
-    let modes = test_modes(&rt, 4)?;
-    for (kind, ids) in IDS {
-        assert_eq!(&rt; modes.ids(kind).ids(), ids.as_slice());
-        assert!(&rt; modes.is_of_kind(kind, ids[0]));
-        assert!(&rt; !modes.is_of_kind(kind, ids[1].wrapping_add(1)));
-    }
-    Ok(())
+fn check_kind(rt: &impl Abort, modes: &Modes, kind: Kind, ids: [u32; 2]) {
+    assert_eq!(rt; modes.ids(kind).ids(), ids.as_slice());
+    assert!(rt; modes.is_of_kind(kind, ids[0]));
+    assert!(rt; !modes.is_of_kind(kind, ids[1].wrapping_add(1)));
 }
 
-#[test]
-fn ways_to_crtcs(rt: HostRuntime) -> Result<(), Fail> {
-    let modes = test_modes(&rt, 4)?;
-    for (id, crtc, drives, reaches) in WAYS {
-        assert_eq!(&rt; modes.drives(id, crtc), drives, "{id} {crtc}");
-        assert_eq!(&rt; modes.reaches(id, crtc), reaches, "{id} {crtc}");
+fn check_ways(rt: &impl Abort, modes: &Modes) {
+    for (id, crtc, drives, reaches) in &WAYS {
+        let ways = (modes.drives(*id, *crtc), modes.reaches(*id, *crtc));
+        assert_eq!(rt; ways, (*drives, *reaches), "{id} {crtc}");
     }
-    Ok(())
 }
 
 /// The CRTCs that are possible of those that are seen.
-#[test]
 #[tactic(auto, unfolding(drm_modes::specs::Numbers::numbers_from))]
-fn masks_over_what_is_seen(rt: HostRuntime) -> Result<(), Fail> {
-    let modes = test_modes(&rt, 4)?;
+fn check_masks(rt: &impl Abort, modes: &Modes)
+    requires { modes.now.topology.crtcs ≡ 2 }
+{
     let none = ShownList::new();
     let mut second = ShownList::new();
     second.push(2);
     let mut both = ShownList::new();
     both.push(1);
     both.push(2);
-    assert_eq!(rt; modes.mask(5, &second), 1);
-    assert_eq!(rt; modes.mask(5, &both), 3);
-    assert_eq!(rt; modes.mask(4, &second), 1);
-    assert_eq!(rt; modes.mask(4, &both), 2);
-    assert_eq!(rt; modes.mask(3, &second), 0);
-    assert_eq!(rt; modes.mask(5, &none), 0);
-    assert_eq!(rt; modes.mask(7, &both), 0);
+    let masks = [
+        modes.mask(5, &second),
+        modes.mask(5, &both),
+        modes.mask(4, &second),
+        modes.mask(4, &both),
+        modes.mask(3, &second),
+        modes.mask(5, &none),
+        modes.mask(7, &both),
+    ];
+    assert_eq!(rt; masks, [1, 3, 1, 2, 0, 0, 0]);
+}
+
+#[test]
+fn mode_objects(rt: HostRuntime) -> Result<(), Fail> {
+    let modes = test_modes(&rt, 4)?;
+    modes.laws();
+    assert_eq!(&rt; modes.object_count(), 8);
+    check_planes(&rt, &modes);
+    check_planes_of(&rt, &modes);
+    check_objects(&rt, &modes);
+    for (kind, ids) in IDS {
+        check_kind(&rt, &modes, kind, ids);
+    }
+    check_ways(&rt, &modes);
+    check_masks(&rt, &modes);
     Ok(())
 }
 

@@ -147,13 +147,22 @@ fn edit(
 /// Compares what both tell.
 fn compare(rt: &impl Abort, table: &IdTable<u32>, plain: &Plain, numbers: &mut Numbers) {
     let id = plain.any_id(numbers);
-    assert_eq!(rt; table.get(id).copied(), plain.get(id));
-    assert_eq!(rt; table.next(id), plain.next(id));
     let place = numbers.below(SIZE);
-    assert_eq!(rt; table.nth(place), plain.nth(place));
-    assert_eq!(rt; table.len(), plain.len());
-    assert_eq!(rt; table.is_full(), plain.least_free().is_none());
-    assert_eq!(rt; table.last_given(), plain.last_given);
+    let told = [
+        table.get(id).copied(),
+        table.next(id),
+        table.nth(place),
+        table.last_given(),
+    ];
+    let plain_told = [
+        plain.get(id),
+        plain.next(id),
+        plain.nth(place),
+        plain.last_given,
+    ];
+    assert_eq!(rt; told, plain_told);
+    let is_full = plain.least_free().is_none();
+    assert_eq!(rt; (table.len(), table.is_full()), (plain.len(), is_full));
 }
 
 fn compare_random_calls(alloc: Global, rt: &impl Abort, first: u32)

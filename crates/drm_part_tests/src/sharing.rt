@@ -199,36 +199,45 @@ fn tokens_of_objects(rt: HostRuntime) {
     check_tokens(&rt, &mut Tokens::new(rt.alloc(), 1), &ONE_TOKEN);
 }
 
+const REFUSED: Told = Told::Fault(ShareFault::NoMemory);
+
+/// Where a name is refused for want of memory, nothing has changed, and the same call is carried out.
+fn give_again(rt: &impl Abort, names: &mut Names, object: u32, number: u32) {
+    let mut given = named(names, Naming::Give(object));
+    if given == REFUSED {
+        assert_eq!(rt; named(names, Naming::NameOf(object)), Told::Nothing);
+        assert_eq!(rt; named(names, Naming::Lookup(number)), Told::Nothing);
+        given = named(names, Naming::Give(object));
+    }
+    assert_eq!(rt; given, Told::Number(number));
+}
+
+/// The same of a token.
+fn export_again(rt: &impl Abort, tokens: &mut Tokens, object: u32, number: u32) {
+    let export = Tokening::Export(object, object);
+    let mut given = tokened(tokens, export);
+    if given == REFUSED {
+        assert_eq!(rt; tokened(tokens, Tokening::Lookup(number)), Told::Nothing);
+        given = tokened(tokens, export);
+    }
+    assert_eq!(rt; given, Told::Number(number));
+}
+
+const KEPT: [(Naming, Told); 3] = [
+    (Naming::Lookup(1), Told::Number(7)),
+    (Naming::Lookup(2), Told::Number(4000)),
+    (Naming::Nth(2), Told::Nothing),
+];
+
 /// With ample memory nothing is refused. Where it is, as under `rt try --test --fail-alloc N`, nothing has changed, and the same
 /// call is carried out once there is memory.
 #[test]
 fn a_refusal_changes_nothing(rt: HostRuntime) {
-    let refused = Told::Fault(ShareFault::NoMemory);
     let mut names = Names::new(rt.alloc(), 8);
     let mut tokens = Tokens::new(rt.alloc(), 8);
     for (object, number) in [(7, 1), (4000, 2)] {
-        let mut given = named(&mut names, Naming::Give(object));
-        if given == refused {
-            assert_eq!(rt; named(&mut names, Naming::NameOf(object)), Told::Nothing);
-            assert_eq!(rt; named(&mut names, Naming::Lookup(number)), Told::Nothing);
-            given = named(&mut names, Naming::Give(object));
-        }
-        assert_eq!(rt; given, Told::Number(number));
-        let export = Tokening::Export(object, object);
-        let mut given = tokened(&mut tokens, export);
-        if given == refused {
-            assert_eq!(rt;
-                tokened(&mut tokens, Tokening::Lookup(number)),
-                Told::Nothing
-            );
-            given = tokened(&mut tokens, export);
-        }
-        assert_eq!(rt; given, Told::Number(number));
+        give_again(&rt, &mut names, object, number);
+        export_again(&rt, &mut tokens, object, number);
     }
-    let kept = [
-        (Naming::Lookup(1), Told::Number(7)),
-        (Naming::Lookup(2), Told::Number(4000)),
-        (Naming::Nth(2), Told::Nothing),
-    ];
-    check_names(&rt, &mut names, &kept);
+    check_names(&rt, &mut names, &KEPT);
 }

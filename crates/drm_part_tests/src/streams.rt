@@ -3,27 +3,43 @@
 use drm_streams::{
     FromRead, Put, Refill, Sink, Source, Taken, ToWrite, Written, put_all, take_some,
 };
+use std::alloc::Global;
 use std::io::{self, ErrorKind, Read, Write};
 use std::process::Abort;
 
-#[test]
-fn source_reads_to_the_end(rt: HostRuntime) {
-    let mut source = FromRead::new(b"frame".as_slice());
+/// A text, what three takes of three bytes at most come to, and what is in the buffer then.
+const READINGS: [(&[u8], [Taken; 3], [u8; 3]); 2] = [
+    (
+        b"frame",
+        [Taken::Got(3), Taken::Got(2), Taken::End],
+        [b'm', b'e', b'a'],
+    ),
+    // it stays at its end
+    (
+        b"fr",
+        [Taken::Got(2), Taken::End, Taken::End],
+        [b'f', b'r', 0],
+    ),
+];
+
+fn check_reading(rt: &impl Abort, text: &[u8], takes: [Taken; 3], left: [u8; 3]) {
+    let mut source = FromRead::new(text);
     let mut buffer = [0; 3];
-    assert_eq!(rt; source.take(&mut buffer), Taken::Got(3));
-    assert_eq!(rt; buffer.as_slice(), b"fra".as_slice());
-    assert_eq!(rt; source.take(&mut buffer), Taken::Got(2));
-    assert_eq!(rt; buffer.as_slice(), b"mea".as_slice());
+    let came = [
+        source.take(&mut buffer),
+        source.take(&mut buffer),
+        source.take(&mut buffer),
+    ];
+    assert_eq!(rt; came, takes);
+    assert_eq!(rt; buffer, left);
+    assert_eq!(rt; source.calls(), 3);
 }
 
 #[test]
-fn source_stays_at_its_end(rt: HostRuntime) {
-    let mut source = FromRead::new(b"fr".as_slice());
-    let mut buffer = [0; 3];
-    assert_eq!(rt; source.take(&mut buffer), Taken::Got(2));
-    assert_eq!(rt; source.take(&mut buffer), Taken::End);
-    assert_eq!(rt; source.take(&mut buffer), Taken::End);
-    assert_eq!(rt; source.calls(), 3);
+fn sources_read_to_the_end(rt: HostRuntime) {
+    for (text, takes, left) in READINGS {
+        check_reading(&rt, text, takes, left);
+    }
 }
 
 #[test]
@@ -31,6 +47,7 @@ fn source_hands_its_reader_back(rt: HostRuntime) {
     let mut source = FromRead::new(b"frame".as_slice());
     let mut buffer = [0; 3];
     assert_eq!(rt; source.take(&mut buffer), Taken::Got(3));
+    assert_eq!(rt; buffer.as_slice(), b"fra".as_slice());
     let rest = source.into_inner();
     assert_eq!(rt; rest, b"me".as_slice());
 }
@@ -38,62 +55,83 @@ fn source_hands_its_reader_back(rt: HostRuntime) {
 #[test]
 fn sink_writes_behind_what_is_there(rt: HostRuntime) {
     let mut sink = ToWrite::new(Vec::new(rt.alloc()));
-    assert_eq!(rt; sink.put(b"fra"), Put::Took(3));
-    assert_eq!(rt; sink.put(b"me"), Put::Took(2));
+    let came = [sink.put(b"fra"), sink.put(b""), sink.put(b"me")];
+    assert_eq!(rt; came, [Put::Took(3), Put::Took(0), Put::Took(2)]);
+    assert_eq!(rt; sink.calls(), 3);
     let written = sink.into_inner();
     assert_eq!(rt; written.as_slice(), b"frame".as_slice());
 }
 
-#[test]
-fn sink_takes_an_empty_text(rt: HostRuntime) {
-    let mut sink = ToWrite::new(Vec::new(rt.alloc()));
-    assert_eq!(rt; sink.put(b"fra"), Put::Took(3));
-    assert_eq!(rt; sink.put(b""), Put::Took(0));
-    assert_eq!(rt; sink.calls(), 2);
+/// A text that is read by four bytes at most, so many turns, and what each take comes to, with the turns that are left.
+type Refills = (&'static [u8], u64, &'static [(Refill, u64)]);
+
+const REFILLS: [Refills; 2] = [
+    (
+        b"frame",
+        2,
+        &[
+            (Refill::Got(4), 1),
+            (Refill::Got(1), 0),
+            (Refill::TurnsUsed, 0),
+        ],
+    ),
+    // an end costs a turn
+    (b"", 3, &[(Refill::End, 2)]),
+];
+
+fn check_refills(rt: &impl Abort, refills: &Refills) {
+    let (text, turns, takes) = refills;
+    let mut turns = (*turns).min(1_000);
+    let mut source = FromRead::new(*text);
+    let mut buffer = [0; 4];
+    for take in *takes {
+        let filled = take_some(&mut source, &mut buffer, &mut turns);
+        assert_eq!(rt; (filled, turns), *take);
+    }
 }
 
 #[test]
 fn refills_cost_their_turns(rt: HostRuntime) {
-    let mut source = FromRead::new(b"frame".as_slice());
-    let mut buffer = [0; 4];
-    let mut turns = 2;
-    let filled = take_some(&mut source, &mut buffer, &mut turns);
-    assert_eq!(rt; (filled, turns), (Refill::Got(4), 1));
-    let filled = take_some(&mut source, &mut buffer, &mut turns);
-    assert_eq!(rt; (filled, turns), (Refill::Got(1), 0));
-    assert_eq!(rt; buffer.as_slice(), b"eram".as_slice());
-    let filled = take_some(&mut source, &mut buffer, &mut turns);
-    assert_eq!(rt; filled, Refill::TurnsUsed);
+    for refills in &REFILLS {
+        check_refills(&rt, refills);
+    }
 }
 
-#[test]
-fn an_end_costs_a_turn(rt: HostRuntime) {
-    let mut source = FromRead::new(b"".as_slice());
-    let mut turns = 3;
-    let filled = take_some(&mut source, &mut [0; 4], &mut turns);
-    assert_eq!(rt; (filled, turns), (Refill::End, 2));
+/// Texts that are put with so many turns, and what each comes to, with the turns that are left; and what is written then.
+type Puts = (u64, &'static [(&'static [u8], Written, u64)], &'static [u8]);
+
+const PUTS: [Puts; 3] = [
+    (
+        1,
+        &[(b"fram", Written::Whole, 0), (b"?", Written::TurnsUsed, 0)],
+        b"fram",
+    ),
+    // an empty text costs no turn
+    (
+        1,
+        &[(b"", Written::Whole, 1), (b"!", Written::Whole, 0)],
+        b"!",
+    ),
+    // a long text is put at once
+    (1, &[(&[7; 1028], Written::Whole, 0)], &[7; 1028]),
+];
+
+fn check_puts(rt: &impl Abort, alloc: Global, puts: &Puts) {
+    let (turns, texts, written) = puts;
+    let mut turns = (*turns).min(1_000);
+    let mut sink = ToWrite::new(Vec::new(alloc));
+    for (text, put, left) in *texts {
+        let came = put_all(&mut sink, text, &mut turns);
+        assert_eq!(rt; (came, turns), (*put, *left));
+    }
+    assert_eq!(rt; sink.into_inner().as_slice(), *written);
 }
 
 #[test]
 fn texts_cost_their_turns(rt: HostRuntime) {
-    let mut sink = ToWrite::new(Vec::new(rt.alloc()));
-    let mut turns = 1;
-    let put = put_all(&mut sink, b"fram", &mut turns);
-    assert_eq!(rt; (put, turns), (Written::Whole, 0));
-    let put = put_all(&mut sink, b"?", &mut turns);
-    assert_eq!(rt; put, Written::TurnsUsed);
-    let written = sink.into_inner();
-    assert_eq!(rt; written.as_slice(), b"fram".as_slice());
-}
-
-#[test]
-fn an_empty_text_costs_no_turn(rt: HostRuntime) {
-    let mut sink = ToWrite::new(Vec::new(rt.alloc()));
-    let mut turns = 1;
-    let put = put_all(&mut sink, b"", &mut turns);
-    assert_eq!(rt; (put, turns), (Written::Whole, 1));
-    let put = put_all(&mut sink, b"!", &mut turns);
-    assert_eq!(rt; (put, turns), (Written::Whole, 0));
+    for puts in &PUTS {
+        check_puts(&rt, rt.alloc(), puts);
+    }
 }
 
 #[test]
@@ -103,15 +141,6 @@ fn texts_are_put_as_far_as_there_is_room(rt: HostRuntime) {
     let mut turns = 9;
     assert_eq!(rt; put_all(&mut sink, b"frame", &mut turns), Written::Fault);
     assert_eq!(rt; turns, 7);
-}
-
-#[test]
-fn a_long_text_is_put_at_once(rt: HostRuntime) {
-    let mut sink = ToWrite::new(Vec::new(rt.alloc()));
-    assert_eq!(rt; put_all(&mut sink, &[7; 1028], &mut 1), Written::Whole);
-    assert_eq!(rt; sink.calls(), 1);
-    let written = sink.into_inner();
-    assert_eq!(rt; written.as_slice(), [7; 1028].as_slice());
 }
 
 /// A reader and writer whose every call fails.
@@ -196,7 +225,7 @@ fn check_kind(rt: &impl Abort, kind: ErrorKind, calls: u64) {
 #[test]
 fn only_interruptions_are_tried_again(rt: HostRuntime) {
     check_kind(&rt, ErrorKind::Interrupted, 1000);
-    for kind in FAILURES {
-        check_kind(&rt, kind, 1);
+    for kind in &FAILURES {
+        check_kind(&rt, *kind, 1);
     }
 }

@@ -102,21 +102,27 @@ const APARTS: [(Apart, u32, u32, &str); 3] = [
     (Apart::Worn, 52, 28, "Worn"),
 ];
 
+fn check_rule(rt: &impl Abort, rule: Rule, number: u32, errno: u32, name: &str) {
+    assert_eq!(rt; (rule.number(), rule.errno()), (number, errno));
+    assert_eq!(rt; rule.name(), name);
+    assert!(rt; Rule::of_number(number) == Some(rule));
+}
+
+fn check_apart(rt: &impl Abort, apart: Apart, number: u32, errno: u32, name: &str) {
+    assert_eq!(rt; (apart.number(), apart.errno()), (number, errno));
+    assert_eq!(rt; apart.name(), name);
+    assert!(rt; Apart::of_number(number) == Some(apart));
+}
+
 #[test]
 fn rules_and_aparts_have_their_numbers_and_names(rt: HostRuntime) {
-    for (rule, number, errno, name) in RULES {
-        assert_eq!(&rt; rule.number(), number);
-        assert_eq!(&rt; rule.errno(), errno);
-        assert_eq!(&rt; rule.name(), name);
-        assert!(&rt; Rule::of_number(number) == Some(rule));
+    for (rule, number, errno, name) in &RULES {
+        check_rule(&rt, *rule, *number, *errno, name);
+    }
+    for (apart, number, errno, name) in &APARTS {
+        check_apart(&rt, *apart, *number, *errno, name);
     }
     assert!(&rt; Rule::of_number(4).is_none());
-    for (apart, number, errno, name) in APARTS {
-        assert_eq!(&rt; apart.number(), number);
-        assert_eq!(&rt; apart.errno(), errno);
-        assert_eq!(&rt; apart.name(), name);
-        assert!(&rt; Apart::of_number(number) == Some(apart));
-    }
 }
 
 /// A call's number and name.
@@ -269,15 +275,23 @@ const CALLS: [(Call, u16); 35] = [
 ];
 
 #[test]
-fn numbers_and_flags_of_calls(rt: HostRuntime) {
+fn numbers_of_calls(rt: HostRuntime) {
     for (call, number) in &CALLS {
         assert_eq!(&rt; call.number(), *number);
     }
+}
+
+fn check_flags(rt: &impl Abort, call: &Call, flags: RowFlags) {
+    assert_eq!(rt; call.flags(), flags);
+}
+
+#[test]
+fn flags_of_calls(rt: HostRuntime) {
     let lease = Call::CreateLease { ids: IdList::new() };
     assert_eq!(&rt; lease.number(), 0xC6);
-    assert_eq!(&rt; lease.flags(), RowFlags::MASTER);
-    assert_eq!(&rt; Call::Version.flags(), RowFlags::RENDER_ALLOW);
-    assert_eq!(&rt; Call::Unknown(7).flags(), RowFlags::empty());
+    check_flags(&rt, &lease, RowFlags::MASTER);
+    check_flags(&rt, &Call::Version, RowFlags::RENDER_ALLOW);
+    check_flags(&rt, &Call::Unknown(7), RowFlags::empty());
 }
 
 const KINDS: [(u32, &str); 10] = [
@@ -293,17 +307,19 @@ const KINDS: [(u32, &str); 10] = [
     (10, "device"),
 ];
 
+fn check_kind(rt: &impl Abort, kind: AuditKind, number: u32, name: &str) {
+    assert_eq!(rt; kind.number(), number);
+    assert_eq!(rt; kind.name(), name);
+    assert_eq!(rt; AuditKind::of_number(number), Some(kind));
+}
+
 #[test]
-fn kinds_of_an_audit(rt: HostRuntime) -> Result<(), Fail> {
-    for (number, name) in KINDS {
-        let kind = AuditKind::of_number(number).ok_or("a number has no kind")?;
-        assert_eq!(&rt; kind.number(), number);
-        assert_eq!(&rt; kind.name(), name);
-        assert_eq!(&rt; AuditKind::ALL[number as usize - 1], kind);
+fn kinds_of_an_audit(rt: HostRuntime) {
+    for (kind, (number, name)) in AuditKind::ALL.iter().zip(&KINDS) {
+        check_kind(&rt, *kind, *number, name);
     }
     assert!(&rt; AuditKind::of_number(0).is_none());
     assert!(&rt; AuditKind::of_number(11).is_none());
-    Ok(())
 }
 
 #[test]

@@ -1,21 +1,22 @@
 //! Devices by their public calls: what makes one, what it notes and tells, and what is replayed. Scripts show the rest.
+//!
+//! A function that owns a device takes long to prove, so two own one, and lend it to what is tried.
 
-use crate::lists::{named, row};
+use crate::journals::CASES;
+use crate::lists::row;
+use crate::rows::{Place, Row};
+use crate::steps::{ask_line, ask_lines, limits_of};
 use drm_device::{Device, NewFault, PlaneKind, ReplayFault, Topology, replay};
-use drm_table::{Answer, Apart, AuditKind, Call, Event, Limits, Opening, Rule};
-use std::alloc::{AllocError, Global};
+use drm_script::Label;
+use drm_table::{Apart, AuditKind, Event, Limits, Opening};
+use std::alloc::Global;
 use std::process::Abort;
 use std::test::Fail;
 
-const CARD: Event = Event::Open(Opening::Primary {
-    root: false,
-    universal: true,
-});
-
-const ROOT: Event = Event::Open(Opening::Primary {
-    root: true,
-    universal: true,
-});
+/// What is tried on a device that is lent.
+pub(crate) trait Trial {
+    fn run(&self, rt: &impl Abort, alloc: Global, device: &mut Device) -> Result<(), Fail>;
+}
 
 /// Two CRTCs, a plane and a connector for each, the first CRTC's as its primary plane, and two encoders, of which the first may
 /// drive both.
@@ -28,8 +29,65 @@ pub(crate) fn new_device(alloc: Global, limits: Limits) -> Result<Device, Fail> 
     Ok(Device::new(alloc, test_topology()?, limits)?)
 }
 
+/// Tries this on a new device within these limits, and gives the fault where there is none.
+fn try_on_made<T: Trial>(
+    rt: &impl Abort,
+    alloc: Global,
+    limits: Limits,
+    trial: &T,
+) -> Result<Option<NewFault>, Fail> {
+    match Device::new(alloc, test_topology()?, limits) {
+        Ok(mut device) => {
+            trial.run(rt, alloc, &mut device)?;
+            Ok(None)
+        }
+        Err(fault) => Ok(Some(fault)),
+    }
+}
+
+/// Tries this on the device that these events give within these limits, and gives the fault where there is none.
+fn try_on_replayed<T: Trial>(
+    rt: &impl Abort,
+    alloc: Global,
+    limits: Limits,
+    events: &[Event],
+    trial: &T,
+) -> Result<Option<ReplayFault>, Fail> {
+    match replay(alloc, test_topology()?, limits, events) {
+        Ok(mut device) => {
+            trial.run(rt, alloc, &mut device)?;
+            Ok(None)
+        }
+        Err(fault) => Ok(Some(fault)),
+    }
+}
+
+/// Tries this on a new device within these limits.
+pub(crate) fn try_on_new<T: Trial>(
+    rt: &impl Abort,
+    alloc: Global,
+    limits: Limits,
+    trial: &T,
+) -> Result<(), Fail> {
+    match try_on_made(rt, alloc, limits, trial)? {
+        Some(fault) => Err(fault.into()),
+        None => Ok(()),
+    }
+}
+
+/// The device has this journal.
+#[derive(Clone, Copy)]
+struct HasJournal<'a>(&'a [Event]);
+
+impl Trial for HasJournal<'_> {
+    fn run(&self, rt: &impl Abort, alloc: Global, device: &mut Device) -> Result<(), Fail> {
+        assert_eq!(rt; device.journal(), self.0);
+        Ok(())
+    }
+}
+
 /// Whether a device is refused for its limits, which stand in the order of the fields.
-fn are_bad(alloc: Global, limits: [u32; 8]) -> Result<bool, Fail> {
+fn are_bad(rt: &impl Abort, alloc: Global, limits: [u32; 8]) -> Result<bool, Fail> {
     let limits = Limits {
         clients: limits[0],
         handles: limits[1],
@@ -40,160 +98,49 @@ fn are_bad(alloc: Global, limits: [u32; 8]) -> Result<bool, Fail> {
         lessees: limits[6],
         journal: limits[7],
     };
-    let made = Device::new(alloc, test_topology()?, limits);
-    Ok(matches!(made, Err(NewFault::BadLimits)))
+    let fault = try_on_made(rt, alloc, limits, &HasJournal(&[]))?;
+    Ok(matches!(fault, Some(NewFault::BadLimits)))
 }
 
 #[test]
 fn limits_out_of_range(rt: HostRuntime) -> Result<(), Fail> {
     let least = [1, 1, 1, 1, 1, 1, 1, 2];
     let greatest = [1024, 65_535, 65_535, 65_535, 65_535, 64, 64, 100_000];
-    assert!(&rt; !are_bad(rt.alloc(), least)?);
-    assert!(&rt; !are_bad(rt.alloc(), greatest)?);
+    assert!(&rt; !are_bad(&rt, rt.alloc(), least)?);
+    assert!(&rt; !are_bad(&rt, rt.alloc(), greatest)?);
     for place in 0..8 {
         let mut below = least;
         below[place] = below[place].saturating_sub(1);
-        assert!(&rt; are_bad(rt.alloc(), below)?, "{below:?}");
+        assert!(&rt; are_bad(&rt, rt.alloc(), below)?, "{below:?}");
         let mut above = greatest;
         above[place] = above[place].saturating_add(1);
-        assert!(&rt; are_bad(rt.alloc(), above)?, "{above:?}");
+        assert!(&rt; are_bad(&rt, rt.alloc(), above)?, "{above:?}");
     }
     Ok(())
 }
 
-/// An event, and its answer.
-type Told = (Event, Result<Answer, Apart>);
-
-fn ask(client: u32, call: Call, answer: Answer) -> Told {
-    (Event::Ask(client, call), Ok(answer))
-}
-
-fn lease(ids: &[u32], id: u32, token: u32) -> Told {
-    let call = Call::CreateLease { ids: named(ids) };
-    ask(1, call, Answer::Lease { id, token })
-}
-
-fn open(opening: Event, client: u32) -> Told {
-    (opening, Ok(Answer::Opened { client }))
-}
-
-const fn redeem(token: u32) -> Event {
-    Event::Open(Opening::Lease {
-        token,
-        root: false,
-        universal: true,
-    })
-}
-
-/// Client 1, which is current, makes two leases. Client 4 opens by the first, and shows a framebuffer; then client 1 revokes
-/// that lease, and leases the same objects again.
-fn lend_and_revoke() -> [Told; 10] {
-    let pixel = Call::AddFb {
-        width: 1,
-        height: 1,
-        pitch: 4,
-        bpp: 32,
-        handle: 1,
-    };
-    let show = Call::SetCrtc {
-        crtc: 2,
-        framebuffer: 9,
-        connector: 8,
-    };
-    let buffer = Answer::Buffer {
-        handle: 1,
-        size: 4096,
-    };
-    [
-        open(ROOT, 1),
-        lease(&[8, 4, 2], 1, 1),
-        lease(&[1, 3, 7], 2, 2),
-        open(redeem(1), 4),
-        ask(4, Call::BufCreate { size: 4 }, buffer),
-        ask(4, pixel, Answer::Number { value: 9 }),
-        ask(4, show, Answer::Done),
-        ask(
-            4,
-            Call::PrimeHandleToFd { handle: 1 },
-            Answer::Number { value: 1 },
-        ),
-        ask(1, Call::RevokeLease { lessee: 1 }, Answer::Done),
-        lease(&[2, 8, 4], 3, 3),
-    ]
-}
-
 /// The rows of each kind from a place on.
-type Page = (AuditKind, u32, &'static [[u64; 4]]);
+pub(crate) type Page = (AuditKind, u32, &'static [[u64; 4]]);
 
-/// What a device holds after this.
-const LENT: [Page; 8] = [
-    (AuditKind::Client, 0, &[[1, 30, 1, 0], [4, 20, 2, 0]]),
-    (AuditKind::Client, 1, &[[4, 20, 2, 0]]),
-    (AuditKind::Client, 2, &[]),
-    (
-        AuditKind::Master,
-        0,
-        &[[1, 0, 0, 0], [2, 1, 1, 0], [3, 1, 2, 2], [10, 1, 3, 3]],
-    ),
-    (
-        AuditKind::Grant,
-        0,
-        &[
-            [3, 1, 0, 0],
-            [3, 3, 0, 0],
-            [3, 7, 0, 0],
-            [10, 2, 0, 0],
-            [10, 4, 0, 0],
-            [10, 8, 0, 0],
-        ],
-    ),
-    (AuditKind::Shown, 0, &[[2, 9, 0, 0]]),
-    (AuditKind::Name, 0, &[]),
-    (AuditKind::Device, 0, &[[1, 1, 3, 10]]),
-];
+/// A script, what a device holds after it, and how many places of its journal are left for events. The device that the journal
+/// gives again holds the same, and both then answer alike what is asked further, and hold the same.
+#[derive(Clone, Copy)]
+pub(crate) struct Case {
+    pub(crate) row: Row,
+    pub(crate) pages: &'static [Page],
+    pub(crate) left: u32,
+    pub(crate) further: &'static str,
+    pub(crate) further_pages: &'static [Page],
+}
 
-/// And once the third lease is redeemed and client 4 has gone.
-const GONE: [Page; 3] = [
-    (
-        AuditKind::Master,
-        0,
-        &[[1, 0, 0, 0], [3, 1, 2, 2], [10, 1, 3, 0]],
-    ),
-    (AuditKind::Shown, 0, &[]),
-    (AuditKind::Device, 0, &[[1, 1, 3, 12]]),
-];
-
-fn check_pages(rt: &impl Abort, device: &Device, pages: &[Page]) {
+fn check_pages(rt: &impl Abort, device: &Device, pages: &[Page], name: &str) {
     for (kind, from, rows) in pages {
         let page = device.audit(*kind, *from);
-        assert_eq!(rt; page.rows().len(), rows.len());
+        assert_eq!(rt; page.rows().len(), rows.len(), "{name}");
         for (found, [a, b, c, d]) in page.rows().iter().zip(*rows) {
-            assert_eq!(rt; *found, row(*a, *b, *c, *d));
+            assert_eq!(rt; *found, row(*a, *b, *c, *d), "{name}");
         }
     }
-}
-
-/// Both are asked the same, and then hold the same.
-fn go_on_alike(rt: &impl Abort, device: &mut Device, again: &mut Device) {
-    let opened = device.step(redeem(3));
-    assert_eq!(rt; opened, Ok(Answer::Opened { client: 11 }));
-    assert_eq!(rt; again.step(redeem(3)), opened);
-    let closed = device.step(Event::Close(4));
-    assert_eq!(rt; closed, Ok(Answer::Closed));
-    assert_eq!(rt; again.step(Event::Close(4)), closed);
-    check_pages(rt, device, &GONE);
-    check_pages(rt, again, &GONE);
-}
-
-/// A new device after these events, of which each has its answer.
-fn device_after(rt: &impl Abort, alloc: Global, told: &[Told]) -> Result<Device, Fail> {
-    let mut device = new_device(alloc, Limits::PROGRAM)?;
-    for (event, answer) in told {
-        let given = device.step(event.clone()?);
-        assert_eq!(rt; &given, answer);
-    }
-    assert_eq!(rt; device.journal().len(), told.len());
-    Ok(device)
 }
 
 /// Both hold the same rows of a kind, on all pages.
@@ -210,234 +157,90 @@ fn check_rows(rt: &impl Abort, device: &Device, again: &Device, kind: AuditKind)
     assert!(rt; false, "there is no last page");
 }
 
-/// The device that the journal gives again. It has the same journal, and holds the same.
-fn replayed(rt: &impl Abort, alloc: Global, device: &Device) -> Result<Device, Fail> {
-    let again = replay(alloc, test_topology()?, Limits::PROGRAM, device.journal())?;
-    assert_eq!(rt; again.journal(), device.journal());
-    for kind in AuditKind::ALL {
-        check_rows(rt, device, &again, kind);
+/// The labels of a script's clients.
+type Labels = [u32; Label::COUNT];
+
+impl Case {
+    /// Asks further, and compares what the device then holds.
+    fn go_on(&self, rt: &impl Abort, device: &mut Device, labels: Labels) -> Result<(), Fail> {
+        let mut labels = labels;
+        for (index, line) in self.further.lines().enumerate() {
+            let place = Place {
+                row: self.row.name,
+                line: index.saturating_add(1),
+            };
+            ask_line(rt, device, &mut labels, line, place)?;
+        }
+        check_pages(rt, device, self.further_pages, self.row.name);
+        Ok(())
     }
-    Ok(again)
+}
+
+impl Trial for Case {
+    fn run(&self, rt: &impl Abort, alloc: Global, device: &mut Device) -> Result<(), Fail> {
+        let mut labels = [0; Label::COUNT];
+        ask_lines(rt, alloc, device, &mut labels, &self.row)?;
+        assert_eq!(rt; device.journal_left(), self.left, "{}", self.row.name);
+        check_pages(rt, device, self.pages, self.row.name);
+        self.check_again(rt, alloc, device, labels)?;
+        self.go_on(rt, device, labels)
+    }
+}
+
+/// A device that is replayed is like the first.
+#[derive(Clone, Copy)]
+struct Again<'a> {
+    case: &'a Case,
+    first: &'a Device,
+    labels: Labels,
+}
+
+impl Trial for Again<'_> {
+    fn run(&self, rt: &impl Abort, alloc: Global, device: &mut Device) -> Result<(), Fail> {
+        assert_eq!(rt; device.journal(), self.first.journal());
+        for kind in AuditKind::ALL {
+            check_rows(rt, self.first, device, kind);
+        }
+        self.case.go_on(rt, device, self.labels)
+    }
+}
+
+impl Case {
+    /// Replays the journal.
+    fn check_again(
+        &self,
+        rt: &impl Abort,
+        alloc: Global,
+        device: &Device,
+        labels: Labels,
+    ) -> Result<(), Fail> {
+        let again = Again {
+            case: self,
+            first: device,
+            labels,
+        };
+        let limits = limits_of(self.row.script);
+        match try_on_replayed(rt, alloc, limits, device.journal(), &again)? {
+            Some(fault) => Err(fault.into()),
+            None => Ok(()),
+        }
+    }
 }
 
 #[test]
 fn journals_are_replayed(rt: HostRuntime) -> Result<(), Fail> {
-    let mut device = device_after(&rt, rt.alloc(), &lend_and_revoke())?;
-    assert_eq!(&rt; device.journal_left(), 99_988);
-    check_pages(&rt, &device, &LENT);
-    let mut again = replayed(&rt, rt.alloc(), &device)?;
-    go_on_alike(&rt, &mut device, &mut again);
-    Ok(())
-}
-
-const fn denied(client: u32, call: Call, rule: Rule) -> Told {
-    (Event::Ask(client, call), Ok(Answer::Denied(rule)))
-}
-
-/// Client 1 and a root client set and drop the device's master, and two more clients may not.
-fn set_and_dropped() -> [Told; 14] {
-    [
-        open(CARD, 1),
-        open(ROOT, 2),
-        denied(2, Call::SetMaster, Rule::MasterBusy),
-        ask(1, Call::DropMaster, Answer::Done),
-        ask(2, Call::SetMaster, Answer::Done),
-        denied(1, Call::SetMaster, Rule::MasterBusy),
-        (Event::Close(2), Ok(Answer::Closed)),
-        ask(1, Call::SetMaster, Answer::Done),
-        ask(1, Call::SetMaster, Answer::Done),
-        open(CARD, 10),
-        denied(10, Call::SetMaster, Rule::MasterPerm),
-        denied(10, Call::DropMaster, Rule::MasterPerm),
-        open(ROOT, 13),
-        denied(13, Call::DropMaster, Rule::NotCurrent),
-    ]
-}
-
-#[test]
-fn denied_events_are_replayed(rt: HostRuntime) -> Result<(), Fail> {
-    let device = device_after(&rt, rt.alloc(), &set_and_dropped())?;
-    let _again = replayed(&rt, rt.alloc(), &device)?;
-    Ok(())
-}
-
-/// A root client makes twenty buffers, gives back the third handle, and gets it again for one more.
-fn twenty_buffers(alloc: Global) -> Result<Vec<Told>, AllocError> {
-    let mut told = Vec::new(alloc);
-    told.push(open(ROOT, 1))?;
-    let buffer = |handle| Answer::Buffer { handle, size: 4096 };
-    for handle in 1..21 {
-        told.push(ask(1, Call::BufCreate { size: 1 }, buffer(handle)))?;
-    }
-    told.push(ask(1, Call::GemClose { handle: 3 }, Answer::Done))?;
-    told.push(ask(1, Call::BufCreate { size: 1 }, buffer(3)))?;
-    Ok(told)
-}
-
-/// What that device holds, of which a page has 16 rows at most.
-const TWENTY: [Page; 4] = [
-    (
-        AuditKind::Hold,
-        0,
-        &[
-            [1, 1, 2, 0],
-            [1, 2, 3, 0],
-            [1, 3, 23, 0],
-            [1, 4, 5, 0],
-            [1, 5, 6, 0],
-            [1, 6, 7, 0],
-            [1, 7, 8, 0],
-            [1, 8, 9, 0],
-            [1, 9, 10, 0],
-            [1, 10, 11, 0],
-            [1, 11, 12, 0],
-            [1, 12, 13, 0],
-            [1, 13, 14, 0],
-            [1, 14, 15, 0],
-            [1, 15, 16, 0],
-            [1, 16, 17, 0],
-        ],
-    ),
-    (
-        AuditKind::Hold,
-        16,
-        &[
-            [1, 17, 18, 0],
-            [1, 18, 19, 0],
-            [1, 19, 20, 0],
-            [1, 20, 21, 0],
-        ],
-    ),
-    (AuditKind::Object, 19, &[[23, 4096, 1, 0]]),
-    (AuditKind::Object, 20, &[]),
-];
-
-#[test]
-fn audits_have_pages(rt: HostRuntime) -> Result<(), Fail> {
-    let told = twenty_buffers(rt.alloc())?;
-    let device = device_after(&rt, rt.alloc(), &told)?;
-    check_pages(&rt, &device, &TWENTY);
-    Ok(())
-}
-
-/// Client 1 makes two leases, of which client 4 redeems the second, and goes.
-fn owner_gone() -> [Told; 5] {
-    [
-        open(CARD, 1),
-        lease(&[2, 4, 8], 1, 1),
-        lease(&[1, 3, 7], 2, 2),
-        open(redeem(2), 4),
-        (Event::Close(1), Ok(Answer::Closed)),
-    ]
-}
-
-/// Both leases are empty, the lessee that nobody redeemed is gone, and the owner's master stays under the other.
-const OWNER_GONE: [Page; 4] = [
-    (AuditKind::Client, 0, &[[4, 20, 3, 0]]),
-    (AuditKind::Master, 0, &[[1, 0, 0, 0], [3, 1, 2, 0]]),
-    (AuditKind::Grant, 0, &[]),
-    (AuditKind::Device, 0, &[[0, 0, 2, 5]]),
-];
-
-/// Client 1 names a buffer and exports it and another, which client 7 imports, and goes.
-fn exporter_gone() -> [Told; 9] {
-    let buffer = |handle, size| Answer::Buffer { handle, size };
-    let number = |value| Answer::Number { value };
-    let export = |handle| Call::PrimeHandleToFd { handle };
-    [
-        open(ROOT, 1),
-        ask(1, Call::BufCreate { size: 1 }, buffer(1, 4096)),
-        ask(1, Call::GemFlink { handle: 1 }, number(1)),
-        ask(1, export(1), number(1)),
-        ask(1, Call::BufCreate { size: 5000 }, buffer(2, 8192)),
-        ask(1, export(2), number(2)),
-        open(Event::Open(Opening::Render), 7),
-        ask(7, Call::PrimeFdToHandle { token: 2 }, buffer(1, 8192)),
-        (Event::Close(1), Ok(Answer::Closed)),
-    ]
-}
-
-/// The import alone is left.
-const EXPORTER_GONE: [Page; 6] = [
-    (AuditKind::Master, 0, &[]),
-    (AuditKind::Object, 0, &[[5, 8192, 1, 0]]),
-    (AuditKind::Name, 0, &[]),
-    (AuditKind::Token, 0, &[]),
-    (AuditKind::Hold, 0, &[[7, 1, 5, 8]]),
-    (AuditKind::Device, 0, &[[0, 2, 0, 9]]),
-];
-
-#[test]
-fn closings_are_seen_in_audits(rt: HostRuntime) -> Result<(), Fail> {
-    let device = device_after(&rt, rt.alloc(), &owner_gone())?;
-    check_pages(&rt, &device, &OWNER_GONE);
-    let device = device_after(&rt, rt.alloc(), &exporter_gone())?;
-    check_pages(&rt, &device, &EXPORTER_GONE);
-    Ok(())
-}
-
-fn leased_on(client: u32, number: u32) -> Told {
-    let call = Call::CreateLease {
-        ids: named(&[1, 3, 7]),
-    };
-    let answer = Answer::Lease {
-        id: number,
-        token: number,
-    };
-    ask(client, call, answer)
-}
-
-/// Eight lessees, each of which leases what it has to the next.
-fn eight_lessees() -> [Told; 17] {
-    [
-        open(CARD, 1),
-        leased_on(1, 1),
-        open(redeem(1), 3),
-        leased_on(3, 2),
-        open(redeem(2), 5),
-        leased_on(5, 3),
-        open(redeem(3), 7),
-        leased_on(7, 4),
-        open(redeem(4), 9),
-        leased_on(9, 5),
-        open(redeem(5), 11),
-        leased_on(11, 6),
-        open(redeem(6), 13),
-        leased_on(13, 7),
-        open(redeem(7), 15),
-        leased_on(15, 8),
-        open(redeem(8), 17),
-    ]
-}
-
-/// The last lessee is refused for its depth before its ids are looked at; the one above it, for its ids.
-#[test]
-fn depth_is_refused_before_ids(rt: HostRuntime) -> Result<(), Fail> {
-    let mut device = device_after(&rt, rt.alloc(), &eight_lessees())?;
-    for (client, rule) in [(17, Rule::SubLease), (15, Rule::NoModeObject)] {
-        let call = Call::CreateLease { ids: named(&[99]) };
-        let given = device.step(Event::Ask(client, call));
-        assert_eq!(&rt; given, Ok(Answer::Denied(rule)));
+    for case in &CASES {
+        try_on_new(&rt, rt.alloc(), limits_of(case.row.script), case)?;
     }
     Ok(())
 }
 
-/// The last place of a journal is kept for the closing of an open client.
-#[test]
-fn a_place_is_kept_for_a_closing(rt: HostRuntime) -> Result<(), Fail> {
-    let short = Limits {
-        journal: 2,
-        ..Limits::PROGRAM
-    };
-    let mut device = new_device(rt.alloc(), short)?;
-    assert_eq!(&rt; device.journal_left(), 2);
-    assert_eq!(&rt; device.step(CARD), Ok(Answer::Opened { client: 1 }));
-    assert_eq!(&rt; device.journal_left(), 0);
-    assert_eq!(&rt; device.step(CARD), Err(Apart::JournalFull));
-    assert_eq!(&rt; device.step(Event::Close(1)), Ok(Answer::Closed));
-    assert_eq!(&rt; device.journal_left(), 0);
-    Ok(())
-}
+const CARD: Event = Event::Open(Opening::Primary {
+    root: false,
+    universal: true,
+});
+
+const TWO_CARDS: [Event; 2] = [CARD, CARD];
 
 /// Replays these events within these limits, and compares the fault.
 ///
@@ -450,44 +253,44 @@ fn check_replay(
     events: &[Event],
     fault: Option<ReplayFault>,
 ) -> Result<(), Fail> {
-    match replay(alloc, test_topology()?, limits, events) {
-        Ok(device) => {
-            assert_eq!(rt; fault, None);
-            assert_eq!(rt; device.journal(), events);
-        }
-        Err(
+    match try_on_replayed(rt, alloc, limits, events, &HasJournal(events))? {
+        Some(
             ReplayFault::Stopped {
                 at,
                 apart: Apart::NoMemory,
             },
         ) => assert!(rt; 1 <= at && at <= events.len()),
-        Err(found) => assert_eq!(rt; Some(found), fault),
+        found => assert_eq!(rt; found, fault),
     }
     Ok(())
 }
 
+/// Limits, and the fault of a replay of two openings.
+const REPLAYS: [(Limits, Option<ReplayFault>); 3] = [
+    (Limits::PROGRAM, None),
+    (
+        Limits {
+            journal: 2,
+            ..Limits::PROGRAM
+        },
+        Some(ReplayFault::Stopped {
+            at: 2,
+            apart: Apart::JournalFull,
+        }),
+    ),
+    (
+        Limits {
+            clients: 0,
+            ..Limits::PROGRAM
+        },
+        Some(ReplayFault::New(NewFault::BadLimits)),
+    ),
+];
+
 #[test]
 fn replays_stop_where_an_event_is_not_noted(rt: HostRuntime) -> Result<(), Fail> {
-    let short = Limits {
-        journal: 2,
-        ..Limits::PROGRAM
-    };
-    let none = Limits {
-        clients: 0,
-        ..Limits::PROGRAM
-    };
-    let full = ReplayFault::Stopped {
-        at: 2,
-        apart: Apart::JournalFull,
-    };
-    let bad = ReplayFault::New(NewFault::BadLimits);
-    let events = [CARD, CARD];
-    for (limits, fault) in [
-        (Limits::PROGRAM, None),
-        (short, Some(full)),
-        (none, Some(bad)),
-    ] {
-        check_replay(&rt, rt.alloc(), limits, &events, fault)?;
+    for (limits, fault) in REPLAYS {
+        check_replay(&rt, rt.alloc(), limits, &TWO_CARDS, fault)?;
     }
     Ok(())
 }

@@ -1,6 +1,6 @@
 //! Serves sessions of frames, and compares what is written byte for byte and reads it back.
 
-use crate::devices::new_device;
+use crate::devices::{Trial, try_on_new};
 use crate::lease_frames::{late, lessee, lessee_is_told, owner, owner_is_told};
 use crate::lists::named;
 use crate::mode_frames::{frames, told};
@@ -116,7 +116,26 @@ fn lend(rt: &impl Abort, device: &mut Device) {
     assert_eq!(rt; leased, Ok(Answer::Lease { id: 1, token: 1 }));
 }
 
-/// Serves dialogues one after the other on a new device, which may have a lease.
+/// Dialogues one after the other on a new device, which may have a lease.
+#[derive(Clone, Copy)]
+struct Conversation<'a> {
+    has_lease: bool,
+    class: Class,
+    dialogues: &'a [Dialogue<'a>],
+}
+
+impl Trial for Conversation<'_> {
+    fn run(&self, rt: &impl Abort, alloc: Global, device: &mut Device) -> Result<(), Fail> {
+        if self.has_lease {
+            lend(rt, device);
+        }
+        for dialogue in self.dialogues {
+            serves(rt, alloc, device, self.class, dialogue)?;
+        }
+        Ok(())
+    }
+}
+
 fn converses(
     rt: &impl Abort,
     alloc: Global,
@@ -124,14 +143,12 @@ fn converses(
     class: Class,
     dialogues: &[Dialogue<'_>],
 ) -> Result<(), Fail> {
-    let mut device = new_device(alloc, Limits::PROGRAM)?;
-    if has_lease {
-        lend(rt, &mut device);
-    }
-    for dialogue in dialogues {
-        serves(rt, alloc, &mut device, class, dialogue)?;
-    }
-    Ok(())
+    let conversation = Conversation {
+        has_lease,
+        class,
+        dialogues,
+    };
+    try_on_new(rt, alloc, Limits::PROGRAM, &conversation)
 }
 
 /// Each call of mode setting.

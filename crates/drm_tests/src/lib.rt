@@ -19,6 +19,8 @@ mod interruptions;
 #[cfg(test)]
 mod jobs;
 #[cfg(test)]
+mod journals;
+#[cfg(test)]
 mod lease_frames;
 #[cfg(test)]
 mod listings;

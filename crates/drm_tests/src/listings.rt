@@ -1,8 +1,8 @@
 //! Listings of a small device, whole and cut.
 
 use crate::cuts::{Cut, sink_of};
-use crate::devices::test_topology;
-use drm_device::{Device, replay};
+use crate::devices::{Trial, try_on_new};
+use drm_device::Device;
 use drm_server::{ListEnd, list_audit};
 use drm_table::{Call, Event, Limits, Opening};
 use std::alloc::Global;
@@ -12,24 +12,21 @@ use std::test::Fail;
 const LINES: &[u8] =
     b"client 1 28 1 0\nmaster 1 0 0 0\nobject 2 16384 1 0\nhold 1 1 2 0\ndevice 1 0 0 2\n";
 
-/// A device that one client has opened, with one buffer.
-fn device(alloc: Global) -> Result<Device, Fail> {
-    let events = [
-        Event::Open(Opening::Primary {
-            root: false,
-            universal: true,
-        }),
-        Event::Ask(
-            1,
-            Call::CreateDumb {
-                width: 64,
-                height: 64,
-                bpp: 32,
-            },
-        ),
-    ];
-    Ok(replay(alloc, test_topology()?, Limits::PROGRAM, &events)?)
-}
+/// A client opens a device, and makes a buffer.
+const EVENTS: [Event; 2] = [
+    Event::Open(Opening::Primary {
+        root: false,
+        universal: true,
+    }),
+    Event::Ask(
+        1,
+        Call::CreateDumb {
+            width: 64,
+            height: 64,
+            bpp: 32,
+        },
+    ),
+];
 
 /// How a sink is cut, how many turns there are, how the listing ends, and how many bytes it writes.
 type Listing = (Cut, u64, ListEnd, usize);
@@ -50,16 +47,27 @@ fn check_listing(rt: &impl Abort, device: &Device, piece: usize, listing: Listin
     assert_eq!(rt; sink.written(), &LINES[..written.min(LINES.len())]);
 }
 
+/// Listings of a device after these events.
+struct Listed;
+
+impl Trial for Listed {
+    fn run(&self, rt: &impl Abort, alloc: Global, device: &mut Device) -> Result<(), Fail> {
+        for event in EVENTS {
+            assert!(rt; device.step(event).is_ok());
+        }
+        for listing in LISTINGS {
+            check_listing(rt, device, 512, listing);
+        }
+        for at in 0..LINES.len() {
+            for cut in [Cut::Fault(at), Cut::End(at), Cut::Interrupted(1_000, at)] {
+                check_listing(rt, device, 7, (cut, 10_000, ListEnd::WriteFault, at));
+            }
+        }
+        Ok(())
+    }
+}
+
 #[test]
 fn listings(rt: HostRuntime) -> Result<(), Fail> {
-    let device = device(rt.alloc())?;
-    for listing in LISTINGS {
-        check_listing(&rt, &device, 512, listing);
-    }
-    for at in 0..LINES.len() {
-        for cut in [Cut::Fault(at), Cut::End(at), Cut::Interrupted(1_000, at)] {
-            check_listing(&rt, &device, 7, (cut, 10_000, ListEnd::WriteFault, at));
-        }
-    }
-    Ok(())
+    try_on_new(&rt, rt.alloc(), Limits::PROGRAM, &Listed)
 }

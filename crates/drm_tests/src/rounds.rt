@@ -1,10 +1,11 @@
 //! A lessee that stays connected while owners come and go: its lease ended with the first of them, and stays empty whichever keys
 //! are given again.
 
-use crate::devices::new_device;
+use crate::devices::{Trial, try_on_new};
 use crate::lists::{named, row};
 use drm_device::Device;
 use drm_table::{Answer, AuditKind, Call, Event, Limits, Opening, Rule};
+use std::alloc::Global;
 use std::process::Abort;
 use std::test::Fail;
 
@@ -57,20 +58,27 @@ fn close(rt: &impl Abort, device: &mut Device, client: u32) {
     assert_eq!(rt; closed, Ok(Answer::Closed));
 }
 
+struct ThousandOwners;
+
+impl Trial for ThousandOwners {
+    fn run(&self, rt: &impl Abort, alloc: Global, device: &mut Device) -> Result<(), Fail> {
+        lend_and_close(rt, device);
+        for round in 1..=1_000u16 {
+            let round = u32::from(round);
+            one_round(rt, device, round * STEPS + 1, round + 1);
+        }
+        let masters = device.audit(AuditKind::Master, 0);
+        assert_eq!(rt;
+            masters.rows(),
+            [row(1, 0, 0, 0), row(2, 1, 1, 0)].as_slice()
+        );
+        let grants = device.audit(AuditKind::Grant, 0);
+        assert!(rt; grants.rows().is_empty());
+        Ok(())
+    }
+}
+
 #[test]
 fn a_lessee_stays_through_a_thousand_owners(rt: HostRuntime) -> Result<(), Fail> {
-    let mut device = new_device(rt.alloc(), Limits::PROGRAM)?;
-    lend_and_close(&rt, &mut device);
-    for round in 1..=1_000u16 {
-        let round = u32::from(round);
-        one_round(&rt, &mut device, round * STEPS + 1, round + 1);
-    }
-    let masters = device.audit(AuditKind::Master, 0);
-    assert_eq!(&rt;
-        masters.rows(),
-        [row(1, 0, 0, 0), row(2, 1, 1, 0)].as_slice()
-    );
-    let grants = device.audit(AuditKind::Grant, 0);
-    assert!(&rt; grants.rows().is_empty());
-    Ok(())
+    try_on_new(&rt, rt.alloc(), Limits::PROGRAM, &ThousandOwners)
 }

@@ -1,7 +1,7 @@
 //! Whole sessions, byte for byte, over sources and sinks that end, fail and interrupt.
 
 use crate::cuts::{Cut, sink_of, source_of};
-use crate::devices::new_device;
+use crate::devices::{Trial, new_device, try_on_new};
 use drm_device::Device;
 use drm_sessions::{Access, Class, Gate, NoGate, Session, SessionEnd, serve, serve_alone};
 use drm_streams::{FromRead, Source, ToWrite};
@@ -314,31 +314,45 @@ const AFTER_HELLO: [(&[u8], SessionEnd, u64, &[u8]); 12] = [
     (b"", SessionEnd::Ended, 2, b""),
 ];
 
-/// Serves sessions on a new device within these limits, one after the other, and compares how each ends and what is written.
-fn serves(rt: &impl Abort, alloc: Global, limits: Limits, cases: &[Case<'_>]) -> Result<(), Fail> {
-    let mut device = new_device(alloc, limits)?;
-    let mut noted = 0usize;
-    for case in cases {
-        let mut source = source_of(case.input, case.piece, case.source);
-        let mut sink = sink_of(case.taken, case.sink);
-        let turns = case.turns.min(MANY_TURNS);
-        let session = serve_alone(
-            &mut device,
-            &mut NoGate,
-            case.class,
-            &mut source,
-            &mut sink,
-            turns,
-        );
-        assert_eq!(rt; session.end, case.end);
-        assert_eq!(rt; session.steps, case.steps);
-        assert_eq!(rt; session.client, if case.steps < 2 { 0 } else { 1 });
-        assert_eq!(rt; sink.written(), case.written);
-        assert_eq!(rt; source.calls(), case.takes.unwrap_or(source.calls()));
-        noted = noted.wrapping_add(case.steps as usize);
-        assert_eq!(rt; device.journal().len(), noted);
+/// Sessions that are served one after the other.
+#[derive(Clone, Copy)]
+struct Sessions<'a>(&'a [Case<'a>]);
+
+impl Trial for Sessions<'_> {
+    fn run(&self, rt: &impl Abort, alloc: Global, device: &mut Device) -> Result<(), Fail> {
+        let mut noted = 0usize;
+        for case in self.0 {
+            serves_one(rt, device, case);
+            noted = noted.wrapping_add(case.steps as usize);
+            assert_eq!(rt; device.journal().len(), noted);
+        }
+        Ok(())
     }
-    Ok(())
+}
+
+/// Serves a session, and compares how it ends and what is written.
+fn serves_one(rt: &impl Abort, device: &mut Device, case: &Case<'_>) {
+    let mut source = source_of(case.input, case.piece, case.source);
+    let mut sink = sink_of(case.taken, case.sink);
+    let turns = case.turns.min(MANY_TURNS);
+    let session = serve_alone(
+        device,
+        &mut NoGate,
+        case.class,
+        &mut source,
+        &mut sink,
+        turns,
+    );
+    assert_eq!(rt; session.end, case.end);
+    assert_eq!(rt; session.steps, case.steps);
+    assert_eq!(rt; session.client, if case.steps < 2 { 0 } else { 1 });
+    assert_eq!(rt; sink.written(), case.written);
+    assert_eq!(rt; source.calls(), case.takes.unwrap_or(source.calls()));
+}
+
+/// Serves these on a new device within these limits.
+fn serves(rt: &impl Abort, alloc: Global, limits: Limits, cases: &[Case<'_>]) -> Result<(), Fail> {
+    try_on_new(rt, alloc, limits, &Sessions(cases))
 }
 
 /// Serves this session in pieces of several sizes.

@@ -4,7 +4,7 @@
 //! With ample memory nothing is refused. Where it is, as under `rt try --test --fail-alloc N`, it is for a step that may add a row, and
 //! the same step with memory is answered as if nothing had been. `tests/memory` refuses each request of the built program so.
 
-use crate::devices::new_device;
+use crate::devices::{Trial, try_on_new};
 use crate::histories::{MOST_ROWS, PAGES, check_holds};
 use crate::rows::buffers::BUFFERS;
 use crate::rows::devices::DEVICES;
@@ -24,7 +24,7 @@ use std::str::from_utf8;
 use std::test::Fail;
 
 /// The limits that a script begins with.
-fn limits_of(script: &str) -> Limits {
+pub(crate) fn limits_of(script: &str) -> Limits {
     match script.lines().next() {
         Some(line) => match read_line(line.as_bytes()) {
             Reading::Limits(limits) => limits,
@@ -128,7 +128,7 @@ fn check_answer(
 }
 
 /// Asks what a line says, compares its answer, and gives the event and the answer where the device notes it.
-fn ask_line(
+pub(crate) fn ask_line(
     rt: &impl Abort,
     device: &mut Device,
     labels: &mut [u32; Label::COUNT],
@@ -162,28 +162,39 @@ fn answer_count(script: &str) -> usize {
         .count()
 }
 
-fn check_row(rt: &impl Abort, alloc: Global, row: &Row) -> Result<(), Fail> {
+/// Asks the lines of a row, and compares how many have an answer, the handles behind each line, and how many steps are noted.
+pub(crate) fn ask_lines(
+    rt: &impl Abort,
+    alloc: Global,
+    device: &mut Device,
+    labels: &mut [u32; Label::COUNT],
+    row: &Row,
+) -> Result<(), Fail> {
     assert_eq!(rt; answer_count(row.script), row.answers, "{}", row.name);
-    let mut device = new_device(alloc, limits_of(row.script))?;
-    let mut labels = [0; Label::COUNT];
     let mut steps = Vec::new(alloc);
     for (index, line) in row.script.lines().enumerate() {
         let place = Place {
             row: row.name,
             line: index.saturating_add(1),
         };
-        if let Some(step) = ask_line(rt, &mut device, &mut labels, line, place)? {
+        if let Some(step) = ask_line(rt, device, labels, line, place)? {
             steps.push(step)?;
         }
-        check_holds(rt, alloc, &device, &steps, place)?;
+        check_holds(rt, alloc, device, &steps, place)?;
     }
     assert_eq!(rt; device.journal().len(), steps.len(), "{}", row.name);
     Ok(())
 }
 
+impl Trial for Row {
+    fn run(&self, rt: &impl Abort, alloc: Global, device: &mut Device) -> Result<(), Fail> {
+        ask_lines(rt, alloc, device, &mut [0; Label::COUNT], self)
+    }
+}
+
 fn check_rows(rt: &impl Abort, alloc: Global, rows: &[Row]) -> Result<(), Fail> {
     for row in rows {
-        check_row(rt, alloc, row)?;
+        try_on_new(rt, alloc, limits_of(row.script), row)?;
     }
     Ok(())
 }

@@ -3,9 +3,10 @@
 ghost use Rattle.std.specs.Prelude.{◌≡◌, IfOk};
 
 use crate::devices::new_device;
+use drm_device::Device;
 use drm_table::{Answer, Apart, Call, Event, Limits, Opening};
 use drm_turns::{Seat, SharedDevice, Sharing};
-use std::alloc::Global;
+use std::alloc::{AllocError, Global};
 use std::process::Abort;
 use std::sync::Wait;
 use std::test::Fail;
@@ -30,188 +31,225 @@ const CARD: Event = Event::Open(Opening::Primary {
 
 const OPENED: Result<Answer, Apart> = Ok(Answer::Opened { client: 1 });
 
-const VERSION: Result<Answer, Apart> = Ok(Answer::Version {
-    major: 1,
-    minor: 0,
-    patch: 0,
-});
-
 /// Whether it is the other seat that calls, the event, and the answer.
 type Turn = (bool, Event, Result<Answer, Apart>);
 
-const fn ask(is_other: bool, call: Call, answer: Answer) -> Turn {
-    (is_other, Event::Ask(1, call), Ok(answer))
-}
+const OPENING: Turn = (false, CARD, OPENED);
 
-/// A buffer that one seat makes and writes, and the other reads: four steps.
-fn buffer() -> [Turn; 4] {
-    let buffer = Answer::Buffer {
+const MAKING: Turn = (
+    false,
+    Event::Ask(1, Call::BufCreate { size: 1 }),
+    Ok(Answer::Buffer {
         handle: 1,
         size: 4096,
-    };
-    let write = Call::StampWrite {
-        handle: 1,
-        stamp: 9,
-    };
-    [
-        (false, CARD, Ok(Answer::Opened { client: 1 })),
-        ask(false, Call::BufCreate { size: 1 }, buffer),
-        ask(false, write, Answer::Done),
-        ask(
-            true,
-            Call::StampRead { handle: 1 },
-            Answer::Number { value: 9 },
-        ),
-    ]
-}
+    }),
+);
 
-/// One that the other seat closes.
-fn closed_buffer() -> [Turn; 4] {
-    let square = Call::CreateDumb {
-        width: 64,
-        height: 64,
-        bpp: 32,
-    };
-    let dumb = Answer::Dumb {
-        handle: 1,
-        pitch: 256,
-        size: 16384,
-    };
-    [
-        (false, CARD, Ok(Answer::Opened { client: 1 })),
-        ask(false, square, dumb),
-        (true, Event::Ask(1, Call::Version), VERSION),
-        ask(true, Call::GemClose { handle: 1 }, Answer::Done),
-    ]
-}
+const WRITING: Turn = (
+    false,
+    Event::Ask(
+        1,
+        Call::StampWrite {
+            handle: 1,
+            stamp: 9,
+        },
+    ),
+    Ok(Answer::Done),
+);
+
+const READING: Turn = (
+    true,
+    Event::Ask(1, Call::StampRead { handle: 1 }),
+    Ok(Answer::Number { value: 9 }),
+);
+
+const VERSION: Turn = (
+    true,
+    Event::Ask(1, Call::Version),
+    Ok(Answer::Version {
+        major: 1,
+        minor: 0,
+        patch: 0,
+    }),
+);
+
+/// A buffer that one seat makes and writes, and the other reads.
+const BUFFER: [Turn; 4] = [OPENING, MAKING, WRITING, READING];
+
+/// A buffer that is written before the other seat is split off.
+const WRITTEN: [Turn; 3] = [OPENING, MAKING, WRITING];
+
+const READ: [Turn; 1] = [READING];
+
+/// A buffer that the other seat closes.
+const CLOSED_BUFFER: [Turn; 4] = [
+    OPENING,
+    (
+        false,
+        Event::Ask(
+            1,
+            Call::CreateDumb {
+                width: 64,
+                height: 64,
+                bpp: 32,
+            },
+        ),
+        Ok(Answer::Dumb {
+            handle: 1,
+            pitch: 256,
+            size: 16384,
+        }),
+    ),
+    VERSION,
+    (
+        true,
+        Event::Ask(1, Call::GemClose { handle: 1 }),
+        Ok(Answer::Done),
+    ),
+];
 
 /// A journal of two steps, of which one is kept for the closing.
-fn full_journal() -> [Turn; 3] {
-    [
-        (
-            false,
-            Event::Open(Opening::Render),
-            Ok(Answer::Opened { client: 1 }),
-        ),
-        (true, Event::Ask(1, Call::Version), Err(Apart::JournalFull)),
-        (false, Event::Close(1), Ok(Answer::Closed)),
-    ]
-}
+const FULL_JOURNAL: [Turn; 3] = [
+    (false, Event::Open(Opening::Render), OPENED),
+    (true, Event::Ask(1, Call::Version), Err(Apart::JournalFull)),
+    (false, Event::Close(1), Ok(Answer::Closed)),
+];
 
-/// Compares what a seat is answered.
+const OPENED_ONCE: [Turn; 1] = [OPENING];
+
+const ONE_VERSION: [Turn; 1] = [VERSION];
+
+/// Compares what a seat is answered, and the count, which is the length of the history.
 fn call_by(
     rt: &(impl Wait + Abort),
     shared: &SharedDevice,
     seat: &mut Seat,
-    event: Event,
-    answer: &Result<Answer, Apart>,
-)
+    turn: &Turn,
+    noted: &mut Vec<Event>,
+) -> Result<(), AllocError>
     requires { seat.old.table ≡ shared.now }
     ensures { seat.new.table ≡ seat.old.table }
 {
-    let given = shared.call(rt, seat, event);
+    let (_, event, answer) = turn;
+    let given = shared.call(rt, seat, event.clone()?);
     assert_eq!(rt; &given, answer);
+    if answer.is_ok() {
+        noted.push(event.clone()?)?;
+    }
+    assert_eq!(rt; shared.peek_count(), noted.len() as u64);
+    Ok(())
 }
 
-/// Two seats of a new device call in turn. Each answer is compared, and the count, which is the length of the history; in the end
-/// the device has the events that were noted, and may be shared again.
+/// The turns of one seat.
+fn call_alone(
+    rt: &(impl Wait + Abort),
+    shared: &SharedDevice,
+    seat: &mut Seat,
+    turns: &[Turn],
+    noted: &mut Vec<Event>,
+) -> Result<(), AllocError>
+    requires { seat.old.table ≡ shared.now }
+    ensures { seat.new.table ≡ seat.old.table }
+{
+    for turn in turns {
+        call_by(rt, shared, seat, turn, noted)?;
+    }
+    Ok(())
+}
+
+/// The turns of two seats.
 fn call_in_turn(
     rt: &(impl Wait + Abort),
-    alloc: Global,
-    limits: Limits,
+    shared: &SharedDevice,
+    seat: &mut Seat,
+    other: &mut Seat,
     turns: &[Turn],
-) -> Result<(), Fail> {
-    let (shared, mut seat) = shared(alloc, limits)?;
-    let mut other = shared.split(&mut seat);
-    let mut noted = Vec::new(alloc);
-    for (is_other, event, answer) in turns {
-        let called = event.clone()?;
-        if *is_other {
-            call_by(rt, &shared, &mut other, called, answer);
+    noted: &mut Vec<Event>,
+) -> Result<(), AllocError>
+    requires seat { seat.old.table ≡ shared.now }
+    requires other { other.old.table ≡ shared.now }
+    ensures seat { seat.new.table ≡ seat.old.table }
+    ensures other { other.new.table ≡ other.old.table }
+{
+    for turn in turns {
+        if turn.0 {
+            call_by(rt, shared, other, turn, noted)?;
         } else {
-            call_by(rt, &shared, &mut seat, called, answer);
+            call_by(rt, shared, seat, turn, noted)?;
         }
-        if answer.is_ok() {
-            noted.push(event.clone()?)?;
-        }
-        assert_eq!(rt; shared.peek_count(), noted.len() as u64);
     }
+    Ok(())
+}
+
+/// Shares a device, and has two seats call. The device comes back with the events that were noted.
+fn share(
+    rt: &(impl Wait + Abort),
+    alloc: Global,
+    device: Device,
+    alone: &[Turn],
+    in_turn: &[Turn],
+    noted: &mut Vec<Event>,
+) -> Result<Device, Fail> {
+    let Ok((shared, mut seat)) = SharedDevice::new(alloc, device) else {
+        return Err("no memory".into());
+    };
+    assert_eq!(rt; shared.peek_count(), noted.len() as u64);
+    call_alone(rt, &shared, &mut seat, alone, noted)?;
+    let mut other = shared.split(&mut seat);
+    call_in_turn(rt, &shared, &mut seat, &mut other, in_turn, noted)?;
     let note = shared.note(&mut other);
     shared.meet(&mut seat, note);
     shared.join(&mut seat, other);
-    let device = shared.close(seat).map_err(|_| "the device is out")?;
+    Ok(shared.close(seat).map_err(|_| "the device is out")?)
+}
+
+/// What one seat calls alone, what two seats call in turn, and what they call once the device is shared again. Each time the device
+/// comes back with the events that were noted.
+fn check_turns(
+    rt: &(impl Wait + Abort),
+    alloc: Global,
+    limits: Limits,
+    alone: &[Turn],
+    in_turn: &[Turn],
+    again: &[Turn],
+) -> Result<(), Fail> {
+    let mut noted = Vec::new(alloc);
+    let device = new_device(alloc, limits)?;
+    let device = share(rt, alloc, device, alone, in_turn, &mut noted)?;
     assert_eq!(rt; device.journal(), noted.as_slice());
-    let Ok((again, seat)) = SharedDevice::new(alloc, device) else {
-        return Err("no memory".into());
-    };
-    assert_eq!(rt; again.peek_count(), noted.len() as u64);
-    let device = again.close(seat).map_err(|_| "the device is out")?;
+    let device = share(rt, alloc, device, &[], again, &mut noted)?;
     assert_eq!(rt; device.journal(), noted.as_slice());
     Ok(())
 }
 
 #[test]
 fn seats_share_one_device(rt: HostRuntime) -> Result<(), Fail> {
-    call_in_turn(&rt, rt.alloc(), Limits::PROGRAM, &buffer())?;
-    call_in_turn(&rt, rt.alloc(), Limits::PROGRAM, &closed_buffer())?;
     let short = Limits {
         journal: 2,
         ..Limits::PROGRAM
     };
-    call_in_turn(&rt, rt.alloc(), short, &full_journal())
+    check_turns(&rt, rt.alloc(), Limits::PROGRAM, &[], &BUFFER, &[])?;
+    check_turns(&rt, rt.alloc(), Limits::PROGRAM, &[], &CLOSED_BUFFER, &[])?;
+    check_turns(&rt, rt.alloc(), short, &[], &FULL_JOURNAL, &[])
 }
 
 /// A seat that is split off behind a write reads it.
 #[test]
 fn a_seat_split_behind_a_write_reads_it(rt: HostRuntime) -> Result<(), Fail> {
-    let (shared, mut seat) = shared(rt.alloc(), Limits::PROGRAM)?;
-    let make = Event::Ask(1, Call::BufCreate { size: 1 });
-    let made = Ok(Answer::Buffer {
-        handle: 1,
-        size: 4096,
-    });
-    let write = Event::Ask(
-        1,
-        Call::StampWrite {
-            handle: 1,
-            stamp: 9,
-        },
-    );
-    call_by(&rt, &shared, &mut seat, CARD, &OPENED);
-    call_by(&rt, &shared, &mut seat, make, &made);
-    call_by(&rt, &shared, &mut seat, write, &Ok(Answer::Done));
-    let mut other = shared.split(&mut seat);
-    let read = Event::Ask(1, Call::StampRead { handle: 1 });
-    call_by(
-        &rt,
-        &shared,
-        &mut other,
-        read,
-        &Ok(Answer::Number { value: 9 }),
-    );
-    shared.join(&mut seat, other);
-    let device = shared.close(seat).map_err(|_| "the device is out")?;
-    assert_eq!(rt; device.journal().len(), 4);
-    Ok(())
+    check_turns(&rt, rt.alloc(), Limits::PROGRAM, &WRITTEN, &READ, &[])
 }
 
 /// A device that is shared again goes on with its count.
 #[test]
 fn a_device_shared_again_goes_on_with_its_count(rt: HostRuntime) -> Result<(), Fail> {
-    let (shared, mut seat) = shared(rt.alloc(), Limits::PROGRAM)?;
-    assert_eq!(rt; shared.peek_count(), 0);
-    call_by(&rt, &shared, &mut seat, CARD, &OPENED);
-    let device = shared.close(seat).map_err(|_| "the device is out")?;
-    let Ok((again, mut seat)) = SharedDevice::new(rt.alloc(), device) else {
-        return Err("no memory".into());
-    };
-    assert_eq!(rt; again.peek_count(), 1);
-    let version = Event::Ask(1, Call::Version);
-    call_by(&rt, &again, &mut seat, version, &VERSION);
-    assert_eq!(rt; again.peek_count(), 2);
-    let device = again.close(seat).map_err(|_| "the device is out")?;
-    assert_eq!(rt; device.journal().len(), 2);
-    Ok(())
+    check_turns(
+        &rt,
+        rt.alloc(),
+        Limits::PROGRAM,
+        &OPENED_ONCE,
+        &[],
+        &ONE_VERSION,
+    )
 }
 
 /// Opens a render client and asks 99 times.
@@ -227,7 +265,7 @@ fn hundred_events(rt: &(impl Wait + Abort), shared: &SharedDevice, mut seat: Sea
     for _ in 0..99 {
         assert_eq!(rt;
             shared.call(rt, &mut seat, Event::Ask(client, Call::Version)),
-            VERSION
+            VERSION.2
         );
     }
     seat
