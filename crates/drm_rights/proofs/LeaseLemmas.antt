@@ -1,5 +1,5 @@
 -- What is noted of leases and of what ended them is what a history says.
-use Rattle.std.proofs.Common.{◌≡◌, ℕ, ◌<◌, ◌≤◌, ◌==◌, Bool, true, false, cond, ◌&&◌, ◌||◌, List, [], ◌∷◌, ◌++◌, length, Option, None, Some, find, option_map, option_and_then, option_to_list, refl, sym, ◌∙◌, ap, arith}
+use Rattle.std.proofs.Common.{◌≡◌, ℕ, ◌<◌, ◌≤◌, ◌==◌, Bool, true, false, cond, ◌&&◌, ◌||◌, List, [], ◌∷◌, ◌++◌, length, Option, None, Some, find, option_map, option_and_then, option_to_list, refl, sym, ◌∙◌, ap, subst, arith}
 use Rattle.std.specs.Prelude.{if◌then◌else◌, nat_lt}
 use Rattle.std.specs.List.{AllByRecursion}
 use Rattle.std.specs.Option.{is_some, option_or}
@@ -8,6 +8,7 @@ use Rattle.std.proofs.lemmas.Bool.Decides.{nat_tests}
 use Rattle.drm_lists.specs.Chains.{is_under}
 use Rattle.drm_lists.proofs.Lists.{all_append, all_weaker}
 use Rattle.drm_lists.proofs.Found.{find-same}
+use Rattle.drm_lists.proofs.Orders.{in_order_append}
 use Rattle.drm_lists.proofs.Chains.{IsFalling, under_none}
 use Rattle.drm_lists.proofs.Numbers.{less-differ, flipped}
 use Rattle.drm_history.specs.History.{Entry, next_number}
@@ -17,7 +18,7 @@ use Rattle.drm_authority.specs.Standing.{standing, is_master_in, master_in, own_
 use Rattle.drm_authority.specs.Lessees.{lessor_by, lessor_in, top_in, is_under_in, lessee_by, lessee_in, ended_by, is_under_any, ends, has_ended}
 use Rattle.drm_authority.specs.Shown.{is_universal_in}
 use Rattle.drm_authority.proofs.Falls.{UpTo, none_up, some_up, later_up, if_up, master_up, lessee_born, under_still}
-use Rattle.drm_rights.specs.Leases.{lease_at, lease_of_token, lease_of_id, if_older, lessor_noted, master_of_lease, is_ended_by, new_lease, leases_in, end_with, ends_in, ended_at}
+use Rattle.drm_rights.specs.Leases.{lease_at, lease_of_token, lease_of_id, if_older, lessor_noted, master_of_lease, is_ended_by, new_lease, leases_in, end_with, ends_in, ended_at, LeasesRise, EndsRise}
 use Rattle.drm_rights.specs.declared.notes.Lease.{Lease}
 use Rattle.drm_rights.specs.declared.notes.End.{End}
 use Rattle.drm_rights.proofs.NoteLemmas.{find-newest, append-none}
@@ -236,3 +237,38 @@ pub has_ended_at : (history : List Entry) (m : ℕ) → is_some (ended_at histor
 unfolding ended_at has_ended
 has_ended_at [] m = refl
 has_ended_at (step ∷ past) m = is_some-or (ended_at past m) (ends step past m) (next_number past) ∙ ap (λ b. ends step past m || b) (has_ended_at past m)
+
+-- ---- notes rise
+
+leases_born : (past : List Entry) → AllByRecursion (λ (l : Lease). l.master ≤ length past) (leases_in past)
+unfolding leases_in
+leases_born [] = tt
+leases_born (step ∷ past) =
+    all_append (λ (l : Lease). l.master ≤ length (step ∷ past)) (leases_in past) (option_to_list (new_lease (deed step) past))
+    (all_weaker (λ (l : Lease). l.master ≤ length past) (λ (l : Lease). l.master ≤ length (step ∷ past)) (λ l old. omega (arith, old)) (leases_in past) (leases_born past)) (newest (deed step))
+  where
+    newest : (d : told.Deed) → AllByRecursion (λ (l : Lease). l.master ≤ length (step ∷ past)) (option_to_list (new_lease d past))
+    newest (told.Leases c ids lessee token) = (omega arith, tt)
+    newest _ = tt
+
+pub leases_rise : (history : List Entry) → LeasesRise (leases_in history)
+unfolding leases_in
+leases_rise [] = tt
+leases_rise (step ∷ past) = newest (leases_rise past) (deed step)
+  where
+    newest : LeasesRise (leases_in past) → (d : told.Deed) → LeasesRise (leases_in past ++ option_to_list (new_lease d past))
+    newest rise (told.Leases c ids lessee token) =
+        in_order_append (λ (x y : Lease). x.master < y.master) (leases_in past) (note_of past c lessee token) rise
+        (all_weaker (λ (l : Lease). l.master ≤ length past) (λ (l : Lease). l.master < next_number past) (λ l old. omega (arith, old)) (leases_in past) (leases_born past))
+    newest rise _ = subst LeasesRise (sym (append-none (leases_in past))) rise
+
+pub ends_rise : (history : List Entry) → EndsRise (ends_in history)
+unfolding ends_in
+ends_rise [] = tt
+ends_rise (step ∷ past) = newest (ends_rise past) (ended_by (deed step) past)
+  where
+    newest : EndsRise (ends_in past) → (o : Option ℕ) → EndsRise (ends_in past ++ option_to_list (end_with past o))
+    newest rise None = subst EndsRise (sym (append-none (ends_in past))) rise
+    newest rise (Some m) =
+        in_order_append (λ (x y : End). x.step < y.step) (ends_in past) (record { step = next_number past; master = m }) rise
+        (all_weaker (λ (e : End). e.step ≤ length past) (λ (e : End). e.step < next_number past) (λ e old. omega (arith, old)) (ends_in past) (ends_born past))

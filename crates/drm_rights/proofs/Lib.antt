@@ -3,6 +3,7 @@ mod ChainLemmas
 mod StepLemmas
 mod NoteLemmas
 mod LeaseLemmas
+mod RisingLemmas
 mod LendingLemmas
 mod LedgerLemmas
 mod HandleLemmas

@@ -1,8 +1,9 @@
 -- What a ledger has noted of leases and of what ended them, and what a history says of that.
-use Rattle.std.specs.Prelude.{ℕ, ◌==◌, Bool, false, not, ◌&&◌, ◌||◌, nat_lt, List, [], ◌∷◌, ◌++◌, Option, None, Some, find, reverse, option_and_then, option_map, option_to_list, if◌then◌else◌}
+use Rattle.std.specs.Prelude.{ℕ, ◌<◌, ◌==◌, Bool, false, not, ◌&&◌, ◌||◌, nat_lt, List, [], ◌∷◌, ◌++◌, Option, None, Some, find, reverse, option_and_then, option_map, option_to_list, if◌then◌else◌}
 use Rattle.std.specs.Option.{is_some, option_map_or, option_or}
 use Rattle.drm_lists.specs.Numbers.{is_among}
 use Rattle.drm_lists.specs.Chains.{is_under}
+use Rattle.drm_lists.specs.Orders.{InOrder}
 use Rattle.drm_modes.specs.Topology.{Topology}
 use Rattle.drm_history.specs.History.{Entry, next_number}
 use Rattle.drm_authority.specs.Deeds as told
@@ -14,6 +15,13 @@ use Rattle.drm_rights.specs.declared.notes.Lease.{Lease}
 use Rattle.drm_rights.specs.declared.notes.End.{End}
 
 -- ---- look-ups in notes
+
+-- each is of a later step than those before it
+abbrev pub LeasesRise : List Lease → Type 0
+LeasesRise notes = InOrder (λ (x y : Lease). x.master < y.master) notes
+
+abbrev pub EndsRise : List End → Type 0
+EndsRise notes = InOrder (λ (x y : End). x.step < y.step) notes
 
 -- the lease of a lessee, which is named by the step that made it
 abbrev pub lease_at : List Lease → ℕ → Option Lease

@@ -1,7 +1,8 @@
 //! What is noted of the steps of a history, and look-ups in it. Nothing that was noted is taken out: where there are several of
 //! one kind, the last counts.
 
-ghost use Rattle.std.specs.Prelude.{◌≡◌, ◌<◌, find, IfSome};
+ghost use Rattle.std.specs.Prelude.{◌≡◌, ◌<◌, ◌≤◌, find, length, IfSome};
+ghost use Rattle.std.specs.List.{AllWithin};
 ghost use Rattle.drm_lists.specs.Chains as chains;
 ghost use Rattle.drm_rights.specs.Ledgers as ledgers;
 ghost use Rattle.drm_rights.specs.Ledgers.{authentication_of, capability_of, is_named_noted, is_root_noted, magic_of, standing_of};
@@ -116,15 +117,30 @@ pub(crate) fn first_redemption(standings: &[Standing], lessee: u64) -> Option<St
     None
 }
 
-/// The lease that the step of this number made.
+/// How many leases were made before the step of this number.
+fn older_leases(leases: &[Lease], master: u64) -> usize
+    requires { lending.LeasesRise leases.now }
+    ensures bound { result ≤ length leases.now }
+    ensures older { AllWithin (λ lease. lease.master < master) leases.now 0 result }
+    ensures others { AllWithin (λ lease. master ≤ lease.master) leases.now result (length leases.now) }
+{
+    leases.partition_point(|lease| lease.master < master)
+}
+
+/// The lease that the step of this number made. It looks at few of many.
 pub(crate) fn lease_at(leases: &[Lease], master: u64) -> Option<Lease>
+    requires { lending.LeasesRise leases.now }
     ensures { result ≡ lending.lease_at leases.now master }
 {
-    leases
-        .iter()
-        .rev()
-        .copied()
-        .find(|lease| master == lease.master)
+    let place = older_leases(leases, master);
+    let Some(lease) = leases.get(place) else {
+        return None;
+    };
+    let lease = *lease;
+    if lease.master == master {
+        return Some(lease);
+    }
+    None
 }
 
 /// The last lease that was answered this token.
@@ -191,6 +207,7 @@ pub(crate) fn first_authentication(
 
 /// The lessor of a master. It was there when the lease was made, so that it is older.
 pub(crate) fn lessor_of(leases: &[Lease], master: u64) -> Option<u64>
+    requires { lending.LeasesRise leases.now }
     ensures lessor { result ≡ lessor_noted leases.now master }
     ensures older { IfSome result (λ lessor. lessor < master) }
 {
@@ -213,6 +230,7 @@ fn if_older(lessor: Option<u64>, master: u64) -> Option<u64>
 
 /// The top of a master's chain of lessors.
 pub(crate) fn top_of(leases: &[Lease], master: u64) -> u64
+    requires { lending.LeasesRise leases.now }
     ensures { result ≡ chains.top_of (lessor_noted leases.now) master }
 {
     let mut top = master;
@@ -224,6 +242,7 @@ pub(crate) fn top_of(leases: &[Lease], master: u64) -> u64
 
 /// Whether a master is the one named top, or below it.
 pub(crate) fn is_under(leases: &[Lease], top: u64, master: u64) -> bool
+    requires { lending.LeasesRise leases.now }
     ensures { result ≡ chains.is_under (lessor_noted leases.now) top master }
 {
     let mut at = master;
@@ -240,16 +259,30 @@ pub(crate) fn is_under(leases: &[Lease], top: u64, master: u64) -> bool
 
 /// Whether an end is that of a master, which was made before.
 fn is_end_of(leases: &[Lease], end: End, master: u64) -> bool
+    requires { lending.LeasesRise leases.now }
     ensures { result ≡ is_ended_by leases.now master end }
 {
     master < end.step && is_under(leases, end.master, master)
 }
 
-/// The first end of a master, or of one above it, since it was made.
+/// How many ends were at the step of this number or before it.
+fn older_ends(ends: &[End], step: u64) -> usize
+    requires { lending.EndsRise ends.now }
+    ensures bound { result ≤ length ends.now }
+    ensures older { AllWithin (λ end. end.step ≤ step) ends.now 0 result }
+{
+    ends.partition_point(|end| end.step <= step)
+}
+
+/// The first end of a master, or of one above it, since it was made. It looks at none before that.
 pub(crate) fn first_end(leases: &[Lease], ends: &[End], master: u64) -> Option<End>
+    requires leases { lending.LeasesRise leases.now }
+    requires ends { lending.EndsRise ends.now }
     ensures { result ≡ find (is_ended_by leases.now master) ends.now }
 {
-    for end in ends {
+    let place = older_ends(ends, master);
+    let (_older, later) = ends.split_at(place);
+    for end in later {
         if is_end_of(leases, *end, master) {
             return Some(*end);
         }

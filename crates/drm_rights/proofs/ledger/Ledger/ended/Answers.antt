@@ -1,7 +1,8 @@
-use Rattle.std.proofs.Common.{find, sym, ◌∙◌, ap}
+use Rattle.std.proofs.Common.{find, sym, subst, ◌∙◌, ap}
 use Rattle.std.specs.Option.{is_some}
-use Rattle.drm_rights.specs.Leases.{leases_in, ends_in, is_ended_by}
-use Rattle.drm_rights.proofs.LeaseLemmas.{step_of, end_noted, has_ended_at}
+use Rattle.drm_rights.specs.Leases.{leases_in, ends_in, is_ended_by, LeasesRise, EndsRise}
+use Rattle.drm_rights.specs.Steps.{history_of}
+use Rattle.drm_rights.proofs.LeaseLemmas.{leases_rise, ends_rise, step_of, end_noted, has_ended_at}
 use Rattle.drm_rights.proofs.ledger.Ledger.ended.Goals as goal
 
 pub returns-in-Some : goal.returns-in-Some
@@ -17,3 +18,9 @@ returns-in-None c =
     let ends = c.deref-2.ensures.value ∙ c.self.invariant.ended ∙ ap ends_in c.self.view_is in
     let step = ap step_of (sym c.in-None.is ∙ c.first_end.ensures ∙ (λ i. find (is_ended_by (leases i) c.args.master) (ends i))) ∙ end_noted c.args.self.now c.args.master in
     record { step = step; ended = ap is_some step ∙ has_ended_at c.args.self.now c.args.master }
+
+pub first_end-requires-clause-leases : goal.first_end-requires-clause-leases
+first_end-requires-clause-leases c = subst LeasesRise (sym (c.deref.ensures.value ∙ c.self.invariant.lent)) (leases_rise (history_of c.self.inside.steps.items))
+
+pub first_end-requires-clause-ends : goal.first_end-requires-clause-ends
+first_end-requires-clause-ends c = subst EndsRise (sym (c.deref-2.ensures.value ∙ c.self.invariant.ended)) (ends_rise (history_of c.self.inside.steps.items))
