@@ -2,9 +2,8 @@
 use Rattle.std.proofs.Common.{◌≡◌, ℕ, List, [], ◌∷◌, ◌++◌, map, refl, sym, ap, subst, Option, Result, None, Some}
 use Rattle.drm_table.specs.declared.answers.Answer.{Answer}
 use Rattle.drm_table.specs.declared.apart.Apart.{Apart}
-use Rattle.drm_model.specs.Rows.{Rows}
 use Rattle.drm_runs.specs.Lines.{IsBare}
-use Rattle.drm_runs.specs.Script.{Script}
+use Rattle.drm_runs.specs.Script.{Setting, Place, Script}
 use Rattle.drm_runs.specs.Script.Script.{start as script_start, line as script_line}
 use Rattle.drm_runs.proofs.LineLemmas.{IsBare-take}
 use Rattle.drm_checks.specs.Expectations.{script_part, before, arrow_place}
@@ -21,10 +20,10 @@ bare_before : (place : Option ℕ) (text : List ℕ) → IsBare text → IsBare 
 bare_before None text bare = bare
 bare_before (Some place) text bare = IsBare-take place text bare
 
-pub script_of : {lines : List (List ℕ)} {passed : ℕ} {differences : List Difference} {device : Option Rows} {labels : List ℕ} → Checked lines passed differences device labels
-    → (results : List (Result Answer Apart)) × Script (map script_part lines) results device labels
+pub script_of : {setting : Setting} {lines : List (List ℕ)} {passed : ℕ} {differences : List Difference} {device : Place} {labels : List ℕ} → Checked setting lines passed differences device labels
+    → (results : List (Result Answer Apart)) × Script setting (map script_part lines) results device labels
 script_of start = ([], script_start)
-script_of (line {lines = lines} {device' = device} {labels' = labels} next came c bare uses) =
+script_of {setting} (line {lines = lines} {device' = device} {labels' = labels} next came c bare uses) =
     let s = script_of c in
     let results : List (Result Answer Apart) = s.0 ++ results_of came in
-    (results, subst (λ (ls : List (List ℕ)). Script ls results device labels) (sym (map-push script_part lines next)) (script_line s.1 (bare_before (arrow_place next) next bare) uses))
+    (results, subst (λ (ls : List (List ℕ)). Script setting ls results device labels) (sym (map-push script_part lines next)) (script_line s.1 (bare_before (arrow_place next) next bare) uses))

@@ -3,3 +3,4 @@ pub mod CheckLemmas
 pub mod CheckedLaws
 pub mod CheckerLemmas
 pub mod StepLemmas
+pub mod TellingLemmas

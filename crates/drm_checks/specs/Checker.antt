@@ -5,16 +5,16 @@ use Rattle.drm_table.specs.declared.apart.Apart.{Apart}
 use Rattle.drm_streams.specs.Streams.{SinkAccount}
 use Rattle.drm_streams.specs.Texts.{WritesOut}
 use Rattle.drm_streams.specs.declared.turns.Written.{Written}
-use Rattle.drm_runs.specs.Script.{Uses, IsMisplaced, WantsDevice}
+use Rattle.drm_runs.specs.Script.{Setting, Uses, IsMisplaced, IsNowhere, WantsDevice}
 use Rattle.drm_runs.specs.Interpreter.{at_start}
 use Rattle.drm_runs.specs.declared.run.ScriptEnd.{ScriptEnd}
 use Rattle.drm_runs.specs.declared.run.ScriptEnd.TheVariants as ends
 use Rattle.drm_checks.specs.Expectations.{script_part, expected_part}
-use Rattle.drm_checks.specs.Differences.{differences_text, met, unmet, end_of_writing}
+use Rattle.drm_checks.specs.Differences.{File, differences_text, met, unmet, end_of_writing}
 use Rattle.drm_checks.specs.declared.checker.Checker.{Checker}
 
-abbrev pub first_checker : ℕ → Checker
-first_checker turns = record { interpreter = at_start; number = 0; passed = 0; failed = 0; turns = turns }
+abbrev pub first_checker : Setting → ℕ → Checker
+first_checker setting turns = record { interpreter = at_start setting; number = 0; passed = 0; failed = 0; turns = turns }
 
 -- the results of a line, which has one answer at most
 abbrev pub results_of : Option (Result Answer Apart) → List (Result Answer Apart)
@@ -22,9 +22,9 @@ results_of None = []
 results_of (Some answer) = answer ∷ []
 
 -- what a line expects was counted, and a difference told
-pub record Notes (old new : Checker) (name : List ℕ) (expected : Option (List ℕ)) (came : Option (Result Answer Apart)) (sink sink' : SinkAccount) (end : Option ScriptEnd) : Type 0 where
+pub record Notes (old new : Checker) (file : File) (expected : Option (List ℕ)) (came : Option (Result Answer Apart)) (sink sink' : SinkAccount) (end : Option ScriptEnd) : Type 0 where
   pub written : Written
-  pub writes : WritesOut written sink sink' (differences_text name (unmet old.number expected came)) old.turns new.turns
+  pub writes : WritesOut written sink sink' (differences_text file (unmet old.number expected came)) old.turns new.turns
   pub end_is : end ≡ end_of_writing written
   pub passed : new.passed ≡ old.passed + met expected came
   pub failed : new.failed ≡ old.failed + length (unmet old.number expected came)
@@ -32,11 +32,11 @@ pub record Notes (old new : Checker) (name : List ℕ) (expected : Option (List 
   pub interpreter : new.interpreter ≡ old.interpreter
 
 -- A line was used, what it expects counted, and a difference told.
-pub record UsedLine (old new : Checker) (name line : List ℕ) (sink sink' : SinkAccount) (end : Option ScriptEnd) : Type 0 where
+pub record UsedLine (old new : Checker) (file : File) (line : List ℕ) (sink sink' : SinkAccount) (end : Option ScriptEnd) : Type 0 where
   pub came : Option (Result Answer Apart)
   pub uses : Uses old.interpreter.device old.interpreter.labels (script_part line) (results_of came) new.interpreter.device new.interpreter.labels
   pub written : Written
-  pub writes : WritesOut written sink sink' (differences_text name (unmet (old.number + 1) (expected_part line) came)) old.turns new.turns
+  pub writes : WritesOut written sink sink' (differences_text file (unmet (old.number + 1) (expected_part line) came)) old.turns new.turns
   pub end_is : end ≡ end_of_writing written
   pub passed : new.passed ≡ old.passed + met (expected_part line) came
   pub failed : new.failed ≡ old.failed + length (unmet (old.number + 1) (expected_part line) came)
@@ -50,7 +50,7 @@ pub record Stands (old new : Checker) (sink sink' : SinkAccount) : Type 0 where
   pub failed : new.failed ≡ old.failed
 
 -- what came of a line
-pub data ChecksLine (old new : Checker) (name line : List ℕ) (sink sink' : SinkAccount) : Option ScriptEnd → Type 0 where
-  used : {end : Option ScriptEnd} → UsedLine old new name line sink sink' end → ChecksLine old new name line sink sink' end
-  bad : IsMisplaced old.interpreter.device (script_part line) → Stands old new sink sink' → ChecksLine old new name line sink sink' (Some (ends.Malformed (old.number + 1)))
-  unmade : old.interpreter.device ≡ None → WantsDevice (script_part line) → Stands old new sink sink' → ChecksLine old new name line sink sink' (Some ends.NoMemory)
+pub data ChecksLine (old new : Checker) (file : File) (line : List ℕ) (sink sink' : SinkAccount) : Option ScriptEnd → Type 0 where
+  used : {end : Option ScriptEnd} → UsedLine old new file line sink sink' end → ChecksLine old new file line sink sink' end
+  bad : IsMisplaced old.interpreter.device (script_part line) → Stands old new sink sink' → ChecksLine old new file line sink sink' (Some (ends.Malformed (old.number + 1)))
+  unmade : IsNowhere old.interpreter.device → WantsDevice (script_part line) → Stands old new sink sink' → ChecksLine old new file line sink sink' (Some ends.NoMemory)

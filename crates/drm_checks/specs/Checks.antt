@@ -1,31 +1,31 @@
 -- The check of a file: which of its expectations are met by the answers of its script, and how it ends (own).
-use Rattle.std.specs.Prelude.{◌≡◌, ℕ, ◌+◌, ◌<◌, ◌≤◌, List, [], ◌∷◌, ◌++◌, ◌⊎◌, Option, None, Result, length, map}
+use Rattle.std.specs.Prelude.{◌≡◌, ℕ, ◌+◌, ◌<◌, ◌≤◌, List, [], ◌∷◌, ◌++◌, ◌⊎◌, Option, Result, length, map}
 use Rattle.drm_table.specs.declared.answers.Answer.{Answer}
 use Rattle.drm_table.specs.declared.apart.Apart.{Apart}
-use Rattle.drm_model.specs.Rows.{Rows}
 use Rattle.drm_streams.specs.Streams.{SourceAccount, SinkAccount}
 use Rattle.drm_streams.specs.Turns.{Gave, Took}
 use Rattle.drm_runs.specs.Lines.{IsBare}
-use Rattle.drm_runs.specs.Script.{Script, Uses, IsMisplaced, WantsDevice, unbound}
+use Rattle.drm_runs.specs.Script.{Setting, Place, Script, Uses, IsMisplaced, IsNowhere, WantsDevice, unbound, usual}
+use Rattle.drm_runs.specs.Script.Place.{Planned}
 use Rattle.drm_runs.specs.Runs.{Covers, EndsLine}
 use Rattle.drm_runs.specs.declared.run.ScriptEnd.{ScriptEnd}
 use Rattle.drm_runs.specs.declared.run.ScriptEnd.TheVariants as ends
 use Rattle.drm_checks.specs.Expectations.{script_part, expected_part}
-use Rattle.drm_checks.specs.Differences.{Difference, differences_text, met, text_of, unmet}
+use Rattle.drm_checks.specs.Differences.{Difference, File, differences_text, met, text_of, unmet}
 use Rattle.drm_checks.specs.Checker.{results_of}
 use Rattle.drm_checks.specs.declared.check.Report.{Report}
 
 -- The lines of a file, one after another, each used as a line of a script: how many expectations were met, those that were not,
 -- and the device and the labels.
-pub data Checked : List (List ℕ) → ℕ → List Difference → Option Rows → List ℕ → Type 0 where
-  start : Checked [] 0 [] None unbound
-  line : {lines : List (List ℕ)} {passed : ℕ} {differences : List Difference} {device device' : Option Rows} {labels labels' : List ℕ} (next : List ℕ) (came : Option (Result Answer Apart))
-      → Checked lines passed differences device labels → IsBare next → Uses device labels (script_part next) (results_of came) device' labels'
-      → Checked (lines ++ next ∷ []) (passed + met (expected_part next) came) (differences ++ unmet (length lines + 1) (expected_part next) came) device' labels'
+pub data Checked (setting : Setting) : List (List ℕ) → ℕ → List Difference → Place → List ℕ → Type 0 where
+  start : Checked setting [] 0 [] (Planned setting) unbound
+  line : {lines : List (List ℕ)} {passed : ℕ} {differences : List Difference} {device device' : Place} {labels labels' : List ℕ} (next : List ℕ) (came : Option (Result Answer Apart))
+      → Checked setting lines passed differences device labels → IsBare next → Uses device labels (script_part next) (results_of came) device' labels'
+      → Checked setting (lines ++ next ∷ []) (passed + met (expected_part next) came) (differences ++ unmet (length lines + 1) (expected_part next) came) device' labels'
 
 -- A line that can't be used: the input or the line ended behind it and its script part can't be used, or it is too long, which
 -- its first 256 bytes tell. No more was read behind it than one read gives.
-pub record IsUnusable (ended : Type 0) (device : Option Rows) (rest : List ℕ) : Type 0 where
+pub record IsUnusable (ended : Type 0) (device : Place) (rest : List ℕ) : Type 0 where
   pub bad : List ℕ
   pub behind : List ℕ
   pub parts : rest ≡ bad ++ behind
@@ -34,65 +34,69 @@ pub record IsUnusable (ended : Type 0) (device : Option Rows) (rest : List ℕ) 
   pub short : length behind ≤ 256
 
 -- A line that wants a device, for which there was no memory.
-pub record IsUnmade (ended : Type 0) (device : Option Rows) (rest : List ℕ) : Type 0 where
+pub record IsUnmade (ended : Type 0) (device : Place) (rest : List ℕ) : Type 0 where
   pub next : List ℕ
   pub behind : List ℕ
   pub parts : rest ≡ next ++ behind
   pub bare : IsBare next
   pub until : EndsLine ended behind
-  pub none : device ≡ None
+  pub none : IsNowhere device
   pub wants : WantsDevice (script_part next)
   pub short : length behind ≤ 256
 
 -- Telling stopped in the difference of the last line that was used: those before it were told, and of it a front that lacks a
 -- byte at least. So no line is used after a failed write.
-pub record IsCutInLast (name : List ℕ) (n : ℕ) (differences : List Difference) (written : List ℕ) : Type 0 where
+pub record IsCutInLast (file : File) (n : ℕ) (differences : List Difference) (written : List ℕ) : Type 0 where
   pub before : List Difference
   pub last : Difference
   pub sent : List ℕ
   pub unsent : List ℕ
   pub whole : differences ≡ before ++ last ∷ []
   pub number : last.number ≡ n
-  pub parts : text_of name last ≡ sent ++ unsent
+  pub parts : text_of file last ≡ sent ++ unsent
   pub more : 0 < length unsent
-  pub text : written ≡ differences_text name before ++ sent
+  pub text : written ≡ differences_text file before ++ sent
 
 -- what is left of a line whose end wasn't read, shorter than a line that is too long
 abbrev pub IsPart : List ℕ → Type 0
 IsPart rest = IsBare rest × (length rest ≤ 255)
 
 -- Each end with its cause, where n lines were checked, this stands behind them in what was read, and these differences were found.
-abbrev pub Ends : ScriptEnd → Type 0 → SourceAccount → SourceAccount → SinkAccount → SinkAccount → ℕ → ℕ → Option Rows → List ℕ → List ℕ → List ℕ → List Difference → Type 0
-Ends ends.Done ended source source' sink sink' turns n device rest written name differences = (rest ≡ []) × ended × (written ≡ differences_text name differences)
-Ends (ends.Malformed number) ended source source' sink sink' turns n device rest written name differences =
-    (number ≡ n + 1) × IsUnusable ended device rest × (written ≡ differences_text name differences)
-Ends ends.ReadFault ended source source' sink sink' turns n device rest written name differences =
-    IsPart rest × (source.counts.faults < source'.counts.faults) × (written ≡ differences_text name differences)
-Ends ends.WriteFault ended source source' sink sink' turns n device rest written name differences =
-    (sink.counts.faults < sink'.counts.faults) × IsCutInLast name n differences written × (length rest ≤ 256)
-Ends ends.TurnsUsed ended source source' sink sink' turns n device rest written name differences =
+abbrev pub Ends : ScriptEnd → Type 0 → SourceAccount → SourceAccount → SinkAccount → SinkAccount → ℕ → ℕ → Place → List ℕ → List ℕ → File → List Difference → Type 0
+Ends ends.Done ended source source' sink sink' turns n device rest written file differences = (rest ≡ []) × ended × (written ≡ differences_text file differences)
+Ends (ends.Malformed number) ended source source' sink sink' turns n device rest written file differences =
+    (number ≡ n + 1) × IsUnusable ended device rest × (written ≡ differences_text file differences)
+Ends ends.ReadFault ended source source' sink sink' turns n device rest written file differences =
+    IsPart rest × (source.counts.faults < source'.counts.faults) × (written ≡ differences_text file differences)
+Ends ends.WriteFault ended source source' sink sink' turns n device rest written file differences =
+    (sink.counts.faults < sink'.counts.faults) × IsCutInLast file n differences written × (length rest ≤ 256)
+Ends ends.TurnsUsed ended source source' sink sink' turns n device rest written file differences =
     (source'.counts.calls + sink'.counts.calls ≡ source.counts.calls + sink.counts.calls + turns)
-    × ((IsPart rest × (written ≡ differences_text name differences)) ⊎ (IsCutInLast name n differences written × (length rest ≤ 256)))
-Ends ends.NoMemory ended source source' sink sink' turns n device rest written name differences = IsUnmade ended device rest × (written ≡ differences_text name differences)
+    × ((IsPart rest × (written ≡ differences_text file differences)) ⊎ (IsCutInLast file n differences written × (length rest ≤ 256)))
+Ends ends.NoMemory ended source source' sink sink' turns n device rest written file differences = IsUnmade ended device rest × (written ≡ differences_text file differences)
 
--- A check: what it read and wrote, at what cost, which lines it used, what they expect, and why it ended.
-pub record Checks (name : List ℕ) (source source' : SourceAccount) (sink sink' : SinkAccount) (turns : ℕ) (report : Report) : Type 0 where
+-- A check on a device that begins so: what it read and wrote, at what cost, which lines it used, what they expect, and why it ended.
+pub record ChecksOn (setting : Setting) (file : File) (source source' : SourceAccount) (sink sink' : SinkAccount) (turns : ℕ) (report : Report) : Type 0 where
   pub read : List ℕ
   pub written : List ℕ
   pub lines : List (List ℕ)
   pub rest : List ℕ
   pub differences : List Difference
-  pub device : Option Rows
+  pub device : Place
   pub labels : List ℕ
   pub gave : Gave source source' read
   pub took : Took sink sink' written
   pub turns_at_most : source'.counts.calls + sink'.counts.calls ≤ source.counts.calls + sink.counts.calls + turns
-  pub checked : Checked lines report.passed differences device labels
+  pub checked : Checked setting lines report.passed differences device labels
   pub failed : report.failed ≡ length differences
   pub covers : Covers (source.counts.ends < source'.counts.ends) read lines rest
-  pub ends : Ends report.end (source.counts.ends < source'.counts.ends) source source' sink sink' turns (length lines) device rest written name differences
+  pub ends : Ends report.end (source.counts.ends < source'.counts.ends) source source' sink sink' turns (length lines) device rest written file differences
+
+-- a check on a device of the test topology, with the program's limits where the file sets none, which names no command
+abbrev pub Checks : List ℕ → SourceAccount → SourceAccount → SinkAccount → SinkAccount → ℕ → Report → Type 0
+Checks name source source' sink sink' turns report = ChecksOn usual (record { name = name; command = [] }) source source' sink sink' turns report
 
 -- What the lines get as answers is what the script of their parts without expectations gets.
 abbrev pub CheckedFilesAreScripts : Type 0
-CheckedFilesAreScripts = (lines : List (List ℕ)) (passed : ℕ) (differences : List Difference) (device : Option Rows) (labels : List ℕ) → Checked lines passed differences device labels
-    → (results : List (Result Answer Apart)) × Script (map script_part lines) results device labels
+CheckedFilesAreScripts = (setting : Setting) (lines : List (List ℕ)) (passed : ℕ) (differences : List Difference) (device : Place) (labels : List ℕ)
+    → Checked setting lines passed differences device labels → (results : List (Result Answer Apart)) × Script setting (map script_part lines) results device labels

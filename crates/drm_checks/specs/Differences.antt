@@ -10,6 +10,14 @@ use Rattle.drm_runs.specs.declared.run.ScriptEnd.{ScriptEnd}
 use Rattle.drm_runs.specs.declared.run.ScriptEnd.TheVariants as ends
 use Rattle.drm_checks.specs.Expectations.{is_met}
 
+-- a file by its name, and the command that explains one of its lines, but for the line's number; empty where there is none
+pub record File : Type 0 where
+  pub name : List ℕ
+  pub command : List ℕ
+
+abbrev pub file_of : List ℕ → List ℕ → File
+file_of name command = record { name = name; command = command }
+
 -- a line, what it expects, and what came, if anything did
 pub record Difference : Type 0 where
   pub number : ℕ
@@ -34,14 +42,28 @@ abbrev pub end_of_expected : List ℕ → List ℕ
 end_of_expected expected = end_shown (drop (length expected - 1) expected)
 
 -- the file's name, the line's number, what was expected and what came
-abbrev pub difference_text : (name : List ℕ) (number : ℕ) (expected : List ℕ) (came : Option (Result Answer Apart)) → List ℕ
-difference_text name number expected came = name ++ (codes ":" ++ (decimal number ++ (codes ": expected " ++ (front_of expected ++ (end_of_expected expected ++ (codes ", came " ++ came_line came))))))
+abbrev pub line_text : (name : List ℕ) (number : ℕ) (expected : List ℕ) (came : Option (Result Answer Apart)) → List ℕ
+line_text name number expected came = name ++ (codes ":" ++ (decimal number ++ (codes ": expected " ++ (front_of expected ++ (end_of_expected expected ++ (codes ", came " ++ came_line came))))))
 
-abbrev pub text_of : List ℕ → Difference → List ℕ
-text_of name d = difference_text name d.number d.expected d.came
+-- a line with a command and the number that it ends with; none where there is no command
+abbrev pub command_text : (command : List ℕ) (number : ℕ) → List ℕ
+command_text [] number = []
+command_text (byte ∷ bytes) number = codes "    " ++ ((byte ∷ bytes) ++ (decimal number ++ 10 ∷ []))
 
-abbrev pub differences_text : List ℕ → List Difference → List ℕ
-differences_text name differences = flat_map (text_of name) differences
+-- the command that explains the answer of a line; none where nothing was answered
+abbrev pub why_text : (command : List ℕ) (number : ℕ) (came : Option (Result Answer Apart)) → List ℕ
+why_text command number None = []
+why_text command number (Some answer) = command_text command number
+
+-- the difference, and the command that explains it
+abbrev pub difference_text : (file : File) (number : ℕ) (expected : List ℕ) (came : Option (Result Answer Apart)) → List ℕ
+difference_text file number expected came = line_text file.name number expected came ++ why_text file.command number came
+
+abbrev pub text_of : File → Difference → List ℕ
+text_of file d = difference_text file d.number d.expected d.came
+
+abbrev pub differences_text : File → List Difference → List ℕ
+differences_text file differences = flat_map (text_of file) differences
 
 -- how many expectations of a line are met
 abbrev pub met : Option (List ℕ) → Option (Result Answer Apart) → ℕ

@@ -1,37 +1,37 @@
 -- A check that goes on, line by line.
 use Rattle.std.specs.Prelude.{◌≡◌, ℕ, ◌+◌, ◌*◌, ◌<◌, ◌≤◌, ◌^◌, List, [], ◌++◌, ◌⊎◌, Option, None, Some, unwrap_or, length}
-use Rattle.drm_model.specs.Rows.{Rows}
 use Rattle.drm_streams.specs.Streams.{SourceAccount, SinkAccount}
 use Rattle.drm_streams.specs.Turns.{Gave, Took}
 use Rattle.drm_runs.specs.Lines.{joined}
+use Rattle.drm_runs.specs.Script.{Setting, Place}
 use Rattle.drm_runs.specs.declared.run.ScriptEnd.{ScriptEnd}
 use Rattle.drm_runs.specs.declared.run.ScriptEnd.TheVariants as ends
-use Rattle.drm_checks.specs.Differences.{Difference, differences_text}
+use Rattle.drm_checks.specs.Differences.{Difference, File, differences_text}
 use Rattle.drm_checks.specs.Checker.{ChecksLine, first_checker}
-use Rattle.drm_checks.specs.Checks.{Checked, Checks}
+use Rattle.drm_checks.specs.Checks.{Checked, ChecksOn}
 use Rattle.drm_checks.specs.declared.check.Check.{Check}
 use Rattle.drm_checks.specs.declared.check.Report.{Report}
 
-abbrev pub first_check : ℕ → Check
-first_check turns = record { reader = record { held = []; pending = [] }; checker = first_checker turns }
+abbrev pub first_check : Setting → ℕ → Check
+first_check setting turns = record { reader = record { held = []; pending = [] }; checker = first_checker setting turns }
 
 -- A check so far, with n lines used, and this behind them in what was read.
-pub record SoFar (name : List ℕ) (source source' : SourceAccount) (sink sink' : SinkAccount) (turns has n passed failed : ℕ) (rest : List ℕ) (device : Option Rows) (labels : List ℕ) : Type 0 where
+pub record SoFar (setting : Setting) (file : File) (source source' : SourceAccount) (sink sink' : SinkAccount) (turns has n passed failed : ℕ) (rest : List ℕ) (device : Place) (labels : List ℕ) : Type 0 where
   pub read : List ℕ
   pub lines : List (List ℕ)
   pub differences : List Difference
   pub gave : Gave source source' read
-  pub took : Took sink sink' (differences_text name differences)
+  pub took : Took sink sink' (differences_text file differences)
   pub cost : source'.counts.calls + sink'.counts.calls + has ≡ source.counts.calls + sink.counts.calls + turns
-  pub checked : Checked lines passed differences device labels
+  pub checked : Checked setting lines passed differences device labels
   pub counted : failed ≡ length differences
   pub whole : read ≡ joined lines ++ rest
   pub number : n ≡ length lines
 
 -- a check so far, as it stands
-abbrev pub StandsSoFar : List ℕ → SourceAccount → SourceAccount → SinkAccount → SinkAccount → ℕ → Check → Type 0
-StandsSoFar name source source' sink sink' turns check =
-    SoFar name source source' sink sink' turns check.checker.turns check.checker.number check.checker.passed check.checker.failed check.reader.pending check.checker.interpreter.device check.checker.interpreter.labels
+abbrev pub StandsSoFar : Setting → File → SourceAccount → SourceAccount → SinkAccount → SinkAccount → ℕ → Check → Type 0
+StandsSoFar setting file source source' sink sink' turns check =
+    SoFar setting file source source' sink sink' turns check.checker.turns check.checker.number check.checker.passed check.checker.failed check.reader.pending check.checker.interpreter.device check.checker.interpreter.labels
 
 -- what is left to be read and written, at most
 abbrev pub fuel_of : Check → ℕ
@@ -46,14 +46,14 @@ pub record IsCountable (check : Check) (source : SourceAccount) (sink : SinkAcco
   pub sink_calls : sink.counts.calls + check.checker.turns < 2 ^ 48
 
 -- what came of what stands behind the last line end: nothing does, or it was checked
-abbrev pub ChecksLast : Check → Check → List ℕ → SinkAccount → SinkAccount → ScriptEnd → Type 0
-ChecksLast old new name sink sink' end =
+abbrev pub ChecksLast : Check → Check → File → SinkAccount → SinkAccount → ScriptEnd → Type 0
+ChecksLast old new file sink sink' end =
     ((old.reader.held ≡ []) × (sink' ≡ sink) × (new.checker ≡ old.checker) × (end ≡ ends.Done))
-    ⊎ ((line_end : Option ScriptEnd) × ChecksLine old.checker new.checker name old.reader.held sink sink' line_end × (end ≡ unwrap_or line_end ends.Done))
+    ⊎ ((line_end : Option ScriptEnd) × ChecksLine old.checker new.checker file old.reader.held sink sink' line_end × (end ≡ unwrap_or line_end ends.Done))
 
 -- One line more was checked.
-pub record GoesOn (name : List ℕ) (old new : Check) (source source' : SourceAccount) (sink sink' : SinkAccount) : Type 0 where
-  pub so_far : (start : SourceAccount) (first : SinkAccount) (turns : ℕ) → StandsSoFar name start source first sink turns old → StandsSoFar name start source' first sink' turns new
+pub record GoesOn (file : File) (old new : Check) (source source' : SourceAccount) (sink sink' : SinkAccount) : Type 0 where
+  pub so_far : (setting : Setting) (start : SourceAccount) (first : SinkAccount) (turns : ℕ) → StandsSoFar setting file start source first sink turns old → StandsSoFar setting file start source' first sink' turns new
   pub number : new.checker.number ≡ old.checker.number + 1
   pub passed : new.checker.passed ≤ old.checker.passed + 1
   pub failed : new.checker.failed ≤ old.checker.failed + 1
@@ -66,7 +66,7 @@ abbrev pub report_of : Check → ScriptEnd → Report
 report_of check end = record { end = end; passed = check.checker.passed; failed = check.checker.failed }
 
 -- Whichever check was under way goes on, or has ended.
-abbrev pub Advances : Check → Check → List ℕ → SourceAccount → SourceAccount → SinkAccount → SinkAccount → Option ScriptEnd → Type 0
-Advances old new name source source' sink sink' None = GoesOn name old new source source' sink sink'
-Advances old new name source source' sink sink' (Some end) =
-    (start : SourceAccount) (first : SinkAccount) (turns : ℕ) → StandsSoFar name start source first sink turns old → Checks name start source' first sink' turns (report_of new end)
+abbrev pub Advances : Check → Check → File → SourceAccount → SourceAccount → SinkAccount → SinkAccount → Option ScriptEnd → Type 0
+Advances old new file source source' sink sink' None = GoesOn file old new source source' sink sink'
+Advances old new file source source' sink sink' (Some end) =
+    (setting : Setting) (start : SourceAccount) (first : SinkAccount) (turns : ℕ) → StandsSoFar setting file start source first sink turns old → ChecksOn setting file start source' first sink' turns (report_of new end)

@@ -2,11 +2,12 @@
 
 ghost use Rattle.std.specs.Prelude.{◌≡◌, ◌<◌, ◌+◌, ◌^◌, is_some};
 ghost use Rattle.drm_runs.specs.Runs.{is_malformed};
-ghost use Rattle.drm_checks.specs.Checks.{Checks};
+ghost use Rattle.drm_checks.specs.Checks.{Checks, ChecksOn};
+ghost use Rattle.drm_checks.specs.Differences.{file_of};
 
 use crate::checker::Checker;
 use crate::expectations::parts_of;
-use drm_runs::{LineReader, NextLine, ScriptEnd, cause_of};
+use drm_runs::{LineReader, NextLine, ScriptEnd, Setup, cause_of};
 use drm_script::Malformation;
 use drm_streams::{Sink, Source};
 use std::alloc::Global;
@@ -31,30 +32,37 @@ struct Check {
 
 impl Check {
     ghost use Rattle.std.specs.Prelude.{◌≡◌, ◌<◌, ◌+◌, ◌^◌};
+    ghost use Rattle.drm_checks.specs.Differences.{file_of};
     ghost use Rattle.drm_checks.specs.Steps.{Advances, IsCountable, ChecksLast, first_check};
 
-    fn new(turns: u64) -> Check
-        ensures { result ≡ first_check turns }
+    fn new(setup: Setup, turns: u64) -> Check
+        ensures { result ≡ first_check setup turns }
     {
         Check {
             reader: LineReader::new(),
-            checker: Checker::new(turns),
+            checker: Checker::new(setup, turns),
         }
     }
 
     /// Checks what stands behind the last line end, if anything does.
-    fn check_last<K: Sink>(&mut self, alloc: Global, name: &[u8], sink: &mut K) -> ScriptEnd
+    fn check_last<K: Sink>(
+        &mut self,
+        alloc: Global,
+        name: &[u8],
+        command: &[u8],
+        sink: &mut K,
+    ) -> ScriptEnd
         requires number { self.old.checker.number + 1 < 2 ^ 64 }
         requires passed { self.old.checker.passed + 1 < 2 ^ 64 }
         requires failed { self.old.checker.failed + 1 < 2 ^ 64 }
         requires sink_calls { (K.account sink.old).counts.calls + self.old.checker.turns < 2 ^ 48 }
-        ensures { ChecksLast self.old self.new name.now (K.account sink.old) (K.account sink.new) result }
+        ensures { ChecksLast self.old self.new (file_of name.now command.now) (K.account sink.old) (K.account sink.new) result }
     {
         let line = self.reader.line();
         if line.is_empty() {
             return ScriptEnd::Done;
         }
-        let end = self.checker.check_line(alloc, name, line, sink);
+        let end = self.checker.check_line(alloc, name, command, line, sink);
         end.unwrap_or(ScriptEnd::Done)
     }
 
@@ -63,18 +71,19 @@ impl Check {
         &mut self,
         alloc: Global,
         name: &[u8],
+        command: &[u8],
         source: &mut S,
         sink: &mut K,
     ) -> Option<ScriptEnd>
         requires countable { IsCountable self.old (S.account source.old) (K.account sink.old) }
-        ensures { Advances self.old self.new name.now (S.account source.old) (S.account source.new) (K.account sink.old) (K.account sink.new) result }
+        ensures { Advances self.old self.new (file_of name.now command.now) (S.account source.old) (S.account source.new) (K.account sink.old) (K.account sink.new) result }
     {
         match self.reader.next_line(source, &mut self.checker.turns) {
             NextLine::Line => {
                 let line = self.reader.line();
-                self.checker.check_line(alloc, name, line, sink)
+                self.checker.check_line(alloc, name, command, line, sink)
             }
-            NextLine::End => Some(self.check_last(alloc, name, sink)),
+            NextLine::End => Some(self.check_last(alloc, name, command, sink)),
             NextLine::TooLong => Some(ScriptEnd::Malformed(self.checker.number + 1)),
             NextLine::ReadFault => Some(ScriptEnd::ReadFault),
             NextLine::TurnsUsed => Some(ScriptEnd::TurnsUsed),
@@ -114,10 +123,32 @@ pub fn check_with_cause<S: Source, K: Sink>(
     ensures checks { Checks name.now (S.account source.old) (S.account source.new) (K.account sink.old) (K.account sink.new) turns result.0 }
     ensures told { is_some result.1 ≡ is_malformed result.0.end }
 {
+    check_on(alloc, Setup::usual(), name, "", source, sink, turns)
+}
+
+/// Checks a file as `check_with_cause` does, on a device that begins with this topology and, where the file sets none, with
+/// these limits.
+///
+/// Behind each answer that differs stands a line with four spaces, the command and the line's number, unless the command is empty.
+pub fn check_on<S: Source, K: Sink>(
+    alloc: Global,
+    setup: Setup,
+    name: &str,
+    command: &str,
+    source: &mut S,
+    sink: &mut K,
+    turns: u64,
+) -> (Report, Option<Malformation>)
+    requires source_calls { (S.account source.old).counts.calls + turns < 2 ^ 48 }
+    requires sink_calls { (K.account sink.old).counts.calls + turns < 2 ^ 48 }
+    ensures checks { ChecksOn setup (file_of name.now command.now) (S.account source.old) (S.account source.new) (K.account sink.old) (K.account sink.new) turns result.0 }
+    ensures told { is_some result.1 ≡ is_malformed result.0.end }
+{
     let name = name.as_bytes();
-    let mut check = Check::new(turns);
+    let command = command.as_bytes();
+    let mut check = Check::new(setup, turns);
     'lines: loop {
-        if let Some(end) = check.check_next(alloc, name, source, sink) {
+        if let Some(end) = check.check_next(alloc, name, command, source, sink) {
             let (script, _) = parts_of(check.reader.line());
             let cause = cause_of(end, check.checker.number, script);
             let report = Report {

@@ -2,10 +2,10 @@
 
 ghost use Rattle.std.specs.Prelude.{◌≡◌, ◌<◌, ◌+◌, ◌^◌};
 ghost use Rattle.drm_streams.specs.Texts.{WritesOut};
-ghost use Rattle.drm_checks.specs.Differences.{difference_text, end_of_expected, end_of_writing, front_of};
+ghost use Rattle.drm_checks.specs.Differences.{command_text, difference_text, end_of_expected, end_of_writing, file_of, front_of, line_text, why_text};
 
 use crate::expectations::{is_met, parts_of};
-use drm_runs::{Interpreter, LineResult, ScriptEnd};
+use drm_runs::{Interpreter, LineResult, ScriptEnd, Setup};
 use drm_script::line_of;
 use drm_streams::{Sink, Written, put_each};
 use drm_table::{Answer, Apart};
@@ -43,7 +43,7 @@ fn shown(expected: &[u8]) -> (&[u8], &[u8])
 }
 
 /// Tells of a difference: the file's name, the line's number, what was expected and what came.
-fn tell<K: Sink>(
+fn tell_line<K: Sink>(
     name: &[u8],
     number: u64,
     expected: &[u8],
@@ -52,7 +52,7 @@ fn tell<K: Sink>(
     turns: &mut u64,
 ) -> Written
     requires { (K.account sink.old).counts.calls + turns.old < 2 ^ 48 }
-    ensures { WritesOut result (K.account sink.old) (K.account sink.new) (difference_text name.now number expected.now came.now) turns.old turns.new }
+    ensures { WritesOut result (K.account sink.old) (K.account sink.new) (line_text name.now number expected.now came.now) turns.old turns.new }
 {
     let mut buffer = itoa::Buffer::new();
     let digits = buffer.format(number).as_bytes();
@@ -87,6 +87,57 @@ fn tell<K: Sink>(
     }
 }
 
+/// Tells which command explains a line, if there is one.
+fn tell_command<K: Sink>(command: &[u8], number: u64, sink: &mut K, turns: &mut u64) -> Written
+    requires { (K.account sink.old).counts.calls + turns.old < 2 ^ 48 }
+    ensures { WritesOut result (K.account sink.old) (K.account sink.new) (command_text command.now number) turns.old turns.new }
+{
+    match command {
+        [] => Written::Whole,
+        [_, ..] => {
+            let mut buffer = itoa::Buffer::new();
+            let digits = buffer.format(number).as_bytes();
+            put_each(sink, &[b"    ", command, digits, b"\n"], turns)
+        }
+    }
+}
+
+/// Tells which command explains the answer that came; none where nothing came.
+fn tell_why<K: Sink>(
+    command: &[u8],
+    number: u64,
+    came: &Option<Result<Answer, Apart>>,
+    sink: &mut K,
+    turns: &mut u64,
+) -> Written
+    requires { (K.account sink.old).counts.calls + turns.old < 2 ^ 48 }
+    ensures { WritesOut result (K.account sink.old) (K.account sink.new) (why_text command.now number came.now) turns.old turns.new }
+{
+    match came {
+        Some(_) => tell_command(command, number, sink, turns),
+        None => Written::Whole,
+    }
+}
+
+/// Tells of a difference, and in a line of its own of the command that explains it.
+fn tell<K: Sink>(
+    name: &[u8],
+    command: &[u8],
+    number: u64,
+    expected: &[u8],
+    came: &Option<Result<Answer, Apart>>,
+    sink: &mut K,
+    turns: &mut u64,
+) -> Written
+    requires { (K.account sink.old).counts.calls + turns.old < 2 ^ 48 }
+    ensures { WritesOut result (K.account sink.old) (K.account sink.new) (difference_text (file_of name.now command.now) number expected.now came.now) turns.old turns.new }
+{
+    match tell_line(name, number, expected, came, sink, turns) {
+        Written::Whole => tell_why(command, number, came, sink, turns),
+        stopped => stopped,
+    }
+}
+
 /// What the lines of a file came to so far.
 #[derive(Drop)]
 pub(crate) struct Checker {
@@ -105,12 +156,13 @@ impl Checker {
     ghost use Rattle.std.specs.Prelude.{◌≡◌, ◌<◌, ◌+◌, ◌^◌};
     ghost use Rattle.std.specs.Option.{option_map};
     ghost use Rattle.drm_checks.specs.Checker.{ChecksLine, Notes, first_checker};
+    ghost use Rattle.drm_checks.specs.Differences.{file_of};
 
-    pub(crate) fn new(turns: u64) -> Checker
-        ensures { result ≡ first_checker turns }
+    pub(crate) fn new(setup: Setup, turns: u64) -> Checker
+        ensures { result ≡ first_checker setup turns }
     {
         Checker {
-            interpreter: Interpreter::new(),
+            interpreter: Interpreter::new(setup),
             number: 0,
             passed: 0,
             failed: 0,
@@ -122,6 +174,7 @@ impl Checker {
     fn note<K: Sink>(
         &mut self,
         name: &[u8],
+        command: &[u8],
         expected: Option<&[u8]>,
         came: &Option<Result<Answer, Apart>>,
         sink: &mut K,
@@ -129,7 +182,7 @@ impl Checker {
         requires passed { self.old.passed + 1 < 2 ^ 64 }
         requires failed { self.old.failed + 1 < 2 ^ 64 }
         requires sink_calls { (K.account sink.old).counts.calls + self.old.turns < 2 ^ 48 }
-        ensures { Notes self.old self.new name.now (option_map (λ e. e.now) expected.entry) came.now (K.account sink.old) (K.account sink.new) result }
+        ensures { Notes self.old self.new (file_of name.now command.now) (option_map (λ e. e.now) expected.entry) came.now (K.account sink.old) (K.account sink.new) result }
     {
         let Some(expected) = expected else {
             return None;
@@ -139,7 +192,15 @@ impl Checker {
             return None;
         }
         self.failed += 1;
-        end_of(tell(name, self.number, expected, came, sink, &mut self.turns))
+        end_of(tell(
+            name,
+            command,
+            self.number,
+            expected,
+            came,
+            sink,
+            &mut self.turns,
+        ))
     }
 
     /// Asks what a line says, and looks whether what it expects came. Gives how the check ends, where it doesn't go on.
@@ -147,6 +208,7 @@ impl Checker {
         &mut self,
         alloc: Global,
         name: &[u8],
+        command: &[u8],
         line: &[u8],
         sink: &mut K,
     ) -> Option<ScriptEnd>
@@ -154,13 +216,15 @@ impl Checker {
         requires passed { self.old.passed + 1 < 2 ^ 64 }
         requires failed { self.old.failed + 1 < 2 ^ 64 }
         requires sink_calls { (K.account sink.old).counts.calls + self.old.turns < 2 ^ 48 }
-        ensures { ChecksLine self.old self.new name.now line.now (K.account sink.old) (K.account sink.new) result }
+        ensures { ChecksLine self.old self.new (file_of name.now command.now) line.now (K.account sink.old) (K.account sink.new) result }
     {
         self.number += 1;
         let (script, expected) = parts_of(line);
         match self.interpreter.interpret(alloc, script) {
-            LineResult::Unanswered => self.note(name, expected, &None, sink),
-            LineResult::Answered(answer) => self.note(name, expected, &Some(answer), sink),
+            LineResult::Unanswered => self.note(name, command, expected, &None, sink),
+            LineResult::Answered(answer) => {
+                self.note(name, command, expected, &Some(answer), sink)
+            },
             LineResult::Malformed => Some(ScriptEnd::Malformed(self.number)),
             LineResult::NoMemory => Some(ScriptEnd::NoMemory),
         }

@@ -8,7 +8,7 @@ mod laws;
 mod totals;
 mod update;
 
-pub use check::{Report, check_script, check_with_cause};
+pub use check::{Report, check_on, check_script, check_with_cause};
 pub use expectations::{is_met, parts_of, script_of};
 pub use laws::checked_files_are_scripts;
 pub use totals::{Totals, write_malformed, write_totals};

@@ -1,7 +1,7 @@
 //! A script with the answers that came in place of those that it expected.
 
 use crate::expectations::{ARROW, is_met, parts_of};
-use drm_runs::{Interpreter, LineResult};
+use drm_runs::{Interpreter, LineResult, Setup};
 use drm_script::{Malformation, line_of, malformation_of};
 use drm_table::{Answer, Apart};
 use std::alloc::{AllocError, Global};
@@ -93,12 +93,13 @@ fn update_line(
     }
 }
 
-/// The text of a script in which each answer that isn't the expected one stands in its place (own).
+/// The text of a script in which each answer that isn't the expected one stands in its place, on a device that begins with this topology
+/// and, where the text sets none, with these limits (own).
 ///
 /// A line that expects nothing stays so, and an expectation that is met stays as it is written. Where nothing is answered, or the
 /// line would have more than 255 bytes with its answer, what it expected goes.
-pub fn update_script(alloc: Global, text: &[u8]) -> Result<Vec<u8>, UpdateFault> {
-    let mut interpreter = Interpreter::new();
+pub fn update_script(alloc: Global, setup: Setup, text: &[u8]) -> Result<Vec<u8>, UpdateFault> {
+    let mut interpreter = Interpreter::new(setup);
     let mut updated = Vec::new(alloc);
     let mut rest = text;
     for number in 1..u64::MAX {

@@ -1,44 +1,78 @@
 -- One line of a script, from what the code made of it.
-use Rattle.std.proofs.Common.{◌≡◌, ℕ, List, [], ◌∷◌, refl, sym, ap, subst, ◌∙◌, true, false, Some, None, Option, Result}
+use Rattle.std.proofs.Common.{◌≡◌, ℕ, List, [], ◌∷◌, refl, sym, ap, subst, ◌∙◌, true, false, Some, None, Option, Result, Ok, Err, OnOk, OnErr}
 use Rattle.std.specs.Option.{option_map, is_some}
 use Rattle.drm_table.specs.declared.answers.Answer.{Answer}
 use Rattle.drm_table.specs.declared.apart.Apart.{Apart}
 use Rattle.drm_table.specs.declared.events.Event.{Event}
 use Rattle.drm_table.specs.declared.limits.Limits.{Limits}
 use Rattle.drm_model.specs.Rows.{Rows}
-use Rattle.drm_model.specs.Run.{History, Step, rows_of, run}
+use Rattle.drm_model.specs.Run.{History, noted_in, rows_of, run}
+use Rattle.drm_model.proofs.Journals.{rows_of-limits}
 use Rattle.drm_script.specs.declared.commands.Command.{Command}
 use Rattle.drm_script.specs.declared.reading.Reading.TheVariants as readings
 use Rattle.drm_script.specs.Reading.{reading_of}
-use Rattle.drm_runs.specs.Script.{Uses, made, event_of, label_bound, program_limits, test_topology, empty_device}
+use Rattle.drm_runs.specs.Script.{Setting, Place, Uses, IsAt, IsNowhere, event_of, label_bound, empty_device, limited_to}
+use Rattle.drm_runs.specs.Script.Place.{Made, Planned}
 use Rattle.drm_runs.specs.Script.Uses.{limited, asked}
 use Rattle.drm_runs.specs.Script.IsMisplaced.{late}
 use Rattle.drm_runs.specs.Script.WantsDevice.{limits as wants_limits}
-use Rattle.drm_runs.specs.Interpreter.{Standing, Steps, Interprets, SetsLimits}
+use Rattle.drm_runs.specs.Interpreter.{HasLimits, Standing, Steps, Interprets, SetsLimits, place_of}
 use Rattle.drm_runs.specs.declared.interpreter.LineResult.{LineResult}
 use Rattle.drm_runs.specs.declared.interpreter.LineResult.TheVariants as results
 
-abbrev pub new_history : Limits → History
-new_history limits = record { topology = test_topology; limits = limits; journal = [] }
+abbrev pub new_history : Setting → History
+new_history setting = record { topology = setting.topology; limits = setting.limits; journal = [] }
 
-pub rows_of-new : (limits : Limits) → rows_of (new_history limits) ≡ empty_device limits
+pub rows_of-new : (setting : Setting) → rows_of (new_history setting) ≡ empty_device setting
 unfolding rows_of run
-rows_of-new limits = refl
+rows_of-new setting = refl
 
-pub step_some : (d : Option History) (x : History) (event : Event) (r : Result Answer Apart) (after : Rows) → d ≡ Some x → Step (rows_of x) event r after
-    → Step (made (option_map rows_of d)) event r after
-step_some d x event r after e h = subst (λ o. Step (made (option_map rows_of o)) event r after) (sym e) h
+abbrev pub place : Option History → Option Setting → Place
+place device planned = place_of (option_map rows_of device) planned
 
-pub step_none : (d : Option History) (x : History) (event : Event) (r : Result Answer Apart) (after : Rows) → d ≡ None → x ≡ new_history program_limits → Step (rows_of x) event r after
-    → Step (made (option_map rows_of d)) event r after
-step_none d x event r after e f h =
-    subst (λ o. Step (made (option_map rows_of o)) event r after) (sym e) (subst (λ w. Step w event r after) (ap rows_of f ∙ rows_of-new program_limits) h)
+pub at_some : (d : Option History) (p : Option Setting) (x : History) → d ≡ Some x → IsAt (place d p) (rows_of x)
+at_some d p x e = subst (λ o. IsAt (place o p) (rows_of x)) (sym e) refl
+
+pub at_none : (d : Option History) (p : Option Setting) (s : Setting) (x : History) → d ≡ None → p ≡ Some s → x ≡ new_history s → IsAt (place d p) (rows_of x)
+at_none d p s x e f h =
+    subst (λ o. IsAt (place o p) (rows_of x)) (sym e) (subst (λ q. IsAt (place None q) (rows_of x)) (sym f) (ap rows_of h ∙ rows_of-new s))
+
+pub nowhere : (d : Option History) (p : Option Setting) → d ≡ None → IsNowhere (place d p)
+nowhere d None e = subst (λ o. IsNowhere (place o None)) (sym e) tt
+nowhere d (Some s) e = subst (λ o. IsNowhere (place o (Some s))) (sym e) tt
+
+pub planned_is : (d : Option History) (p : Option Setting) (s : Setting) → d ≡ None → p ≡ Some s → place d p ≡ Planned s
+planned_is d p s e f = ap (λ o. place o p) e ∙ ap (place None) f
+
+pub made_is : (d : Option History) (p : Option Setting) (x : History) → d ≡ Some x → place d p ≡ Made (rows_of x)
+made_is d p x e = ap (λ o. place o p) e
+
+-- the limits that are kept beside the device
+
+pub step_limits : (old new : History) (event : Event) (r : Result Answer Apart) → OnOk r (new ≡ noted_in old event) → OnErr r (new ≡ old) → new.limits ≡ old.limits
+step_limits old new event (Ok answer) h k = ap (λ (x : History). x.limits) h
+step_limits old new event (Err apart) h k = ap (λ (x : History). x.limits) k
+
+pub limits_of_made : (x : History) (limits : Limits) → limits ≡ x.limits → HasLimits (Made (rows_of x)) limits
+limits_of_made x limits e = e ∙ sym (rows_of-limits x)
+
+pub limits_stay : (d : Option History) (p : Option Setting) (limits : Limits) (x y : History) → d ≡ Some x → HasLimits (place d p) limits → y.limits ≡ x.limits
+    → HasLimits (Made (rows_of y)) limits
+limits_stay d p limits x y e h s =
+    let was : limits ≡ (rows_of x).limits = subst (λ o. HasLimits (place o p) limits) e h in
+    limits_of_made y limits (was ∙ rows_of-limits x ∙ sym s)
+
+pub limits_begin : (d : Option History) (p : Option Setting) (limits : Limits) (s : Setting) (x y : History) → d ≡ None → p ≡ Some s → HasLimits (place d p) limits
+    → x ≡ new_history s → y.limits ≡ x.limits → HasLimits (Made (rows_of y)) limits
+limits_begin d p limits s x y e f h n k =
+    let planned : HasLimits (Planned s) limits = subst (λ q. HasLimits (place None q) limits) f (subst (λ o. HasLimits (place o p) limits) e h) in
+    limits_of_made y limits (planned ∙ ap (λ (x : History). x.limits) (sym n) ∙ sym k)
 
 pub some_of : (d : Option History) → is_some d ≡ true → (x : History) × (d ≡ Some x)
 some_of None h = absurd (cc)
 some_of (Some x) h = (x, refl)
 
-pub none_of : (d : Option History) → is_some d ≡ false → option_map rows_of d ≡ None
+pub none_of : (d : Option History) → is_some d ≡ false → d ≡ None
 none_of None h = refl
 none_of (Some x) h = absurd (cc)
 
@@ -47,8 +81,9 @@ none_of (Some x) h = absurd (cc)
 pub sets_interprets : (old new : Standing) (line : List ℕ) (limits : Limits) (result : LineResult)
     → reading_of line ≡ readings.Limits limits → SetsLimits old new limits result → Interprets old new line result
 sets_interprets old new line limits results.Unanswered h s =
-    let used : Uses old.device old.labels line [] (Some (empty_device limits)) old.labels = limited s.0 h in
-    subst (λ o. Uses old.device old.labels line [] o new.labels) (sym s.1) (subst (λ m. Uses old.device old.labels line [] (Some (empty_device limits)) m) (sym s.2) used)
+    let made : Place = Made (empty_device (limited_to s.0 limits)) in
+    let used : Uses old.device old.labels line [] made old.labels = limited s.1 h in
+    subst (λ o. Uses old.device old.labels line [] o new.labels) (sym s.2) (subst (λ m. Uses old.device old.labels line [] made m) (sym s.3) used)
 sets_interprets old new line limits (results.Answered result) h s = absurd s
 sets_interprets old new line limits results.Malformed h s = late s.1 h
 sets_interprets old new line limits results.NoMemory h s = (s, wants_limits h)
@@ -59,4 +94,4 @@ pub uses_asked : (old new : Standing) (line : List ℕ) (command : Command) (r :
     → Steps old new (label_bound command) (event_of old.labels command) r → Uses old.device old.labels line (r ∷ []) new.device new.labels
 uses_asked old new line command r h s =
     subst (λ o. Uses old.device old.labels line (r ∷ []) o new.labels) (sym s.device)
-    (subst (λ m. Uses old.device old.labels line (r ∷ []) (Some s.after) m) (sym s.labels) (asked h s.step))
+    (subst (λ m. Uses old.device old.labels line (r ∷ []) (Made s.after) m) (sym s.labels) (asked s.before h s.at s.step))

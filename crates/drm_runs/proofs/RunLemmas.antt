@@ -3,7 +3,6 @@ use Rattle.std.proofs.Common.{◌≡◌, ℕ, ◌+◌, ◌*◌, ◌≤◌, ◌<�
 use Rattle.std.proofs.lemmas.List.{length_push}
 use Rattle.drm_table.specs.declared.answers.Answer.{Answer}
 use Rattle.drm_table.specs.declared.apart.Apart.{Apart}
-use Rattle.drm_model.specs.Rows.{Rows}
 use Rattle.drm_script.specs.Lines.{answer_line}
 use Rattle.drm_script.proofs.ReadingLaws.{reading_of-long}
 use Rattle.drm_streams.specs.Streams.{SourceAccount, SinkAccount}
@@ -11,13 +10,14 @@ use Rattle.drm_streams.specs.Turns.{Took, Spends, Pays, PaysPart}
 use Rattle.drm_streams.proofs.Accounts.{Gave-none, Gave-then, Took-none, Took-then}
 use Rattle.drm_runs.specs.Lines.{IsBare, joined}
 use Rattle.drm_runs.specs.Reader.{IsTooLong}
-use Rattle.drm_runs.specs.Script.{Script, Uses, IsMisplaced, WantsDevice, script_text, unbound}
+use Rattle.drm_runs.specs.Script.{Setting, Place, Script, Uses, IsMisplaced, IsNowhere, WantsDevice, script_text, unbound}
+use Rattle.drm_runs.specs.Script.Place.{Planned}
 use Rattle.drm_runs.specs.Script.Script.{start, line}
 use Rattle.drm_runs.specs.Script.Uses.{skipped, limited, asked}
 use Rattle.drm_runs.specs.Script.IsMisplaced.{malformed}
 use Rattle.drm_runs.specs.Interpreter.{Standing}
 use Rattle.drm_runs.specs.Writing.{UsesLine}
-use Rattle.drm_runs.specs.Runs.{Results, EndsLine, Runs, IsCutInLast, IsStopped}
+use Rattle.drm_runs.specs.Runs.{Results, EndsLine, RunsOn, IsCutInLast, IsStopped}
 use Rattle.drm_runs.specs.RunSteps.{SoFar, stop_of}
 use Rattle.drm_runs.specs.declared.run.ScriptEnd.{ScriptEnd}
 use Rattle.drm_runs.specs.declared.run.ScriptEnd.TheVariants as ends
@@ -34,15 +34,16 @@ joined-push (x ∷ xs) l rest =
     append_assoc x (10 ∷ joined (xs ++ l ∷ [])) rest ∙ ap (λ z. x ++ 10 ∷ z) (joined-push xs l rest) ∙ sym (append_assoc x (10 ∷ joined xs) (l ++ 10 ∷ rest))
 
 -- before the device is made nothing was answered
-pub unmade : {lines : List (List ℕ)} {results : Results} {device : Option Rows} {labels : List ℕ} → Script lines results device labels → device ≡ None → results ≡ []
-unmade start e = refl
-unmade (line s b (skipped h)) e = ap (λ r. r ++ []) (unmade s e)
-unmade (line s b (limited n h)) e = absurd (cc)
-unmade (line s b (asked h t)) e = absurd (cc)
+pub unmade : {setting : Setting} {lines : List (List ℕ)} {results : Results} {device : Place} {labels : List ℕ} → Script setting lines results device labels → IsNowhere device
+    → (results ≡ []) × (device ≡ Planned setting)
+unmade start e = (refl, refl)
+unmade (line s b (skipped h)) e = let u = unmade s e in (ap (λ r. r ++ []) u.0, u.1)
+unmade (line s b (limited n h)) e = absurd e
+unmade (line s b (asked w h i t)) e = absurd e
 
-module _ {s0 s : SourceAccount} {k0 k : SinkAccount} {turns has n : ℕ} {rest : List ℕ} {device : Option Rows} {labels : List ℕ} (so : SoFar s0 s k0 k turns has n rest device labels) where
+module _ {setting : Setting} {s0 s : SourceAccount} {k0 k : SinkAccount} {turns has n : ℕ} {rest : List ℕ} {device : Place} {labels : List ℕ} (so : SoFar setting s0 s k0 k turns has n rest device labels) where
   pub so_far_read : (s' : SourceAccount) (given : List ℕ) (has' : ℕ) (rest' : List ℕ) → Spends s s' given has has' → length given + 256 * s.counts.calls ≤ 256 * s'.counts.calls → rest ++ given ≡ rest'
-      → SoFar s0 s' k0 k turns has' n rest' device labels
+      → SoFar setting s0 s' k0 k turns has' n rest' device labels
   so_far_read s' given has' rest' p m e = record {
     read = so.read ++ given;
     lines = so.lines;
@@ -56,8 +57,8 @@ module _ {s0 s : SourceAccount} {k0 k : SinkAccount} {turns has n : ℕ} {rest :
     number = so.number;
   }
 
-  pub so_far_line : (next more : List ℕ) (results : Results) (device' : Option Rows) (labels' : List ℕ) (k' : SinkAccount) (has' : ℕ) → rest ≡ next ++ 10 ∷ more → IsBare next → Uses device labels next results device' labels'
-      → Pays k k' (script_text results) has has' → SoFar s0 s k0 k' turns has' (n + 1) more device' labels'
+  pub so_far_line : (next more : List ℕ) (results : Results) (device' : Place) (labels' : List ℕ) (k' : SinkAccount) (has' : ℕ) → rest ≡ next ++ 10 ∷ more → IsBare next → Uses device labels next results device' labels'
+      → Pays k k' (script_text results) has has' → SoFar setting s0 s k0 k' turns has' (n + 1) more device' labels'
   so_far_line next more results device' labels' k' has' e bare u p = record {
     read = so.read;
     lines = so.lines ++ next ∷ [];
@@ -75,7 +76,7 @@ module _ {s0 s : SourceAccount} {k0 k : SinkAccount} {turns has n : ℕ} {rest :
   bounded = let b = so.cost in omega arith
 
   pub run_malformed : (bad more : List ℕ) → rest ≡ bad ++ more → IsMisplaced device bad → IsBare bad → EndsLine (s0.counts.ends < s.counts.ends) more ⊎ (length bad ≡ 256)
-      → length bad ≤ 256 → length more ≤ 256 → Runs s0 s k0 k turns (ends.Malformed (n + 1))
+      → length bad ≤ 256 → length more ≤ 256 → RunsOn setting s0 s k0 k turns (ends.Malformed (n + 1))
   run_malformed bad more e m b u short behind = record {
     read = so.read;
     written = script_text so.results;
@@ -102,7 +103,7 @@ module _ {s0 s : SourceAccount} {k0 k : SinkAccount} {turns has n : ℕ} {rest :
     };
   }
 
-  pub run_read_fault : IsBare rest → length rest ≤ 255 → s0.counts.faults < s.counts.faults → Runs s0 s k0 k turns ends.ReadFault
+  pub run_read_fault : IsBare rest → length rest ≤ 255 → s0.counts.faults < s.counts.faults → RunsOn setting s0 s k0 k turns ends.ReadFault
   run_read_fault b short f = record {
     read = so.read;
     written = script_text so.results;
@@ -113,7 +114,7 @@ module _ {s0 s : SourceAccount} {k0 k : SinkAccount} {turns has n : ℕ} {rest :
     ends = (record { lines = so.lines; results = so.results; device = device; labels = labels; rest = rest; script = so.script; whole = so.whole; bare = b; short = short; text = refl }, f);
   }
 
-  pub run_turns_used : IsBare rest → length rest ≤ 255 → has ≡ 0 → Runs s0 s k0 k turns ends.TurnsUsed
+  pub run_turns_used : IsBare rest → length rest ≤ 255 → has ≡ 0 → RunsOn setting s0 s k0 k turns ends.TurnsUsed
   run_turns_used b short h = record {
     read = so.read;
     written = script_text so.results;
@@ -127,7 +128,7 @@ module _ {s0 s : SourceAccount} {k0 k : SinkAccount} {turns has n : ℕ} {rest :
     );
   }
 
-  pub run_done_empty : rest ≡ [] → s0.counts.ends < s.counts.ends → Runs s0 s k0 k turns ends.Done
+  pub run_done_empty : rest ≡ [] → s0.counts.ends < s.counts.ends → RunsOn setting s0 s k0 k turns ends.Done
   run_done_empty e f = record {
     read = so.read;
     written = script_text so.results;
@@ -138,8 +139,8 @@ module _ {s0 s : SourceAccount} {k0 k : SinkAccount} {turns has n : ℕ} {rest :
     ends = (record { lines = so.lines; results = so.results; device = device; labels = labels; script = so.script; covers = inl (so.whole ∙ ap (λ z. joined so.lines ++ z) e); text = refl }, f);
   }
 
-  pub run_done_last : (results : Results) (device' : Option Rows) (labels' : List ℕ) (k' : SinkAccount) (has' : ℕ) → IsBare rest → Uses device labels rest results device' labels'
-      → Pays k k' (script_text results) has has' → s0.counts.ends < s.counts.ends → Runs s0 s k0 k' turns ends.Done
+  pub run_done_last : (results : Results) (device' : Place) (labels' : List ℕ) (k' : SinkAccount) (has' : ℕ) → IsBare rest → Uses device labels rest results device' labels'
+      → Pays k k' (script_text results) has has' → s0.counts.ends < s.counts.ends → RunsOn setting s0 s k0 k' turns ends.Done
   run_done_last results device' labels' k' has' bare u p f = record {
     read = so.read;
     written = script_text so.results ++ script_text results;
@@ -161,8 +162,8 @@ module _ {s0 s : SourceAccount} {k0 k : SinkAccount} {turns has n : ℕ} {rest :
     );
   }
 
-  stopped_at : (next more : List ℕ) (result : Result Answer Apart) (device' : Option Rows) (labels' written : List ℕ) → rest ≡ next ++ more → EndsLine (s0.counts.ends < s.counts.ends) more → length more ≤ 256 → IsBare next
-      → Uses device labels next (result ∷ []) device' labels' → IsCutInLast (so.results ++ result ∷ []) written → IsStopped (s0.counts.ends < s.counts.ends) so.read written
+  stopped_at : (next more : List ℕ) (result : Result Answer Apart) (device' : Place) (labels' written : List ℕ) → rest ≡ next ++ more → EndsLine (s0.counts.ends < s.counts.ends) more → length more ≤ 256 → IsBare next
+      → Uses device labels next (result ∷ []) device' labels' → IsCutInLast (so.results ++ result ∷ []) written → IsStopped setting (s0.counts.ends < s.counts.ends) so.read written
   stopped_at next more result device' labels' written e (inl (none, f)) m bare u cut =
       let whole : so.read ≡ joined so.lines ++ next = so.whole ∙ ap (λ z. joined so.lines ++ z) (e ∙ ap (λ z. next ++ z) none ∙ append-nil next) in record {
         lines = so.lines ++ next ∷ [];
@@ -189,17 +190,17 @@ module _ {s0 s : SourceAccount} {k0 k : SinkAccount} {turns has n : ℕ} {rest :
         cut = cut;
       }
 
-  run_stopped : (next more : List ℕ) (result : Result Answer Apart) (device' : Option Rows) (labels' : List ℕ) (k' : SinkAccount) (has' : ℕ) → rest ≡ next ++ more → EndsLine (s0.counts.ends < s.counts.ends) more → length more ≤ 256 → IsBare next
+  run_stopped : (next more : List ℕ) (result : Result Answer Apart) (device' : Place) (labels' : List ℕ) (k' : SinkAccount) (has' : ℕ) → rest ≡ next ++ more → EndsLine (s0.counts.ends < s.counts.ends) more → length more ≤ 256 → IsBare next
       → Uses device labels next (result ∷ []) device' labels' → PaysPart k k' (answer_line result) has has'
-      → (written : List ℕ) × Took k0 k' written × (k'.counts.calls + has' ≡ k.counts.calls + has) × IsStopped (s0.counts.ends < s.counts.ends) so.read written
+      → (written : List ℕ) × Took k0 k' written × (k'.counts.calls + has' ≡ k.counts.calls + has) × IsStopped setting (s0.counts.ends < s.counts.ends) so.read written
   run_stopped next more result device' labels' k' has' e ending m bare u p =
       let written = script_text so.results ++ p.front in
       let cut : IsCutInLast (so.results ++ result ∷ []) written =
       record { before = so.results; last = result; sent = p.front; unsent = p.rest; whole = refl; parts = p.parts; more = p.more; text = refl } in
       (written, Took-then so.took p.pays.took, p.pays.cost, stopped_at next more result device' labels' written e ending m bare u cut)
 
-  pub run_unmade : (next more : List ℕ) → rest ≡ next ++ more → EndsLine (s0.counts.ends < s.counts.ends) more → length more ≤ 256 → IsBare next → device ≡ None → WantsDevice next
-      → Runs s0 s k0 k turns ends.NoMemory
+  pub run_unmade : (next more : List ℕ) → rest ≡ next ++ more → EndsLine (s0.counts.ends < s.counts.ends) more → length more ≤ 256 → IsBare next → IsNowhere device → WantsDevice next
+      → RunsOn setting s0 s k0 k turns ends.NoMemory
   run_unmade next more e t m b none wants =
       let nothing = unmade so.script none in record {
         read = so.read;
@@ -213,13 +214,13 @@ module _ {s0 s : SourceAccount} {k0 k : SinkAccount} {turns has n : ℕ} {rest :
           labels = labels;
           next = next;
           rest = more;
-          script = subst (λ d. Script so.lines [] d labels) none (subst (λ r. Script so.lines r device labels) nothing so.script);
+          script = subst (λ d. Script setting so.lines [] d labels) nothing.1 (subst (λ r. Script setting so.lines r device labels) nothing.0 so.script);
           whole = so.whole ∙ ap (λ z. joined so.lines ++ z) e;
           bare = b;
           until = t;
           behind = m;
           wants = wants;
-          nothing = ap script_text nothing;
+          nothing = ap script_text nothing.0;
         };
       }
 
@@ -227,15 +228,15 @@ some_end : (a b : ScriptEnd) → Some a ≡ Some b → a ≡ b
 some_end a b e = cc
 
 -- a line that doesn't let the run go on
-pub run_stop : {s0 s : SourceAccount} {k0 k : SinkAccount} {turns has n : ℕ} {rest : List ℕ} (old new : Standing) (next more : List ℕ) (k' : SinkAccount) (has' : ℕ) (end : LineEnd) (stop : ScriptEnd)
-    → SoFar s0 s k0 k turns has n rest old.device old.labels → rest ≡ next ++ more → EndsLine (s0.counts.ends < s.counts.ends) more → length next ≤ 255 → length more ≤ 256 → IsBare next
-    → UsesLine old new next k k' has has' end → stop_of end (n + 1) ≡ Some stop → Runs s0 s k0 k' turns stop
+pub run_stop : {setting : Setting} {s0 s : SourceAccount} {k0 k : SinkAccount} {turns has n : ℕ} {rest : List ℕ} (old new : Standing) (next more : List ℕ) (k' : SinkAccount) (has' : ℕ) (end : LineEnd) (stop : ScriptEnd)
+    → SoFar setting s0 s k0 k turns has n rest old.device old.labels → rest ≡ next ++ more → EndsLine (s0.counts.ends < s.counts.ends) more → length next ≤ 255 → length more ≤ 256 → IsBare next
+    → UsesLine old new next k k' has has' end → stop_of end (n + 1) ≡ Some stop → RunsOn setting s0 s k0 k' turns stop
 run_stop old new next more k' has' line_ends.Used stop so e t l m b u h = absurd (cc)
-run_stop {s0} {s} {k0} {k} {turns} old new next more k' has' line_ends.Malformed stop so e t l m b u h =
-    subst (λ q. Runs s0 s k0 q turns stop) (sym u.1) (subst (Runs s0 s k0 k turns) (some_end _ _ h) (run_malformed so next more e u.0 b (inl t) (omega arith) m))
-run_stop {s0} {s} {k0} {k} {turns} old new next more k' has' line_ends.WriteFault stop so e t l m b u h =
+run_stop {setting} {s0} {s} {k0} {k} {turns} old new next more k' has' line_ends.Malformed stop so e t l m b u h =
+    subst (λ q. RunsOn setting s0 s k0 q turns stop) (sym u.1) (subst (RunsOn setting s0 s k0 k turns) (some_end _ _ h) (run_malformed so next more e u.0 b (inl t) (omega arith) m))
+run_stop {setting} {s0} {s} {k0} {k} {turns} old new next more k' has' line_ends.WriteFault stop so e t l m b u h =
     let w = run_stopped so next more u.0 new.device new.labels k' has' e t m b u.1 u.2 in
-    subst (Runs s0 s k0 k' turns) (some_end _ _ h) (record {
+    subst (RunsOn setting s0 s k0 k' turns) (some_end _ _ h) (record {
       read = so.read;
       written = w.0;
       gave = so.gave;
@@ -244,9 +245,9 @@ run_stop {s0} {s} {k0} {k} {turns} old new next more k' has' line_ends.WriteFaul
       turns_at_most = (let a = w.2 in let c = so.cost in omega arith);
       ends = (w.3, (let a = so.took.counts.faults in omega (arith, a, u.3)));
     })
-run_stop {s0} {s} {k0} {k} {turns} old new next more k' has' line_ends.TurnsUsed stop so e t l m b u h =
+run_stop {setting} {s0} {s} {k0} {k} {turns} old new next more k' has' line_ends.TurnsUsed stop so e t l m b u h =
     let w = run_stopped so next more u.0 new.device new.labels k' has' e t m b u.1 u.2 in
-    subst (Runs s0 s k0 k' turns) (some_end _ _ h) (record {
+    subst (RunsOn setting s0 s k0 k' turns) (some_end _ _ h) (record {
       read = so.read;
       written = w.0;
       gave = so.gave;
@@ -255,26 +256,26 @@ run_stop {s0} {s} {k0} {k} {turns} old new next more k' has' line_ends.TurnsUsed
       turns_at_most = (let a = w.2 in let c = so.cost in omega arith);
       ends = (inr w.3, (let a = w.2 in let c = so.cost in omega (arith, a, c, u.3)));
     })
-run_stop {s0} {s} {k0} {k} {turns} old new next more k' has' line_ends.NoMemory stop so e t l m b u h =
-    subst (λ q. Runs s0 s k0 q turns stop) (sym u.2) (subst (Runs s0 s k0 k turns) (some_end _ _ h) (run_unmade so next more e t m b u.0 u.1))
+run_stop {setting} {s0} {s} {k0} {k} {turns} old new next more k' has' line_ends.NoMemory stop so e t l m b u h =
+    subst (λ q. RunsOn setting s0 s k0 q turns stop) (sym u.2) (subst (RunsOn setting s0 s k0 k turns) (some_end _ _ h) (run_unmade so next more e t m b u.0 u.1))
 
 -- the last line
-pub run_last : {s0 s : SourceAccount} {k0 k : SinkAccount} {turns has n : ℕ} {rest : List ℕ} (old new : Standing) (k' : SinkAccount) (has' : ℕ) (end : LineEnd)
-    → SoFar s0 s k0 k turns has n rest old.device old.labels → IsBare rest → length rest ≤ 255 → s0.counts.ends < s.counts.ends
-    → UsesLine old new rest k k' has has' end → Runs s0 s k0 k' turns (unwrap_or (stop_of end (n + 1)) ends.Done)
+pub run_last : {setting : Setting} {s0 s : SourceAccount} {k0 k : SinkAccount} {turns has n : ℕ} {rest : List ℕ} (old new : Standing) (k' : SinkAccount) (has' : ℕ) (end : LineEnd)
+    → SoFar setting s0 s k0 k turns has n rest old.device old.labels → IsBare rest → length rest ≤ 255 → s0.counts.ends < s.counts.ends
+    → UsesLine old new rest k k' has has' end → RunsOn setting s0 s k0 k' turns (unwrap_or (stop_of end (n + 1)) ends.Done)
 run_last {rest} old new k' has' line_ends.Used so b l f u = run_done_last so u.0 new.device new.labels k' has' b u.1 u.2 f
 run_last {rest} old new k' has' line_ends.Malformed so b l f u = run_stop old new rest [] k' has' line_ends.Malformed _ so (sym (append-nil rest)) (inl (refl, f)) l (omega arith) b u refl
 run_last {rest} old new k' has' line_ends.WriteFault so b l f u = run_stop old new rest [] k' has' line_ends.WriteFault _ so (sym (append-nil rest)) (inl (refl, f)) l (omega arith) b u refl
 run_last {rest} old new k' has' line_ends.TurnsUsed so b l f u = run_stop old new rest [] k' has' line_ends.TurnsUsed _ so (sym (append-nil rest)) (inl (refl, f)) l (omega arith) b u refl
 run_last {rest} old new k' has' line_ends.NoMemory so b l f u = run_stop old new rest [] k' has' line_ends.NoMemory _ so (sym (append-nil rest)) (inl (refl, f)) l (omega arith) b u refl
 
-pub run_too_long : {s0 s : SourceAccount} {k0 k : SinkAccount} {turns has n : ℕ} {rest : List ℕ} {device : Option Rows} {labels : List ℕ} (front more : List ℕ)
-    → SoFar s0 s k0 k turns has n rest device labels → IsTooLong rest front more → Runs s0 s k0 k turns (ends.Malformed (n + 1))
+pub run_too_long : {setting : Setting} {s0 s : SourceAccount} {k0 k : SinkAccount} {turns has n : ℕ} {rest : List ℕ} {device : Place} {labels : List ℕ} (front more : List ℕ)
+    → SoFar setting s0 s k0 k turns has n rest device labels → IsTooLong rest front more → RunsOn setting s0 s k0 k turns (ends.Malformed (n + 1))
 run_too_long front more so t = run_malformed so front more t.whole (malformed (reading_of-long front (omega (arith, t.long)))) t.bare (inr t.long) (omega (arith, t.long)) (omega (arith, t.behind))
 
-pub so_far_none : (source : SourceAccount) (sink : SinkAccount) (turns : ℕ) (rest : List ℕ) (device : Option Rows) (labels : List ℕ) → rest ≡ [] → device ≡ None → labels ≡ unbound
-    → SoFar source source sink sink turns turns 0 rest device labels
-so_far_none source sink turns rest device labels e f h = record {
+pub so_far_none : (setting : Setting) (source : SourceAccount) (sink : SinkAccount) (turns : ℕ) (rest : List ℕ) (device : Place) (labels : List ℕ) → rest ≡ [] → device ≡ Planned setting → labels ≡ unbound
+    → SoFar setting source source sink sink turns turns 0 rest device labels
+so_far_none setting source sink turns rest device labels e f h = record {
   read = [];
   lines = [];
   results = [];
@@ -282,15 +283,15 @@ so_far_none source sink turns rest device labels e f h = record {
   took = Took-none sink;
   chunks = omega arith;
   cost = refl;
-  script = subst (λ d. Script [] [] d labels) (sym f) (subst (Script [] [] None) (sym h) start);
+  script = subst (λ d. Script setting [] [] d labels) (sym f) (subst (Script setting [] [] (Planned setting)) (sym h) start);
   whole = sym e;
   number = refl;
 }
 
 -- a line that lets the run go on
-pub so_far_used : {s0 s : SourceAccount} {k0 k : SinkAccount} {turns has n : ℕ} {rest : List ℕ} (old new : Standing) (next more : List ℕ) (k' : SinkAccount) (has' m : ℕ) (end : LineEnd)
-    → SoFar s0 s k0 k turns has n rest old.device old.labels → rest ≡ next ++ 10 ∷ more → IsBare next
-    → UsesLine old new next k k' has has' end → stop_of end m ≡ None → SoFar s0 s k0 k' turns has' (n + 1) more new.device new.labels
+pub so_far_used : {setting : Setting} {s0 s : SourceAccount} {k0 k : SinkAccount} {turns has n : ℕ} {rest : List ℕ} (old new : Standing) (next more : List ℕ) (k' : SinkAccount) (has' m : ℕ) (end : LineEnd)
+    → SoFar setting s0 s k0 k turns has n rest old.device old.labels → rest ≡ next ++ 10 ∷ more → IsBare next
+    → UsesLine old new next k k' has has' end → stop_of end m ≡ None → SoFar setting s0 s k0 k' turns has' (n + 1) more new.device new.labels
 so_far_used old new next more k' has' m line_ends.Used so e b u h = so_far_line so next more u.0 new.device new.labels k' has' e b u.1 u.2
 so_far_used old new next more k' has' m line_ends.Malformed so e b u h = absurd (cc)
 so_far_used old new next more k' has' m line_ends.WriteFault so e b u h = absurd (cc)

@@ -2,7 +2,8 @@
 use Rattle.std.proofs.Common.{◌≡◌, ℕ, ◌+◌, ◌≤◌, List, [], ◌∷◌, ◌++◌, length, refl, sym, ap, subst, arith, Some, None, Option, inl, inr}
 use Rattle.drm_streams.specs.Streams.{SourceAccount, SinkAccount}
 use Rattle.drm_runs.specs.Reader.{Buffered, Reads}
-use Rattle.drm_runs.specs.Runs.{Runs}
+use Rattle.drm_runs.specs.Script.{Setting}
+use Rattle.drm_runs.specs.Runs.{RunsOn}
 use Rattle.drm_runs.specs.RunSteps.{SoFar, StandsSoFar, UsesHeld, UsesLast, GoesOn, Advances, at_first}
 use Rattle.drm_runs.specs.declared.run.Run.{Run}
 use Rattle.drm_runs.specs.declared.run.ScriptEnd.{ScriptEnd}
@@ -14,9 +15,10 @@ use Rattle.drm_runs.proofs.RunLemmas.{so_far_none, so_far_read, so_far_used, use
 abbrev pub with_line : Run → Buffered → ℕ → Run
 with_line old reader has = record { reader = reader; interpreter = old.interpreter; number = old.number; turns = has }
 
-pub first_so_far : (run : Run) (source : SourceAccount) (sink : SinkAccount) (turns : ℕ) → run ≡ at_first turns → StandsSoFar source source sink sink turns run
-first_so_far run source sink turns e =
-    subst (StandsSoFar source source sink sink turns) (sym e) (so_far_none source sink turns [] None _ refl refl refl)
+pub first_so_far : (setting : Setting) (run : Run) (source : SourceAccount) (sink : SinkAccount) (turns : ℕ) → run ≡ at_first setting turns
+    → StandsSoFar setting source source sink sink turns run
+first_so_far setting run source sink turns e =
+    subst (StandsSoFar setting source source sink sink turns) (sym e) (so_far_none setting source sink turns [] _ _ refl refl refl)
 
 module _ (old new : Run) (reader : Buffered) (has : ℕ) (source source' : SourceAccount) (sink sink' : SinkAccount) (given : List ℕ) where
   goes_on : Reads old.reader reader source source' old.turns has next_line.Line given → new.number ≡ old.number + 1 → new.reader ≡ reader
@@ -25,11 +27,11 @@ module _ (old new : Run) (reader : Buffered) (has : ℕ) (source source' : Sourc
       let cost = used_cost old.interpreter new.interpreter reader.held sink sink' has new.turns (old.number + 1) u.0 u.1 (sym u.2) in
       let left : length new.reader.pending ≡ length reader.pending = ap (λ (b : Buffered). length b.pending) same in
       let fuel = r.fuel refl in record {
-        so_far = λ (start : SourceAccount) (first : SinkAccount) (turns : ℕ) (so : StandsSoFar start source first sink turns old).
+        so_far = λ (setting : Setting) (start : SourceAccount) (first : SinkAccount) (turns : ℕ) (so : StandsSoFar setting start source first sink turns old).
             let read = so_far_read so source' given has (reader.held ++ 10 ∷ reader.pending) r.spent r.chunks r.splits.0 in
             let used = so_far_used old.interpreter new.interpreter reader.held reader.pending sink' new.turns (old.number + 1) u.0 read refl r.splits.1 u.1 (sym u.2) in
-            subst (λ (b : Buffered). SoFar start source' first sink' turns new.turns new.number b.pending new.interpreter.device new.interpreter.labels) (sym same)
-            (subst (λ (n : ℕ). SoFar start source' first sink' turns new.turns n reader.pending new.interpreter.device new.interpreter.labels) (sym number) used);
+            subst (λ (b : Buffered). SoFar setting start source' first sink' turns new.turns new.number b.pending new.interpreter.device new.interpreter.labels) (sym same)
+            (subst (λ (n : ℕ). SoFar setting start source' first sink' turns new.turns n reader.pending new.interpreter.device new.interpreter.labels) (sym number) used);
         number = number;
         source_calls = (let a = r.spent.cost in let b = cost.1 in omega arith);
         sink_calls = (let a = cost.0 in let b = r.spent.gave.counts.calls in let d = r.spent.cost in omega arith);
@@ -38,7 +40,7 @@ module _ (old new : Run) (reader : Buffered) (has : ℕ) (source source' : Sourc
 
   stops : (end : ScriptEnd) → Reads old.reader reader source source' old.turns has next_line.Line given
       → UsesHeld (with_line old reader has) new sink sink' (Some end) → Advances old new source source' sink sink' (Some end)
-  stops end r u start first turns so =
+  stops end r u setting start first turns so =
       let read = so_far_read so source' given has (reader.held ++ 10 ∷ reader.pending) r.spent r.chunks r.splits.0 in
       let behind : length (10 ∷ reader.pending) ≤ 256 = omega (arith, r.splits.3) in
       run_stop old.interpreter new.interpreter reader.held (10 ∷ reader.pending) sink' new.turns u.0 end read refl (inr (reader.pending, refl)) r.splits.2 behind r.splits.1 u.1 (sym u.2)
@@ -50,25 +52,25 @@ module _ (old new : Run) (reader : Buffered) (has : ℕ) (source source' : Sourc
 
   pub advances_last : (end : ScriptEnd) → Reads old.reader reader source source' old.turns has next_line.End given
       → UsesLast (with_line old reader has) new sink sink' end → Advances old new source source' sink sink' (Some end)
-  advances_last end r (inl u) start first turns so =
+  advances_last end r (inl u) setting start first turns so =
       let read = so_far_read so source' given has reader.held r.spent r.chunks r.splits.0 in
       let done = run_done_empty read u.0 (omega (arith, so.gave.counts.ends, r.splits.4)) in
-      subst (Runs start source' first sink' turns) (sym u.2) (subst (λ (k : SinkAccount). Runs start source' first k turns ends.Done) (sym u.1) done)
-  advances_last end r (inr u) start first turns so =
+      subst (RunsOn setting start source' first sink' turns) (sym u.2) (subst (λ (k : SinkAccount). RunsOn setting start source' first k turns ends.Done) (sym u.1) done)
+  advances_last end r (inr u) setting start first turns so =
       let read = so_far_read so source' given has reader.held r.spent r.chunks r.splits.0 in
       let last = run_last old.interpreter new.interpreter sink' new.turns u.0 read r.splits.2 r.splits.3 (omega (arith, so.gave.counts.ends, r.splits.4)) u.1 in
-      subst (Runs start source' first sink' turns) (sym u.2) last
+      subst (RunsOn setting start source' first sink' turns) (sym u.2) last
 
 module _ (old : Run) (reader : Buffered) (has : ℕ) (source source' : SourceAccount) (sink : SinkAccount) (given : List ℕ) where
   pub advances_too_long : Reads old.reader reader source source' old.turns has next_line.TooLong given → Advances old old source source' sink sink (Some (ends.Malformed (old.number + 1)))
-  advances_too_long r start first turns so = run_too_long r.splits.0 r.splits.1 (so_far_read so source' given has _ r.spent r.chunks refl) r.splits.2
+  advances_too_long r setting start first turns so = run_too_long r.splits.0 r.splits.1 (so_far_read so source' given has _ r.spent r.chunks refl) r.splits.2
 
   pub advances_read_fault : Reads old.reader reader source source' old.turns has next_line.ReadFault given → Advances old old source source' sink sink (Some ends.ReadFault)
-  advances_read_fault r start first turns so =
+  advances_read_fault r setting start first turns so =
       let read = so_far_read so source' given has reader.held r.spent r.chunks r.splits.0 in
       run_read_fault read r.splits.2 r.splits.3 (omega (arith, so.gave.counts.faults, r.splits.4))
 
   pub advances_turns_used : Reads old.reader reader source source' old.turns has next_line.TurnsUsed given → Advances old old source source' sink sink (Some ends.TurnsUsed)
-  advances_turns_used r start first turns so =
+  advances_turns_used r setting start first turns so =
       let read = so_far_read so source' given has reader.held r.spent r.chunks r.splits.0 in
       run_turns_used read r.splits.2 r.splits.3 r.splits.4

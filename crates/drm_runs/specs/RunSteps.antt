@@ -1,13 +1,12 @@
 -- A run that goes on, line by line.
 use Rattle.std.specs.Prelude.{◌≡◌, ℕ, ◌+◌, ◌*◌, ◌<◌, ◌≤◌, ◌^◌, List, [], ◌++◌, ◌⊎◌, Option, None, Some, unwrap_or, length}
-use Rattle.drm_model.specs.Rows.{Rows}
 use Rattle.drm_streams.specs.Streams.{SourceAccount, SinkAccount}
 use Rattle.drm_streams.specs.Turns.{Gave, Took}
 use Rattle.drm_runs.specs.Lines.{joined}
-use Rattle.drm_runs.specs.Script.{Script, script_text}
+use Rattle.drm_runs.specs.Script.{Setting, Place, Script, script_text}
 use Rattle.drm_runs.specs.Interpreter.{at_start}
 use Rattle.drm_runs.specs.Writing.{UsesLine}
-use Rattle.drm_runs.specs.Runs.{Results, Runs}
+use Rattle.drm_runs.specs.Runs.{Results, RunsOn}
 use Rattle.drm_runs.specs.declared.run.Run.{Run}
 use Rattle.drm_runs.specs.declared.run.ScriptEnd.{ScriptEnd}
 use Rattle.drm_runs.specs.declared.run.ScriptEnd.TheVariants as ends
@@ -15,7 +14,7 @@ use Rattle.drm_runs.specs.declared.writing.LineEnd.{LineEnd}
 use Rattle.drm_runs.specs.declared.writing.LineEnd.TheVariants as line_ends
 
 -- A run so far, with n lines used.
-pub record SoFar (source source' : SourceAccount) (sink sink' : SinkAccount) (turns has n : ℕ) (rest : List ℕ) (device : Option Rows) (labels : List ℕ) : Type 0 where
+pub record SoFar (setting : Setting) (source source' : SourceAccount) (sink sink' : SinkAccount) (turns has n : ℕ) (rest : List ℕ) (device : Place) (labels : List ℕ) : Type 0 where
   pub read : List ℕ
   pub lines : List (List ℕ)
   pub results : Results
@@ -23,7 +22,7 @@ pub record SoFar (source source' : SourceAccount) (sink sink' : SinkAccount) (tu
   pub took : Took sink sink' (script_text results)
   pub chunks : length read + 256 * source.counts.calls ≤ 256 * source'.counts.calls
   pub cost : source'.counts.calls + sink'.counts.calls + has ≡ source.counts.calls + sink.counts.calls + turns
-  pub script : Script lines results device labels
+  pub script : Script setting lines results device labels
   pub whole : read ≡ joined lines ++ rest
   pub number : n ≡ length lines
 
@@ -36,13 +35,13 @@ stop_of line_ends.TurnsUsed number = Some ends.TurnsUsed
 stop_of line_ends.NoMemory number = Some ends.NoMemory
 
 -- no line was used yet
-abbrev pub at_first : ℕ → Run
-at_first turns = record { reader = record { held = []; pending = [] }; interpreter = at_start; number = 0; turns = turns }
+abbrev pub at_first : Setting → ℕ → Run
+at_first setting turns = record { reader = record { held = []; pending = [] }; interpreter = at_start setting; number = 0; turns = turns }
 
 -- a run so far, as it stands
-abbrev pub StandsSoFar : SourceAccount → SourceAccount → SinkAccount → SinkAccount → ℕ → Run → Type 0
-StandsSoFar source source' sink sink' turns run =
-    SoFar source source' sink sink' turns run.turns run.number run.reader.pending run.interpreter.device run.interpreter.labels
+abbrev pub StandsSoFar : Setting → SourceAccount → SourceAccount → SinkAccount → SinkAccount → ℕ → Run → Type 0
+StandsSoFar setting source source' sink sink' turns run =
+    SoFar setting source source' sink sink' turns run.turns run.number run.reader.pending run.interpreter.device run.interpreter.labels
 
 -- what is left to be read and written, at most
 abbrev pub fuel_of : Run → ℕ
@@ -67,7 +66,7 @@ UsesLast old new sink sink' end =
 
 -- One line more was used.
 pub record GoesOn (old new : Run) (source source' : SourceAccount) (sink sink' : SinkAccount) : Type 0 where
-  pub so_far : (start : SourceAccount) (first : SinkAccount) (turns : ℕ) → StandsSoFar start source first sink turns old → StandsSoFar start source' first sink' turns new
+  pub so_far : (setting : Setting) (start : SourceAccount) (first : SinkAccount) (turns : ℕ) → StandsSoFar setting start source first sink turns old → StandsSoFar setting start source' first sink' turns new
   pub number : new.number ≡ old.number + 1
   pub source_calls : source'.counts.calls + new.turns ≤ source.counts.calls + old.turns
   pub sink_calls : sink'.counts.calls + new.turns ≤ sink.counts.calls + old.turns
@@ -77,4 +76,4 @@ pub record GoesOn (old new : Run) (source source' : SourceAccount) (sink sink' :
 abbrev pub Advances : Run → Run → SourceAccount → SourceAccount → SinkAccount → SinkAccount → Option ScriptEnd → Type 0
 Advances old new source source' sink sink' None = GoesOn old new source source' sink sink'
 Advances old new source source' sink sink' (Some end) =
-    (start : SourceAccount) (first : SinkAccount) (turns : ℕ) → StandsSoFar start source first sink turns old → Runs start source' first sink' turns end
+    (setting : Setting) (start : SourceAccount) (first : SinkAccount) (turns : ℕ) → StandsSoFar setting start source first sink turns old → RunsOn setting start source' first sink' turns end

@@ -1,13 +1,13 @@
 -- How a run of a script ends, and what was then read and written (own).
-use Rattle.std.specs.Prelude.{◌≡◌, ℕ, ◌+◌, ◌*◌, ◌<◌, ◌≤◌, List, [], ◌∷◌, ◌++◌, ◌⊎◌, Bool, true, false, Option, None, Result, length}
+use Rattle.std.specs.Prelude.{◌≡◌, ℕ, ◌+◌, ◌*◌, ◌<◌, ◌≤◌, List, [], ◌∷◌, ◌++◌, ◌⊎◌, Bool, true, false, Result, length}
 use Rattle.drm_table.specs.declared.answers.Answer.{Answer}
 use Rattle.drm_table.specs.declared.apart.Apart.{Apart}
-use Rattle.drm_model.specs.Rows.{Rows}
 use Rattle.drm_streams.specs.Streams.{SourceAccount, SinkAccount}
 use Rattle.drm_streams.specs.Turns.{Gave, Took}
 use Rattle.drm_script.specs.Lines.{answer_line}
 use Rattle.drm_runs.specs.Lines.{IsBare, joined}
-use Rattle.drm_runs.specs.Script.{Script, script_text, IsMisplaced, WantsDevice}
+use Rattle.drm_runs.specs.Script.{Setting, Place, Script, usual, script_text, IsMisplaced, WantsDevice}
+use Rattle.drm_runs.specs.Script.Place.{Planned}
 use Rattle.drm_runs.specs.declared.run.ScriptEnd.{ScriptEnd}
 use Rattle.drm_runs.specs.declared.run.ScriptEnd.TheVariants as ends
 
@@ -20,12 +20,12 @@ Covers ended read lines rest =
     (read ≡ joined lines ++ rest) ⊎ ((front : List (List ℕ)) × (last : List ℕ) × (lines ≡ front ++ last ∷ []) × (read ≡ joined front ++ last) × (rest ≡ []) × ended)
 
 -- Every line that was read was used, and what the results write was written.
-pub record IsDone (ended : Type 0) (read written : List ℕ) : Type 0 where
+pub record IsDone (setting : Setting) (ended : Type 0) (read written : List ℕ) : Type 0 where
   pub lines : List (List ℕ)
   pub results : Results
-  pub device : Option Rows
+  pub device : Place
   pub labels : List ℕ
-  pub script : Script lines results device labels
+  pub script : Script setting lines results device labels
   pub covers : Covers ended read lines []
   pub text : written ≡ script_text results
 
@@ -35,14 +35,14 @@ EndsLine ended rest = ((rest ≡ []) × ended) ⊎ ((more : List ℕ) × (rest �
 
 -- The lines before the bad one were used. The bad one can't be used: its end was read, or the input ended, or it is too long,
 -- which its first 256 bytes tell. No more was read behind it than one read gives.
-pub record IsMalformed (ended : Type 0) (number : ℕ) (read written : List ℕ) : Type 0 where
+pub record IsMalformed (setting : Setting) (ended : Type 0) (number : ℕ) (read written : List ℕ) : Type 0 where
   pub lines : List (List ℕ)
   pub results : Results
-  pub device : Option Rows
+  pub device : Place
   pub labels : List ℕ
   pub bad : List ℕ
   pub rest : List ℕ
-  pub script : Script lines results device labels
+  pub script : Script setting lines results device labels
   pub whole : read ≡ joined lines ++ (bad ++ rest)
   pub misplaced : IsMisplaced device bad
   pub bare : IsBare bad
@@ -53,13 +53,13 @@ pub record IsMalformed (ended : Type 0) (number : ℕ) (read written : List ℕ)
   pub text : written ≡ script_text results
 
 -- Every whole line that was read was used, and what is left is shorter than a line that is too long.
-pub record IsCutShort (read written : List ℕ) : Type 0 where
+pub record IsCutShort (setting : Setting) (read written : List ℕ) : Type 0 where
   pub lines : List (List ℕ)
   pub results : Results
-  pub device : Option Rows
+  pub device : Place
   pub labels : List ℕ
   pub rest : List ℕ
-  pub script : Script lines results device labels
+  pub script : Script setting lines results device labels
   pub whole : read ≡ joined lines ++ rest
   pub bare : IsBare rest
   pub short : length rest ≤ 255
@@ -78,25 +78,25 @@ pub record IsCutInLast (results : Results) (written : List ℕ) : Type 0 where
 
 -- Some lines were used, and writing stopped in the answer of the last one; so no line is used after a failed write, and no
 -- more was read behind it than one read gives.
-pub record IsStopped (ended : Type 0) (read written : List ℕ) : Type 0 where
+pub record IsStopped (setting : Setting) (ended : Type 0) (read written : List ℕ) : Type 0 where
   pub lines : List (List ℕ)
   pub results : Results
-  pub device : Option Rows
+  pub device : Place
   pub labels : List ℕ
   pub rest : List ℕ
-  pub script : Script lines results device labels
+  pub script : Script setting lines results device labels
   pub covers : Covers ended read lines rest
   pub behind : length rest ≤ 256
   pub cut : IsCutInLast results written
 
 -- The lines before were all skipped; the next one wants a device, for which there was no memory. Nothing was written, and no
 -- more was read behind that line than one read gives.
-pub record IsUnmade (ended : Type 0) (read written : List ℕ) : Type 0 where
+pub record IsUnmade (setting : Setting) (ended : Type 0) (read written : List ℕ) : Type 0 where
   pub lines : List (List ℕ)
   pub labels : List ℕ
   pub next : List ℕ
   pub rest : List ℕ
-  pub script : Script lines [] None labels
+  pub script : Script setting lines [] (Planned setting) labels
   pub whole : read ≡ joined lines ++ (next ++ rest)
   pub bare : IsBare next
   pub until : EndsLine ended rest
@@ -114,24 +114,28 @@ is_malformed ends.TurnsUsed = false
 is_malformed ends.NoMemory = false
 
 -- each end with its cause
-abbrev pub Ends : ScriptEnd → SourceAccount → SourceAccount → SinkAccount → SinkAccount → ℕ → List ℕ → List ℕ → Type 0
-Ends ends.Done source source' sink sink' turns read written =
-    IsDone (source.counts.ends < source'.counts.ends) read written × (source.counts.ends < source'.counts.ends)
-Ends (ends.Malformed number) source source' sink sink' turns read written = IsMalformed (source.counts.ends < source'.counts.ends) number read written
-Ends ends.ReadFault source source' sink sink' turns read written = IsCutShort read written × (source.counts.faults < source'.counts.faults)
-Ends ends.WriteFault source source' sink sink' turns read written =
-    IsStopped (source.counts.ends < source'.counts.ends) read written × (sink.counts.faults < sink'.counts.faults)
-Ends ends.TurnsUsed source source' sink sink' turns read written =
-    (IsCutShort read written ⊎ IsStopped (source.counts.ends < source'.counts.ends) read written)
+abbrev pub Ends : Setting → ScriptEnd → SourceAccount → SourceAccount → SinkAccount → SinkAccount → ℕ → List ℕ → List ℕ → Type 0
+Ends setting ends.Done source source' sink sink' turns read written =
+    IsDone setting (source.counts.ends < source'.counts.ends) read written × (source.counts.ends < source'.counts.ends)
+Ends setting (ends.Malformed number) source source' sink sink' turns read written = IsMalformed setting (source.counts.ends < source'.counts.ends) number read written
+Ends setting ends.ReadFault source source' sink sink' turns read written = IsCutShort setting read written × (source.counts.faults < source'.counts.faults)
+Ends setting ends.WriteFault source source' sink sink' turns read written =
+    IsStopped setting (source.counts.ends < source'.counts.ends) read written × (sink.counts.faults < sink'.counts.faults)
+Ends setting ends.TurnsUsed source source' sink sink' turns read written =
+    (IsCutShort setting read written ⊎ IsStopped setting (source.counts.ends < source'.counts.ends) read written)
     × (source'.counts.calls + sink'.counts.calls ≡ source.counts.calls + sink.counts.calls + turns)
-Ends ends.NoMemory source source' sink sink' turns read written = IsUnmade (source.counts.ends < source'.counts.ends) read written
+Ends setting ends.NoMemory source source' sink sink' turns read written = IsUnmade setting (source.counts.ends < source'.counts.ends) read written
 
--- A run: what it read and wrote, at what cost, and why it ended. Each take asks for 256 bytes at most.
-pub record Runs (source source' : SourceAccount) (sink sink' : SinkAccount) (turns : ℕ) (end : ScriptEnd) : Type 0 where
+-- A run on a device that begins so: what it read and wrote, at what cost, and why it ended. Each take asks for 256 bytes at most.
+pub record RunsOn (setting : Setting) (source source' : SourceAccount) (sink sink' : SinkAccount) (turns : ℕ) (end : ScriptEnd) : Type 0 where
   pub read : List ℕ
   pub written : List ℕ
   pub gave : Gave source source' read
   pub took : Took sink sink' written
   pub chunks : length read + 256 * source.counts.calls ≤ 256 * source'.counts.calls
   pub turns_at_most : source'.counts.calls + sink'.counts.calls ≤ source.counts.calls + sink.counts.calls + turns
-  pub ends : Ends end source source' sink sink' turns read written
+  pub ends : Ends setting end source source' sink sink' turns read written
+
+-- a run on a device of the test topology, with the program's limits where the script sets none
+abbrev pub Runs : SourceAccount → SourceAccount → SinkAccount → SinkAccount → ℕ → ScriptEnd → Type 0
+Runs source source' sink sink' turns end = RunsOn usual source source' sink sink' turns end

@@ -25,13 +25,38 @@ test_topology = record { crtcs = 2; planes = 1 ∷ 2 ∷ []; kinds = PrimaryPlan
 abbrev pub program_limits : Limits
 program_limits = record { clients = 64; handles = 65535; names = 65535; tokens = 65535; objects = 65535; framebuffers = 64; lessees = 64; journal = 100000 }
 
-abbrev pub empty_device : Limits → Rows
-empty_device limits = empty_rows test_topology limits
+-- what the device of a script begins with: its topology, and its limits where the script sets none
+pub record Setting : Type 0 where
+  pub topology : Topology
+  pub limits : Limits
 
--- the device, which is made as the first line asks for it
-abbrev pub made : Option Rows → Rows
-made None = empty_device program_limits
-made (Some rows) = rows
+abbrev pub usual : Setting
+usual = record { topology = test_topology; limits = program_limits }
+
+-- the same topology with other limits
+abbrev pub limited_to : Setting → Limits → Setting
+limited_to setting limits = record { topology = setting.topology; limits = limits }
+
+abbrev pub empty_device : Setting → Rows
+empty_device setting = empty_rows setting.topology setting.limits
+
+-- the device of a script: there is none yet, and it will begin so; it is made; or memory for it was refused
+pub data Place : Type 0 where
+  Planned : Setting → Place
+  Made : Rows → Place
+  Refused : Place
+
+-- the rows of the device, which is made as the first line asks for it
+abbrev pub IsAt : Place → Rows → Type 0
+IsAt (Planned setting) rows = rows ≡ empty_device setting
+IsAt (Made device) rows = rows ≡ device
+IsAt Refused rows = ⊥
+
+-- there is no device
+abbrev pub IsNowhere : Place → Type 0
+IsNowhere (Planned setting) = Unit {0}
+IsNowhere (Made device) = ⊥
+IsNowhere Refused = Unit {0}
 
 -- what a command asks of the device; a label that was never bound stands for client 0
 abbrev pub event_of : List ℕ → Command → Event
@@ -52,21 +77,22 @@ bound labels (Some label) result = labels
 bound labels None result = labels
 
 -- what one line comes to: the results that it adds, the device and the labels after it
-pub data Uses (device : Option Rows) (labels line : List ℕ) : List (Result Answer Apart) → Option Rows → List ℕ → Type 0 where
+pub data Uses (device : Place) (labels line : List ℕ) : List (Result Answer Apart) → Place → List ℕ → Type 0 where
   skipped : reading_of line ≡ readings.Skipped → Uses device labels line [] device labels
-  limited : {limits : Limits} → device ≡ None → reading_of line ≡ readings.Limits limits → Uses device labels line [] (Some (empty_device limits)) labels
-  asked : {command : Command} {result : Result Answer Apart} {after : Rows} → reading_of line ≡ readings.Says command
-      → Step (made device) (event_of labels command) result after → Uses device labels line (result ∷ []) (Some after) (bound labels (label_bound command) result)
+  limited : {setting : Setting} {limits : Limits} → device ≡ Planned setting → reading_of line ≡ readings.Limits limits
+      → Uses device labels line [] (Made (empty_device (limited_to setting limits))) labels
+  asked : {command : Command} {result : Result Answer Apart} {after : Rows} (before : Rows) → reading_of line ≡ readings.Says command → IsAt device before
+      → Step before (event_of labels command) result after → Uses device labels line (result ∷ []) (Made after) (bound labels (label_bound command) result)
 
 -- no label is bound yet
 abbrev pub unbound : List ℕ
 unbound = replicate 26 0
 
 -- the lines of a script, one after another, with the results that they got
-pub data Script : List (List ℕ) → List (Result Answer Apart) → Option Rows → List ℕ → Type 0 where
-  start : Script [] [] None unbound
-  line : {lines : List (List ℕ)} {results more : List (Result Answer Apart)} {device device' : Option Rows} {labels labels' next : List ℕ}
-      → Script lines results device labels → IsBare next → Uses device labels next more device' labels' → Script (lines ++ next ∷ []) (results ++ more) device' labels'
+pub data Script (setting : Setting) : List (List ℕ) → List (Result Answer Apart) → Place → List ℕ → Type 0 where
+  start : Script setting [] [] (Planned setting) unbound
+  line : {lines : List (List ℕ)} {results more : List (Result Answer Apart)} {device device' : Place} {labels labels' next : List ℕ}
+      → Script setting lines results device labels → IsBare next → Uses device labels next more device' labels' → Script setting (lines ++ next ∷ []) (results ++ more) device' labels'
 
 -- what the results write: a line each
 abbrev pub script_text : List (Result Answer Apart) → List ℕ
@@ -74,18 +100,33 @@ script_text [] = []
 script_text (result ∷ results) = answer_line result ++ script_text results
 
 -- a line that can't be used here: it is malformed, or sets limits where the device is made already
-pub data IsMisplaced (device : Option Rows) (line : List ℕ) : Type 0 where
+pub data IsMisplaced (device : Place) (line : List ℕ) : Type 0 where
   malformed : reading_of line ≡ readings.Malformed → IsMisplaced device line
-  late : {limits : Limits} {rows : Rows} → device ≡ Some rows → reading_of line ≡ readings.Limits limits → IsMisplaced device line
+  late : {limits : Limits} {rows : Rows} → device ≡ Made rows → reading_of line ≡ readings.Limits limits → IsMisplaced device line
 
 -- a line that wants a device where none is made yet
 pub data WantsDevice (line : List ℕ) : Type 0 where
   limits : {limits : Limits} → reading_of line ≡ readings.Limits limits → WantsDevice line
   command : {command : Command} → reading_of line ≡ readings.Says command → WantsDevice line
 
--- The results are a device's answers to some events, from an empty one on.
-abbrev pub AnswersFromEmpty : List (Result Answer Apart) → Option Rows → Type 0
-AnswersFromEmpty results device = (limits : Limits) × (events : List Event) × Answers (empty_device limits) events results (made device)
+-- The lines ask the device these events, one for each command, in order, where these results came: a label stands for the client of the
+-- last opening by it that was accepted. The last list has whom the labels stand for behind the lines.
+pub data AskFor : List (List ℕ) → List (Result Answer Apart) → List Event → List ℕ → Type 0 where
+  nothing : AskFor [] [] [] unbound
+  skipped_line : {lines : List (List ℕ)} {results : List (Result Answer Apart)} {events : List Event} {labels : List ℕ} (next : List ℕ) → AskFor lines results events labels
+      → reading_of next ≡ readings.Skipped → AskFor (lines ++ next ∷ []) results events labels
+  limits_line : {lines : List (List ℕ)} {results : List (Result Answer Apart)} {events : List Event} {labels : List ℕ} (next : List ℕ) (limits : Limits) → AskFor lines results events labels
+      → reading_of next ≡ readings.Limits limits → AskFor (lines ++ next ∷ []) results events labels
+  command_line : {lines : List (List ℕ)} {results : List (Result Answer Apart)} {events : List Event} {labels : List ℕ} (next : List ℕ) (command : Command) (result : Result Answer Apart)
+      → AskFor lines results events labels → reading_of next ≡ readings.Says command
+      → AskFor (lines ++ next ∷ []) (results ++ result ∷ []) (events ++ event_of labels command ∷ []) (bound labels (label_bound command) result)
+
+-- The results are the device's answers to the events that the lines ask for, from an empty one on, of this topology and of some limits.
+abbrev pub AnswersFromEmpty : Topology → List (List ℕ) → List (Result Answer Apart) → Place → List ℕ → Type 0
+AnswersFromEmpty topology lines results device labels =
+    (limits : Limits) × (events : List Event) × AskFor lines results events labels
+    × (rows : Rows) × IsAt device rows × Answers (empty_rows topology limits) events results rows
 
 abbrev pub ScriptsAreAnswered : Type 0
-ScriptsAreAnswered = (lines : List (List ℕ)) (results : List (Result Answer Apart)) (device : Option Rows) (labels : List ℕ) → Script lines results device labels → AnswersFromEmpty results device
+ScriptsAreAnswered = (setting : Setting) (lines : List (List ℕ)) (results : List (Result Answer Apart)) (device : Place) (labels : List ℕ)
+    → Script setting lines results device labels → AnswersFromEmpty setting.topology lines results device labels

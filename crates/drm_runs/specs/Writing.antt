@@ -1,11 +1,11 @@
 -- One line of a run: what it asks is answered, and the answer is written.
-use Rattle.std.specs.Prelude.{◌≡◌, ℕ, ◌<◌, List, [], ◌∷◌, None, Result}
+use Rattle.std.specs.Prelude.{◌≡◌, ℕ, ◌<◌, List, [], ◌∷◌, Result}
 use Rattle.drm_table.specs.declared.answers.Answer.{Answer}
 use Rattle.drm_table.specs.declared.apart.Apart.{Apart}
 use Rattle.drm_streams.specs.Streams.{SinkAccount}
 use Rattle.drm_streams.specs.Turns.{Pays, PaysPart}
 use Rattle.drm_script.specs.Lines.{answer_line}
-use Rattle.drm_runs.specs.Script.{Uses, IsMisplaced, WantsDevice, script_text}
+use Rattle.drm_runs.specs.Script.{Uses, IsMisplaced, IsNowhere, WantsDevice, script_text}
 use Rattle.drm_runs.specs.Interpreter.{Standing}
 use Rattle.drm_runs.specs.declared.writing.LineEnd.{LineEnd}
 use Rattle.drm_runs.specs.declared.writing.LineEnd.TheVariants as ends
@@ -29,4 +29,4 @@ UsesLine old new line before after had has ends.TurnsUsed =
     (result : Result Answer Apart) × Uses old.device old.labels line (result ∷ []) new.device new.labels
     × PaysPart before after (answer_line result) had has × (has ≡ 0)
 UsesLine old new line before after had has ends.Malformed = IsMisplaced old.device line × (after ≡ before) × (has ≡ had)
-UsesLine old new line before after had has ends.NoMemory = (old.device ≡ None) × WantsDevice line × (after ≡ before) × (has ≡ had)
+UsesLine old new line before after had has ends.NoMemory = IsNowhere old.device × WantsDevice line × (after ≡ before) × (has ≡ had)

@@ -6,9 +6,80 @@ ghost use Rattle.drm_runs.specs.Script as script;
 
 use drm_device::{Device, Limits, NewFault, PlaneKind, Topology};
 use std::alloc::Global;
+use std::marker::Model;
 
-/// The topology of each device: two CRTCs, two planes, of which the first is the first CRTC's primary plane, two encoders and
-/// two connectors.
+/// What the device of a script begins with: its topology, and its limits where the script sets none (own).
+#[derive(Drop)]
+pub struct Setup {
+    topology: Topology,
+    limits: Limits,
+}
+
+impl Model for Setup {
+    ghost use Rattle.std.specs.Prelude.{◌≡◌, true};
+    ghost use Rattle.drm_table.specs.Limits.{are_in_range};
+    ghost use Rattle.drm_runs.specs.Script.{Setting};
+
+    ghost Value = { Setting };
+
+    ghost view = { λ s. record { topology = s.topology; limits = s.limits } };
+
+    ghost invariant = { λ s. are_in_range s.limits ≡ true };
+}
+
+impl Setup {
+    ghost use Rattle.std.specs.Prelude.{◌≡◌, true, [], IfSome};
+    ghost use Rattle.drm_table.specs.Limits.{are_in_range};
+    ghost use Rattle.drm_runs.specs.Script.{limited_to, usual};
+
+    /// A device of this topology, with these limits where the script sets none.
+    pub fn new(topology: Topology, limits: Limits) -> Setup
+        requires in_range { are_in_range limits ≡ true }
+        ensures { result ≡ record { topology = topology; limits = limits } }
+    {
+        Setup { topology, limits }
+    }
+
+    /// The test topology and the program's limits.
+    pub fn usual() -> Setup
+        ensures { result ≡ usual }
+    {
+        Setup::new(test_topology(), Limits::PROGRAM)
+    }
+
+    /// The limits where the script sets none.
+    pub(crate) fn limits(&self) -> Limits
+        ensures limits { result ≡ self.now.limits }
+        ensures in_range { are_in_range result ≡ true }
+    {
+        self.limits
+    }
+
+    /// The same topology with these limits.
+    pub(crate) fn limited_to(self, limits: Limits) -> Setup
+        requires in_range { are_in_range limits ≡ true }
+        ensures { result ≡ limited_to self limits }
+    {
+        Setup {
+            topology: self.topology,
+            limits,
+        }
+    }
+
+    /// An empty device, if there is memory for it.
+    pub fn make(self, alloc: Global) -> Option<Device>
+        ensures { IfSome result (λ device. device ≡ record { topology = self.topology; limits = self.limits; journal = [] }) }
+    {
+        match Device::new(alloc, self.topology, self.limits) {
+            Ok(device) => Some(device),
+            Err(NewFault::NoMemory) => None,
+            Err(NewFault::BadLimits) => unreachable!(),
+        }
+    }
+}
+
+/// The topology of each device where no other is asked for: two CRTCs, two planes, of which the first is the first CRTC's primary
+/// plane, two encoders and two connectors.
 pub fn test_topology() -> Topology
     ensures { result ≡ script.test_topology }
 {
@@ -19,14 +90,10 @@ pub fn test_topology() -> Topology
     }
 }
 
-/// An empty device, if there is memory for it.
+/// An empty device of the test topology, if there is memory for it.
 pub fn make_device(alloc: Global, limits: Limits) -> Option<Device>
     requires { ranges.are_in_range limits ≡ true }
     ensures { IfSome result (λ device. device ≡ record { topology = script.test_topology; limits = limits; journal = [] }) }
 {
-    match Device::new(alloc, test_topology(), limits) {
-        Ok(device) => Some(device),
-        Err(NewFault::NoMemory) => None,
-        Err(NewFault::BadLimits) => unreachable!(),
-    }
+    Setup::new(test_topology(), limits).make(alloc)
 }

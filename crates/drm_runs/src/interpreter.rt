@@ -1,6 +1,6 @@
 //! The device of a script and the clients that its labels stand for, asked line by line.
 
-use crate::devices::make_device;
+use crate::devices::Setup;
 use drm_device::{Device, Limits};
 use drm_script::{Command, Label, Reading, read_line};
 use drm_table::{Answer, Apart, Event};
@@ -16,7 +16,7 @@ pub enum LineResult {
     Answered(Result<Answer, Apart>),
     /// It can't be used here: it is malformed, or sets limits where the device is made already.
     Malformed,
-    /// It wants a device where none is made yet, and there was no memory for it.
+    /// It wants a device where none is made yet, and there was no memory for it. No later line makes one.
     NoMemory,
 }
 
@@ -24,17 +24,25 @@ pub enum LineResult {
 #[derive(Drop)]
 pub struct Interpreter {
     device: Option<Device>,
+    /// What the device begins with, until it is made or there was no memory for it.
+    planned: Option<Setup>,
+    /// The limits of the device, or those that are planned.
+    limits: Limits,
     labels: [u32; 26],
 }
 
 impl Model for Interpreter {
+    ghost use Rattle.std.specs.Prelude.{◌≡◌, true};
     ghost use Rattle.std.specs.Option.{option_map};
+    ghost use Rattle.drm_table.specs.Limits.{are_in_range};
     ghost use Rattle.drm_model.specs.Run.{rows_of};
-    ghost use Rattle.drm_runs.specs.Interpreter.{Standing};
+    ghost use Rattle.drm_runs.specs.Interpreter.{HasLimits, Standing, place_of};
 
     ghost Value = { Standing };
 
-    ghost view = { λ s. record { device = option_map rows_of s.device; labels = s.labels } };
+    ghost view = { λ s. record { device = place_of (option_map rows_of s.device) s.planned; labels = s.labels } };
+
+    ghost invariant = { λ s. (are_in_range s.limits ≡ true) × HasLimits (place_of (option_map rows_of s.device) s.planned) s.limits };
 }
 
 impl Interpreter {
@@ -43,24 +51,35 @@ impl Interpreter {
     ghost use Rattle.drm_table.specs.Limits as ranges;
     ghost use Rattle.drm_model.specs.Rows.{Rows};
     ghost use Rattle.drm_model.specs.Run.{Step, rows_of};
-    ghost use Rattle.drm_runs.specs.Script.{made, bound, event_of, label_bound};
-    ghost use Rattle.drm_runs.specs.Interpreter.{Asks, Interprets, SetsLimits, at_start};
+    ghost use Rattle.drm_runs.specs.Script.{IsAt, IsNowhere, bound, event_of, label_bound};
+    ghost use Rattle.drm_runs.specs.Script.Place.{Made};
+    ghost use Rattle.drm_runs.specs.Interpreter.{Asks, HasLimits, Interprets, SetsLimits, at_start, rows_made};
 
-    /// No device yet, and no label bound.
-    pub fn new() -> Interpreter
-        ensures { result ≡ at_start }
+    /// No device yet, which will begin as it is set up, and no label bound.
+    pub fn new(setup: Setup) -> Interpreter
+        ensures { result ≡ at_start setup }
     {
         Interpreter {
             device: None,
+            limits: setup.limits(),
+            planned: Some(setup),
             labels: [0; 26],
         }
     }
 
     /// The device, once a line has made it.
     pub fn device(&self) -> Option<&Device>
-        ensures { option_map (λ device. rows_of device.now) result ≡ self.now.device }
+        ensures { option_map (λ device. rows_of device.now) result ≡ rows_made self.now.device }
     {
         self.device.as_ref()
+    }
+
+    /// The limits of the device, or those that it begins with where no line sets others.
+    pub fn limits(&self) -> Limits
+        ensures limits { HasLimits self.now.device result }
+        ensures in_range { ranges.are_in_range result ≡ true }
+    {
+        self.limits
     }
 
     /// The clients that the labels stand for, the first for `a`; 0 where a label was never bound.
@@ -90,14 +109,15 @@ impl Interpreter {
 
     /// One step of the device, which is made if it isn't there; none if there is no memory to make it.
     fn step(&mut self, alloc: Global, event: Event) -> Option<Result<Answer, Apart>>
-        ensures some { IfSome result (λ outcome. (after : Rows) × Step (made self.old.device) event outcome after × (self.new.device ≡ Some after)) }
+        ensures some { IfSome result (λ outcome. (before : Rows) × (after : Rows) × IsAt self.old.device before × Step before event outcome after × (self.new.device ≡ Made after)) }
         ensures labels { self.new.labels ≡ self.old.labels }
-        ensures none { IfNone result (self.old.device ≡ None) }
+        ensures none { IfNone result (IsNowhere self.old.device) }
     {
         match &mut self.device {
             Some(device) => Some(device.step(event)),
             None => {
-                let mut device = make_device(alloc, Limits::PROGRAM)?;
+                let setup = self.planned.take()?;
+                let mut device = setup.make(alloc)?;
                 let outcome = device.step(event);
                 self.device = Some(device);
                 Some(outcome)
@@ -144,9 +164,13 @@ impl Interpreter {
         if self.device.is_some() {
             return LineResult::Malformed;
         }
-        let Some(device) = make_device(alloc, limits) else {
+        let Some(setup) = self.planned.take() else {
             return LineResult::NoMemory;
         };
+        let Some(device) = setup.limited_to(limits).make(alloc) else {
+            return LineResult::NoMemory;
+        };
+        self.limits = limits;
         self.device = Some(device);
         LineResult::Unanswered
     }

@@ -10,8 +10,8 @@ mod run;
 mod writing;
 
 pub use causes::cause_of;
-pub use devices::{make_device, test_topology};
+pub use devices::{Setup, make_device, test_topology};
 pub use interpreter::{Interpreter, LineResult};
 pub use laws::scripts_are_answered;
 pub use reader::{LineReader, NextLine};
-pub use run::{ScriptEnd, run_script, run_with_cause};
+pub use run::{Ran, ScriptEnd, run_on, run_script, run_with_cause};

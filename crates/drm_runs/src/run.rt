@@ -1,10 +1,11 @@
 //! Running a script.
 
 ghost use Rattle.std.specs.Prelude.{◌≡◌, ◌<◌, ◌+◌, ◌^◌, is_some};
-ghost use Rattle.drm_runs.specs.Runs.{Runs, is_malformed};
+ghost use Rattle.drm_runs.specs.Runs.{Runs, RunsOn, is_malformed};
 ghost use Rattle.drm_runs.specs.RunSteps.{stop_of};
 
 use crate::causes::cause_of;
+use crate::devices::Setup;
 use crate::interpreter::Interpreter;
 use crate::reader::{LineReader, NextLine};
 use crate::writing::{LineEnd, use_line};
@@ -57,12 +58,12 @@ impl Run {
     ghost use Rattle.std.specs.Prelude.{◌≡◌, ◌<◌, ◌+◌, ◌^◌};
     ghost use Rattle.drm_runs.specs.RunSteps.{Advances, IsCountable, UsesHeld, UsesLast, at_first};
 
-    fn new(turns: u64) -> Run
-        ensures { result ≡ at_first turns }
+    fn new(setup: Setup, turns: u64) -> Run
+        ensures { result ≡ at_first setup turns }
     {
         Run {
             reader: LineReader::new(),
-            interpreter: Interpreter::new(),
+            interpreter: Interpreter::new(setup),
             number: 0,
             turns,
         }
@@ -144,11 +145,45 @@ pub fn run_with_cause<S: Source, K: Sink>(
     ensures runs { Runs (S.account source.old) (S.account source.new) (K.account sink.old) (K.account sink.new) turns result.0 }
     ensures told { is_some result.1 ≡ is_malformed result.0 }
 {
-    let mut run = Run::new(turns);
+    let ran = run_on(alloc, Setup::usual(), source, sink, turns);
+    (ran.end, ran.cause)
+}
+
+/// What a run came to.
+#[derive(Drop)]
+pub struct Ran {
+    /// How it ended.
+    pub end: ScriptEnd,
+    /// Why a line can't be used, where one can't.
+    pub cause: Option<Malformation>,
+    /// The device at the end, and the clients that the labels stand for.
+    pub interpreter: Interpreter,
+}
+
+/// Runs a script as `run_script` does, on a device that begins with this topology and, where the script sets none, with these
+/// limits. What is left of it is given back.
+pub fn run_on<S: Source, K: Sink>(
+    alloc: Global,
+    setup: Setup,
+    source: &mut S,
+    sink: &mut K,
+    turns: u64,
+) -> Ran
+    requires source_calls { (S.account source.old).counts.calls + turns < 2 ^ 48 }
+    requires sink_calls { (K.account sink.old).counts.calls + turns < 2 ^ 48 }
+    ensures runs { RunsOn setup (S.account source.old) (S.account source.new) (K.account sink.old) (K.account sink.new) turns result.end }
+    ensures told { is_some result.cause ≡ is_malformed result.end }
+{
+    let mut run = Run::new(setup, turns);
     'lines: loop {
         if let Some(end) = run.use_next(alloc, source, sink) {
             let cause = cause_of(end, run.number, run.reader.line());
-            return (end, cause);
+            let interpreter = run.interpreter;
+            return Ran {
+                end,
+                cause,
+                interpreter,
+            };
         }
     }
 }

@@ -3,9 +3,12 @@
 ghost use Rattle.std.specs.Prelude.{◌≡◌, IfOk};
 ghost use Rattle.drm_streams.specs.Streams.{no_calls};
 
+use crate::command_line::{AskedDevice, Checking};
+use crate::commands::explain_command;
+use crate::devices::asked_setup;
 use crate::faults::Fault;
 use crate::outcomes::{Outcome, outcome_of_checks, outcome_of_fault, script_fault};
-use drm_checks::{Report, Totals, check_with_cause, write_malformed, write_totals};
+use drm_checks::{Report, Totals, check_on, write_malformed, write_totals};
 use drm_runs::ScriptEnd;
 use drm_script::Malformation;
 use drm_streams::{FromRead, ToWrite, Written};
@@ -42,20 +45,33 @@ pub(crate) fn open<R: Files + Log>(rt: &R, path: &str) -> Result<FromRead<R::Fil
     }
 }
 
-/// Checks a file, and tells on standard output of the answers that it doesn't expect.
-fn check_file<R: Input + Files + Print + Log>(
+/// Checks a file, and tells on standard output of the answers that it doesn't expect, and of the commands that explain them.
+fn check_file<R: Input + Files + Print + AllocGlobal + Log>(
     rt: &R,
     alloc: Global,
+    asked: AskedDevice<'_>,
     path: &str,
 ) -> Result<(Report, Option<Malformation>), Fault> {
+    let setup = asked_setup(rt, asked)?;
+    let mut sink = ToWrite::new(io::writer(rt));
     if path == INPUT {
         let mut source = FromRead::new(rt.reader());
-        let mut sink = ToWrite::new(io::writer(rt));
-        return Ok(check_with_cause(alloc, path, &mut source, &mut sink, MOST_TURNS));
+        return Ok(check_on(alloc, setup, path, "", &mut source, &mut sink, MOST_TURNS));
     }
     let mut source = open(rt, path)?;
-    let mut sink = ToWrite::new(io::writer(rt));
-    Ok(check_with_cause(alloc, path, &mut source, &mut sink, MOST_TURNS))
+    let Ok(command) = explain_command(alloc, path, asked) else {
+        return Err(Fault::Memory);
+    };
+    let command = command.as_str();
+    Ok(check_on(
+        alloc,
+        setup,
+        path,
+        command,
+        &mut source,
+        &mut sink,
+        MOST_TURNS,
+    ))
 }
 
 /// Tells on standard output of a line that can't be used, and logs the cause. What else ended a run early is a fault.
@@ -82,14 +98,14 @@ pub(crate) fn tell_end<R: Print + Log>(
 }
 
 /// Checks each file, and tells on standard output how many expectations are met and how many aren't.
-fn check_files<R: Input + Files + Print + Log>(
+fn check_files<R: Input + Files + Print + AllocGlobal + Log>(
     rt: &R,
     alloc: Global,
-    paths: &[&str],
+    checking: &Checking<'_>,
 ) -> Result<Totals, Fault> {
     let mut totals = Totals::new();
-    for path in paths {
-        let (report, cause) = check_file(rt, alloc, path)?;
+    for path in checking.files.as_slice() {
+        let (report, cause) = check_file(rt, alloc, checking.device, path)?;
         tell_end(rt, path, &report.end, cause)?;
         totals = totals.add(&report);
     }
@@ -100,12 +116,12 @@ fn check_files<R: Input + Files + Print + Log>(
 }
 
 /// Checks files, each on a device of its own.
-pub(crate) fn check<R: Input + Files + Print + Log>(
+pub(crate) fn check<R: Input + Files + Print + AllocGlobal + Log>(
     rt: &R,
     alloc: Global,
-    paths: &[&str],
+    checking: &Checking<'_>,
 ) -> Outcome {
-    match check_files(rt, alloc, paths) {
+    match check_files(rt, alloc, checking) {
         Ok(totals) => outcome_of_checks(&totals),
         Err(fault) => outcome_of_fault(fault),
     }

@@ -10,6 +10,30 @@ use std::alloc::{AllocError, Global};
 /// How many connections each listener may be told to accept.
 const MOST_CONNECTIONS: u64 = 64;
 
+/// A device as the command line asks for it.
+#[derive(Clone, Copy, Debug, PartialEq, Eq)]
+pub(crate) struct AskedDevice<'a> {
+    /// The file of its topology.
+    pub(crate) topology: Option<&'a str>,
+    /// Its limits, as eight numbers; of a script those that it doesn't set itself.
+    pub(crate) limits: Option<&'a str>,
+}
+
+/// How to run a script.
+#[derive(Clone, Copy, Debug, PartialEq, Eq)]
+pub(crate) struct Running<'a> {
+    pub(crate) device: AskedDevice<'a>,
+    /// Where what was noted is written at the end.
+    pub(crate) journal: Option<&'a str>,
+}
+
+/// Which files to check or to update.
+#[derive(Debug, PartialEq, Eq, Drop)]
+pub(crate) struct Checking<'a> {
+    pub(crate) files: Vec<&'a str>,
+    pub(crate) device: AskedDevice<'a>,
+}
+
 /// Where to listen, and how many connections to accept there.
 #[derive(Clone, Copy, Debug, PartialEq, Eq)]
 pub(crate) struct Serving<'a> {
@@ -19,10 +43,7 @@ pub(crate) struct Serving<'a> {
     pub(crate) ends_with_input: bool,
     /// Whether it tells only of what goes wrong.
     pub(crate) is_quiet: bool,
-    /// The file of the device's topology.
-    pub(crate) topology: Option<&'a str>,
-    /// The limits of the device, as eight numbers.
-    pub(crate) limits: Option<&'a str>,
+    pub(crate) device: AskedDevice<'a>,
     /// Where what was noted is written at the end.
     pub(crate) journal: Option<&'a str>,
 }
@@ -31,6 +52,7 @@ pub(crate) struct Serving<'a> {
 #[derive(Clone, Copy, Debug, PartialEq, Eq)]
 pub(crate) struct Explaining<'a> {
     pub(crate) path: &'a str,
+    pub(crate) device: AskedDevice<'a>,
     /// The client alone of which is told: a label or a number.
     pub(crate) client: Option<&'a str>,
     /// The line whose answer alone is told of.
@@ -42,11 +64,11 @@ pub(crate) struct Explaining<'a> {
 #[derive(Debug, PartialEq, Eq, Drop)]
 pub(crate) enum Asked<'a> {
     /// To run a script.
-    Run,
-    /// To check the files of these paths.
-    Check(Vec<&'a str>),
-    /// To write into these files what is answered.
-    Update(Vec<&'a str>),
+    Run(Running<'a>),
+    /// To check files.
+    Check(Checking<'a>),
+    /// To write into files what is answered.
+    Update(Checking<'a>),
     /// To explain what the clients of a script have.
     Explain(Explaining<'a>),
     /// To serve connections.
@@ -78,6 +100,39 @@ fn flag<'a>(alloc: Global, name: &'a str, help: &'a str) -> Arg<'a> {
         .help(help)
 }
 
+fn topology<'a>(alloc: Global) -> Arg<'a> {
+    Arg::new(alloc, "topology")
+        .long("topology")
+        .value_name("FILE")
+        .value_parser(ValueParser::NonEmptyString)
+        .help("The device's CRTCs, planes, encoders and connectors")
+}
+
+fn limits<'a>(alloc: Global, help: &'a str) -> Arg<'a> {
+    Arg::new(alloc, "limits")
+        .long("limits")
+        .value_name("NUMBERS")
+        .help(help)
+}
+
+/// The limits of a device that a script asks.
+fn script_limits<'a>(alloc: Global) -> Arg<'a> {
+    limits(
+        alloc,
+        "The device's limits where the script sets none: clients, handles, names, tokens, objects, framebuffers, lessees, journal",
+    )
+}
+
+fn journal<'a>(alloc: Global) -> Arg<'a> {
+    Arg::new(alloc, "journal")
+        .long("journal")
+        .value_name("FILE")
+        .value_parser(ValueParser::NonEmptyString)
+        .help(
+            "Writes what was asked and answered into this file at the end, as a script that checks itself",
+        )
+}
+
 fn check_command<'a>(alloc: Global) -> Result<Command<'a>, Error> {
     let files = Arg::new(alloc, "FILE")
         .value_parser(ValueParser::NonEmptyString)
@@ -97,6 +152,8 @@ fn check_command<'a>(alloc: Global) -> Result<Command<'a>, Error> {
             "Runs the scripts in files, each on a device of its own, and tells which answers are not those that they expect",
         )
         .arg(update)?
+        .arg(topology(alloc))?
+        .arg(script_limits(alloc))?
         .arg(files)?;
     Ok(command)
 }
@@ -132,7 +189,9 @@ fn explain_command<'a>(alloc: Global) -> Result<Command<'a>, Error> {
         .arg(file)?
         .arg(client)?
         .arg(line)?
-        .arg(json)?;
+        .arg(json)?
+        .arg(topology(alloc))?
+        .arg(script_limits(alloc))?;
     Ok(command)
 }
 
@@ -169,47 +228,49 @@ fn serve_command<'a>(alloc: Global) -> Result<Command<'a>, Error> {
             "quiet",
             "Tells only of what goes wrong on standard error, and not where it listens",
         ))?
-        .arg(
-            Arg::new(alloc, "topology")
-                .long("topology")
-                .value_name("FILE")
-                .value_parser(ValueParser::NonEmptyString)
-                .help("The device's CRTCs, planes, encoders and connectors"),
-        )?
-        .arg(
-            Arg::new(alloc, "limits")
-                .long("limits")
-                .value_name("NUMBERS")
-                .help(
-                    "The device's limits: clients, handles, names, tokens, objects, framebuffers, lessees, journal",
-                ),
-        )?
-        .arg(
-            Arg::new(alloc, "journal")
-                .long("journal")
-                .value_name("FILE")
-                .value_parser(ValueParser::NonEmptyString)
-                .help(
-                    "Writes what was asked and answered into this file at the end, as a script that checks itself",
-                ),
-        )?;
+        .arg(topology(alloc))?
+        .arg(limits(
+            alloc,
+            "The device's limits: clients, handles, names, tokens, objects, framebuffers, lessees, journal",
+        ))?
+        .arg(journal(alloc))?;
+    Ok(command)
+}
+
+fn run_command<'a>(alloc: Global) -> Result<Command<'a>, Error> {
+    let command = Command::new(alloc, "run")
+        .about("Runs a script from standard input, and writes its answers to standard output")
+        .arg(topology(alloc))?
+        .arg(script_limits(alloc))?
+        .arg(journal(alloc))?;
     Ok(command)
 }
 
 fn command<'a>(alloc: Global) -> Result<Command<'a>, Error> {
-    let run = Command::new(alloc, "run").about(
-        "Runs a script from standard input, and writes its answers to standard output",
-    );
     let command = Command::new(alloc, "drm_server")
         .bin_name("drm_server")?
         .version("1.0.0")
         .about("A display and buffer server with the access rules of the Linux DRM interface")
         .subcommand_required(true)
-        .subcommand(run)?
+        .subcommand(run_command(alloc)?)?
         .subcommand(check_command(alloc)?)?
         .subcommand(explain_command(alloc)?)?
         .subcommand(serve_command(alloc)?)?;
     Ok(command)
+}
+
+fn device_of<'a>(matches: &ArgMatches<'a>) -> AskedDevice<'a> {
+    AskedDevice {
+        topology: matches.get_str("topology"),
+        limits: matches.get_str("limits"),
+    }
+}
+
+fn running_of<'a>(matches: &ArgMatches<'a>) -> Running<'a> {
+    Running {
+        device: device_of(matches),
+        journal: matches.get_str("journal"),
+    }
 }
 
 fn serving_of<'a>(matches: &ArgMatches<'a>) -> Option<Serving<'a>> {
@@ -228,8 +289,7 @@ fn serving_of<'a>(matches: &ArgMatches<'a>) -> Option<Serving<'a>> {
         counts,
         ends_with_input: matches.get_flag("until-input-ends"),
         is_quiet: matches.get_flag("quiet"),
-        topology: matches.get_str("topology"),
-        limits: matches.get_str("limits"),
+        device: device_of(matches),
         journal: matches.get_str("journal"),
     })
 }
@@ -237,16 +297,17 @@ fn serving_of<'a>(matches: &ArgMatches<'a>) -> Option<Serving<'a>> {
 fn explaining_of<'a>(matches: &ArgMatches<'a>) -> Option<Explaining<'a>> {
     Some(Explaining {
         path: matches.get_str("FILE")?,
+        device: device_of(matches),
         client: matches.get_str("client"),
         line: matches.get_one("line"),
         is_json: matches.get_flag("json"),
     })
 }
 
-fn files_of<'a>(
+fn checking_of<'a>(
     alloc: Global,
     matches: &ArgMatches<'a>,
-) -> Result<Option<Vec<&'a str>>, AllocError> {
+) -> Result<Option<Checking<'a>>, AllocError> {
     let Some(paths) = matches.get_strs("FILE") else {
         return Ok(None);
     };
@@ -254,7 +315,10 @@ fn files_of<'a>(
     for path in paths {
         files.push(*path)?;
     }
-    Ok(Some(files))
+    Ok(Some(Checking {
+        files,
+        device: device_of(matches),
+    }))
 }
 
 /// Reads the words of a command line, the program's name first. An error is a mistake, a request for help, or want of memory.
@@ -264,11 +328,11 @@ pub(crate) fn read_words<'a>(
 ) -> Result<Option<Asked<'a>>, Error> {
     let matches = command(alloc)?.try_get_matches_from(words)?;
     match matches.subcommand() {
-        Some(("run", _)) => Ok(Some(Asked::Run)),
+        Some(("run", found)) => Ok(Some(Asked::Run(running_of(found)))),
         Some(("check", found)) if found.get_flag("update") => {
-            Ok(files_of(alloc, found)?.map(Asked::Update))
+            Ok(checking_of(alloc, found)?.map(Asked::Update))
         }
-        Some(("check", found)) => Ok(files_of(alloc, found)?.map(Asked::Check)),
+        Some(("check", found)) => Ok(checking_of(alloc, found)?.map(Asked::Check)),
         Some(("explain", found)) => Ok(explaining_of(found).map(Asked::Explain)),
         Some(("serve", found)) => Ok(serving_of(found).map(Asked::Serve)),
         _ => Ok(None),

@@ -1,12 +1,13 @@
-//! The device that is served.
+//! The device that the command line asks for.
 
 ghost use Rattle.std.specs.Prelude.{◌≡◌, true, IfOk};
 ghost use Rattle.drm_table.specs.Limits.{are_in_range};
 
+use crate::command_line::AskedDevice;
 use crate::faults::Fault;
 use crate::limits::limits_of;
-use drm_device::{Device, Limits, NewFault, Topology};
-use drm_runs::make_device;
+use drm_device::{Device, Limits, Topology};
+use drm_runs::{Setup, test_topology};
 use drm_topologies::read_topology;
 use log::{Log, error};
 use std::alloc::Global;
@@ -45,6 +46,27 @@ fn topology_of<R: Files + AllocGlobal + Log>(rt: &R, path: &str) -> Result<Topol
     }
 }
 
+/// The topology of a file, or the test topology.
+pub(crate) fn asked_topology<R: Files + AllocGlobal + Log>(
+    rt: &R,
+    path: Option<&str>,
+) -> Result<Topology, Fault> {
+    match path {
+        Some(path) => topology_of(rt, path),
+        None => Ok(test_topology()),
+    }
+}
+
+/// What a device of a script begins with.
+pub(crate) fn asked_setup<R: Files + AllocGlobal + Log>(
+    rt: &R,
+    asked: AskedDevice<'_>,
+) -> Result<Setup, Fault> {
+    let limits = asked_limits(rt, asked.limits)?;
+    let topology = asked_topology(rt, asked.topology)?;
+    Ok(Setup::new(topology, limits))
+}
+
 /// An empty device with these limits, and the topology of a file, or the test topology.
 pub(crate) fn asked_device<R: Files + AllocGlobal + Log>(
     rt: &R,
@@ -54,12 +76,8 @@ pub(crate) fn asked_device<R: Files + AllocGlobal + Log>(
 ) -> Result<Device, Fault>
     requires { are_in_range limits ≡ true }
 {
-    let Some(path) = topology else {
-        return make_device(alloc, limits).ok_or(Fault::Memory);
-    };
-    match Device::new(alloc, topology_of(rt, path)?, limits) {
-        Ok(device) => Ok(device),
-        Err(NewFault::NoMemory) => Err(Fault::Memory),
-        Err(NewFault::BadLimits) => unreachable!(),
-    }
+    let topology = asked_topology(rt, topology)?;
+    Setup::new(topology, limits)
+        .make(alloc)
+        .ok_or(Fault::Memory)
 }

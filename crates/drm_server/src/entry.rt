@@ -1,21 +1,24 @@
 //! The program.
 
+ghost use Rattle.std.specs.Prelude.{◌≡◌, true};
+ghost use Rattle.drm_table.specs.Limits.{are_in_range};
+
 use crate::checking::check;
 use crate::command_line::{Asked, Serving, is_memory, read_words};
 use crate::devices::{asked_device, asked_limits};
 use crate::explaining::explain_script;
 use crate::faults::{Fault, FaultLine};
-use crate::journal::{empty_file, write_journal};
+use crate::journal::{empty_file, write_noted};
 use crate::listing::list_audit;
-use crate::outcomes::{Outcome, outcome_of, outcome_of_fault, outcome_of_listing};
+use crate::outcomes::{Outcome, outcome_of_fault, outcome_of_listing};
+use crate::running::run;
 use crate::serving::serve_device;
 use crate::updating::update;
 use crate::words::words_of;
 use clap::Error;
-use drm_device::Device;
-use drm_runs::{ScriptEnd, run_with_cause};
-use drm_streams::{FromRead, ToWrite};
-use log::{Log, error};
+use drm_device::{Device, Limits};
+use drm_streams::ToWrite;
+use log::Log;
 use std::alloc::Global;
 use std::io;
 use std::net::Net;
@@ -24,24 +27,35 @@ use std::rt::{Env, Files};
 use std::sync::Wait;
 use std::thread::Threads;
 
-/// How many reads and writes a run, and how many writes a listing makes at most.
+/// How many writes a listing makes at most.
 const MOST_TURNS: u64 = 1_000_000;
-
-/// Runs the script on standard input. Where a line can't be used, the cause is logged.
-fn run<R: Input + Print + Log>(rt: &R, alloc: Global) -> Outcome {
-    let mut source = FromRead::new(rt.reader());
-    let mut sink = ToWrite::new(io::writer(rt));
-    let (end, cause) = run_with_cause(alloc, &mut source, &mut sink, MOST_TURNS);
-    if let (ScriptEnd::Malformed(number), Some(cause)) = (end, cause) {
-        error!(rt; "line {number}: {cause}");
-    }
-    outcome_of(&end)
-}
 
 /// Lists on standard output what the device holds.
 fn list<R: Print>(rt: &R, device: &Device) -> Outcome {
     let mut sink = ToWrite::new(io::writer(rt));
     outcome_of_listing(&list_audit(device, &mut sink, MOST_TURNS))
+}
+
+/// Writes what a device has noted where that is asked for, and lists on standard output what it holds.
+fn write_and_list<R: Print + Files + AllocGlobal + Log>(
+    rt: &R,
+    alloc: Global,
+    serving: Serving<'_>,
+    limits: Limits,
+    device: &Device,
+) -> Result<Outcome, Fault>
+    requires { are_in_range limits ≡ true }
+{
+    let written = match serving.journal {
+        Some(path) => {
+            let topology = serving.device.topology;
+            write_noted(rt, alloc, path, topology, limits, device.journal())
+        }
+        None => Ok(()),
+    };
+    let listed = list(rt, device);
+    written?;
+    Ok(listed)
 }
 
 /// Serves an empty device, writes what it noted where that is asked for, and lists on standard output what it holds at the end.
@@ -50,22 +64,13 @@ fn serve_and_list<R: Input + Print + Files + Net + AllocGlobal + Log + Wait + Th
     alloc: Global,
     serving: Serving<'_>,
 ) -> Result<Outcome, Fault> {
-    let limits = asked_limits(rt, serving.limits)?;
-    let device = asked_device(rt, alloc, serving.topology, limits)?;
+    let limits = asked_limits(rt, serving.device.limits)?;
+    let device = asked_device(rt, alloc, serving.device.topology, limits)?;
     if let Some(path) = serving.journal {
         empty_file(rt, path)?;
     }
     let device = serve_device(rt, alloc, device, serving)?;
-    let written = match serving.journal {
-        Some(path) => {
-            let replayed = asked_device(rt, alloc, serving.topology, limits)?;
-            write_journal(rt, alloc, path, limits, &device, replayed)
-        }
-        None => Ok(()),
-    };
-    let listed = list(rt, &device);
-    written?;
-    Ok(listed)
+    write_and_list(rt, alloc, serving, limits, &device)
 }
 
 /// Serves connections.
@@ -105,9 +110,9 @@ fn carry_out<R: Input + Print + Eprint + Files + Net + AllocGlobal + Log + Wait 
     words: &[String],
 ) -> Outcome {
     match read_words(alloc, words) {
-        Ok(Some(Asked::Run)) => run(rt, alloc),
-        Ok(Some(Asked::Check(files))) => check(rt, alloc, files.as_slice()),
-        Ok(Some(Asked::Update(files))) => update(rt, alloc, files.as_slice()),
+        Ok(Some(Asked::Run(running))) => run(rt, alloc, running),
+        Ok(Some(Asked::Check(checking))) => check(rt, alloc, &checking),
+        Ok(Some(Asked::Update(checking))) => update(rt, alloc, &checking),
         Ok(Some(Asked::Explain(explaining))) => explain_script(rt, alloc, explaining),
         Ok(Some(Asked::Serve(serving))) => serve(rt, alloc, serving),
         Ok(None) => outcome_of_fault(Fault::CommandLine),

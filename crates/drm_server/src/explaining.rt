@@ -2,12 +2,13 @@
 
 use crate::checking::{fault_of, open, tell_end};
 use crate::command_line::Explaining;
+use crate::devices::{asked_setup, asked_topology};
 use crate::faults::{Fault, FaultLine};
 use crate::outcomes::{Outcome, outcome_of_fault};
 use crate::recording::{Recording, Stop, record};
 use drm_explanations::{Explanation, Labels, explain, lines_of};
 use drm_refusals::{AnswerRow, explain_answer, lines_of_answer};
-use drm_runs::{ScriptEnd, test_topology};
+use drm_runs::ScriptEnd;
 use drm_script::Label;
 use drm_streams::{ToWrite, put_all};
 use log::{Log, error};
@@ -64,13 +65,13 @@ fn json_of(alloc: Global, explanation: Explanation, only: Option<u64>) -> Result
 }
 
 /// What is told of a recording.
-fn text_of<R: Log>(
+fn text_of<R: Files + AllocGlobal + Log>(
     rt: &R,
     alloc: Global,
     explaining: &Explaining<'_>,
     recording: &Recording,
 ) -> Result<String, Fault> {
-    let topology = test_topology();
+    let topology = asked_topology(rt, explaining.device.topology)?;
     let labels = &recording.labels;
     let only = only_of(rt, explaining, labels)?;
     let explanation = explain(alloc, &recording.ledger, &topology, labels, only).map_err(
@@ -107,7 +108,7 @@ fn json_of_answer(alloc: Global, row: &AnswerRow) -> Result<String, Fault> {
 }
 
 /// What is told of the answer of one line.
-fn text_of_answer<R: Log>(
+fn text_of_answer<R: Files + AllocGlobal + Log>(
     rt: &R,
     alloc: Global,
     explaining: &Explaining<'_>,
@@ -124,7 +125,7 @@ fn text_of_answer<R: Log>(
     let Some(line) = last else {
         return Err(no_answer(rt, explaining.path, number, lines));
     };
-    let topology = test_topology();
+    let topology = asked_topology(rt, explaining.device.topology)?;
     let row = match explain_answer(alloc, &ledger, &topology, &labels, limits, line) {
         Ok(row) => row,
         Err(_) => return Err(Fault::Memory),
@@ -153,33 +154,47 @@ fn write_text<R: Print>(rt: &R, text: &str) -> Result<(), Fault> {
     fault_of(put_all(&mut sink, text.as_bytes(), &mut turns))
 }
 
+/// What there is to tell of a script.
+fn told_of<R: Files + Print + AllocGlobal + Log>(
+    rt: &R,
+    alloc: Global,
+    explaining: &Explaining<'_>,
+    recording: Recording,
+) -> Result<String, Fault> {
+    match explaining.line {
+        Some(number) => text_of_answer(rt, alloc, explaining, number, recording),
+        None => text_of(rt, alloc, explaining, &recording),
+    }
+}
+
+/// Records a script, and tells of it on standard output.
+fn record_and_tell<R: Files + Print + AllocGlobal + Log>(
+    rt: &R,
+    alloc: Global,
+    explaining: &Explaining<'_>,
+) -> Result<Outcome, Fault> {
+    let setup = asked_setup(rt, explaining.device)?;
+    let mut source = open(rt, explaining.path)?;
+    let recording = match record(alloc, setup, &mut source, MOST_TURNS, explaining.line) {
+        Ok(recording) => recording,
+        Err(stop) => return Ok(outcome_of_stop(rt, explaining.path, stop)),
+    };
+    let text = told_of(rt, alloc, explaining, recording)?;
+    write_text(rt, text.as_str())?;
+    Ok(Outcome {
+        status: 0,
+        line: FaultLine::empty(),
+    })
+}
+
 /// Explains what the clients of a script have, or the answer of one of its lines, on standard output.
-pub(crate) fn explain_script<R: Files + Print + Log>(
+pub(crate) fn explain_script<R: Files + Print + AllocGlobal + Log>(
     rt: &R,
     alloc: Global,
     explaining: Explaining<'_>,
 ) -> Outcome {
-    let mut source = match open(rt, explaining.path) {
-        Ok(source) => source,
-        Err(fault) => return outcome_of_fault(fault),
-    };
-    let recording = match record(alloc, &mut source, MOST_TURNS, explaining.line) {
-        Ok(recording) => recording,
-        Err(stop) => return outcome_of_stop(rt, explaining.path, stop),
-    };
-    let text = match explaining.line {
-        Some(number) => text_of_answer(rt, alloc, &explaining, number, recording),
-        None => text_of(rt, alloc, &explaining, &recording),
-    };
-    let told = match text {
-        Ok(text) => write_text(rt, text.as_str()),
-        Err(fault) => Err(fault),
-    };
-    match told {
-        Ok(()) => Outcome {
-            status: 0,
-            line: FaultLine::empty(),
-        },
+    match record_and_tell(rt, alloc, &explaining) {
+        Ok(outcome) => outcome,
         Err(fault) => outcome_of_fault(fault),
     }
 }

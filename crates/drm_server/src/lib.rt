@@ -3,6 +3,7 @@
 
 mod checking;
 mod command_line;
+mod commands;
 mod devices;
 mod ending;
 mod entry;
@@ -13,6 +14,7 @@ mod limits;
 mod listing;
 mod outcomes;
 mod recording;
+mod running;
 mod serving;
 mod sockets;
 mod updating;
@@ -21,7 +23,9 @@ mod words;
 pub use drm_listeners::{
     Counts, OpenConnections, ServeFault, class_word, serve_all, serve_until_told,
 };
-pub use drm_runs::{ScriptEnd, run_script, run_with_cause, scripts_are_answered};
+pub use drm_runs::{
+    Ran, ScriptEnd, Setup, run_on, run_script, run_with_cause, scripts_are_answered,
+};
 pub use entry::program;
 pub use faults::{Fault, FaultLine};
 pub use listing::{ListEnd, list_audit};

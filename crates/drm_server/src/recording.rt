@@ -6,8 +6,8 @@ use drm_checks::script_of;
 use drm_explanations::Labels;
 use drm_refusals::Line;
 use drm_rights::{Ledger, Step};
-use drm_runs::{Interpreter, LineReader, LineResult, NextLine, ScriptEnd, cause_of};
-use drm_script::{Malformation, Reading, line_of, read_line};
+use drm_runs::{Interpreter, LineReader, LineResult, NextLine, ScriptEnd, Setup, cause_of};
+use drm_script::{Malformation, line_of};
 use drm_streams::Source;
 use drm_table::{Answer, Apart, Limits};
 use std::alloc::{AllocError, Global};
@@ -38,7 +38,6 @@ struct Recorder {
     interpreter: Interpreter,
     /// What was noted so far.
     ledger: Ledger,
-    limits: Limits,
     /// How many lines were used.
     lines: u64,
     /// The line that is the last to be used, and what it was answered.
@@ -56,12 +55,11 @@ fn text_of(alloc: Global, answer: &Result<Answer, Apart>) -> Result<String, Allo
 impl Recorder {
     ghost use Rattle.std.specs.Prelude.{◌≡◌, ◌<◌, ◌+◌, ◌*◌, ◌^◌, length, IfNone};
 
-    fn new(alloc: Global, until: Option<u64>) -> Recorder {
+    fn new(alloc: Global, setup: Setup, until: Option<u64>) -> Recorder {
         Recorder {
             reader: LineReader::new(),
-            interpreter: Interpreter::new(),
+            interpreter: Interpreter::new(setup),
             ledger: Ledger::new(alloc),
-            limits: Limits::PROGRAM,
             lines: 0,
             until,
             last: None,
@@ -105,15 +103,6 @@ impl Recorder {
         }
     }
 
-    /// Keeps the limits that a line sets, where it sets some.
-    fn keep_limits(&mut self)
-        ensures { self.new.reader ≡ self.old.reader }
-    {
-        if let Reading::Limits(limits) = read_line(script_of(self.reader.line())) {
-            self.limits = limits;
-        }
-    }
-
     /// Uses the line that is held. Gives how the script ends, where it doesn't go on.
     fn use_held(&mut self, alloc: Global) -> Option<ScriptEnd>
         ensures { self.new.reader ≡ self.old.reader }
@@ -121,10 +110,7 @@ impl Recorder {
         self.lines = self.lines.saturating_add(1);
         let line = script_of(self.reader.line());
         match self.interpreter.interpret(alloc, line) {
-            LineResult::Unanswered => {
-                self.keep_limits();
-                None
-            }
+            LineResult::Unanswered => None,
             LineResult::Answered(answer) => match self.keep(alloc, answer) {
                 Ok(()) => None,
                 Err(_) => Some(ScriptEnd::NoMemory),
@@ -172,12 +158,12 @@ impl Recorder {
         let Recorder {
             interpreter,
             ledger,
-            limits,
             lines,
             last,
             ..
         } = self;
         let labels = *interpreter.labels();
+        let limits = interpreter.limits();
         Recording {
             ledger,
             labels,
@@ -188,17 +174,18 @@ impl Recorder {
     }
 }
 
-/// Runs a script on a device of its own up to the line of a number, or to its end, and notes its steps. Answers that lines expect are
-/// passed over.
+/// Runs a script on a device of its own, which begins with this topology and these limits, up to the line of a number, or to its end, and
+/// notes its steps. Answers that lines expect are passed over.
 pub(crate) fn record<S: Source>(
     alloc: Global,
+    setup: Setup,
     source: &mut S,
     turns: u64,
     until: Option<u64>,
 ) -> Result<Recording, Stop>
     requires { (S.account source.old).counts.calls + turns < 2 ^ 48 }
 {
-    let mut recorder = Recorder::new(alloc, until);
+    let mut recorder = Recorder::new(alloc, setup, until);
     let mut left = turns;
     'lines: loop {
         match recorder.use_next(alloc, source, &mut left) {

@@ -1,5 +1,7 @@
 //! Writing into files what is answered.
 
+use crate::command_line::{AskedDevice, Checking};
+use crate::devices::asked_setup;
 use crate::faults::{Fault, FaultLine};
 use crate::outcomes::{Outcome, outcome_of_fault};
 use drm_checks::{UpdateFault, update_script};
@@ -17,13 +19,15 @@ fn read_fault<R: Log>(rt: &R, path: &str, reason: &io::Error) -> Fault {
 fn update_file<R: Files + AllocGlobal + Log>(
     rt: &R,
     alloc: Global,
+    asked: AskedDevice<'_>,
     path: &str,
 ) -> Result<(), Fault> {
+    let setup = asked_setup(rt, asked)?;
     let text = match fs::read(rt, path) {
         Ok(text) => text,
         Err(reason) => return Err(read_fault(rt, path, &reason)),
     };
-    let updated = match update_script(alloc, text.as_slice()) {
+    let updated = match update_script(alloc, setup, text.as_slice()) {
         Ok(updated) => updated,
         Err(UpdateFault::NoMemory) => return Err(Fault::Memory),
         Err(UpdateFault::Malformed(number, cause)) => {
@@ -47,10 +51,10 @@ fn update_file<R: Files + AllocGlobal + Log>(
 pub(crate) fn update<R: Files + AllocGlobal + Log>(
     rt: &R,
     alloc: Global,
-    paths: &[&str],
+    checking: &Checking<'_>,
 ) -> Outcome {
-    for path in paths {
-        if let Err(fault) = update_file(rt, alloc, path) {
+    for path in checking.files.as_slice() {
+        if let Err(fault) = update_file(rt, alloc, checking.device, path) {
             return outcome_of_fault(fault);
         }
     }

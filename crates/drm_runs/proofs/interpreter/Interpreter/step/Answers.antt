@@ -1,23 +1,39 @@
-use Rattle.std.proofs.Common.{refl, subst}
-use Rattle.drm_table.specs.Limits.{are_in_range}
-use Rattle.drm_model.specs.Run.{Step, rows_of}
-use Rattle.drm_runs.specs.Script.{made}
+use Rattle.std.proofs.Common.{◌≡◌, Some, refl, subst}
+use Rattle.drm_model.specs.Run.{rows_of}
+use Rattle.drm_runs.specs.Script.{IsAt}
 use Rattle.drm_runs.specs.Interpreter.{Standing}
-use Rattle.drm_runs.proofs.InterpreterLemmas.{step_some, step_none}
+use Rattle.drm_runs.proofs.InterpreterLemmas.{at_some, at_none, step_limits, limits_stay, limits_begin}
 use Rattle.drm_runs.proofs.interpreter.Interpreter.step.Goals as goal
 
-pub make_device-requires : goal.make_device-requires
-unfolding are_in_range
-make_device-requires c = refl
+pub invariant_of-self : goal.invariant_of-self
+invariant_of-self c =
+    let s = c.self.inside in
+    let kept = step_limits c.in-Some.device c.step.new.self c.args.event c.step.result c.step.ensures.ok c.step.ensures.err in
+    (c.self.invariant.0, limits_stay s.device s.planned s.limits c.in-Some.device c.step.new.self c.in-Some.is c.self.invariant.1 kept)
+
+pub invariant_of-self-in-None : goal.invariant_of-self-in-None
+invariant_of-self-in-None c =
+    let s = c.self.inside in
+    let setup = c.in_ok-setup-in-None.setup in
+    let device = c.in_ok-device-in-None.device in
+    let kept = step_limits device c.step-outcome.new.self c.args.event c.step-outcome.result c.step-outcome.ensures.ok c.step-outcome.ensures.err in
+    let planned : s.planned ≡ Some setup = let taken = c.take.ensures.value in let is = c.in_ok-setup-in-None.was in cc in
+    (c.self.invariant.0, limits_begin s.device s.planned s.limits setup device c.step-outcome.new.self c.in-None.is planned c.self.invariant.1 c.in_ok-device-in-None.ensures kept)
 
 pub returns-in-Some-clause-some : goal.returns-in-Some-clause-some
 returns-in-Some-clause-some c =
+    let s = c.self.inside in
+    let before = rows_of c.in-Some.device in
     let after = rows_of c.step.new.self in
-    let stepped = step_some c.self.inside.device c.in-Some.device c.args.event c.step.result after c.in-Some.is c.step.ensures.step in
-    (after, subst (λ (s : Standing). Step (made s.device) c.args.event c.step.result after) c.self.view_is stepped, refl)
+    (before, after, subst (λ (s : Standing). IsAt s.device before) c.self.view_is (at_some s.device s.planned c.in-Some.device c.in-Some.is), c.step.ensures.step, refl)
 
 pub returns-in_ok-device-in-None-clause-some : goal.returns-in_ok-device-in-None-clause-some
 returns-in_ok-device-in-None-clause-some c =
+    let s = c.self.inside in
+    let setup = c.in_ok-setup-in-None.setup in
+    let device = c.in_ok-device-in-None.device in
+    let before = rows_of device in
     let after = rows_of c.step-outcome.new.self in
-    let stepped = step_none c.self.inside.device c.in_ok-device-in-None.device c.args.event c.step-outcome.result after c.in-None.is c.in_ok-device-in-None.ensures c.step-outcome.ensures.step in
-    (after, subst (λ (s : Standing). Step (made s.device) c.args.event c.step-outcome.result after) c.self.view_is stepped, refl)
+    let planned : s.planned ≡ Some setup = let taken = c.take.ensures.value in let is = c.in_ok-setup-in-None.was in cc in
+    let here = at_none s.device s.planned setup device c.in-None.is planned c.in_ok-device-in-None.ensures in
+    (before, after, subst (λ (s : Standing). IsAt s.device before) c.self.view_is here, c.step-outcome.ensures.step, refl)

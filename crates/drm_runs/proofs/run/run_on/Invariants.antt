@@ -1,13 +1,13 @@
 use Rattle.std.proofs.Common.{◌≤◌, ◌+◌, ◌*◌}
 use Rattle.drm_runs.specs.RunSteps.{StandsSoFar, fuel_of}
-use Rattle.drm_runs.proofs.run.run_with_cause.Given as goal
+use Rattle.drm_runs.proofs.run.run_on.Given as goal
 
 abbrev pub invariant-lines : goal.invariant-lines
 invariant-lines g l =
     let source = g.S.Source.account in
     let sink = g.K.Sink.account in
     record {
-      so_far : StandsSoFar (source l.fn.source) (source l.source) (sink l.fn.sink) (sink l.sink) l.fn.turns l.run;
+      so_far : StandsSoFar l.fn.setup (source l.fn.source) (source l.source) (sink l.fn.sink) (sink l.sink) l.fn.turns l.run;
       source_calls : (source l.source).counts.calls + l.run.turns ≤ (source l.fn.source).counts.calls + l.fn.turns;
       sink_calls : (sink l.sink).counts.calls + l.run.turns ≤ (sink l.fn.sink).counts.calls + l.fn.turns;
       fuel : l.run.number + fuel_of l.run ≤ 256 * l.fn.turns;

@@ -1,13 +1,14 @@
 use Rattle.std.proofs.Common.{◌≤◌, ◌+◌, ◌*◌}
+use Rattle.drm_checks.specs.Differences.{file_of}
 use Rattle.drm_checks.specs.Steps.{StandsSoFar, fuel_of}
-use Rattle.drm_checks.proofs.check.check_with_cause.Given as goal
+use Rattle.drm_checks.proofs.check.check_on.Given as goal
 
 abbrev pub invariant-lines : goal.invariant-lines
 invariant-lines g l =
     let source = g.S.Source.account in
     let sink = g.K.Sink.account in
     record {
-      so_far : StandsSoFar l.fn.name (source l.fn.source) (source l.source) (sink l.fn.sink) (sink l.sink) l.fn.turns l.check;
+      so_far : StandsSoFar l.fn.setup (file_of l.fn.name l.fn.command) (source l.fn.source) (source l.source) (sink l.fn.sink) (sink l.sink) l.fn.turns l.check;
       passed : l.check.checker.passed ≤ l.check.checker.number;
       failed : l.check.checker.failed ≤ l.check.checker.number;
       source_calls : (source l.source).counts.calls + l.check.checker.turns ≤ (source l.fn.source).counts.calls + l.fn.turns;

@@ -2,7 +2,7 @@ use Rattle.std.proofs.Common.{arith, ap}
 use Rattle.drm_runs.proofs.StepLemmas.{first_so_far}
 use Rattle.drm_runs.specs.RunSteps.{fuel_of}
 use Rattle.drm_runs.specs.declared.run.Run.{Run}
-use Rattle.drm_runs.proofs.run.run_with_cause.Goals as goal
+use Rattle.drm_runs.proofs.run.run_on.Goals as goal
 
 pub lines-init : goal.lines-init
 lines-init g c =
@@ -10,21 +10,21 @@ lines-init g c =
     let number = ap (λ (r : Run). r.number) c.new-run.ensures in
     let fuel = ap fuel_of c.new-run.ensures in
     record {
-      so_far = first_so_far _ _ _ _ c.new-run.ensures;
+      so_far = first_so_far _ _ _ _ _ c.new-run.ensures;
       source_calls = omega (arith, turns);
       sink_calls = omega (arith, turns);
       fuel = omega (arith, number, fuel);
     }
 
 pub returns-in-Some-clause-runs : goal.returns-in-Some-clause-runs
-returns-in-Some-clause-runs g c = c.in-Some.ensures _ _ _ c.lines.invariant.so_far
+returns-in-Some-clause-runs g c = c.in-Some.ensures _ _ _ _ c.lines.invariant.so_far
 
 pub lines-preserved : goal.lines-preserved
 lines-preserved g c =
     let i = c.lines.invariant in
     let on = c.in_default.ensures in
     record {
-      so_far = on.so_far _ _ _ i.so_far;
+      so_far = on.so_far _ _ _ _ i.so_far;
       source_calls = omega (arith, i.source_calls, on.source_calls);
       sink_calls = omega (arith, i.sink_calls, on.sink_calls);
       fuel = omega (arith, i.fuel, on.fuel, on.number);

@@ -2,7 +2,7 @@ use Rattle.std.proofs.Common.{arith, ap}
 use Rattle.drm_checks.specs.Steps.{fuel_of}
 use Rattle.drm_checks.specs.declared.check.Check.{Check}
 use Rattle.drm_checks.proofs.StepLemmas.{first_so_far}
-use Rattle.drm_checks.proofs.check.check_with_cause.Goals as goal
+use Rattle.drm_checks.proofs.check.check_on.Goals as goal
 
 pub lines-init : goal.lines-init
 lines-init g c =
@@ -12,7 +12,7 @@ lines-init g c =
     let failed = ap (λ (k : Check). k.checker.failed) c.new-check.ensures in
     let fuel = ap fuel_of c.new-check.ensures in
     record {
-      so_far = first_so_far _ _ _ _ _ c.new-check.ensures;
+      so_far = first_so_far _ _ _ _ _ _ c.new-check.ensures;
       passed = omega (arith, passed);
       failed = omega (arith, failed);
       source_calls = omega (arith, turns);
