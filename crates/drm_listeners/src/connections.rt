@@ -9,11 +9,11 @@ ghost use Rattle.drm_sessions.specs.Serving.{Costs};
 ghost use Rattle.drm_sessions.specs.Shared.{ServesShared};
 ghost use Rattle.drm_listeners.specs.Connections.{IsFaultOf, IsFresh, IsSessionBy, Serves, Sitting, connection_turns, seats_in, sessions_in};
 
+use crate::accepting::{accept_next, note_beyond};
 use crate::classes::class_word;
 use crate::greeting::Greeting;
 use crate::hall::Gathering;
 use crate::notes::note_session;
-use crate::open_connections::OpenConnections;
 use crate::serve_faults::ServeFault;
 use drm_sessions::{Class, NoGate, Served, Session, serve_through};
 use drm_streams::{FromRead, Sink, Source, ToWrite};
@@ -24,8 +24,8 @@ use std::os::fd::AsRawFd;
 use std::os::unix::net::{UnixListener, UnixStream};
 use std::snapshot::Snapshot;
 use std::sync::Wait;
+use std::thread;
 use std::thread::{Promise, PromisedHandle, Scope, Threads};
-use std::{io, thread};
 
 /// How many reads and writes the session of a connection makes at most.
 const MOST_TURNS: u64 = 1_000_000;
@@ -115,21 +115,6 @@ fn serve_connection<R: Wait + Log, D: Gathering>(
     served
 }
 
-// Accepts the next connection. Where all were told to end nobody comes any more: it is one whose client has ended.
-fn accept_next<R: Wait>(
-    rt: &R,
-    open: &OpenConnections,
-    socket: &UnixListener,
-) -> io::Result<UnixStream> {
-    match socket.accept() {
-        Ok((stream, _)) => Ok(stream),
-        Err(reason) => match open.ended(rt) {
-            Some(ended) => ended.try_clone(),
-            None => Err(reason),
-        },
-    }
-}
-
 // Accepts a connection, and starts the thread that serves it. Where none can be accepted, the system's reason is logged; where
 // no thread can be started, the connection is closed.
 fn start_connection<'s, E: 's, R: Wait + Threads + Log + Sync, D: Gathering + Sync>(
@@ -145,7 +130,7 @@ fn start_connection<'s, E: 's, R: Wait + Threads + Log + Sync, D: Gathering + Sy
     ensures fault { IfErr result (λ fault. IsFaultOf listener.now.class fault) }
 {
     let class = listener.class;
-    let stream = match accept_next(rt, shared.open(), &listener.socket) {
+    let stream = match accept_next(rt, shared.open(), &listener.socket, class) {
         Ok(stream) => stream,
         Err(reason) => {
             error!(rt; "{}: {reason}", class_word(class));
@@ -192,6 +177,7 @@ fn start_connections<'s, E: 's, R: Wait + Threads + Log + Sync, D: Gathering + S
         let seat = shared.device().split(own);
         handles.push_reserved(start_connection(scope, rt, shared, seat, &listener)?);
     }
+    note_beyond(rt, &listener.socket, listener.class);
     Ok(handles)
 }
 

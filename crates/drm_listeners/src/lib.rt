@@ -1,6 +1,7 @@
 //! Serving the connections of three listeners on one device that they share.
 #![tactic(auto)]
 
+mod accepting;
 mod classes;
 mod connections;
 mod counts;

@@ -119,7 +119,8 @@ fn serve_shared<R: Wait + Threads + Log + Sync>(
 /// there as the entries of its seat, whose number no other session's has.
 ///
 /// A listener is closed once it has accepted its last connection, or couldn't accept one, while sessions go on: whoever
-/// connects later is refused. One that accepts none is closed at once.
+/// connects later is refused. One that accepts none is closed at once. Where the system lacks descriptors or memory for a connection,
+/// or its client has gone, the listener asks again for five seconds before that is a fault.
 ///
 /// The connections stand in `open` for as long as they are served, which needs room for all of them. Where that is told to end,
 /// each connection ends as if its client had ended it. Those that were still to come count as accepted: each is one whose client
@@ -129,7 +130,8 @@ fn serve_shared<R: Wait + Threads + Log + Sync>(
 /// can't be started, for whatever cause.
 ///
 /// A session that ends in another way than `Ended` is logged as it ends, with its listener and its client; so is the system's
-/// reason where a connection can't be accepted.
+/// reason where a connection can't be accepted, at the first try and at the last, and a connection that waits behind a listener's last
+/// one.
 pub fn serve_until_told<R: Wait + Threads + Log + Sync>(
     rt: &R,
     alloc: Global,
