@@ -3,6 +3,7 @@ pub mod Endings
 pub mod Journals
 pub mod Orders
 pub mod Births
+pub mod ShownRows
 pub mod Once
 pub mod Leased
 pub mod Lessors

@@ -4,7 +4,7 @@ use Rattle.std.specs.List.{list_all}
 use Rattle.std.proofs.lemmas.Bool.{false≢true, eqb-true}
 use Rattle.std.proofs.lemmas.Bool.Decides.{nat_tests}
 use Rattle.drm_lists.specs.Numbers.{is_among, count}
-use Rattle.drm_lists.proofs.Numbers.{among-append, among-more, among-first, all_among, count-none, count-absent, count-append, less-differ}
+use Rattle.drm_lists.proofs.Numbers.{among-append, among-more, among-first, all_among, count-none, count-absent, count-append}
 use Rattle.drm_modes.specs.Numbers.{numbers_from}
 use Rattle.drm_model.specs.Leases.{stands_once}
 

@@ -2,6 +2,7 @@ pub mod Numbers
 pub mod Rows
 pub mod Parts
 pub mod Births
+pub mod Shown
 pub mod Masters
 pub mod Sees
 pub mod Meaning

@@ -12,6 +12,7 @@ ghost use Rattle.drm_model.specs.Rows.{Rows, is_open};
 ghost use Rattle.drm_model.specs.Verdict.{verdict};
 ghost use Rattle.drm_model.specs.Change.{after, noted};
 ghost use Rattle.drm_model.specs.Births.{BirthsRise, WereMade};
+ghost use Rattle.drm_model.specs.Shown.{EachShowsOne};
 ghost use Rattle.drm_model.specs.Masters.{lessor_of, master_of, is_under};
 ghost use Rattle.drm_model.specs.Magics.{own_master, is_master};
 ghost use Rattle.drm_model.specs.Leases.{lessee_master};
@@ -78,4 +79,10 @@ pub fn leases_end_for_good()
 /// lessor has too, where that is a lessee.
 pub fn leases_nest()
     ensures { (h : History) → LeasesNest (rows_of h) }
+{}
+
+/// Each shows one framebuffer: after any events no CRTC and no plane has two rows of what it shows, and each row shows a framebuffer
+/// that is there.
+pub fn each_shows_one_framebuffer()
+    ensures { (h : History) → EachShowsOne (rows_of h) }
 {}

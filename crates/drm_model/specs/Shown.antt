@@ -1,0 +1,14 @@
+-- What stands in the list of what CRTCs and planes show (drm-uapi, kernel mode setting).
+use Rattle.std.specs.Prelude.{◌≡◌, ◌==◌, true, false}
+use Rattle.std.specs.List.{AllByRecursion}
+use Rattle.drm_lists.specs.Orders.{InOrder}
+use Rattle.drm_model.specs.Rows.{Rows, ShownRow, is_framebuffer}
+
+-- the rows are of two CRTCs or planes
+abbrev pub IsOtherShower : ShownRow → ShownRow → Type 0
+IsOtherShower x y = (x.shower == y.shower) ≡ false
+
+-- no CRTC and no plane has two rows, and each shows a framebuffer that is there
+pub record EachShowsOne (w : Rows) : Type 0 where
+  pub one : InOrder IsOtherShower w.shown
+  pub there : AllByRecursion (λ (row : ShownRow). is_framebuffer w row.framebuffer ≡ true) w.shown
