@@ -23,7 +23,7 @@ use Rattle.drm_model.specs.Verdict.{verdict}
 use Rattle.drm_model.specs.Change.{changed, swept, noted}
 use Rattle.drm_model.specs.Reply.{reply, reply_by, answer_of}
 use Rattle.drm_model.specs.Run.{History}
-use Rattle.drm_history.specs.History.{Entry}
+use Rattle.drm_history.specs.History.{Entry, history_of}
 use Rattle.drm_authority.specs.Deeds.{deed, is_accepted}
 use Rattle.drm_authority.specs.Closings.{closes, has_closed, is_of, StaysClosed}
 use Rattle.drm_authority.specs.Laws.{ClosingsAreForGood}
@@ -153,6 +153,6 @@ stays_closed : (past : List Entry) (w : Rows) (event : Event) → AreGone past w
 unfolding reply
 stays_closed past w event gone c h e = refused w event (verdict w event) (λ v. not_carried w event c (gone c h).1 e v)
 
-pub closings_are_for_good : (h : History) → ClosingsAreForGood h
+pub closings_are_for_good : (h : History) → ClosingsAreForGood (history_of h)
 unfolding has_closed
 closings_are_for_good h = at_each_step AreGone keeps_gone StaysClosed (λ past w event r gone. stays_closed past w event gone) h (λ c k. absurd (let e : false ≡ true = k in cc))

@@ -18,4 +18,6 @@ pub mod Few
 pub mod Magics
 pub mod Named
 pub mod Known
+pub mod Mastership
+pub mod Differ
 pub mod Follows

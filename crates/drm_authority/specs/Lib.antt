@@ -1,5 +1,6 @@
 pub mod Deeds
 pub mod Standing
+pub mod Mastership
 pub mod Shown
 pub mod Lessees
 pub mod Magics
