@@ -131,9 +131,15 @@ const MARKS_GO: [(Ask, Told); 11] = [
     (Ask::Next(6), Told::Number(4_294_967_295)),
 ];
 
+/// Asks each, and once more where memory was refused, as it is where a test's requests for memory are refused in turn: nothing has changed
+/// then, as what is asked behind it shows.
 fn check(rt: &impl Abort, array: &mut IndexArray<u32>, cases: &[(Ask, Told)]) {
     for (place, (ask, told)) in cases.iter().enumerate() {
-        assert_eq!(rt; asked(array, *ask), *told, "case {place}");
+        let mut came = asked(array, *ask);
+        if matches!(came, Told::NoMemory(_)) {
+            came = asked(array, *ask);
+        }
+        assert_eq!(rt; came, *told, "case {place}");
     }
 }
 

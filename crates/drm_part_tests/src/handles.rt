@@ -121,9 +121,15 @@ const CARD: Ask = Ask::Open {
     universal: true,
 };
 
+/// Asks each, and once more where memory was refused, as it is where a test's requests for memory are refused in turn: nothing has changed
+/// then, as what is asked behind it shows.
 fn check(rt: &impl Abort, files: &mut Files, cases: &[Case]) {
     for (place, (client, ask, told)) in cases.iter().enumerate() {
-        assert_eq!(rt; asked(files, *client, *ask), *told, "case {place}");
+        let mut came = asked(files, *client, *ask);
+        if came == Told::Fault(FileFault::NoMemory) {
+            came = asked(files, *client, *ask);
+        }
+        assert_eq!(rt; came, *told, "case {place}");
     }
 }
 

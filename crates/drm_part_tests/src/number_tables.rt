@@ -112,9 +112,15 @@ const FROM_ONE: [(Ask, Told); 9] = [
     (Ask::Add(16), Told::Back(16)),
 ];
 
+/// Asks each, and once more where memory was refused, as it is where a test's requests for memory are refused in turn: nothing has changed
+/// then, as what is asked behind it shows.
 fn check(rt: &impl Abort, table: &mut IdTable<u32>, cases: &[(Ask, Told)]) {
     for (place, (ask, told)) in cases.iter().enumerate() {
-        assert_eq!(rt; asked(table, *ask), *told, "case {place}");
+        let mut came = asked(table, *ask);
+        if came == Told::NoMemory {
+            came = asked(table, *ask);
+        }
+        assert_eq!(rt; came, *told, "case {place}");
     }
 }
 

@@ -142,11 +142,16 @@ fn asked(objects: &mut Objects, ask: Ask) -> Told {
 /// A call and its answer.
 type Case = (Ask, Told);
 
-/// Makes these calls of objects, of which so many may be there, and compares each answer.
+/// Makes these calls of objects, of which so many may be there, and compares each answer. One that was refused memory, as where a test's
+/// requests for memory are refused in turn, is made once more: nothing has changed then, as what is asked behind it shows.
 fn check(rt: &impl Abort, alloc: Global, limit: u32, cases: &[Case]) {
     let mut objects = Objects::new(alloc, limit);
     for (place, (ask, told)) in cases.iter().enumerate() {
-        assert_eq!(rt; asked(&mut objects, *ask), *told, "case {place}");
+        let mut came = asked(&mut objects, *ask);
+        if came == Told::NoMemory {
+            came = asked(&mut objects, *ask);
+        }
+        assert_eq!(rt; came, *told, "case {place}");
     }
 }
 

@@ -98,9 +98,17 @@ const ONE_NAME: [(Naming, Told); 4] = [
     (Naming::Give(2), Told::Fault(ShareFault::Full)),
 ];
 
+const REFUSED: Told = Told::Fault(ShareFault::NoMemory);
+
+/// Asks each, and once more where memory was refused, as it is where a test's requests for memory are refused in turn: nothing has changed
+/// then, as what is asked behind it shows.
 fn check_names(rt: &impl Abort, names: &mut Names, cases: &[(Naming, Told)]) {
     for (place, (call, told)) in cases.iter().enumerate() {
-        assert_eq!(rt; named(names, *call), *told, "case {place}");
+        let mut came = named(names, *call);
+        if came == REFUSED {
+            came = named(names, *call);
+        }
+        assert_eq!(rt; came, *told, "case {place}");
     }
 }
 
@@ -186,9 +194,14 @@ const ONE_TOKEN: [(Tokening, Told); 2] = [
     (Tokening::Export(1, 1), Told::Fault(ShareFault::Full)),
 ];
 
+/// The same of tokens.
 fn check_tokens(rt: &impl Abort, tokens: &mut Tokens, cases: &[(Tokening, Told)]) {
     for (place, (call, told)) in cases.iter().enumerate() {
-        assert_eq!(rt; tokened(tokens, *call), *told, "case {place}");
+        let mut came = tokened(tokens, *call);
+        if came == REFUSED {
+            came = tokened(tokens, *call);
+        }
+        assert_eq!(rt; came, *told, "case {place}");
     }
 }
 
@@ -198,8 +211,6 @@ fn tokens_of_objects(rt: HostRuntime) {
     check_tokens(&rt, &mut Tokens::new(rt.alloc(), 8), &OF_CLIENTS);
     check_tokens(&rt, &mut Tokens::new(rt.alloc(), 1), &ONE_TOKEN);
 }
-
-const REFUSED: Told = Told::Fault(ShareFault::NoMemory);
 
 /// Where a name is refused for want of memory, nothing has changed, and the same call is carried out.
 fn give_again(rt: &impl Abort, names: &mut Names, object: u32, number: u32) {

@@ -47,6 +47,17 @@ fn check_listing(rt: &impl Abort, device: &Device, piece: usize, listing: Listin
     assert_eq!(rt; sink.written(), &LINES[..written.min(LINES.len())]);
 }
 
+/// A sink that takes pieces of so many bytes takes the whole listing, and where it fails, takes nothing more or is interrupted too often,
+/// what comes before.
+fn check_cuts(rt: &impl Abort, device: &Device, piece: usize) {
+    check_listing(rt, device, piece, (Cut::Never, 1_000, ListEnd::Done, 80));
+    for at in 0..LINES.len() {
+        for cut in [Cut::Fault(at), Cut::End(at), Cut::Interrupted(1_000, at)] {
+            check_listing(rt, device, piece, (cut, 10_000, ListEnd::WriteFault, at));
+        }
+    }
+}
+
 /// Listings of a device after these events.
 struct Listed;
 
@@ -58,10 +69,8 @@ impl Trial for Listed {
         for listing in LISTINGS {
             check_listing(rt, device, 512, listing);
         }
-        for at in 0..LINES.len() {
-            for cut in [Cut::Fault(at), Cut::End(at), Cut::Interrupted(1_000, at)] {
-                check_listing(rt, device, 7, (cut, 10_000, ListEnd::WriteFault, at));
-            }
+        for piece in [1, 2, 3, 7] {
+            check_cuts(rt, device, piece);
         }
         Ok(())
     }

@@ -160,15 +160,34 @@ fn first_lines(text: &[u8], count: usize) -> &[u8] {
     text
 }
 
-/// The source fails at each byte: what came before is answered.
+/// The source fails, or is interrupted too often, at each byte: what came before is answered.
 fn check_source_faults(rt: &impl Abort, alloc: Global, piece: usize) {
     for at in 0..=BUFFER.len() {
         let lines = BUFFER[..at].iter().filter(|byte| **byte == b'\n').count();
+        for source in [Cut::Fault(at), Cut::Interrupted(1_000, at)] {
+            let run = Run {
+                piece,
+                source,
+                end: ScriptEnd::ReadFault,
+                written: first_lines(ANSWERS, lines),
+                ..WHOLE
+            };
+            check_run(rt, alloc, &run);
+        }
+    }
+}
+
+/// The source ends at each byte: what comes of that is what comes of a script that has no more.
+fn check_source_ends(rt: &impl Abort, alloc: Global, piece: usize) {
+    for at in 0..=BUFFER.len() {
+        let mut whole = source_of(&BUFFER[..at], 256, Cut::Never);
+        let mut wanted = sink_of(256, Cut::Never);
+        let end = run_script(alloc, &mut whole, &mut wanted, TURNS);
         let run = Run {
             piece,
-            source: Cut::Fault(at),
-            end: ScriptEnd::ReadFault,
-            written: first_lines(ANSWERS, lines),
+            source: Cut::End(at),
+            end,
+            written: wanted.written(),
             ..WHOLE
         };
         check_run(rt, alloc, &run);
@@ -197,6 +216,7 @@ fn scripts_in_pieces_that_fail_at_each_byte(rt: HostRuntime) {
         let whole = Run { piece, ..WHOLE };
         check_run(&rt, rt.alloc(), &whole);
         check_source_faults(&rt, rt.alloc(), piece);
+        check_source_ends(&rt, rt.alloc(), piece);
         check_sink_faults(&rt, rt.alloc(), piece);
     }
 }
