@@ -10,11 +10,11 @@ pub nothing_or : (b : Bool) → b ≡ (b || false)
 nothing_or true = refl
 nothing_or false = refl
 
-all_and : (b : Bool) → b ≡ (b && true)
+pub all_and : (b : Bool) → b ≡ (b && true)
 all_and true = refl
 all_and false = refl
 
-none_and : (b : Bool) → (b && false) ≡ false
+pub none_and : (b : Bool) → (b && false) ≡ false
 none_and true = refl
 none_and false = refl
 

@@ -51,3 +51,7 @@ numbers_of m g = option_map_or (λ (numbers : Indexed (Unit {0})). map.keys numb
 -- it has the number besides
 abbrev pub IsNoted : Indexed (Unit {0}) → ℕ → Indexed (Unit {0}) → Type 0
 IsNoted old n new = (u : ℕ) → has_number new u ≡ (has_number old u || (u == n))
+
+-- it has the number no more
+abbrev pub IsForgotten : Indexed (Unit {0}) → ℕ → Indexed (Unit {0}) → Type 0
+IsForgotten old n new = (u : ℕ) → has_number new u ≡ (has_number old u && not (u == n))

@@ -4,19 +4,23 @@ ghost use Rattle.std.specs.Prelude.{◌≡◌, ◌≤◌, ℕ, false, length, sl
 ghost use Rattle.std.specs.FinMap as map;
 ghost use Rattle.drm_index_array.specs.Indexed.{without_item};
 ghost use Rattle.drm_index_array.specs.Least.{least};
-ghost use Rattle.drm_id_alloc.specs.Groups.{IsAdded, IsTaken, IsNoted, has, numbers_of};
+ghost use Rattle.drm_id_alloc.specs.Groups.{IsAdded, IsTaken, has, numbers_of};
 
 use crate::faults::NoMemory;
-use drm_index_array::{IndexArray, InsertFault};
+use crate::numbers::Numbers;
+use drm_index_array::IndexArray;
 use std::alloc::Global;
 use std::marker::Model;
 
 /// Which numbers stand in which group: those of one group are found without the others. Groups and numbers are any numbers.
-/// A group that has no number takes no memory. Contracts see a map from each group to what has its numbers.
+/// A group costs its place in an array of the groups: some 50 bytes where their numbers are close, and up to six nodes of 64
+/// places where they are far from one another. One number of a group takes no more than that; from the second on, the group
+/// has an array of its own. A group that has no number takes no memory. Contracts see a map from each group to what has its
+/// numbers.
 #[derive(Drop)]
 pub struct Groups {
     alloc: Global,
-    groups: IndexArray<IndexArray<()>>,
+    groups: IndexArray<Numbers>,
 }
 
 impl Model for Groups {
@@ -46,13 +50,9 @@ impl Groups {
         ensures err { OnErr result (self.new ≡ self.old) }
     {
         if let Some(numbers) = self.groups.get_mut(group) {
-            return noted(numbers, number);
+            return numbers.note(self.alloc, number);
         }
-        let mut numbers = IndexArray::new(self.alloc);
-        if let Err(_fault) = numbers.insert(number, ()) {
-            return Err(NoMemory);
-        }
-        if let Err(_fault) = self.groups.insert(group, numbers) {
+        if let Err(_fault) = self.groups.insert(group, Numbers::one(number)) {
             return Err(NoMemory);
         }
         Ok(())
@@ -65,7 +65,7 @@ impl Groups {
         let Some(numbers) = self.groups.get_mut(group) else {
             return;
         };
-        let _number = numbers.remove(number);
+        numbers.forget(self.alloc, number);
         let left = numbers.len();
         if left == 0 {
             take_out(&mut self.groups, group);
@@ -103,27 +103,15 @@ impl Groups {
         ensures { result ≡ has self.now group number }
     {
         match self.groups.get(group) {
-            Some(numbers) => numbers.get(number).is_some(),
+            Some(numbers) => numbers.has(number),
             None => false,
         }
     }
 }
 
 /// Takes a group out.
-fn take_out(groups: &mut IndexArray<IndexArray<()>>, group: u32)
+fn take_out(groups: &mut IndexArray<Numbers>, group: u32)
     ensures { groups.new ≡ without_item groups.old group }
 {
     let _numbers = groups.remove(group);
-}
-
-/// Adds a number, if it isn't there. Without memory nothing changes.
-fn noted(numbers: &mut IndexArray<()>, number: u32) -> Result<(), NoMemory>
-    ensures ok { OnOk result (IsNoted numbers.old number numbers.new) }
-    ensures err { OnErr result (numbers.new ≡ numbers.old) }
-{
-    match numbers.insert(number, ()) {
-        Ok(()) => Ok(()),
-        Err(InsertFault::Taken(())) => Ok(()),
-        Err(InsertFault::NoMemory(())) => Err(NoMemory),
-    }
 }

@@ -3,6 +3,7 @@
 
 mod faults;
 mod groups;
+mod numbers;
 mod table;
 
 pub use faults::{AddFault, NoMemory};
