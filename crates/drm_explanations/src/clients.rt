@@ -91,7 +91,7 @@ fn open_row(
         universal_planes: universal_row(ledger, client),
         standing: standing_row(ledger, client),
         may_set: may_set(alloc, ledger, topology, client)?,
-        holds: holds_of(alloc, ledger.steps(), client)?,
+        holds: holds_of(alloc, ledger, client)?,
         ..row
     })
 }

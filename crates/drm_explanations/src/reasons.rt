@@ -5,7 +5,7 @@ use crate::rows::{
     Authenticated, AuthenticatedBy, HoldRow, LinkRow, PublishedBy, PublishedRow, StandingRow,
     UniversalRow,
 };
-use drm_rights::{Key, Ledger, Link, Origin, Step, chain_of, handles_of};
+use drm_rights::{Key, Ledger, Link, Origin, Step, handles_of};
 use drm_table::{Answer, Event};
 use std::alloc::{AllocError, Global};
 
@@ -100,24 +100,23 @@ fn chain_rows(alloc: Global, steps: &[Step], links: &[Link]) -> Result<Vec<LinkR
     Ok(rows)
 }
 
-/// The steps up to the one of a number.
-fn steps_to(steps: &[Step], number: u64) -> &[Step] {
-    match usize::try_from(number) {
-        Ok(count) => steps.get(..count).unwrap_or(steps),
-        Err(_) => steps,
-    }
+/// How many steps there are up to the one of a number.
+fn count_to(number: u64) -> usize {
+    usize::try_from(number).unwrap_or(usize::MAX)
 }
 
 /// The client's handles, each with its chain, which ends in the step that gave it.
 pub(crate) fn holds_of(
     alloc: Global,
-    steps: &[Step],
+    ledger: &Ledger,
     client: u64,
 ) -> Result<Vec<HoldRow>, AllocError> {
+    let steps = ledger.steps();
+    let trail = ledger.trail();
     let mut rows = Vec::new(alloc);
     for held in &handles_of(alloc, steps, client)? {
-        let past = steps_to(steps, held.step);
-        if let Some(links) = chain_of(alloc, past, client, held.handle)? {
+        let past = count_to(held.step);
+        if let Some(links) = trail.chain_of(alloc, past, client, held.handle)? {
             if let Some(made) = links.last() {
                 rows.push(HoldRow {
                     handle: held.handle,

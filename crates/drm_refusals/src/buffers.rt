@@ -2,7 +2,7 @@
 
 use crate::scene::{Scene, first_steps};
 use drm_explanations::{At, at};
-use drm_rights::{Key, LastPublishing, Step, chain_of, handles_of, last_publishing};
+use drm_rights::{Key, LastPublishing, Step, Trail, handles_of, last_publishing};
 use drm_table::{Answer, Call, Event};
 use std::alloc::{AllocError, Global};
 
@@ -88,40 +88,39 @@ pub(crate) fn no_handle(
     held_line(alloc, scene, client, text)
 }
 
-/// The object that a client's handle was of after these steps, by the step that made it.
+/// The object that a client's handle was of after the first steps, so many, by the step that made it.
 pub(crate) fn object_of(
     alloc: Global,
-    steps: &[Step],
+    trail: &Trail,
+    count: usize,
     client: u64,
     handle: u64,
 ) -> Result<Option<u64>, AllocError> {
-    let Some(links) = chain_of(alloc, steps, client, handle)? else {
+    let Some(links) = trail.chain_of(alloc, count, client, handle)? else {
         return Ok(None);
     };
     Ok(links.last().map(|link| link.step))
 }
 
-/// Whether a step gave back a handle of an object, which stood behind these others.
+/// Whether a step gave back a handle of an object, which stood behind so many others.
 fn gives_back(
     alloc: Global,
-    before: &[Step],
+    trail: &Trail,
+    before: usize,
     step: &Step,
     object: u64,
 ) -> Result<bool, AllocError> {
     match (&step.event, &step.answer) {
         (Event::Ask(client, Call::GemClose { handle }), Answer::Done)
         | (Event::Ask(client, Call::DestroyDumb { handle }), Answer::Done) => {
-            let of = object_of(alloc, before, u64::from(*client), u64::from(*handle))?;
+            let of = object_of(alloc, trail, before, u64::from(*client), u64::from(*handle))?;
             Ok(of == Some(object))
         }
         (Event::Close(client), Answer::Closed) => {
             let client = u64::from(*client);
-            for held in &handles_of(alloc, before, client)? {
-                let past = match usize::try_from(held.step) {
-                    Ok(count) => first_steps(before, count),
-                    Err(_) => before,
-                };
-                if object_of(alloc, past, client, held.handle)? == Some(object) {
+            for held in &handles_of(alloc, first_steps(trail.steps(), before), client)? {
+                let past = usize::try_from(held.step).unwrap_or(before);
+                if object_of(alloc, trail, past, client, held.handle)? == Some(object) {
                     return Ok(true);
                 }
             }
@@ -132,11 +131,12 @@ fn gives_back(
 }
 
 /// The last step that gave back a handle of an object.
-fn last_giving_back(alloc: Global, steps: &[Step], object: u64) -> Result<Option<u64>, AllocError> {
+fn last_giving_back(alloc: Global, trail: &Trail, object: u64) -> Result<Option<u64>, AllocError> {
+    let steps = trail.steps();
     let mut before = steps.len();
     for step in steps.iter().rev() {
         before = before.saturating_sub(1);
-        if gives_back(alloc, first_steps(steps, before), step, object)? {
+        if gives_back(alloc, trail, before, step, object)? {
             return Ok(Some(before as u64 + 1));
         }
     }
@@ -154,8 +154,8 @@ pub(crate) fn no_name(
     let Some(named) = last_publishing(steps, Key::Name(u64::from(name))) else {
         return writeln!(text, "no buffer has name {name}: no step gave one that");
     };
-    let before = first_steps(steps, named.past);
-    let Some(object) = object_of(alloc, before, named.client, named.handle)? else {
+    let trail = scene.ledger.trail();
+    let Some(object) = object_of(alloc, trail, named.past, named.client, named.handle)? else {
         return Ok(());
     };
     let by = scene.name(named.client);
@@ -164,7 +164,7 @@ pub(crate) fn no_name(
         text,
         "no buffer has name {name}: buffer {object} had it since {by} named it at step {step}, up to its last handle"
     )?;
-    match last_giving_back(alloc, steps, object)?.and_then(|number| at(steps, number)) {
+    match last_giving_back(alloc, trail, object)?.and_then(|number| at(steps, number)) {
         Some(At { step, client, call }) => {
             let by = scene.name(client);
             writeln!(text, ", which went at step {step} ({call} by {by})")

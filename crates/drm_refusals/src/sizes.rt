@@ -35,7 +35,8 @@ fn size_of(
     handle: u32,
 ) -> Result<Option<u64>, AllocError> {
     let steps = scene.ledger.steps();
-    let Some(object) = object_of(alloc, steps, client, u64::from(handle))? else {
+    let trail = scene.ledger.trail();
+    let Some(object) = object_of(alloc, trail, steps.len(), client, u64::from(handle))? else {
         return Ok(None);
     };
     let Some(made) = step_at(steps, object) else {

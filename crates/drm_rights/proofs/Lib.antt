@@ -8,3 +8,4 @@ mod LendingLemmas
 mod LedgerLemmas
 mod HandleLemmas
 mod RedeemerLemmas
+mod TrailLemmas

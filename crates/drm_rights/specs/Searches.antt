@@ -1,11 +1,13 @@
 -- The last step of a history that gave a handle, or that published under a key.
-use Rattle.std.specs.Prelude.{ℕ, ◌==◌, Bool, true, false, ◌&&◌, List, [], ◌∷◌, Option, None, Some, if◌then◌else◌, take}
+use Rattle.std.specs.Prelude.{◌≡◌, ℕ, ◌<◌, ◌==◌, nat_lt, Bool, true, false, ◌&&◌, List, [], ◌∷◌, Option, None, Some, if◌then◌else◌, find, length, reverse, take, IfSome}
 use Rattle.std.specs.Option.{option_map}
 use Rattle.drm_history.specs.History.{Entry}
 use Rattle.drm_history.specs.Steps.{Key, is_key, Source, Giving, Publishing, given, takes, published}
-use Rattle.drm_rights.specs.Steps.{history_of, source_of}
+use Rattle.drm_rights.specs.Steps.{history_of, key_of, source_of}
 use Rattle.drm_rights.specs.declared.steps.Step.{Step}
+use Rattle.drm_rights.specs.declared.steps.Publishing.{Publishing as PublishedHandle}
 use Rattle.drm_rights.specs.declared.searches.LastGiving.{LastGiving}
+use Rattle.drm_rights.specs.declared.searches.Publication.{Publication}
 use Rattle.drm_rights.specs.declared.searches.LastPublishing.{LastPublishing}
 
 -- where the object comes from, if a handle is given and is this one
@@ -54,3 +56,25 @@ sharing_at steps p = record { client = p.client; handle = p.handle; past = histo
 
 abbrev pub sharings_at : List Step → Option LastPublishing → Option Sharing
 sharings_at steps found = option_map (sharing_at steps) found
+
+-- ---- notes of what was published
+
+-- the note of a step behind so many others
+abbrev pub publications_of : Option PublishedHandle → ℕ → Option Publication
+publications_of published past = option_map (λ (p : PublishedHandle). record { past = past; key = p.key; client = p.client; handle = p.handle }) published
+
+-- whether a note is of a step before this moment that published under the key
+abbrev pub is_before : ℕ → Key → Publication → Bool
+is_before moment key p = nat_lt p.past moment && is_key (key_of p.key) key
+
+-- the newest of them
+abbrev pub publication_in : List Publication → ℕ → Key → Option Publication
+publication_in notes moment key = find (is_before moment key) (reverse notes)
+
+abbrev pub sharing_by : List Step → Publication → Sharing
+sharing_by steps p = record { client = p.client; handle = p.handle; past = history_of (take p.past steps) }
+
+-- each note is of one of these steps, and they tell for each moment and key the last step that published under it
+pub record AreNoted (steps : List Step) (notes : List Publication) : Type 0 where
+  pub within : (moment : ℕ) (key : Key) → IfSome (publication_in notes moment key) (λ p. p.past < length steps)
+  pub told : (moment : ℕ) (key : Key) → option_map (sharing_by steps) (publication_in notes moment key) ≡ last_sharing (history_of (take moment steps)) key

@@ -1,10 +1,11 @@
 //! How an object came to a client.
 
-ghost use Rattle.std.specs.Prelude.{◌≡◌, ℕ, IfOk, IfSome, IfNone};
+ghost use Rattle.std.specs.Prelude.{◌≡◌, ◌≤◌, ℕ, length, take, IfOk, IfSome, IfNone};
 ghost use Rattle.drm_rights.specs.Steps.{history_of};
 ghost use Rattle.drm_rights.specs.Chains.{HasNone, IsExplained, IsOfDevice, LeadsTo, links_of};
+ghost use Rattle.drm_rights.specs.Searches.{AreNoted};
 
-use crate::searches::{last_giving, last_publishing};
+use crate::searches::{Publication, last_giving, publication_before};
 use crate::steps::{Key, Source, Step};
 use std::alloc::{AllocError, Global};
 
@@ -26,20 +27,24 @@ pub struct Link {
     pub origin: Origin,
 }
 
-/// By which steps a client came to have a handle: the step that gave it, then the one that gave it to who published it for that
-/// step, and so on, down to the step that made the object. None where the client has no such handle.
-pub fn chain_of(
+/// By which steps a client came to have a handle after the first steps, so many: the step that gave it, then the one that gave it to
+/// who published it for that step, and so on, down to the step that made the object. None where the client has no such handle then.
+pub(crate) fn chain_in(
     alloc: Global,
     steps: &[Step],
+    publications: &[Publication],
+    count: usize,
     client: u64,
     handle: u64,
 ) -> Result<Option<Vec<Link>>, AllocError>
-    ensures chain { IfOk result (λ found. IfSome found (λ links. (o : ℕ) × LeadsTo (history_of steps.now) client handle o (links_of links.items))) }
-    ensures origins { IfOk result (λ found. IfSome found (λ links. (o : ℕ) × IsExplained (history_of steps.now) o links.items)) }
-    ensures none { IfOk result (λ found. IfNone found (IsOfDevice (history_of steps.now) → HasNone (history_of steps.now) client handle)) }
+    requires noted { AreNoted steps.now publications.now }
+    requires within { count ≤ length steps.now }
+    ensures chain { IfOk result (λ found. IfSome found (λ links. (o : ℕ) × LeadsTo (history_of (take count steps.now)) client handle o (links_of links.items))) }
+    ensures origins { IfOk result (λ found. IfSome found (λ links. (o : ℕ) × IsExplained (history_of (take count steps.now)) o links.items)) }
+    ensures none { IfOk result (λ found. IfNone found (IsOfDevice (history_of (take count steps.now)) → HasNone (history_of (take count steps.now)) client handle)) }
 {
     let mut links = Vec::new(alloc);
-    let mut moment = steps.len();
+    let mut moment = count;
     let mut holder = client;
     let mut held = handle;
     'links: loop {
@@ -59,8 +64,7 @@ pub fn chain_of(
                 return Ok(Some(links));
             }
             Source::Transfer(key) => {
-                let (past, _) = steps.split_at(giving.past);
-                let Some(publishing) = last_publishing(past, key) else {
+                let Some(publishing) = publication_before(publications, giving.past, key) else {
                     return Ok(None);
                 };
                 links.push(Link {

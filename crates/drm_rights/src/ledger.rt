@@ -1,6 +1,6 @@
 //! A history of which each step is noted as it comes.
 
-ghost use Rattle.std.specs.Prelude.{◌≡◌, ◌&&◌, ◌∷◌, ◌++◌, ℕ, not, List, [], IfOk, option_and_then, option_to_list};
+ghost use Rattle.std.specs.Prelude.{◌≡◌, ◌&&◌, ◌∷◌, ◌++◌, ℕ, not, List, [], IfOk, option_and_then};
 ghost use Rattle.std.specs.Option.{is_some, option_map_or};
 ghost use Rattle.drm_lists.specs.Numbers as numbers;
 ghost use Rattle.drm_rights.specs.Deeds.{deed_of};
@@ -14,9 +14,10 @@ use crate::deeds::Deed;
 use crate::notes::{
     Authentication, Capability, End, Lease, Magic, Standing, first_authentication, first_end,
     first_redemption, is_named, is_root, last_capability, last_magic, last_standing, lease_at,
-    lease_of_id, lease_of_token, lessor_of, top_of,
+    lease_of_id, lease_of_token, lessor_of, top_of, with_item,
 };
 use crate::steps::Step;
+use crate::trail::Trail;
 use drm_modes::Topology;
 use std::alloc::{AllocError, Global};
 use std::marker::Model;
@@ -25,7 +26,7 @@ use std::marker::Model;
 /// out. Contracts see the history.
 #[derive(Drop)]
 pub struct Ledger {
-    steps: Vec<Step>,
+    trail: Trail,
     /// The device's master, and the step since which it is that.
     owner: Option<u64>,
     owner_since: u64,
@@ -47,20 +48,9 @@ impl Model for Ledger {
 
     ghost Value = { List Entry };
 
-    ghost view = { λ l. history_of l.steps.items };
+    ghost view = { λ l. history_of l.trail };
 
-    ghost invariant = { λ l. IsLedger (history_of l.steps.items) l.owner l.owner_since l.standings.items l.leases.items l.ends.items l.magics.items l.authentications.items l.roots.items l.capabilities.items };
-}
-
-/// The list with one item more, if there is one.
-fn with_item<T: Drop>(list: Vec<T>, item: Option<T>) -> Result<Vec<T>, AllocError>
-    ensures { IfOk result (λ longer. longer.items ≡ list.items ++ option_to_list item) }
-{
-    let mut list = list;
-    if let Some(item) = item {
-        list.push(item)?;
-    }
-    Ok(list)
+    ghost invariant = { λ l. IsLedger (history_of l.trail) l.owner l.owner_since l.standings.items l.leases.items l.ends.items l.magics.items l.authentications.items l.roots.items l.capabilities.items };
 }
 
 impl Ledger {
@@ -79,7 +69,7 @@ impl Ledger {
         ensures { result ≡ [] }
     {
         Ledger {
-            steps: Vec::new(alloc),
+            trail: Trail::new(alloc),
             owner: None,
             owner_since: 0,
             standings: Vec::new(alloc),
@@ -106,7 +96,7 @@ impl Ledger {
         let authentication = self.authentication_by(deed, number);
         let owner_since = self.owner_since_after(owner);
         Ok(Ledger {
-            steps: with_item(self.steps, Some(step))?,
+            trail: self.trail.push(step)?,
             owner,
             owner_since,
             standings: with_item(self.standings, standing)?,
@@ -312,14 +302,21 @@ impl Ledger {
     fn next_number(&self) -> u64
         ensures { result ≡ past.next_number self.now }
     {
-        self.steps.len() as u64 + 1
+        self.steps().len() as u64 + 1
     }
 
     /// The steps, the oldest first.
     pub fn steps(&self) -> &[Step]
         ensures { history_of result.now ≡ self.now }
     {
-        &self.steps
+        self.trail.steps()
+    }
+
+    /// The steps with an index of what they published, by which chains are found.
+    pub fn trail(&self) -> &Trail
+        ensures { history_of result.now ≡ self.now }
+    {
+        &self.trail
     }
 
     /// The device's master.
@@ -428,7 +425,7 @@ impl Ledger {
     fn listed(&self, master: u64) -> &[u32]
         ensures { result.now ≡ listed_in self.now master }
     {
-        listed_at(&self.steps, master)
+        listed_at(self.trail.steps(), master)
     }
 
     /// Whether the step of a number lent a mode object: it listed it, or listed the CRTC of which it is the primary or the cursor

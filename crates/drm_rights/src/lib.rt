@@ -11,11 +11,13 @@ mod ledger;
 mod notes;
 mod searches;
 mod steps;
+mod trail;
 
-pub use chains::{Link, Origin, chain_of};
+pub use chains::{Link, Origin};
 pub use deeds::Deed;
 pub use handles::{Held, handles_of};
 pub use ledger::Ledger;
 pub use notes::{Authentication, Capability, Lease, Magic, Standing};
 pub use searches::{LastPublishing, last_publishing};
 pub use steps::{Giving, Key, Publishing, Source, Step, step_at};
+pub use trail::Trail;

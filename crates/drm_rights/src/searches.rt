@@ -5,9 +5,9 @@ ghost use Rattle.std.specs.Option.{option_map};
 ghost use Rattle.drm_history.specs.Steps.{is_key};
 ghost use Rattle.drm_rights.specs.Steps.{givings_of, history_of, key_of, source_of};
 ghost use Rattle.drm_rights.specs.Searches as searches;
-ghost use Rattle.drm_rights.specs.Searches.{gifts_at, last_gift, last_sharing, sharings_at};
+ghost use Rattle.drm_rights.specs.Searches.{gifts_at, last_gift, last_sharing, publication_in, publications_of, sharings_at};
 
-use crate::steps::{Giving, Key, Source, Step};
+use crate::steps::{Giving, Key, Publishing, Source, Step};
 
 /// The last step that gave a handle: how many steps came before it, and where the object came from.
 #[derive(Clone, Copy, PartialEq, Eq, Debug)]
@@ -22,6 +22,43 @@ pub struct LastPublishing {
     pub past: usize,
     pub client: u64,
     pub handle: u64,
+}
+
+/// A step that published: how many steps came before it, under which key, and whose handle it was of.
+#[derive(Clone, Copy, PartialEq, Eq, Debug)]
+pub(crate) struct Publication {
+    pub(crate) past: usize,
+    pub(crate) key: Key,
+    pub(crate) client: u64,
+    pub(crate) handle: u64,
+}
+
+/// What a step publishes, if it does, behind so many others.
+pub(crate) fn publication_of(published: Option<Publishing>, past: usize) -> Option<Publication>
+    ensures { result ≡ publications_of published past }
+{
+    match published {
+        Some(publishing) => Some(Publication {
+            past,
+            key: publishing.key,
+            client: publishing.client,
+            handle: publishing.handle,
+        }),
+        None => None,
+    }
+}
+
+/// The last of these that published under the key, with fewer steps before it than this moment has.
+pub(crate) fn publication_before(
+    publications: &[Publication],
+    moment: usize,
+    key: Key,
+) -> Option<Publication>
+    ensures last { result ≡ publication_in publications.now moment (key_of key) }
+    ensures before { IfSome result (λ publication. publication.past < moment) }
+{
+    publications.iter().rev().copied().find(|publication| publication.past < moment
+        && is_key(publication.key, key))
 }
 
 /// Where the object comes from, if a handle is given and is this one.

@@ -20,7 +20,7 @@ returns-in-None c =
     record { step = step; ended = ap is_some step ∙ has_ended_at c.args.self.now c.args.master }
 
 pub first_end-requires-clause-leases : goal.first_end-requires-clause-leases
-first_end-requires-clause-leases c = subst LeasesRise (sym (c.deref.ensures.value ∙ c.self.invariant.lent)) (leases_rise (history_of c.self.inside.steps.items))
+first_end-requires-clause-leases c = subst LeasesRise (sym (c.deref.ensures.value ∙ c.self.invariant.lent)) (leases_rise (history_of c.self.inside.trail))
 
 pub first_end-requires-clause-ends : goal.first_end-requires-clause-ends
-first_end-requires-clause-ends c = subst EndsRise (sym (c.deref-2.ensures.value ∙ c.self.invariant.ended)) (ends_rise (history_of c.self.inside.steps.items))
+first_end-requires-clause-ends c = subst EndsRise (sym (c.deref-2.ensures.value ∙ c.self.invariant.ended)) (ends_rise (history_of c.self.inside.trail))

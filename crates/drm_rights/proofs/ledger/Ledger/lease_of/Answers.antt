@@ -10,4 +10,4 @@ pub returns : goal.returns
 returns c = c.lease_at.ensures ∙ ap (λ notes. lease_at notes c.args.master) (c.deref.ensures.value ∙ c.self.invariant.lent ∙ ap leases_in c.self.view_is)
 
 pub lease_at-requires : goal.lease_at-requires
-lease_at-requires c = subst LeasesRise (sym (c.deref.ensures.value ∙ c.self.invariant.lent)) (leases_rise (history_of c.self.inside.steps.items))
+lease_at-requires c = subst LeasesRise (sym (c.deref.ensures.value ∙ c.self.invariant.lent)) (leases_rise (history_of c.self.inside.trail))

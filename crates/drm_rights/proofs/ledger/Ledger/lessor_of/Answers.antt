@@ -13,4 +13,4 @@ returns c =
     ∙ lessor_told c.args.self.now c.args.master
 
 pub lessor_of-requires : goal.lessor_of-requires
-lessor_of-requires c = subst LeasesRise (sym (c.deref.ensures.value ∙ c.self.invariant.lent)) (leases_rise (history_of c.self.inside.steps.items))
+lessor_of-requires c = subst LeasesRise (sym (c.deref.ensures.value ∙ c.self.invariant.lent)) (leases_rise (history_of c.self.inside.trail))

@@ -4,4 +4,4 @@ use Rattle.drm_rights.proofs.HistoryLemmas.{length-history_of}
 use Rattle.drm_rights.proofs.ledger.Ledger.next_number.Goals as goal
 
 pub returns : goal.returns
-returns c = ap (λ k. k + 1) (c.len.ensures ∙ c.self.inside.steps.ok.0 ∙ sym (length-history_of c.self.inside.steps.items)) ∙ ap past.next_number c.self.view_is
+returns c = ap (λ k. k + 1) (sym (length-history_of c.steps.result.now)) ∙ ap past.next_number c.steps.ensures

@@ -14,4 +14,4 @@ returns c =
     ∙ ap (λ above. top_of above c.args.master) (lessors_told c.args.self.now)
 
 pub top_of-requires : goal.top_of-requires
-top_of-requires c = subst LeasesRise (sym (c.deref.ensures.value ∙ c.self.invariant.lent)) (leases_rise (history_of c.self.inside.steps.items))
+top_of-requires c = subst LeasesRise (sym (c.deref.ensures.value ∙ c.self.invariant.lent)) (leases_rise (history_of c.self.inside.trail))

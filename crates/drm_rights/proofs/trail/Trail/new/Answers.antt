@@ -1,0 +1,5 @@
+use Rattle.drm_rights.proofs.TrailLemmas.{none_noted}
+use Rattle.drm_rights.proofs.trail.Trail.new.Goals as goal
+
+pub invariant_of-result : goal.invariant_of-result
+invariant_of-result c = rw (c.new.ensures.items, c.new-2.ensures.items) none_noted

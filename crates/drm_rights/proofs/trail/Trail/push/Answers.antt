@@ -1,0 +1,12 @@
+use Rattle.std.proofs.Common.{◌∷◌, [], ◌++◌, option_to_list, ◌∙◌, ap}
+use Rattle.drm_rights.specs.Searches.{publications_of}
+use Rattle.drm_rights.proofs.TrailLemmas.{noted_along, noted_more}
+use Rattle.drm_rights.proofs.trail.Trail.push.Goals as goal
+
+pub invariant_of-result : goal.invariant_of-result
+invariant_of-result c =
+    let old = c.self.inside in
+    noted_along (old.steps.items ++ c.args.step ∷ []) _ _ _
+    c.in_ok-with_item.ensures
+    (c.in_ok-with_item-2.ensures ∙ ap (λ o. old.publications.items ++ option_to_list o) (c.publication_of-publication.ensures ∙ ap (publications_of c.published.result) (c.len.ensures ∙ old.steps.ok.0)))
+    (noted_more old.steps.items c.args.step old.publications.items c.self.invariant c.published.result c.published.ensures)

@@ -1,0 +1,87 @@
+//! The steps of a history, with an index of what they published.
+
+ghost use Rattle.std.specs.Prelude.{◌≡◌, ◌++◌, ◌∷◌, ℕ, [], take, IfOk, IfSome, IfNone};
+ghost use Rattle.drm_rights.specs.Chains.{HasNone, IsExplained, IsOfDevice, LeadsTo, links_of};
+ghost use Rattle.drm_rights.specs.Steps.{history_of};
+
+use crate::chains::{Link, chain_in};
+use crate::notes::with_item;
+use crate::searches::{Publication, publication_of};
+use crate::steps::Step;
+use std::alloc::{AllocError, Global};
+use std::marker::Model;
+
+/// The steps of a history, the oldest first, and which of them published, so that a chain is found without the steps between.
+/// Contracts see the steps.
+#[derive(Drop)]
+pub struct Trail {
+    steps: Vec<Step>,
+    publications: Vec<Publication>,
+}
+
+impl Model for Trail {
+    ghost use Rattle.std.specs.Prelude.{List};
+    ghost use Rattle.drm_rights.specs.declared.steps.Step.{Step};
+    ghost use Rattle.drm_rights.specs.Searches.{AreNoted};
+
+    ghost Value = { List Step };
+
+    ghost view = { λ t. t.steps.items };
+
+    ghost invariant = { λ t. AreNoted t.steps.items t.publications.items };
+}
+
+impl Trail {
+    /// No step yet.
+    pub fn new(alloc: Global) -> Trail
+        ensures { result ≡ [] }
+    {
+        Trail {
+            steps: Vec::new(alloc),
+            publications: Vec::new(alloc),
+        }
+    }
+
+    /// The steps with one more behind them. Where memory is refused there is no trail any more.
+    pub fn push(self, step: Step) -> Result<Trail, AllocError>
+        ensures { IfOk result (λ trail. trail ≡ self ++ step ∷ []) }
+    {
+        let publication = publication_of(step.published(), self.steps.len());
+        Ok(Trail {
+            steps: with_item(self.steps, Some(step))?,
+            publications: with_item(self.publications, publication)?,
+        })
+    }
+
+    /// The steps, the oldest first.
+    pub fn steps(&self) -> &[Step]
+        ensures { result.now ≡ self.now }
+    {
+        &self.steps
+    }
+
+    /// By which steps a client came to have a handle after the first steps, so many, or after all where there are fewer: the step that
+    /// gave it, then the one that gave it to who published it for that step, and so on, down to the step that made the object. None
+    /// where the client has no such handle then.
+    pub fn chain_of(
+        &self,
+        alloc: Global,
+        count: usize,
+        client: u64,
+        handle: u64,
+    ) -> Result<Option<Vec<Link>>, AllocError>
+        ensures chain { IfOk result (λ found. IfSome found (λ links. (o : ℕ) × LeadsTo (history_of (take count self.now)) client handle o (links_of links.items))) }
+        ensures origins { IfOk result (λ found. IfSome found (λ links. (o : ℕ) × IsExplained (history_of (take count self.now)) o links.items)) }
+        ensures none { IfOk result (λ found. IfNone found (IsOfDevice (history_of (take count self.now)) → HasNone (history_of (take count self.now)) client handle)) }
+    {
+        let first = count.min(self.steps.len());
+        chain_in(
+            alloc,
+            &self.steps,
+            &self.publications,
+            first,
+            client,
+            handle,
+        )
+    }
+}
