@@ -9,3 +9,4 @@ mod LedgerLemmas
 mod HandleLemmas
 mod RedeemerLemmas
 mod TrailLemmas
+mod TouchLemmas

@@ -18,24 +18,25 @@ first_of : (a b : Bool) → (a && b) ≡ true → a ≡ true
 first_of true b both = refl
 first_of false b both = absurd (false≢true both)
 
-lt_of : (a b : ℕ) → nat_lt a b ≡ true → a < b
+pub lt_of : (a b : ℕ) → nat_lt a b ≡ true → a < b
 lt_of a b is = grind (arith, nat_tests)
 
-found_if : (note : Publication) (older : Option Publication) (moment : ℕ) (key : Key) (b : Bool) → is_before moment key note ≡ b → IfSome older (λ (p : Publication). p.past < moment) →
-    IfSome (cond b (Some note) older) (λ (p : Publication). p.past < moment)
-found_if note older moment key true is rest = lt_of note.past moment (first_of (nat_lt note.past moment) (is_key (key_of note.key) key) is)
-found_if note older moment key false is rest = rest
+found_if : {X : Type 0} (moment_of : X → ℕ) (moment : ℕ) (q : X → Bool) (note : X) (older : Option X) (b : Bool) → (nat_lt (moment_of note) moment && q note) ≡ b → IfSome older (λ x. moment_of x < moment) →
+    IfSome (cond b (Some note) older) (λ x. moment_of x < moment)
+found_if moment_of moment q note older true is rest = lt_of (moment_of note) moment (first_of (nat_lt (moment_of note) moment) (q note) is)
+found_if moment_of moment q note older false is rest = rest
 
-found_before : (notes : List Publication) (moment : ℕ) (key : Key) → IfSome (find (is_before moment key) notes) (λ (p : Publication). p.past < moment)
-found_before [] moment key = tt
-found_before (note ∷ notes) moment key = found_if note (find (is_before moment key) notes) moment key (is_before moment key note) refl (found_before notes moment key)
+pub found_before : {X : Type 0} (moment_of : X → ℕ) (moment : ℕ) (q : X → Bool) (notes : List X) → IfSome (find (λ x. nat_lt (moment_of x) moment && q x) notes) (λ x. moment_of x < moment)
+found_before moment_of moment q [] = tt
+found_before moment_of moment q (note ∷ notes) =
+    found_if moment_of moment q note (find (λ x. nat_lt (moment_of x) moment && q x) notes) (nat_lt (moment_of note) moment && q note) refl (found_before moment_of moment q notes)
 
 pub publication_before : (notes : List Publication) (moment : ℕ) (key : Key) → IfSome (publication_in notes moment key) (λ (p : Publication). p.past < moment)
-publication_before notes moment key = found_before (reverse notes) moment key
+publication_before notes moment key = found_before (λ (p : Publication). p.past) moment (λ (p : Publication). is_key (key_of p.key) key) (reverse notes)
 
 -- ---- one step more
 
-no_steps : (moment : ℕ) → ◌≡◌ {A = List Step} (take moment []) []
+pub no_steps : (moment : ℕ) → ◌≡◌ {A = List Step} (take moment []) []
 no_steps moment = take_all moment [] (omega arith)
 
 pub none_noted : AreNoted [] []

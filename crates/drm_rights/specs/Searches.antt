@@ -1,13 +1,17 @@
 -- The last step of a history that gave a handle, or that published under a key.
-use Rattle.std.specs.Prelude.{◌≡◌, ℕ, ◌<◌, ◌==◌, nat_lt, Bool, true, false, ◌&&◌, List, [], ◌∷◌, Option, None, Some, if◌then◌else◌, find, length, reverse, take, IfSome}
+use Rattle.std.specs.Prelude.{◌≡◌, ℕ, ◌+◌, ◌<◌, ◌==◌, nat_lt, Bool, true, false, ◌&&◌, List, [], ◌∷◌, Option, None, Some, if◌then◌else◌, find, length, reverse, take, IfSome}
 use Rattle.std.specs.Option.{option_map}
+use Rattle.drm_table.specs.declared.events.Event.{Event}
+use Rattle.drm_table.specs.declared.events.Event.TheVariants.{Open, Ask, Close}
 use Rattle.drm_history.specs.History.{Entry}
 use Rattle.drm_history.specs.Steps.{Key, is_key, Source, Giving, Publishing, given, takes, published}
+use Rattle.drm_rights.specs.Answers.{closed_by}
 use Rattle.drm_rights.specs.Steps.{history_of, key_of, source_of}
 use Rattle.drm_rights.specs.declared.steps.Step.{Step}
 use Rattle.drm_rights.specs.declared.steps.Publishing.{Publishing as PublishedHandle}
 use Rattle.drm_rights.specs.declared.searches.LastGiving.{LastGiving}
 use Rattle.drm_rights.specs.declared.searches.Publication.{Publication}
+use Rattle.drm_rights.specs.declared.searches.Touch.{Touch}
 use Rattle.drm_rights.specs.declared.searches.LastPublishing.{LastPublishing}
 
 -- where the object comes from, if a handle is given and is this one
@@ -56,6 +60,52 @@ sharing_at steps p = record { client = p.client; handle = p.handle; past = histo
 
 abbrev pub sharings_at : List Step → Option LastPublishing → Option Sharing
 sharings_at steps found = option_map (sharing_at steps) found
+
+-- ---- notes of which handles were given or taken
+
+abbrev pub touch_by : ℕ → ℕ → Option ℕ → Option Touch
+touch_by past c None = None
+touch_by past c (Some handle) = Some (record { past = past; client = c; handle = Some handle })
+
+-- the note of a call: of the handle that it gives, and else of the one that it takes where it is done
+abbrev pub touched_by : ℕ → Option Giving → ℕ → Option ℕ → Option Touch
+touched_by past (Some g) c closed = Some (record { past = past; client = g.client; handle = Some g.handle })
+touched_by past None c closed = touch_by past c closed
+
+abbrev pub touch_in_event : ℕ → Option Giving → Event → Option Touch
+touch_in_event past given (Open opening) = None
+touch_in_event past given (Ask c call) = touched_by past given c (closed_by call)
+touch_in_event past given (Close c) = Some (record { past = past; client = c; handle = None })
+
+-- the note of a step behind so many others
+abbrev pub touch_in_step : ℕ → Entry → Option Touch
+touch_in_step past step = touch_in_event past (given step) step.event
+
+-- a note without a handle is of all that the client has
+abbrev pub is_own : ℕ → Option ℕ → Bool
+is_own h None = true
+is_own h (Some own) = own == h
+
+abbrev pub concerns : ℕ → ℕ → Touch → Bool
+concerns c h t = (t.client == c) && is_own h t.handle
+
+-- whether a note is of a step before this moment that touched the client's handle
+abbrev pub is_touch_before : ℕ → ℕ → ℕ → Touch → Bool
+is_touch_before moment c h t = nat_lt t.past moment && concerns c h t
+
+-- the newest of them
+abbrev pub touch_in : List Touch → ℕ → ℕ → ℕ → Option Touch
+touch_in notes moment c h = find (is_touch_before moment c h) (reverse notes)
+
+-- what is told of the handle behind the step of a note, and where there is none
+abbrev pub gift_behind : List Step → ℕ → ℕ → Option Touch → Option Gift
+gift_behind steps c h None = None
+gift_behind steps c h (Some t) = last_gift (history_of (take (t.past + 1) steps)) c h
+
+-- each note is of one of these steps, and behind the newest of a handle no step gave or took it
+pub record AreTouched (steps : List Step) (notes : List Touch) : Type 0 where
+  pub within : (moment c h : ℕ) → IfSome (touch_in notes moment c h) (λ t. t.past < length steps)
+  pub told : (moment c h : ℕ) → last_gift (history_of (take moment steps)) c h ≡ gift_behind steps c h (touch_in notes moment c h)
 
 -- ---- notes of what was published
 

@@ -1,11 +1,11 @@
 //! How an object came to a client.
 
-ghost use Rattle.std.specs.Prelude.{◌≡◌, ◌≤◌, ℕ, length, take, IfOk, IfSome, IfNone};
+ghost use Rattle.std.specs.Prelude.{◌≡◌, ℕ, take, IfOk, IfSome, IfNone};
 ghost use Rattle.drm_rights.specs.Steps.{history_of};
 ghost use Rattle.drm_rights.specs.Chains.{HasNone, IsExplained, IsOfDevice, LeadsTo, links_of};
-ghost use Rattle.drm_rights.specs.Searches.{AreNoted};
+ghost use Rattle.drm_rights.specs.Searches.{AreNoted, AreTouched};
 
-use crate::searches::{Publication, last_giving, publication_before};
+use crate::searches::{Publication, Touch, last_giving, publication_before};
 use crate::steps::{Key, Source, Step};
 use std::alloc::{AllocError, Global};
 
@@ -33,12 +33,13 @@ pub(crate) fn chain_in(
     alloc: Global,
     steps: &[Step],
     publications: &[Publication],
+    touches: &[Touch],
     count: usize,
     client: u64,
     handle: u64,
 ) -> Result<Option<Vec<Link>>, AllocError>
     requires noted { AreNoted steps.now publications.now }
-    requires within { count ≤ length steps.now }
+    requires touched { AreTouched steps.now touches.now }
     ensures chain { IfOk result (λ found. IfSome found (λ links. (o : ℕ) × LeadsTo (history_of (take count steps.now)) client handle o (links_of links.items))) }
     ensures origins { IfOk result (λ found. IfSome found (λ links. (o : ℕ) × IsExplained (history_of (take count steps.now)) o links.items)) }
     ensures none { IfOk result (λ found. IfNone found (IsOfDevice (history_of (take count steps.now)) → HasNone (history_of (take count steps.now)) client handle)) }
@@ -48,8 +49,7 @@ pub(crate) fn chain_in(
     let mut holder = client;
     let mut held = handle;
     'links: loop {
-        let (now, _) = steps.split_at(moment);
-        let Some(giving) = last_giving(now, holder, held) else {
+        let Some(giving) = last_giving(steps, touches, moment, holder, held) else {
             return Ok(None);
         };
         let step = giving.past as u64 + 1;

@@ -1,13 +1,15 @@
 //! The last step of a history that gave a handle, or that published under a key.
 
-ghost use Rattle.std.specs.Prelude.{◌≡◌, ◌<◌, length, IfSome};
+ghost use Rattle.std.specs.Prelude.{◌≡◌, ◌<◌, length, take, IfSome};
 ghost use Rattle.std.specs.Option.{option_map};
 ghost use Rattle.drm_history.specs.Steps.{is_key};
-ghost use Rattle.drm_rights.specs.Steps.{givings_of, history_of, key_of, source_of};
+ghost use Rattle.drm_rights.specs.Steps.{entry_of, givings_of, history_of, key_of, source_of};
+ghost use Rattle.drm_rights.specs.Answers.{closed_by};
 ghost use Rattle.drm_rights.specs.Searches as searches;
-ghost use Rattle.drm_rights.specs.Searches.{gifts_at, last_gift, last_sharing, publication_in, publications_of, sharings_at};
+ghost use Rattle.drm_rights.specs.Searches.{AreTouched, gifts_at, last_gift, last_sharing, publication_in, publications_of, sharings_at, touch_in, touch_in_step, touched_by};
 
-use crate::steps::{Giving, Key, Publishing, Source, Step};
+use crate::steps::{self, Giving, Key, Publishing, Source, Step};
+use drm_table::{Call, Event};
 
 /// The last step that gave a handle: how many steps came before it, and where the object came from.
 #[derive(Clone, Copy, PartialEq, Eq, Debug)]
@@ -61,6 +63,70 @@ pub(crate) fn publication_before(
         && is_key(publication.key, key))
 }
 
+/// A step that gives or takes handles of a client: how many steps came before it, and which handle, or all where none is told.
+#[derive(Clone, Copy, PartialEq, Eq, Debug)]
+pub(crate) struct Touch {
+    pub(crate) past: usize,
+    pub(crate) client: u64,
+    pub(crate) handle: Option<u64>,
+}
+
+/// Which handles a call gives or takes.
+fn handle_touched(given: Option<Giving>, client: u64, call: &Call, past: usize) -> Option<Touch>
+    ensures { result ≡ touched_by past (givings_of given) client (closed_by call.now) }
+{
+    if let Some(giving) = given {
+        return Some(Touch {
+            past,
+            client: giving.client,
+            handle: Some(giving.handle),
+        });
+    }
+    match steps::closed_by(call) {
+        Some(handle) => Some(Touch {
+            past,
+            client,
+            handle: Some(handle),
+        }),
+        None => None,
+    }
+}
+
+/// Which handles a step gives or takes, behind so many others.
+pub(crate) fn touch_of(step: &Step, past: usize) -> Option<Touch>
+    ensures { result ≡ touch_in_step past (entry_of step.now) }
+{
+    match &step.event {
+        Event::Open(_) => None,
+        Event::Ask(client, call) => { handle_touched(step.given(), u64::from(*client), call, past) }
+        Event::Close(client) => Some(Touch {
+            past,
+            client: u64::from(*client),
+            handle: None,
+        }),
+    }
+}
+
+/// Whether a step touched the client's handle.
+fn concerns(touch: Touch, client: u64, handle: u64) -> bool
+    ensures { result ≡ searches.concerns client handle touch }
+{
+    let is_handle = match touch.handle {
+        Some(own) => own == handle,
+        None => true,
+    };
+    touch.client == client && is_handle
+}
+
+/// The last of these that touched the client's handle, with fewer steps before it than this moment has.
+fn touch_before(touches: &[Touch], moment: usize, client: u64, handle: u64) -> Option<Touch>
+    ensures last { result ≡ touch_in touches.now moment client handle }
+    ensures before { IfSome result (λ touch. touch.past < moment) }
+{
+    touches.iter().rev().copied().find(|touch| touch.past < moment
+        && concerns(*touch, client, handle))
+}
+
 /// Where the object comes from, if a handle is given and is this one.
 fn source_for(given: Option<Giving>, client: u64, handle: u64) -> Option<Source>
     ensures { option_map source_of result ≡ searches.source_for client handle (givings_of given) }
@@ -84,14 +150,22 @@ fn is_key(one: Key, other: Key) -> bool
     }
 }
 
-/// The last step that gave the client the handle, if no later one took it.
-pub(crate) fn last_giving(steps: &[Step], client: u64, handle: u64) -> Option<LastGiving>
-    ensures last { gifts_at steps.now result ≡ last_gift (history_of steps.now) client handle }
-    ensures within { IfSome result (λ giving. giving.past < length steps.now) }
+/// The last of the first steps, so many, that gave the client the handle, if no later one of them took it.
+pub(crate) fn last_giving(
+    steps: &[Step],
+    touches: &[Touch],
+    count: usize,
+    client: u64,
+    handle: u64,
+) -> Option<LastGiving>
+    requires noted { AreTouched steps.now touches.now }
+    ensures last { gifts_at steps.now result ≡ last_gift (history_of (take count steps.now)) client handle }
+    ensures within { IfSome result (λ giving. giving.past < count) }
+    ensures among { IfSome result (λ giving. giving.past < length steps.now) }
 {
-    let mut past = steps.len();
-    'steps: while past > 0 {
-        past -= 1;
+    let mut moment = count;
+    'touches: while let Some(touch) = touch_before(touches, moment, client, handle) {
+        let past = touch.past;
         let step = &steps[past];
         if let Some(source) = source_for(step.given(), client, handle) {
             return Some(LastGiving { past, source });
@@ -99,6 +173,7 @@ pub(crate) fn last_giving(steps: &[Step], client: u64, handle: u64) -> Option<La
         if step.takes(client, handle) {
             return None;
         }
+        moment = past;
     }
     None
 }

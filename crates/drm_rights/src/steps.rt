@@ -189,7 +189,7 @@ fn published_by(client: u64, call: &Call, answer: &Answer) -> Option<Publishing>
 }
 
 /// The handle that a call gives back where it is done.
-fn closed_by(call: &Call) -> Option<u64>
+pub(crate) fn closed_by(call: &Call) -> Option<u64>
     ensures { result ≡ answers.closed_by call.now }
 {
     match call {

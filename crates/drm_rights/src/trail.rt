@@ -6,29 +6,30 @@ ghost use Rattle.drm_rights.specs.Steps.{history_of};
 
 use crate::chains::{Link, chain_in};
 use crate::notes::with_item;
-use crate::searches::{Publication, publication_of};
+use crate::searches::{Publication, Touch, publication_of, touch_of};
 use crate::steps::Step;
 use std::alloc::{AllocError, Global};
 use std::marker::Model;
 
-/// The steps of a history, the oldest first, and which of them published, so that a chain is found without the steps between.
+/// The steps of a history, the oldest first, and which of them published, gave or took a handle, so that a chain is found without the steps between.
 /// Contracts see the steps.
 #[derive(Drop)]
 pub struct Trail {
     steps: Vec<Step>,
     publications: Vec<Publication>,
+    touches: Vec<Touch>,
 }
 
 impl Model for Trail {
     ghost use Rattle.std.specs.Prelude.{List};
     ghost use Rattle.drm_rights.specs.declared.steps.Step.{Step};
-    ghost use Rattle.drm_rights.specs.Searches.{AreNoted};
+    ghost use Rattle.drm_rights.specs.Searches.{AreNoted, AreTouched};
 
     ghost Value = { List Step };
 
     ghost view = { λ t. t.steps.items };
 
-    ghost invariant = { λ t. AreNoted t.steps.items t.publications.items };
+    ghost invariant = { λ t. AreNoted t.steps.items t.publications.items × AreTouched t.steps.items t.touches.items };
 }
 
 impl Trail {
@@ -39,6 +40,7 @@ impl Trail {
         Trail {
             steps: Vec::new(alloc),
             publications: Vec::new(alloc),
+            touches: Vec::new(alloc),
         }
     }
 
@@ -46,10 +48,13 @@ impl Trail {
     pub fn push(self, step: Step) -> Result<Trail, AllocError>
         ensures { IfOk result (λ trail. trail ≡ self ++ step ∷ []) }
     {
-        let publication = publication_of(step.published(), self.steps.len());
+        let past = self.steps.len();
+        let publication = publication_of(step.published(), past);
+        let touch = touch_of(&step, past);
         Ok(Trail {
             steps: with_item(self.steps, Some(step))?,
             publications: with_item(self.publications, publication)?,
+            touches: with_item(self.touches, touch)?,
         })
     }
 
@@ -74,12 +79,12 @@ impl Trail {
         ensures origins { IfOk result (λ found. IfSome found (λ links. (o : ℕ) × IsExplained (history_of (take count self.now)) o links.items)) }
         ensures none { IfOk result (λ found. IfNone found (IsOfDevice (history_of (take count self.now)) → HasNone (history_of (take count self.now)) client handle)) }
     {
-        let first = count.min(self.steps.len());
         chain_in(
             alloc,
             &self.steps,
             &self.publications,
-            first,
+            &self.touches,
+            count,
             client,
             handle,
         )

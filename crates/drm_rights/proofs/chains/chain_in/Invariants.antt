@@ -1,4 +1,4 @@
-use Rattle.std.proofs.Common.{◌≡◌, ◌≤◌, length, take}
+use Rattle.std.proofs.Common.{◌≡◌, take}
 use Rattle.drm_history.proofs.Told.{told, Held}
 use Rattle.drm_rights.specs.Steps.{history_of}
 use Rattle.drm_rights.proofs.ChainLemmas.{LeadsOn}
@@ -7,7 +7,6 @@ use Rattle.drm_rights.proofs.chains.chain_in.Given as goal
 -- what is told of the handle is what was told of the holder's up to this moment, and a chain to that is the rest of one to the handle
 abbrev pub invariant-links : goal.invariant-links
 invariant-links l = record {
-  within : l.moment ≤ length l.steps;
   same : told (history_of (take l.count l.steps)) (Held l.client l.handle) ≡ told (history_of (take l.moment l.steps)) (Held l.holder l.held);
   leads : LeadsOn (history_of (take l.count l.steps)) (history_of (take l.moment l.steps)) l.client l.handle l.holder l.held l.links.items;
 }

@@ -1,12 +1,20 @@
 use Rattle.std.proofs.Common.{◌∷◌, [], ◌++◌, option_to_list, ◌∙◌, ap}
-use Rattle.drm_rights.specs.Searches.{publications_of}
+use Rattle.drm_rights.specs.Searches.{publications_of, touch_in_step}
+use Rattle.drm_rights.specs.Steps.{entry_of}
 use Rattle.drm_rights.proofs.TrailLemmas.{noted_along, noted_more}
+use Rattle.drm_rights.proofs.TouchLemmas.{touched_along, touched_more}
 use Rattle.drm_rights.proofs.trail.Trail.push.Goals as goal
 
 pub invariant_of-result : goal.invariant_of-result
 invariant_of-result c =
     let old = c.self.inside in
-    noted_along (old.steps.items ++ c.args.step ∷ []) _ _ _
-    c.in_ok-with_item.ensures
-    (c.in_ok-with_item-2.ensures ∙ ap (λ o. old.publications.items ++ option_to_list o) (c.publication_of-publication.ensures ∙ ap (publications_of c.published.result) (c.len.ensures ∙ old.steps.ok.0)))
-    (noted_more old.steps.items c.args.step old.publications.items c.self.invariant c.published.result c.published.ensures)
+    let past = c.len-past.ensures ∙ old.steps.ok.0 in (
+      noted_along (old.steps.items ++ c.args.step ∷ []) _ _ _
+          c.in_ok-with_item.ensures
+          (c.in_ok-with_item-2.ensures ∙ ap (λ o. old.publications.items ++ option_to_list o) (c.publication_of-publication.ensures ∙ ap (publications_of c.published.result) past))
+          (noted_more old.steps.items c.args.step old.publications.items c.self.invariant.0 c.published.result c.published.ensures),
+      touched_along (old.steps.items ++ c.args.step ∷ []) _ _ _
+          c.in_ok-with_item.ensures
+          (c.in_ok-with_item-3.ensures ∙ ap (λ o. old.touches.items ++ option_to_list o) (c.touch_of-touch.ensures ∙ ap (λ n. touch_in_step n (entry_of c.args.step)) past))
+          (touched_more old.steps.items c.args.step old.touches.items c.self.invariant.1),
+    )
