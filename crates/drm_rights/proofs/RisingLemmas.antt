@@ -1,5 +1,5 @@
 -- Notes that rise by a number, looked up from a place on.
-use Rattle.std.proofs.Common.{◌≡◌, ℕ, zero, suc, ◌<◌, ◌≤◌, ◌==◌, Bool, true, false, cond, List, [], ◌∷◌, drop, length, get_or, Option, None, Some, find, reverse, refl, ap, ◌∙◌, arith}
+use Rattle.std.proofs.Common.{◌≡◌, ℕ, zero, suc, ◌<◌, ◌≤◌, ◌==◌, Bool, true, false, cond, List, [], ◌∷◌, drop, length, get_or, Option, None, Some, find, reverse, take, refl, sym, ap, ◌∙◌, arith}
 use Rattle.std.specs.Prelude.{slice_get, nat_lt}
 use Rattle.std.proofs.lemmas.Bool.Decides.{nat_tests}
 use Rattle.std.specs.List.{AllByRecursion}
@@ -43,6 +43,18 @@ module _ {X : Type 0} where
   find_no_more p [] (suc i) none = refl
   find_no_more p (x ∷ xs) zero none = ap (λ b. cond b (Some x) (find p xs)) (none 0 x (omega arith) (omega arith)) ∙ find_no_more p xs zero (λ k d le within. none (suc k) d (omega arith) (omega (arith, within)))
   find_no_more p (x ∷ xs) (suc i) none = find_no_more p xs i (λ k d le within. none (suc k) d (omega (arith, le)) (omega (arith, within)))
+
+  -- where none from a place on passes, the newest that passes stands before it
+  pub find_newest_before : (p : X → Bool) (xs : List X) (i : ℕ) → ((k : ℕ) (d : X) → i ≤ k → k < length xs → p (get_or xs k d) ≡ false) → find p (reverse xs) ≡ find p (reverse (take i xs))
+  find_newest_before p [] zero none = refl
+  find_newest_before p [] (suc i) none = refl
+  find_newest_before p (x ∷ xs) zero none =
+      ap (find p) (reverse-append (x ∷ []) xs) ∙ find-append p (reverse xs) (x ∷ [])
+      ∙ (λ j. option_or (find_newest_before p xs zero (λ k d le within. none (suc k) d (omega arith) (omega (arith, within))) j) (cond (none 0 x (omega arith) (omega arith) j) (Some x) None))
+  find_newest_before p (x ∷ xs) (suc i) none =
+      ap (find p) (reverse-append (x ∷ []) xs) ∙ find-append p (reverse xs) (x ∷ [])
+      ∙ ap (λ o. option_or o (cond (p x) (Some x) None)) (find_newest_before p xs i (λ k d le within. none (suc k) d (omega (arith, le)) (omega (arith, within))))
+      ∙ sym (ap (find p) (reverse-append (x ∷ []) (take i xs)) ∙ find-append p (reverse (take i xs)) (x ∷ []))
 
   -- of notes that rise one at most has a number, so that the newest is the first
   pub one_newest : (f : X → ℕ) (n : ℕ) (xs : List X) → InOrder (λ x y. f x < f y) xs → find (λ x. n == f x) (reverse xs) ≡ find (λ x. n == f x) xs

@@ -16,6 +16,8 @@ use Rattle.drm_rights.specs.Steps.{entry_of, followed_by, history_of}
 use Rattle.drm_rights.specs.Searches.{AreTouched, concerns, gift_behind, gift_or, is_touch_before, last_gift, source_for, touch_by, touch_in, touch_in_event, touch_in_step, touched_by}
 use Rattle.drm_rights.specs.declared.searches.Touch.{Touch}
 use Rattle.drm_rights.specs.declared.steps.Step.{Step}
+use Rattle.drm_lists.proofs.Lists.{all_append, all_weaker}
+use Rattle.drm_lists.proofs.Orders.{in_order_append}
 use Rattle.drm_rights.proofs.HistoryLemmas.{followed_by-append}
 use Rattle.drm_rights.proofs.NoteLemmas.{append-none, find-newest}
 use Rattle.drm_rights.proofs.TrailLemmas.{found_before, lt_of, no_steps}
@@ -73,7 +75,7 @@ its_past past g (Close c) = refl
 
 pub none_touched : AreTouched [] []
 unfolding last_gift followed_by
-none_touched = record { within = λ moment c h. tt; told = λ moment c h. ap (λ (steps : List Step). last_gift (history_of steps) c h) (no_steps moment) }
+none_touched = record { rise = tt; among = tt; within = λ moment c h. tt; told = λ moment c h. ap (λ (steps : List Step). last_gift (history_of steps) c h) (no_steps moment) }
 
 -- what is told behind a step, by what it says
 gift_behind-step : (steps : List Step) (past : ℕ) (step : Step) (c h : ℕ) (source : Option Source) (taken : Bool) → past < length steps → step ≡ get_or steps past step →
@@ -123,6 +125,8 @@ module _ (steps : List Step) (step : Step) where
 
     touched_none : touch_in_step (length steps) (entry_of step) ≡ None → AreTouched longer notes
     touched_none is = record {
+      rise = noted.rise;
+      among = all_weaker (λ (t : Touch). t.past < length steps) (λ (t : Touch). t.past < length longer) (λ t lt. omega (arith, lt, one_longer)) notes noted.among;
       within = λ moment c h. still_within (touch_in notes moment c h) (noted.within moment c h);
       told = λ moment c h. told_none moment c h (nat_lt (length steps) moment) refl (untouched (length steps) c h (entry_of step) (ap (is_touched c h) is));
     }
@@ -146,6 +150,8 @@ module _ (steps : List Step) (step : Step) where
 
       touched_one : AreTouched longer (notes ++ t ∷ [])
       touched_one = record {
+        rise = in_order_append (λ (x y : Touch). x.past < y.past) notes t noted.rise (all_weaker (λ (u : Touch). u.past < length steps) (λ (u : Touch). u.past < t.past) (λ u lt. omega (arith, lt, newest)) notes noted.among);
+        among = all_append (λ (u : Touch). u.past < length longer) notes (t ∷ []) (all_weaker (λ (u : Touch). u.past < length steps) (λ (u : Touch). u.past < length longer) (λ u lt. omega (arith, lt, one_longer)) notes noted.among) (omega (arith, newest, one_longer), tt);
         within = λ moment c h. subst (λ (o : Option Touch). IfSome o (λ u. u.past < length longer)) (sym (find-newest (is_touch_before moment c h) notes t)) (within_if moment c h (is_touch_before moment c h t));
         told = λ moment c h.
             told_if moment c h (nat_lt (length steps) moment) refl

@@ -1,8 +1,10 @@
 -- The last step of a history that gave a handle, or that published under a key.
 use Rattle.std.specs.Prelude.{◌≡◌, ℕ, ◌+◌, ◌<◌, ◌==◌, nat_lt, Bool, true, false, ◌&&◌, List, [], ◌∷◌, Option, None, Some, if◌then◌else◌, find, length, reverse, take, IfSome}
+use Rattle.std.specs.List.{AllByRecursion}
 use Rattle.std.specs.Option.{option_map}
 use Rattle.drm_table.specs.declared.events.Event.{Event}
 use Rattle.drm_table.specs.declared.events.Event.TheVariants.{Open, Ask, Close}
+use Rattle.drm_lists.specs.Orders.{InOrder}
 use Rattle.drm_history.specs.History.{Entry}
 use Rattle.drm_history.specs.Steps.{Key, is_key, Source, Giving, Publishing, given, takes, published}
 use Rattle.drm_rights.specs.Answers.{closed_by}
@@ -102,8 +104,14 @@ abbrev pub gift_behind : List Step → ℕ → ℕ → Option Touch → Option G
 gift_behind steps c h None = None
 gift_behind steps c h (Some t) = last_gift (history_of (take (t.past + 1) steps)) c h
 
+-- each is of a later step than those before it
+abbrev pub TouchesRise : List Touch → Type 0
+TouchesRise notes = InOrder (λ (x y : Touch). x.past < y.past) notes
+
 -- each note is of one of these steps, and behind the newest of a handle no step gave or took it
 pub record AreTouched (steps : List Step) (notes : List Touch) : Type 0 where
+  pub rise : TouchesRise notes
+  pub among : AllByRecursion (λ (t : Touch). t.past < length steps) notes
   pub within : (moment c h : ℕ) → IfSome (touch_in notes moment c h) (λ t. t.past < length steps)
   pub told : (moment c h : ℕ) → last_gift (history_of (take moment steps)) c h ≡ gift_behind steps c h (touch_in notes moment c h)
 

@@ -1,12 +1,13 @@
 //! The last step of a history that gave a handle, or that published under a key.
 
-ghost use Rattle.std.specs.Prelude.{◌≡◌, ◌<◌, length, take, IfSome};
+ghost use Rattle.std.specs.Prelude.{◌≡◌, ◌<◌, ◌≤◌, length, take, IfSome};
+ghost use Rattle.std.specs.List.{AllWithin};
 ghost use Rattle.std.specs.Option.{option_map};
 ghost use Rattle.drm_history.specs.Steps.{is_key};
 ghost use Rattle.drm_rights.specs.Steps.{entry_of, givings_of, history_of, key_of, source_of};
 ghost use Rattle.drm_rights.specs.Answers.{closed_by};
 ghost use Rattle.drm_rights.specs.Searches as searches;
-ghost use Rattle.drm_rights.specs.Searches.{AreTouched, gifts_at, last_gift, last_sharing, publication_in, publications_of, sharings_at, touch_in, touch_in_step, touched_by};
+ghost use Rattle.drm_rights.specs.Searches.{AreTouched, TouchesRise, gifts_at, last_gift, last_sharing, publication_in, publications_of, sharings_at, touch_in, touch_in_step, touched_by};
 
 use crate::steps::{self, Giving, Key, Publishing, Source, Step};
 use drm_table::{Call, Event};
@@ -118,13 +119,34 @@ fn concerns(touch: Touch, client: u64, handle: u64) -> bool
     touch.client == client && is_handle
 }
 
-/// The last of these that touched the client's handle, with fewer steps before it than this moment has.
-fn touch_before(touches: &[Touch], moment: usize, client: u64, handle: u64) -> Option<Touch>
+/// How many of these have fewer steps before them than this moment has.
+fn older_touches(touches: &[Touch], moment: usize) -> usize
+    requires { TouchesRise touches.now }
+    ensures bound { result ≤ length touches.now }
+    ensures others { AllWithin (λ touch. moment ≤ touch.past) touches.now result (length touches.now) }
+{
+    touches.partition_point(|touch| touch.past < moment)
+}
+
+/// The last of these that touched the client's handle before a moment.
+fn newest_touch(touches: &[Touch], moment: usize, client: u64, handle: u64) -> Option<Touch>
     ensures last { result ≡ touch_in touches.now moment client handle }
     ensures before { IfSome result (λ touch. touch.past < moment) }
 {
     touches.iter().rev().copied().find(|touch| touch.past < moment
         && concerns(*touch, client, handle))
+}
+
+/// The last of these that touched the client's handle, with fewer steps before it than this moment has. It looks at none of a later
+/// step.
+fn touch_before(touches: &[Touch], moment: usize, client: u64, handle: u64) -> Option<Touch>
+    requires { TouchesRise touches.now }
+    ensures last { result ≡ touch_in touches.now moment client handle }
+    ensures before { IfSome result (λ touch. touch.past < moment) }
+{
+    let place = older_touches(touches, moment);
+    let (older, _later) = touches.split_at(place);
+    newest_touch(older, moment, client, handle)
 }
 
 /// Where the object comes from, if a handle is given and is this one.
