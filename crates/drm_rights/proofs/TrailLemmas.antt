@@ -9,6 +9,8 @@ use Rattle.drm_rights.specs.Searches.{AreNoted, is_before, last_sharing, publica
 use Rattle.drm_rights.specs.declared.searches.Publication.{Publication}
 use Rattle.drm_rights.specs.declared.steps.Publishing.{Publishing as PublishedHandle}
 use Rattle.drm_rights.specs.declared.steps.Step.{Step}
+use Rattle.drm_lists.proofs.Lists.{all_append, all_weaker}
+use Rattle.drm_lists.proofs.Orders.{in_order_append}
 use Rattle.drm_rights.proofs.HistoryLemmas.{followed_by-append}
 use Rattle.drm_rights.proofs.NoteLemmas.{append-none, find-newest}
 
@@ -41,7 +43,7 @@ no_steps moment = take_all moment [] (omega arith)
 
 pub none_noted : AreNoted [] []
 unfolding last_sharing followed_by
-none_noted = record { within = λ moment key. tt; told = λ moment key. sym (ap (λ (steps : List Step). last_sharing (history_of steps) key) (no_steps moment)) }
+none_noted = record { rise = tt; among = tt; within = λ moment key. tt; told = λ moment key. sym (ap (λ (steps : List Step). last_sharing (history_of steps) key) (no_steps moment)) }
 
 module _ (steps : List Step) (step : Step) where
   abbrev longer : List Step
@@ -77,6 +79,8 @@ module _ (steps : List Step) (step : Step) where
 
     noted_none : published (entry_of step) ≡ None → AreNoted longer notes
     noted_none is = record {
+      rise = noted.rise;
+      among = all_weaker (λ (p : Publication). p.past < length steps) (λ (p : Publication). p.past < length longer) (λ p lt. omega (arith, lt, one_longer)) notes noted.among;
       within = λ moment key. still_within (publication_in notes moment key) (noted.within moment key);
       told = λ moment key. told_still moment key ∙ of moment key (nat_lt (length steps) moment) refl;
     }
@@ -117,6 +121,8 @@ module _ (steps : List Step) (step : Step) where
 
       noted_one : AreNoted longer (notes ++ note ∷ [])
       noted_one = record {
+        rise = in_order_append (λ (x y : Publication). x.past < y.past) notes note noted.rise noted.among;
+        among = all_append (λ (q : Publication). q.past < length longer) notes (note ∷ []) (all_weaker (λ (q : Publication). q.past < length steps) (λ (q : Publication). q.past < length longer) (λ q lt. omega (arith, lt, one_longer)) notes noted.among) (omega (arith, one_longer), tt);
         within = λ moment key. subst (λ (o : Option Publication). IfSome o (λ q. q.past < length longer)) (sym (find-newest (is_before moment key) notes note)) (within_if moment key (is_before moment key note));
         told = λ moment key. ap (option_map (sharing_by longer)) (find-newest (is_before moment key) notes note) ∙ told_if moment key (nat_lt (length steps) moment) refl;
       }

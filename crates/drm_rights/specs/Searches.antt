@@ -132,7 +132,13 @@ publication_in notes moment key = find (is_before moment key) (reverse notes)
 abbrev pub sharing_by : List Step → Publication → Sharing
 sharing_by steps p = record { client = p.client; handle = p.handle; past = history_of (take p.past steps) }
 
+-- each is of a later step than those before it
+abbrev pub PublicationsRise : List Publication → Type 0
+PublicationsRise notes = InOrder (λ (x y : Publication). x.past < y.past) notes
+
 -- each note is of one of these steps, and they tell for each moment and key the last step that published under it
 pub record AreNoted (steps : List Step) (notes : List Publication) : Type 0 where
+  pub rise : PublicationsRise notes
+  pub among : AllByRecursion (λ (p : Publication). p.past < length steps) notes
   pub within : (moment : ℕ) (key : Key) → IfSome (publication_in notes moment key) (λ p. p.past < length steps)
   pub told : (moment : ℕ) (key : Key) → option_map (sharing_by steps) (publication_in notes moment key) ≡ last_sharing (history_of (take moment steps)) key

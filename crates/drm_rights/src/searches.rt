@@ -7,7 +7,7 @@ ghost use Rattle.drm_history.specs.Steps.{is_key};
 ghost use Rattle.drm_rights.specs.Steps.{entry_of, givings_of, history_of, key_of, source_of};
 ghost use Rattle.drm_rights.specs.Answers.{closed_by};
 ghost use Rattle.drm_rights.specs.Searches as searches;
-ghost use Rattle.drm_rights.specs.Searches.{AreTouched, TouchesRise, gifts_at, last_gift, last_sharing, publication_in, publications_of, sharings_at, touch_in, touch_in_step, touched_by};
+ghost use Rattle.drm_rights.specs.Searches.{AreTouched, PublicationsRise, TouchesRise, gifts_at, last_gift, last_sharing, publication_in, publications_of, sharings_at, touch_in, touch_in_step, touched_by};
 
 use crate::steps::{self, Giving, Key, Publishing, Source, Step};
 use drm_table::{Call, Event};
@@ -51,17 +51,37 @@ pub(crate) fn publication_of(published: Option<Publishing>, past: usize) -> Opti
     }
 }
 
-/// The last of these that published under the key, with fewer steps before it than this moment has.
-pub(crate) fn publication_before(
-    publications: &[Publication],
-    moment: usize,
-    key: Key,
-) -> Option<Publication>
+/// How many of these have fewer steps before them than this moment has.
+fn older_publications(publications: &[Publication], moment: usize) -> usize
+    requires { PublicationsRise publications.now }
+    ensures bound { result ≤ length publications.now }
+    ensures others { AllWithin (λ publication. moment ≤ publication.past) publications.now result (length publications.now) }
+{
+    publications.partition_point(|publication| publication.past < moment)
+}
+
+/// The last of these that published under the key before a moment.
+fn newest_publication(publications: &[Publication], moment: usize, key: Key) -> Option<Publication>
     ensures last { result ≡ publication_in publications.now moment (key_of key) }
     ensures before { IfSome result (λ publication. publication.past < moment) }
 {
     publications.iter().rev().copied().find(|publication| publication.past < moment
         && is_key(publication.key, key))
+}
+
+/// The last of these that published under the key, with fewer steps before it than this moment has. It looks at none of a later step.
+pub(crate) fn publication_before(
+    publications: &[Publication],
+    moment: usize,
+    key: Key,
+) -> Option<Publication>
+    requires { PublicationsRise publications.now }
+    ensures last { result ≡ publication_in publications.now moment (key_of key) }
+    ensures before { IfSome result (λ publication. publication.past < moment) }
+{
+    let place = older_publications(publications, moment);
+    let (older, _later) = publications.split_at(place);
+    newest_publication(older, moment, key)
 }
 
 /// A step that gives or takes handles of a client: how many steps came before it, and which handle, or all where none is told.
