@@ -101,6 +101,6 @@ PutCalls written.TurnsUsed old new = (row : ℕ) × (row < 1000) × PutPieces ol
 
 -- A call that faults was handed all that the sink hasn't taken.
 abbrev pub HandsRest : Written → SinkAccount → SinkAccount → List ℕ → Type 0
-HandsRest written.Fault old new text = (front : List ℕ) × (rest : List ℕ) × (text ≡ front ++ rest) × Appends old.written new.written front × (new.handed ≡ length rest)
+HandsRest written.Fault old new text = (front : List ℕ) × (rest : List ℕ) × (text ≡ front ++ rest) × Appends old.written new.written front × (new.handed ≡ length rest) × (0 < length rest)
 HandsRest written.Whole old new text = ⊤
 HandsRest written.TurnsUsed old new text = ⊤

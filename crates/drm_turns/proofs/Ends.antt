@@ -1,5 +1,5 @@
 -- Making, splitting, joining and closing.
-use Rattle.std.proofs.Common.{◌≡◌, ◌≢◌, ◌⊎◌, ⊎_elim, inl, inr, ℕ, zero, suc, ◌-◌, ◌<◌, Bool, true, false, List, [], ◌∷◌, ◌++◌, length, set, sym, refl, ap, ◌∙◌, subst, arith, length-set, length-append, Some}
+use Rattle.std.proofs.Common.{◌≡◌, ◌≢◌, ◌⊎◌, ⊎_elim, inl, inr, ℕ, zero, suc, ◌+◌, ◌-◌, ◌<◌, Bool, true, false, List, [], ◌∷◌, ◌++◌, length, set, sym, refl, ap, ◌∙◌, subst, arith, length-set, length-append, Some}
 use mathlib.Core.Option.{Option as maybe, some, none, some-injective, some-ne-none}
 use mathlib.Core.Logic.{dite}
 use native.Mathlib.Decide.{ℕ_discrete}
@@ -23,6 +23,8 @@ use Rattle.drm_turns.proofs.Rule.{know_set, differ_set, all_held_set, lent_set, 
 use Rattle.drm_turns.proofs.Kept.{at_end, taken_snoc, taken_one, kept_apart, not_kept, differ_append, has_append, taken_join}
 use Rattle.drm_turns.proofs.Lent.{lent_join, lent_one, lent_split, no_ticket_out, out_cases}
 use Rattle.drm_turns.proofs.Moves.{reads}
+use Rattle.drm_turns.proofs.Counts.{first_counts}
+use Rattle.drm_turns.proofs.Totals.{total_kept, total_set, total_snoc}
 
 know_snoc : (x : World) (views : List View) (c : View) → AllKnow x views → Knows x (length views) c c.stage → AllKnow x (views ++ c ∷ [])
 know_snoc x views c know mine j u at = ⊎_elim
@@ -84,6 +86,8 @@ splits_moves id v idle some_number s r at =
       unborn = λ k le. r.unborn k (let l = length-append views' (c ∷ []) in omega arith);
       taken_in = taken_snoc views' c (taken_set s.views id v lent r.taken_in at (λ is. absurd (cc)) refl) refl;
       lent = lent_split s.views id v r.lent at idle number;
+      drawn = total_snoc (λ u. u.drawn) views' c ∙ (let h = total_kept (λ u. u.drawn) s.views id v lent at refl in let d = r.drawn in omega (arith, h, d));
+      noted = (let l = total_snoc (λ u. u.noted) views' c in let h = total_kept (λ u. u.noted) s.views id v lent at refl in let d = r.noted in omega (arith, l, h, d));
     }
 
 pub settles_moves : (slots id : ℕ) (me : Sat) → me.0.stage ≡ Idle → Allows Orderly slots id me 0 (λ n. n) (settles (step slots 0 0 0 none) me)
@@ -96,7 +100,7 @@ settles_moves slots id me idle s r wide at small =
       tt,
       stays_put s r 0 id me.1 me.0 w (word_same s r).0 at (λ is. absurd (cc))
           (subst (Knows x id w) (sym idle) (record { origin_is = fits.origin_is; number = inr refl; parent = fits.parent; seen = fits.seen; told = fits.told; mine = fits.mine }))
-          (λ has. (has, refl)) (no_ticket s.views id w (ap has_ticket idle)) (λ k. absurd (cc)) refl refl refl,
+          (λ has. (has, refl)) (no_ticket s.views id w (ap has_ticket idle)) (λ k. absurd (cc)) refl refl refl refl refl,
       (suc id, refl, (λ z. absurd (omega arith)), (λ z. fits.parent (sym z)), λ none. none_before (suc id) x.log me.0.seen fits.seen (fits.mine ∙ none)),
     )
 
@@ -110,14 +114,14 @@ learns_moves slots id me idle s r wide at small =
       tt,
       stays_put s r 0 id me.1 me.0 w (word_same s r).0 at (λ is. absurd (cc))
           (subst (Knows x id w) (sym idle) (record { origin_is = fits.origin_is; number = fits.number; parent = fits.parent; seen = starts_whole x.log; told = starts_with_none x.log; mine = fits.mine }))
-          (λ has. (has, refl)) (no_ticket s.views id w (ap has_ticket idle)) (λ k. absurd (cc)) refl refl refl,
+          (λ has. (has, refl)) (no_ticket s.views id w (ap has_ticket idle)) (λ k. absurd (cc)) refl refl refl refl refl,
       (x.log, refl, reads x id me.0 fits r.legal, kept_apart s.views id me.0 r.taken_in at (λ k. absurd (cc)) fits.number),
     )
 
 -- two views become one, which keeps these numbers, and of which as many are out as are left
 module _ (id : ℕ) (v : View) (other : ℕ) (w : View) (kept : List ℕ) (idle : v.stage ≡ Idle) (idle' : w.stage ≡ Idle) (some_own : v.number ≢ 0) where
   abbrev pub with_told : View
-  with_told = record v { told = w.seen; kept = kept; out = out_after v.number v.out w.parent w.out }
+  with_told = record v { told = w.seen; kept = kept; out = out_after v.number v.out w.parent w.out; drawn = v.drawn + w.drawn; noted = v.noted + w.noted }
 
   lent_with : (views : List View) → Lent views → get_elem? views id ≡ some v → get_elem? views other ≡ some w → ¬ (other ≡ id) → v.number ≡ suc id → Lent (set (set views id with_told) other spent_view)
   lent_with views t at at_other apart number = ⊎_elim
@@ -145,12 +149,14 @@ module _ (id : ℕ) (v : View) (other : ℕ) (w : View) (kept : List ℕ) (idle 
         behind = r.behind;
         legal = r.legal;
         placed = placed_set x.out x s.homes views' other w spent_view there (λ is. absurd (cc)) (placed_set x.out x s.homes s.views id v both at (λ is. absurd (cc)) r.placed);
-        know = know_set x views' other spent_view (λ j u _ e. known j u e) tt;
+        know = know_set x views' other spent_view (λ j u _ e. known j u e) (refl, refl);
         held = all_held_set x views' other w spent_view there (λ has. absurd (ticketless w.stage idle' has)) (all_held_set x s.views id v both at (λ has. (has, refl)) r.held);
         differ = differ_set views' other spent_view (differ_set s.views id both r.differ (no_ticket s.views id both (ap has_ticket idle))) (no_ticket views' other spent_view refl);
         unborn = λ k le. r.unborn k (let a = length-set s.views id both in let b = length-set views' other spent_view in omega arith);
         taken_in = taken_join s.views id v other w both r.taken_in at at_other apart idle idle' right.0 right.1;
         lent = lent_with s.views r.lent at at_other apart (own_number x.origin x.log id v fits some_own);
+        drawn = (let a = total_set (λ u. u.drawn) s.views id v both at in let b = total_set (λ u. u.drawn) views' other w spent_view there in let d = r.drawn in omega (arith, a, b, d));
+        noted = (let a = total_set (λ u. u.noted) s.views id v both at in let b = total_set (λ u. u.noted) views' other w spent_view there in let d = r.noted in omega (arith, a, b, d));
       }
 
 pub joins_moves : (id : ℕ) (v : View) (other : ℕ) (w : View) → v.stage ≡ Idle → w.stage ≡ Idle → v.number ≢ 0 → w.number ≢ 0 → Joins Orderly id v other w (told_of v w) spent_view
@@ -192,6 +198,8 @@ opens d n is room =
       unborn = λ k _. replayed-calls k w d.journal;
       taken_in = taken_one v refl;
       lent = lent_one v refl refl;
+      drawn = refl;
+      noted = (let l = replayed-length w d.journal in omega (arith, l));
     }
   where
     know_one : (x : World) (v : View) → Knows x 0 v v.stage → AllKnow x (v ∷ [])
@@ -245,6 +253,22 @@ comes_home id v words xs next serving slot idle first none_out final at_next at_
       device_at x.origin x.log,
       some-injective slot (Some (device_at x.origin x.log)) (sym at ∙ found),
     )
+
+-- where all that was split off the first seat is given back, the history has what was noted before and what the seat counts
+pub closes_counted : (id : ℕ) (v : View) (words : List ℕ) (xs : List Slot) (next serving : ℕ) (slot : Slot) → v.stage ≡ Idle → Final (Seen Orderly id v) words xs
+    → get_elem? words 1 ≡ some next → get_elem? words 2 ≡ some serving → next ≡ serving → get_elem? xs 0 ≡ some slot → v.number ≡ 1 → v.out ≡ 0
+    → (log : List Entry) × (slot ≡ Some (device_at v.origin log)) × (length log ≡ length v.origin.journal + v.noted)
+unfolding closes
+closes_counted id v words xs next serving slot idle final at_next at_serving quiet at first none_out =
+    let s : Table = final.0 in
+    let r : Orderly s = final.1.0 in
+    let x = r.world in
+    let fits : Fits x.origin x.log id v = subst (Knows x id v) idle (r.know id v final.1.1) in
+    let number : v.number ≡ suc id = own_number x.origin x.log id v fits (λ z. absurd (omega arith)) in
+    let is_first : id ≡ 0 = omega arith in
+    let all = (first_counts s r v (ap (get_elem? s.views) (sym is_first) ∙ final.1.1) idle none_out).1 in
+    let found = closes id v words xs next serving slot idle final at_next at_serving quiet at in
+    (x.log, found.1, all ∙ ap (λ (d : History). length d.journal + v.noted) (sym fits.origin_is))
 
 -- the first seat
 pub opening_own : (d : History) → FoundRoom (start_of d) d.journal → IsOwn (opening_view d)

@@ -1,5 +1,5 @@
 -- The device while a seat has it.
-use Rattle.std.proofs.Common.{◌≡◌, ℕ, suc, ◌-◌, ◌<◌, ◌^◌, List, [], ◌∷◌, ◌++◌, length, get_or, sym, refl, ap, ◌∙◌, subst, Some, Result, Ok, Err, true, false, append-nil, append_assoc}
+use Rattle.std.proofs.Common.{◌≡◌, ℕ, suc, ◌+◌, ◌-◌, ◌<◌, ◌^◌, List, [], ◌∷◌, ◌++◌, length, get_or, sym, refl, ap, ◌∙◌, subst, Some, Result, Ok, Err, true, false, append-nil, append_assoc, arith}
 use Rattle.std.specs.Prelude.{IfErr, IfOk, OnErr, OnOk}
 use Rattle.atomic_table.specs.Table.{rest}
 use Rattle.drm_table.specs.declared.answers.Answer.{Answer}
@@ -16,7 +16,7 @@ use Rattle.drm_turns.specs.History.{StartsWith, device_at, entry, events_of, row
 use Rattle.drm_turns.specs.Plays.{Reads}
 use Rattle.drm_turns.specs.Rule.{Slot, Sat}
 use Rattle.drm_turns.specs.Views.{Grows, IsOwn, counted, serving, waiting}
-use Rattle.drm_turns.specs.Seats.{Adds, Excuses, Standing}
+use Rattle.drm_turns.specs.Seats.{Adds, Excuses, Standing, entries_of, tickets_of}
 use Rattle.drm_turns.specs.Turns.{Answered, Turn}
 use Rattle.drm_turns.proofs.Histories.{calls_own, events-snoc, legal-more}
 
@@ -46,11 +46,13 @@ grows_by v e w is own by room answer = (
 )
 
 pub grows_not : (v w : View) → w ≡ v → IsOwn v → Grows v w
-grows_not v w is own = (([], is ∙ (λ i. record v { seen = sym (append-nil v.seen) i; mine = sym (append-nil v.mine) i })), subst IsOwn (sym is) own)
+grows_not v w is own =
+    let same : v.noted ≡ v.noted + 0 = omega arith in
+    (([], is ∙ (λ i. record v { seen = sym (append-nil v.seen) i; mine = sym (append-nil v.mine) i; noted = same i })), subst IsOwn (sym is) own)
 
 -- a whole turn
 pub turned : (v : View) (ticket : ℕ) (seen : List Entry) (w : View) → Reads v seen → Grows (serving (waiting v ticket) seen) w
-    → (w.number ≡ v.number) × (w.origin ≡ v.origin) × (w.told ≡ v.told) × StartsWith w.seen v.seen × IsOwn w × (w.kept ≡ v.kept) × (w.ticket ≡ ticket) × (w.parent ≡ v.parent) × (w.out ≡ v.out)
+    → (w.number ≡ v.number) × (w.origin ≡ v.origin) × (w.told ≡ v.told) × StartsWith w.seen v.seen × IsOwn w × (w.kept ≡ v.kept) × (w.ticket ≡ ticket) × (w.parent ≡ v.parent) × (w.out ≡ v.out) × (w.drawn ≡ v.drawn + 1)
 turned v ticket seen w reads grows =
     let more : List Entry = grows.0.0 in
     let is = grows.0.1 in
@@ -64,6 +66,7 @@ turned v ticket seen w reads grows =
       ap (λ (u : View). u.ticket) is,
       ap (λ (u : View). u.parent) is,
       ap (λ (u : View). u.out) is,
+      ap (λ (u : View). u.drawn) is,
     )
 
 -- ---- what a step of the device shows
@@ -121,3 +124,22 @@ adds (Ok answer) event s t u w between h seen mine number saw ours few = (
   mine ∙ (ap (λ (x : View). x.mine) h ∙ (λ i. ours i ++ entry (number i) event answer ∷ [])),
   few,
 )
+
+-- ---- what a call counts
+
+-- a turn has a ticket
+pub turn_tickets : (event : Event) (result : Result Answer Apart) → Turn event result → tickets_of result ≡ 1
+unfolding Step
+turn_tickets event (Ok answer) turn = refl
+turn_tickets event (Err JournalFull) turn = refl
+turn_tickets event (Err NoMemory) turn = refl
+turn_tickets event (Err Worn) turn = absurd turn.steps.step
+
+pub turn_entries : (result : Result Answer Apart) (event : Event) (u w : View) → IfOk result (λ answer. w ≡ counted u (entry u.number event answer))
+    → IfErr result (λ apart. (w ≡ u) × Step (rows_after u.origin u.seen) event (Err apart) (rows_after u.origin u.seen)) → w.noted ≡ u.noted + entries_of result
+turn_entries (Ok answer) event u w ok err = ap (λ (x : View). x.noted) ok
+turn_entries (Err apart) event u w ok err = let same = ap (λ (x : View). x.noted) err.0 in omega arith
+
+-- what had its turn found a ticket
+pub not_worn : (event : Event) (result : Result Answer Apart) → Turn event result → result ≡ Err Worn → ⊥
+not_worn event result turn worn = let one = turn_tickets event result turn in let none : tickets_of result ≡ 0 = ap tickets_of worn in omega arith

@@ -357,8 +357,11 @@ module _ (views : List View) (t : Lent views) (v : View) (at : get_elem? views 0
       absurd (none_in (suc c) (t.away b.0) (none_with c b.0 w.0 w.1 (λ q z lq at_q. all_back fuel q z (omega arith) at_q)) b.1))
       (t.back c u at_c)
 
+  pub others_spent : (c : ℕ) (u : View) → get_elem? views (suc c) ≡ some u → u.stage ≡ Spent
+  others_spent c u at_c = is_spent views (suc c) u at_c (all_back (suc c) c u (omega arith) at_c).0
+
   pub no_ticket_out : (j : ℕ) (u : View) → v.stage ≡ Idle → get_elem? views j ≡ some u → has_ticket u.stage ≡ true → ⊥
   no_ticket_out zero u idle at_j has = let e : v.stage ≡ u.stage = ap (λ (z : View). z.stage) (some-injective v u (sym at ∙ at_j)) in ticketless v.stage idle (ap has_ticket e ∙ has)
   no_ticket_out (suc c) u idle at_j has =
-      let spent = is_spent views (suc c) u at_j (all_back (suc c) c u (omega arith) at_j).0 in
+      let spent = others_spent c u at_j in
       let none : false ≡ true = sym (ap has_ticket spent) ∙ has in absurd (cc)

@@ -1,8 +1,10 @@
 pub mod Histories
+pub mod Totals
 pub mod Rule
 pub mod Moves
 pub mod Kept
 pub mod Lent
+pub mod Counts
 pub mod Ends
 pub mod Held
 pub mod Crossing

@@ -16,11 +16,20 @@ use Rattle.drm_turns.specs.declared.history.View.{View}
 use Rattle.drm_turns.specs.declared.history.Stage.{Stage}
 use Rattle.drm_turns.specs.declared.history.Stage.TheVariants.{Idle, Waiting, Serving, Spent}
 use Rattle.drm_turns.specs.History.{IsLegal, device_at, calls_by, StartsWith, rows_after}
-use Rattle.drm_turns.specs.Rule.{Slot, Sat, World, Fits, Knows, has_ticket, Placed, AllKnow, AllHeld, TicketsDiffer, Orderly}
+use Rattle.drm_turns.specs.Rule.{Slot, Sat, World, Fits, Knows, has_ticket, Placed, AllKnow, AllHeld, Table, TicketsDiffer, Orderly}
 use Rattle.drm_turns.specs.Views.{counted, found_at, passed, serving, waiting}
+use Rattle.drm_turns.proofs.Counts.{first_counts}
+use Rattle.drm_turns.proofs.Totals.{total_kept, total_set}
 use Rattle.drm_turns.specs.Plays.{Reads, finds, draws, looks, counts, passes}
 use Rattle.drm_turns.proofs.Histories.{calls_other, calls_own, legal-more, starts_more, starts_whole}
 use Rattle.drm_turns.proofs.Rule.{at_below, all_held_set, held_set, lent_set, same_ticket, no_ticket, placed_set, taken_set, stays, stays_put, stays_whole, ticketless, word_same, word_is, refits}
+
+-- the next ticket is as many as the first seat drew, where none is out of it
+found_all : (s : Table) (r : Orderly s) (id : ℕ) (v : View) → get_elem? s.views id ≡ some v → v.stage ≡ Idle → v.number ≡ 1 → v.out ≡ 0 → slice_index s.words 1 ≡ v.drawn
+found_all s r id v at idle first none_out =
+    let fits : Fits r.world.origin r.world.log id v = subst (Knows r.world id v) idle (r.know id v at) in
+    let is_first : id ≡ 0 = ⊎_elim (λ (z : v.number ≡ 0). absurd (omega arith)) (λ (z : v.number ≡ suc id). omega arith) fits.number in
+    (word_is s r).1 ∙ (first_counts s r v (ap (get_elem? s.views) (sym is_first) ∙ at) idle none_out).0
 
 pub finds_moves : (slots id : ℕ) (me : Sat) → me.0.stage ≡ Idle → Allows Orderly slots id me 1 (λ n. n) (finds (step slots 1 0 0 none) me)
 finds_moves slots id me idle s r wide at small =
@@ -29,8 +38,8 @@ finds_moves slots id me idle s r wide at small =
       w,
       keeps,
       tt,
-      stays_put s r 1 id me.1 me.0 w (word_same s r).1 at (λ is. absurd (cc)) (refits r.world.origin r.world.log id me.0 w.ticket Idle fits) (λ has. absurd (ticketless me.0.stage idle has)) (no_ticket s.views id w refl) (λ is. absurd (cc)) refl refl refl,
-      refl,
+      stays_put s r 1 id me.1 me.0 w (word_same s r).1 at (λ is. absurd (cc)) (refits r.world.origin r.world.log id me.0 w.ticket Idle me.0.drawn fits) (λ has. absurd (ticketless me.0.stage idle has)) (no_ticket s.views id w refl) (λ is. absurd (cc)) refl refl refl refl refl,
+      (refl, λ first none_out. found_all s r id me.0 at idle first none_out),
     )
 
 -- what the others know, where the next ticket is a later one
@@ -38,7 +47,7 @@ later : (x : World) (next j : ℕ) (u : View) (g : Stage) → x.next ≤ next �
 later x next j u Idle le k = k
 later x next j u Waiting le k = (k.0, k.1, (let h = k.2 in omega arith))
 later x next j u Serving le k = (k.0, k.1, (let h = k.2 in omega arith), k.3, k.4)
-later x next j u Spent le k = tt
+later x next j u Spent le k = k
 
 -- no ticket that is out is the next one
 tickets_below : (x : World) (j : ℕ) (u : View) (g : Stage) → has_ticket g ≡ true → Knows x j u g → u.ticket ≡ x.next → ⊥
@@ -78,10 +87,12 @@ draws_moves slots id me old idle room s r wide at small =
           (stays s r y 1 (old + 1) id me.1 w keeps (ap (λ (l : List ℕ). slice_set l 1 (old + 1)) r.words) (omega arith) (omega arith) r.legal
           (placed_drawn x.out x old s.homes s.views id me.0 w at (λ k. absurd (cc)) r.placed)
           (λ j u ne e. later x (old + 1) j u u.stage (omega arith) (r.know j u e))
-          (refits x.origin x.log id me.0 old Waiting fits, omega arith, omega arith)
+          (refits x.origin x.log id me.0 old Waiting (me.0.drawn + 1) fits, omega arith, omega arith)
           (held_drawn x s.views id me.0 old at idle next_is r.held)
           (λ j u ne e has _ same. tickets_below x j u u.stage has (r.know j u e) (same ∙ sym next_is))
-          r.unborn (taken_set s.views id me.0 w r.taken_in at (λ k. absurd (cc)) refl) (lent_set s.views id me.0 w r.lent at (λ k. absurd (cc)) (λ _. (refl, omega arith)))),
+          r.unborn (taken_set s.views id me.0 w r.taken_in at (λ k. absurd (cc)) refl) (lent_set s.views id me.0 w r.lent at (λ k. absurd (cc)) (λ _. (refl, omega arith)))
+          (let more = total_set (λ u. u.drawn) s.views id me.0 w at in let drawn = r.drawn in omega (arith, more, drawn, next_is))
+          (ap (λ (n : ℕ). length x.origin.journal + n) (total_kept (λ u. u.noted) s.views id me.0 w at refl) ∙ r.noted)),
       ((λ _. refl), λ not. absurd (not hit)),
     ))
     (λ miss. (
@@ -109,7 +120,7 @@ taken : (x : World) (j : ℕ) (u : View) (g : Stage) → Knows x j u g → Knows
 taken x j u Idle k = k
 taken x j u Waiting k = k
 taken x j u Serving k = (k.0, k.1, k.2, refl, k.4)
-taken x j u Spent k = tt
+taken x j u Spent k = k
 
 -- a seat's own entries in the history
 own_calls : (origin : History) (log : List Entry) (id : ℕ) (v : View) → Fits origin log id v → v.number ≢ 0 → calls_by v.number log ≡ v.mine
@@ -144,7 +155,9 @@ looks_moves slots id me waits s r wide at small =
           (same_ticket s.views id me.0 w r.differ at (ap has_ticket waits) refl)
           r.unborn
           (taken_set s.views id me.0 w r.taken_in at (λ k. absurd (cc)) refl)
-          (lent_set s.views id me.0 w r.lent at (λ k. absurd (cc)) (λ _. (refl, omega arith))),
+          (lent_set s.views id me.0 w r.lent at (λ k. absurd (cc)) (λ _. (refl, omega arith)))
+          (total_kept (λ u. u.drawn) s.views id me.0 w at refl ∙ r.drawn)
+          (ap (λ (n : ℕ). length x.origin.journal + n) (total_kept (λ u. u.noted) s.views id me.0 w at refl) ∙ r.noted),
       ((λ _. (x.log, ap (λ (d : History). (serving me.0 x.log, (0, Some (device_at d x.log)) ∷ me.1)) (sym fits.origin_is), reads x id me.0 fits r.legal)), λ not. absurd (not hit)),
     ))
     (λ miss. (
@@ -170,7 +183,7 @@ others_count : (x : World) (j : ℕ) (u : View) (g : Stage) (e : Entry) → e.by
 others_count x j u Idle e other idles k = fits_more x.origin x.log j u e other k
 others_count x j u Waiting e other idles k = (fits_more x.origin x.log j u e other k.0, k.1, k.2)
 others_count x j u Serving e other idles k = absurd (idles refl)
-others_count x j u Spent e other idles k = tt
+others_count x j u Spent e other idles k = k
 
 -- there is one seat that is served
 alone : (x : World) (views : List View) (id j : ℕ) (v u : View) → TicketsDiffer views → get_elem? views id ≡ some v → v.stage ≡ Serving → v.ticket ≡ x.serving → j ≢ id → get_elem? views j ≡ some u
@@ -225,7 +238,9 @@ counts_moves slots id me e serves by some_number few room answer s r wide at sma
           (same_ticket s.views id v w r.differ at (ap has_ticket serves) refl)
           (λ k le. calls_other (suc k) x.log e (λ b. let h : suc k ≡ suc id = sym b ∙ by_id in let i = at_below s.views id v at in absurd (omega arith)) ∙ r.unborn k le)
           (taken_set s.views id v w r.taken_in at (λ k. absurd (cc)) refl)
-          (lent_set s.views id v w r.lent at (λ k. absurd (cc)) (λ _. (refl, omega arith))),
+          (lent_set s.views id v w r.lent at (λ k. absurd (cc)) (λ _. (refl, omega arith)))
+          (total_kept (λ u. u.drawn) s.views id v w at refl ∙ r.drawn)
+          (let more = total_set (λ u. u.noted) s.views id v w at in let noted = r.noted in omega (arith, more, noted, len)),
       refl,
     )
 
@@ -234,7 +249,7 @@ others_pass : (x : World) (j : ℕ) (u : View) (g : Stage) → (g ≡ Serving �
 others_pass x j u Idle idles other k = k
 others_pass x j u Waiting idles other k = let ne = other refl in (k.0, (let h = k.1 in omega arith), k.2)
 others_pass x j u Serving idles other k = absurd (idles refl)
-others_pass x j u Spent idles other k = tt
+others_pass x j u Spent idles other k = k
 
 pub passes_moves : (slots id : ℕ) (me : Sat) (more : List (ℕ × Slot)) → 0 < slots → me.0.stage ≡ Serving → me.1 ≡ (0, Some (device_at me.0.origin me.0.seen)) ∷ more
     → Allows Orderly slots id me 2 (λ n. (n + 1) % 2 ^ 64) (passes (step slots 2 1 0 none) me)
@@ -260,11 +275,13 @@ passes_moves slots id me more some_slot serves holds s r wide at small =
           (set_here s.homes 0 (some (Some (device_at v.origin v.seen))) (omega arith) ∙ ap (λ d. some (some (Some d))) device_is))
           (λ j u ne at_j. others_pass x j u u.stage (alone x s.views id j v u r.differ at serves known.1 ne at_j (r.know j u at_j))
           (λ has same. ne (r.differ j id u v at_j at has (ap has_ticket serves) (same ∙ sym known.1))) (r.know j u at_j))
-          (refits x.origin x.log id v v.ticket Idle fits)
+          (refits x.origin x.log id v v.ticket Idle v.drawn fits)
           (λ t from to. let later : x.serving + 1 ≤ t = from in held_set s.views id v w t at (λ _ e. let k = known.1 in absurd (omega arith)) (r.held t (omega arith) to))
           (no_ticket s.views id w refl)
           r.unborn
           (taken_set s.views id v w r.taken_in at (λ k. absurd (cc)) refl)
-          (lent_set s.views id v w r.lent at (λ k. absurd (cc)) (λ _. (refl, omega arith))),
+          (lent_set s.views id v w r.lent at (λ k. absurd (cc)) (λ _. (refl, omega arith)))
+          (total_kept (λ u. u.drawn) s.views id v w at refl ∙ r.drawn)
+          (ap (λ (n : ℕ). length x.origin.journal + n) (total_kept (λ u. u.noted) s.views id v w at refl) ∙ r.noted),
       refl,
     )

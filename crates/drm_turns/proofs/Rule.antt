@@ -1,5 +1,5 @@
 -- What follows from the rule, and how it is kept where one view changes.
-use Rattle.std.proofs.Common.{◌≡◌, ◌≢◌, ◌⊎◌, ⊎_elim, inl, inr, ℕ, zero, suc, ◌<◌, ◌≤◌, ◌^◌, Bool, true, false, List, [], ◌∷◌, length, set, sym, refl, ap, ◌∙◌, subst, arith, length-set, Some}
+use Rattle.std.proofs.Common.{◌≡◌, ◌≢◌, ◌⊎◌, ⊎_elim, inl, inr, ℕ, zero, suc, ◌<◌, ◌≤◌, ◌+◌, ◌^◌, Bool, true, false, List, [], ◌∷◌, length, set, sym, refl, ap, ◌∙◌, subst, arith, length-set, Some}
 use Rattle.std.specs.Prelude.{slice_set, slice_index}
 use mathlib.Core.Option.{Option as maybe, some, some-injective, some-ne-none}
 use mathlib.Core.Logic.{dite}
@@ -13,7 +13,8 @@ use Rattle.drm_turns.specs.declared.history.View.{View}
 use Rattle.drm_turns.specs.declared.history.Stage.{Stage}
 use Rattle.drm_turns.specs.declared.history.Stage.TheVariants.{Idle, Serving, Spent}
 use Rattle.drm_turns.specs.History.{AllDiffer, Has, IsLegal, device_at}
-use Rattle.drm_turns.specs.Rule.{Slot, Table, World, Fits, Knows, has_ticket, Placed, AllKnow, AllHeld, IsHeld, TicketsDiffer, Unborn, IsBack, IsSpent, Lent, TakenIn, Orderly}
+use Rattle.drm_turns.proofs.Totals.{total_kept}
+use Rattle.drm_turns.specs.Rule.{Slot, Table, World, Fits, Knows, has_ticket, Placed, AllKnow, AllHeld, IsHeld, TicketsDiffer, Unborn, IsBack, IsSpent, Lent, TakenIn, Orderly, total}
 
 pub at_below : {A : Type 0} (l : List A) (i : ℕ) (a : A) → get_elem? l i ≡ some a → i < length l
 at_below [] i a e = absurd (some-ne-none a (sym e))
@@ -133,8 +134,12 @@ pub stays : (s : Table) (r : Orderly s) (y : World) (i n id : ℕ) (c : List (�
     → Unborn y.log s.views
     → TakenIn (set s.views id w)
     → Lent (set s.views id w)
+    → total (λ u. u.drawn) (set s.views id w) ≡ y.next
+    → length y.origin.journal + total (λ u. u.noted) (set s.views id w) ≡ length y.log
     → Orderly (stepped s i n id c w a)
-stays s r y i n id c w a words few behind legal placed others mine held fresh unborn taken_in lent = record {
+stays s r y i n id c w a words few behind legal placed others mine held fresh unborn taken_in lent drawn noted = record {
+  drawn = drawn;
+  noted = noted;
   held = held;
   taken_in = taken_in;
   lent = lent;
@@ -161,15 +166,18 @@ pub stays_put : (s : Table) (r : Orderly s) (i id : ℕ) (c : List (ℕ × Slot)
     → w.kept ≡ v.kept
     → w.parent ≡ v.parent
     → w.out ≡ v.out
+    → w.drawn ≡ v.drawn
+    → w.noted ≡ v.noted
     → Orderly (stepped s i (slice_index s.words i) id c w Rattle.atomic_table.specs.Table.keeps)
-stays_put s r i id c v w words at still mine keeps fresh unspent same parent out = stays s r r.world i (slice_index s.words i) id c w Rattle.atomic_table.specs.Table.keeps (words ∙ r.words) r.few r.behind r.legal
+stays_put s r i id c v w words at still mine keeps fresh unspent same parent out drawn noted = stays s r r.world i (slice_index s.words i) id c w Rattle.atomic_table.specs.Table.keeps (words ∙ r.words) r.few r.behind r.legal
     (placed_set r.world.out r.world s.homes s.views id v w at still r.placed) (λ j u _ e. r.know j u e) mine
     (all_held_set r.world s.views id v w at keeps r.held) fresh r.unborn (taken_set s.views id v w r.taken_in at unspent same) (lent_set s.views id v w r.lent at unspent (λ _. (parent, (let o = out in omega arith))))
+    (total_kept (λ u. u.drawn) s.views id v w at drawn ∙ r.drawn) (ap (λ (n : ℕ). length r.world.origin.journal + n) (total_kept (λ u. u.noted) s.views id v w at noted) ∙ r.noted)
 
 -- the same with no change at all
 pub stays_whole : (s : Table) (r : Orderly s) (i id : ℕ) (c : List (ℕ × Slot)) (v : View) → slice_set s.words i (slice_index s.words i) ≡ s.words → get_elem? s.views id ≡ some v → (v.stage ≡ Spent → ⊥)
     → Orderly (stepped s i (slice_index s.words i) id c v Rattle.atomic_table.specs.Table.keeps)
-stays_whole s r i id c v words at unspent = stays_put s r i id c v v words at (λ e. e) (r.know id v at) (λ has. (has, refl)) (λ j u ne at_j has_j has same. ne (r.differ j id u v at_j at has_j has same)) unspent refl refl refl
+stays_whole s r i id c v words at unspent = stays_put s r i id c v v words at (λ e. e) (r.know id v at) (λ has. (has, refl)) (λ j u ne at_j has_j has same. ne (r.differ j id u v at_j at has_j has same)) unspent refl refl refl refl refl
 
 -- the three words
 pub word_same : (s : Table) (r : Orderly s) → (slice_set s.words 0 (slice_index s.words 0) ≡ s.words) × (slice_set s.words 1 (slice_index s.words 1) ≡ s.words) × (slice_set s.words 2 (slice_index s.words 2) ≡ s.words)
@@ -182,9 +190,9 @@ word_same s r = (
 pub word_is : (s : Table) (r : Orderly s) → (slice_index s.words 0 ≡ length r.world.log) × (slice_index s.words 1 ≡ r.world.next) × (slice_index s.words 2 ≡ r.world.serving)
 word_is s r = (ap (λ (l : List ℕ). slice_index l 0) r.words, ap (λ (l : List ℕ). slice_index l 1) r.words, ap (λ (l : List ℕ). slice_index l 2) r.words)
 
--- the view with another ticket and stage
-pub refits : (origin : History) (log : List Entry) (id : ℕ) (v : View) (ticket : ℕ) (stage : Stage) → Fits origin log id v → Fits origin log id (record v { ticket = ticket; stage = stage })
-refits origin log id v ticket stage f = record { origin_is = f.origin_is; number = f.number; parent = f.parent; seen = f.seen; told = f.told; mine = f.mine }
+-- the view with another ticket and stage, and another count of tickets
+pub refits : (origin : History) (log : List Entry) (id : ℕ) (v : View) (ticket : ℕ) (stage : Stage) (drawn : ℕ) → Fits origin log id v → Fits origin log id (record v { ticket = ticket; stage = stage; drawn = drawn })
+refits origin log id v ticket stage drawn f = record { origin_is = f.origin_is; number = f.number; parent = f.parent; seen = f.seen; told = f.told; mine = f.mine }
 
 pub placed_at : (b : Bool) (s : Table) (r : Orderly s) → Placed b r.world s.homes s.views
     → ((origin : History) × (log : List Entry) × (get_elem? s.homes 0 ≡ some (some (Some (device_at origin log)))) × IsLegal origin log)

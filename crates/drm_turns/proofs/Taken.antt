@@ -36,7 +36,7 @@ one-more-taken-in old new other others h more seen own joined alone differ = rec
 
 -- what was split off a seat that was itself split off
 pub split-off-again : (seat own child : Standing) → own.table ≡ seat.table → own.origin ≡ seat.origin → IsSplitOff own child → IsSplitOff seat child
-split-off-again seat own child table origin h = record { table = h.table ∙ table; origin = h.origin ∙ origin; mine = h.mine; joined = h.joined }
+split-off-again seat own child table origin h = record { table = h.table ∙ table; origin = h.origin ∙ origin; mine = h.mine; joined = h.joined; noted = h.noted }
 
 -- a seat of which others are out, again
 pub still_but_out : (first old new : Standing) (out : ℕ) → old ≡ with_out first old.out → new ≡ with_out old out → new ≡ with_out first new.out
@@ -53,6 +53,7 @@ split_off_before first seat child is h = record {
   origin = h.origin ∙ sym (ap (λ (s : Standing). s.origin) is);
   mine = h.mine;
   joined = h.joined;
+  noted = h.noted;
 }
 
 pub child_before : (first seat child : Standing) → seat ≡ with_out first seat.out → IsChild first child → IsChild seat child

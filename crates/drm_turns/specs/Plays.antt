@@ -14,8 +14,9 @@ Play = Step Slot → Sat → ℕ → Sat → Type 0
 abbrev pub Reads : View → List Entry → Type 0
 Reads v seen = StartsWith seen v.seen × StartsWith seen v.told × IsLegal v.origin seen × (v.number ≢ 0 → calls_by v.number seen ≡ v.mine)
 
+-- the next ticket is as many as the first seat drew, where none is out of it
 abbrev pub finds : Play
-finds st m r n = n ≡ (found_at m.0 r, m.1)
+finds st m r n = (n ≡ (found_at m.0 r, m.1)) × (m.0.number ≡ 1 → m.0.out ≡ 0 → r ≡ m.0.drawn)
 
 abbrev pub draws : Play
 draws st m r n = (r ≡ st.first → n ≡ (waiting m.0 st.first, m.1)) × (r ≢ st.first → n ≡ m)

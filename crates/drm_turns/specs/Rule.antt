@@ -1,6 +1,6 @@
 -- The rule of the turn. The words are the length of the history, the next ticket, and the ticket that is served. The one
 -- slot has the device.
-use Rattle.std.specs.Prelude.{◌≡◌, ◌≢◌, ◌⊎◌, ℕ, suc, ◌<◌, ◌≤◌, ◌^◌, Bool, true, false, List, [], ◌∷◌, length, Option, Some}
+use Rattle.std.specs.Prelude.{◌≡◌, ◌≢◌, ◌⊎◌, ℕ, suc, ◌+◌, ◌<◌, ◌≤◌, ◌^◌, Bool, true, false, List, [], ◌∷◌, length, Option, Some}
 use mathlib.Core.Option.{Option as maybe, some}
 use lib.ListN.{get_elem?}
 use Rattle.atomic_table.specs.Table.{State, Me}
@@ -28,6 +28,11 @@ pub record World : Type 0 where
   pub serving : ℕ
   pub out : Bool
 
+-- what the views count, added up
+abbrev pub total : (View → ℕ) → List View → ℕ
+total count [] = 0
+total count (v ∷ views) = count v + total count views
+
 -- what holds of each view that is not spent
 pub record Fits (origin : History) (log : List Entry) (id : ℕ) (v : View) : Type 0 where
   pub origin_is : v.origin ≡ origin
@@ -41,7 +46,7 @@ abbrev pub Knows : World → ℕ → View → Stage → Type 0
 Knows x id v Idle = Fits x.origin x.log id v
 Knows x id v Waiting = Fits x.origin x.log id v × (x.serving ≤ v.ticket) × (v.ticket < x.next)
 Knows x id v Serving = Fits x.origin x.log id v × (v.ticket ≡ x.serving) × (x.serving < x.next) × (x.out ≡ true) × (v.seen ≡ x.log)
-Knows x id v Spent = Unit {0}
+Knows x id v Spent = (v.drawn ≡ 0) × (v.noted ≡ 0)
 
 -- a seat in these stages has a ticket
 abbrev pub has_ticket : Stage → Bool
@@ -111,3 +116,5 @@ pub record Orderly (s : Table) : Type 0 where
   pub unborn : Unborn world.log s.views
   pub taken_in : TakenIn s.views
   pub lent : Lent s.views
+  pub drawn : total (λ v. v.drawn) s.views ≡ world.next
+  pub noted : length world.origin.journal + total (λ v. v.noted) s.views ≡ length world.log

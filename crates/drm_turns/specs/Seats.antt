@@ -1,5 +1,5 @@
 -- What contracts see of a seat and of a note.
-use Rattle.std.specs.Prelude.{◌≡◌, ℕ, ◌-◌, ◌<◌, ◌^◌, true, false, List, [], ◌∷◌, ◌++◌, map}
+use Rattle.std.specs.Prelude.{◌≡◌, ℕ, ◌-◌, ◌<◌, ◌^◌, true, false, List, [], ◌∷◌, ◌++◌, map, Result, Ok, Err}
 use Rattle.std.specs.List.{AllByRecursion}
 use Rattle.atomic_table.specs.Seated.{TableId}
 use Rattle.drm_table.specs.declared.answers.Answer.{Answer}
@@ -12,8 +12,9 @@ use Rattle.drm_turns.specs.History.{AllDiffer, IsLegal, StartsWith, calls_by, de
 
 -- A seat: the shared device that it is of and its own number; the number of the seat that it was split off, 0 for the first
 -- seat; how many seats and notes that were split off it are not given back to it; the device as it was shared; the history
--- that it has seen, and of it the entries that it made; the numbers that were joined into it; and the number that it last
--- found in TICKET.
+-- that it has seen, and of it the entries that it made; the numbers that were joined into it; how many tickets it drew and
+-- how many entries it made, each with those of the seats that were joined into it; and the number that it last found in
+-- TICKET.
 pub record Standing : Type 0 where
   pub table : TableId
   pub number : ℕ
@@ -23,6 +24,8 @@ pub record Standing : Type 0 where
   pub seen : List Entry
   pub mine : List Entry
   pub joined : List ℕ
+  pub drawn : ℕ
+  pub noted : ℕ
   pub found : ℕ
 
 -- A note: what a seat had seen, and that seat's number.
@@ -62,6 +65,16 @@ Excuses s event NoMemory t = (t.mine ≡ s.mine) × (t.found < 2 ^ 64 - 1)
     × (no_room (rows_after t.origin t.seen) event ≡ false) × Growing (rows_after t.origin t.seen) event
 Excuses s event Worn t = (t.mine ≡ s.mine) × (t.seen ≡ s.seen) × (t.found ≡ 2 ^ 64 - 1)
 
+-- how many entries a call adds
+abbrev pub entries_of : Result Answer Apart → ℕ
+entries_of (Ok answer) = 1
+entries_of (Err apart) = 0
+
+-- how many tickets a call draws
+abbrev pub tickets_of : Result Answer Apart → ℕ
+tickets_of (Err Worn) = 0
+tickets_of _ = 1
+
 -- The device has the events of a legal history that begins with what the seat had seen, and has of the seat's entries just
 -- those that it made.
 abbrev pub Closes : Standing → History → Type 0
@@ -76,6 +89,7 @@ pub record IsSplitOff (seat child : Standing) : Type 0 where
   pub origin : child.origin ≡ seat.origin
   pub mine : child.mine ≡ []
   pub joined : child.joined ≡ []
+  pub noted : child.noted ≡ 0
 
 -- A seat that was split off this one itself, and of which none is out.
 pub record IsChild (seat child : Standing) : Type 0 where

@@ -8,7 +8,7 @@ use Rattle.drm_turns.specs.History.{AllDiffer}
 use Rattle.drm_turns.specs.Seats.{Standing, Witness}
 
 abbrev pub standing_of : Inside → Standing
-standing_of a = let v = a.place.me.0 in record { table = a.place.table_id; number = v.number; parent = v.parent; out = v.out; origin = v.origin; seen = v.seen; mine = v.mine; joined = v.kept; found = v.ticket }
+standing_of a = let v = a.place.me.0 in record { table = a.place.table_id; number = v.number; parent = v.parent; out = v.out; origin = v.origin; seen = v.seen; mine = v.mine; joined = v.kept; drawn = v.drawn; noted = v.noted; found = v.ticket }
 
 pub record IsSeated (a : Inside) : Type 0 where
   pub empty : a.place.me.1 ≡ []
@@ -26,3 +26,5 @@ pub record IsNoted (a : NoteInside) : Type 0 where
   pub empty : a.place.me.1 ≡ []
   pub idle : a.place.me.0.stage ≡ Idle
   pub none_out : a.place.me.0.out ≡ 0
+  pub undrawn : a.place.me.0.drawn ≡ 0
+  pub unnoted : a.place.me.0.noted ≡ 0

@@ -1,5 +1,5 @@
 -- What a seat knows, from step to step.
-use Rattle.std.specs.Prelude.{◌≡◌, ℕ, ◌+◌, ◌-◌, ◌==◌, ◌&&◌, cond, List, [], ◌∷◌, ◌++◌}
+use Rattle.std.specs.Prelude.{◌≡◌, ℕ, ◌+◌, ◌-◌, ◌==◌, ◌&&◌, cond, List, [], ◌∷◌, ◌++◌, length}
 use Rattle.drm_model.specs.Run.{History}
 use Rattle.drm_turns.specs.declared.history.Entry.{Entry}
 use Rattle.drm_turns.specs.declared.history.View.{View}
@@ -17,6 +17,8 @@ opening_view origin = record {
   mine = [];
   told = [];
   kept = [];
+  drawn = 0;
+  noted = 0;
   ticket = 0;
   stage = Idle;
 }
@@ -25,13 +27,13 @@ abbrev pub found_at : View → ℕ → View
 found_at v ticket = record v { ticket = ticket; stage = Idle }
 
 abbrev pub waiting : View → ℕ → View
-waiting v ticket = record v { ticket = ticket; stage = Waiting }
+waiting v ticket = record v { ticket = ticket; stage = Waiting; drawn = v.drawn + 1 }
 
 abbrev pub serving : View → List Entry → View
 serving v seen = record v { seen = seen; stage = Serving }
 
 abbrev pub counted : View → Entry → View
-counted v e = record v { seen = v.seen ++ e ∷ []; mine = v.mine ++ e ∷ [] }
+counted v e = record v { seen = v.seen ++ e ∷ []; mine = v.mine ++ e ∷ []; noted = v.noted + 1 }
 
 abbrev pub passed : View → View
 passed v = record v { stage = Idle }
@@ -51,6 +53,8 @@ child v = record {
   mine = [];
   told = [];
   kept = [];
+  drawn = 0;
+  noted = 0;
   ticket = 0;
   stage = Idle;
 }
@@ -64,11 +68,11 @@ abbrev pub out_after : ℕ → ℕ → ℕ → ℕ → ℕ
 out_after number out parent theirs = cond ((parent == number) && (theirs == 0)) (out - 1) out
 
 abbrev pub told_of : View → View → View
-told_of v w = record v { told = w.seen; kept = v.kept ++ w.number ∷ w.kept; out = out_after v.number v.out w.parent w.out }
+told_of v w = record v { told = w.seen; kept = v.kept ++ w.number ∷ w.kept; out = out_after v.number v.out w.parent w.out; drawn = v.drawn + w.drawn; noted = v.noted + w.noted }
 
 -- the same of a note, which has no number
 abbrev pub met_of : View → View → View
-met_of v w = record v { told = w.seen; out = out_after v.number v.out w.parent w.out }
+met_of v w = record v { told = w.seen; out = out_after v.number v.out w.parent w.out; drawn = v.drawn + w.drawn; noted = v.noted + w.noted }
 
 -- some device, where a view knows none
 abbrev pub no_device : History
@@ -88,6 +92,8 @@ spent_view = record {
   mine = [];
   told = [];
   kept = [];
+  drawn = 0;
+  noted = 0;
   ticket = 0;
   stage = Spent;
 }
@@ -97,7 +103,7 @@ informed v seen = record v { seen = seen; told = [] }
 
 -- the view with more entries, which are its own
 abbrev pub grown : View → List Entry → View
-grown v more = record v { seen = v.seen ++ more; mine = v.mine ++ more }
+grown v more = record v { seen = v.seen ++ more; mine = v.mine ++ more; noted = v.noted + length more }
 
 -- What was seen is legal, and has of the seat's entries just its own.
 abbrev pub IsOwn : View → Type 0

@@ -45,6 +45,10 @@ pub struct View {
     pub told: LinkedList<Entry>,
     /// The numbers that were joined into it, with those that the joined seats kept.
     pub kept: LinkedList<u64>,
+    /// How many tickets it and those that it kept the numbers of drew.
+    pub drawn: u64,
+    /// How many entries they made.
+    pub noted: u64,
     /// The number last found in the word of the next ticket.
     pub ticket: u64,
     /// Where it stands in its turn.

@@ -8,7 +8,7 @@ ghost use Rattle.drm_turns.specs.declared.history.Entry.{Entry};
 ghost use Rattle.drm_turns.specs.declared.history.View.{View};
 ghost use Rattle.drm_turns.specs.declared.history.Stage.TheVariants.{Serving};
 ghost use Rattle.drm_turns.specs.History.{IsLegal, device_at};
-ghost use Rattle.drm_turns.specs.Rule.{Table, Orderly, has_ticket};
+ghost use Rattle.drm_turns.specs.Rule.{Table, Orderly, has_ticket, total};
 
 /// No two seats have one ticket.
 pub fn tickets_differ()
@@ -22,4 +22,9 @@ pub fn device_is_placed()
     ensures { (s : Table) → Orderly s
         → ((origin : History) × (log : List Entry) × (get_elem? s.homes 0 ≡ some (some (Some (device_at origin log)))) × IsLegal origin log)
         ⊎ ((id : ℕ) × (v : View) × (get_elem? s.views id ≡ some v) × (v.stage ≡ Serving) × (v.ticket ≡ slice_index s.words 2)) }
+{}
+
+/// The word of the next ticket is how many tickets all seats drew.
+pub fn tickets_are_counted()
+    ensures { (s : Table) → Orderly s → slice_index s.words 1 ≡ total (λ v. v.drawn) s.views }
 {}

@@ -9,7 +9,8 @@ ghost use Rattle.drm_turns.specs.declared.history.Stage.TheVariants.{Idle, Servi
 ghost use Rattle.drm_turns.specs.History.{AllDiffer, StartsWith, calls_by, device_at, entry, noted_before, rows_after};
 ghost use Rattle.drm_turns.specs.Views.{Grows, IsOwn, counted, found_at, out_after, passed, waiting};
 ghost use Rattle.drm_turns.specs.Plays.{IsInformed, IsServed};
-ghost use Rattle.drm_turns.specs.Seats.{Adds, Closes, Excuses, Reaches, Stays, with_out};
+ghost use Rattle.drm_turns.specs.Seats.{Adds, Closes, Excuses, Reaches, Stays, entries_of, tickets_of, with_out};
+ghost use Rattle.drm_table.specs.declared.apart.Apart.TheVariants.{Worn};
 ghost use Rattle.drm_turns.specs.Turns.{Answered, Turn};
 
 use crate::history::View;
@@ -122,6 +123,7 @@ impl SharedDevice {
         ensures some { IfSome result (λ ticket. (ticket < 2 ^ 64 - 1)
             × (place.new.me ≡ (waiting place.old.me.0 ticket, place.old.me.1))) }
         ensures none { IfNone result (place.new.me ≡ (found_at place.old.me.0 (2 ^ 64 - 1), place.old.me.1)) }
+        ensures worn { IfNone result (place.old.me.0.number ≡ 1 → place.old.me.0.out ≡ 0 → place.old.me.0.drawn ≡ 2 ^ 64 - 1) }
     {
         let shared = &self.table.shared;
         let mut waits = 0;
@@ -251,6 +253,7 @@ impl SharedDevice {
         ensures fresh { IfOk result (λ made. (made.1.mine ≡ []) × (made.1.joined ≡ [])) }
         ensures number { IfOk result (λ made. made.1.number ≡ 1) }
         ensures none_out { IfOk result (λ made. made.1.out ≡ 0) }
+        ensures counts { IfOk result (λ made. (made.1.drawn ≡ 0) × (made.1.noted ≡ 0)) }
         ensures refused { IfErr result (λ refused. refused.0 ≡ device) }
     {
         let Ok(mut slots) = Vec::with_capacity(alloc, 1) else {
@@ -273,7 +276,8 @@ impl SharedDevice {
     /// The device answers from its rows, those of its journal, and notes what it answers; its limits are in their ranges,
     /// and each event of its journal found room. What is answered ends the history that the seat has seen then; resources
     /// have 251 ids at most together. What stands apart, a full journal (own) and want of memory, leaves the device as it was
-    /// and adds no entry. Without a ticket for the turn the device isn't asked.
+    /// and adds no entry. Without a ticket for the turn the device isn't asked; the first seat, where none is out of it, lacks one
+    /// only where it drew all 2^64 - 1, with those that it took in.
     pub fn call<R: Wait>(&self, rt: &R, seat: &mut Seat, event: Event) -> Result<Answer, Apart>
         requires own { seat.old.table ≡ self.now }
         ensures reaches { Reaches seat.old seat.new }
@@ -283,6 +287,9 @@ impl SharedDevice {
         ensures err { IfErr result (λ apart. Excuses seat.old event apart seat.new) }
         ensures turn { Answered event result }
         ensures few { IsFew result }
+        ensures counts { (seat.new.drawn ≡ seat.old.drawn + tickets_of result)
+            × (seat.new.noted ≡ seat.old.noted + entries_of result) }
+        ensures worn { result ≡ Err Worn → seat.old.number ≡ 1 → seat.old.out ≡ 0 → seat.old.drawn ≡ 2 ^ 64 - 1 }
     {
         let place = &mut seat.place;
         let Some(ticket) = self.draw(rt, place) else {
@@ -305,6 +312,7 @@ impl SharedDevice {
         ensures seen { result.seen ≡ seat.old.seen }
         ensures fresh { (result.mine ≡ []) × (result.joined ≡ []) }
         ensures none_out { result.out ≡ 0 }
+        ensures counts { (result.drawn ≡ 0) × (result.noted ≡ 0) }
     {
         let shared = &self.table.shared;
         let mut place = shared.split_seat::<Another>(&mut seat.place);
@@ -325,6 +333,7 @@ impl SharedDevice {
         ensures parent { seat.new.parent ≡ seat.old.parent }
         ensures out { seat.new.out ≡ out_after seat.old.number seat.old.out other.parent other.out }
         ensures differ { AllDiffer (seat.new.number ∷ seat.new.joined) }
+        ensures counts { (seat.new.drawn ≡ seat.old.drawn + other.drawn) × (seat.new.noted ≡ seat.old.noted + other.noted) }
     {
         let Seat { place: ended } = other;
         let place = &mut seat.place;
@@ -354,6 +363,7 @@ impl SharedDevice {
         ensures joined { seat.new.joined ≡ seat.old.joined }
         ensures parent { seat.new.parent ≡ seat.old.parent }
         ensures out { seat.new.out ≡ out_after seat.old.number seat.old.out note.parent 0 }
+        ensures counts { (seat.new.drawn ≡ seat.old.drawn) × (seat.new.noted ≡ seat.old.noted) }
     {
         let Note { place: ended } = note;
         let place = &mut seat.place;
@@ -363,11 +373,14 @@ impl SharedDevice {
 
     /// The device, once nobody shares it. Where a ticket was drawn that was not passed on, it is out with a call: then it
     /// is lost with the seat that had it. That isn't so where the seat is the first, and each seat and note that was split
-    /// off it is given back to it with all of its own.
+    /// off it is given back to it with all of its own: then the device has noted what it had before, and the entries of the seat
+    /// and of those that it took in, and nothing else.
     pub fn close(self, seat: Seat) -> Result<Device, TurnOut>
         requires own { seat.table ≡ self }
         ensures closes { IfOk result (λ device. Closes seat device) }
         ensures home { seat.number ≡ 1 → seat.out ≡ 0 → IsOk result }
+        ensures counted { IfOk result (λ device. seat.number ≡ 1 → seat.out ≡ 0
+            → length device.journal ≡ length seat.origin.journal + seat.noted) }
     {
         let Seat { place } = seat;
         let SharedDevice { table, sleepers } = self;

@@ -1,13 +1,13 @@
-use Rattle.std.proofs.Common.{◌≡◌, ◌-◌, ◌<◌, ◌^◌, ℕ, List, ◌∷◌, ◌++◌, sym, ◌∙◌, ap, subst}
+use Rattle.std.proofs.Common.{◌≡◌, ◌+◌, ◌-◌, ◌<◌, ◌^◌, ℕ, List, ◌∷◌, ◌++◌, sym, ◌∙◌, ap, subst}
 use Rattle.drm_turns.specs.declared.history.Entry.{Entry}
 use Rattle.drm_turns.specs.declared.history.View.{View}
 use Rattle.drm_turns.specs.History.{AllDiffer, IsLegal, StartsWith, calls_by}
 use Rattle.drm_turns.specs.Rule.{Sat}
 use Rattle.drm_turns.specs.Views.{Grows, IsOwn, serving, waiting}
 use Rattle.drm_turns.specs.Plays.{Reads}
-use Rattle.drm_turns.specs.Seats.{Standing}
+use Rattle.drm_turns.specs.Seats.{Standing, entries_of}
 use Rattle.drm_turns.specs.Sitting.{standing_of}
-use Rattle.drm_turns.proofs.Held.{adds, answered, excuses, turned}
+use Rattle.drm_turns.proofs.Held.{adds, answered, excuses, not_worn, turn_entries, turn_tickets, turned}
 use Rattle.drm_turns.proofs.shared.SharedDevice.call.Given.{Over}
 use Rattle.drm_turns.proofs.shared.SharedDevice.call.Goals as goal
 use Rattle.drm_turns.proofs.shared.SharedDevice.call.Goals.{After-pass}
@@ -27,7 +27,7 @@ its_turn g c =
 
 -- what a whole turn does to the view
 whole : (g : Over) (c : After-pass g) → let v = c.seat.inside.place.me.0 in let w = c.carry_out-result.new.place.me.0 in
-    (w.number ≡ v.number) × (w.origin ≡ v.origin) × (w.told ≡ v.told) × StartsWith w.seen v.seen × IsOwn w × (w.kept ≡ v.kept) × (w.ticket ≡ c.in-Some.ticket) × (w.parent ≡ v.parent) × (w.out ≡ v.out)
+    (w.number ≡ v.number) × (w.origin ≡ v.origin) × (w.told ≡ v.told) × StartsWith w.seen v.seen × IsOwn w × (w.kept ≡ v.kept) × (w.ticket ≡ c.in-Some.ticket) × (w.parent ≡ v.parent) × (w.out ≡ v.out) × (w.drawn ≡ v.drawn + 1)
 whole g c =
     let t = its_turn g c in
     turned c.seat.inside.place.me.0 c.in-Some.ticket t.0 c.carry_out-result.new.place.me.0 t.1 (subst (λ (u : View). Grows u c.carry_out-result.new.place.me.0) t.2 c.carry_out-result.ensures.grows)
@@ -96,3 +96,19 @@ returns-clause-err g c =
 
 pub returns-clause-turn : goal.returns-clause-turn
 returns-clause-turn g c = answered c.args.event c.carry_out-result.result c.carry_out-result.ensures.turn
+
+pub returns-clause-counts : goal.returns-clause-counts
+returns-clause-counts g c =
+    let v = c.seat.inside.place.me.0 in
+    let t = whole g c in
+    let p = c.pass.ensures.passed in
+    let one = turn_tickets c.args.event c.carry_out-result.result c.carry_out-result.ensures.turn in
+    let drew = ap (λ (m : Sat). m.0.drawn) p ∙ (t.9 ∙ ap (λ (s : Standing). s.drawn + 1) c.seat.view_is) in
+    let more = turn_entries c.carry_out-result.result c.args.event c.wait_turn.new.place.me.0 c.carry_out-result.new.place.me.0 c.carry_out-result.ensures.ok c.carry_out-result.ensures.err in
+    let had = ap (λ (u : View). u.noted) (its_turn g c).2 ∙ ap (λ (s : Standing). s.noted) c.seat.view_is in (
+      drew ∙ ap (λ (n : ℕ). c.args.seat.now.drawn + n) (sym one),
+      ap (λ (m : Sat). m.0.noted) p ∙ (more ∙ ap (λ (n : ℕ). n + entries_of c.carry_out-result.result) had),
+    )
+
+pub returns-clause-worn : goal.returns-clause-worn
+returns-clause-worn g c worn = absurd (not_worn c.args.event c.carry_out-result.result c.carry_out-result.ensures.turn worn)

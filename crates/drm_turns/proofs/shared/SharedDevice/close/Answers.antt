@@ -1,7 +1,9 @@
-use Rattle.std.proofs.Common.{rules, ◌≡◌, ap, ◌∙◌, subst}
+use Rattle.std.proofs.Common.{rules, ◌≡◌, ◌+◌, length, ap, ◌∙◌, subst}
 use Rattle.drm_turns.specs.History.{device_at}
 use Rattle.drm_turns.specs.Seats.{Closes, Standing}
-use Rattle.drm_turns.proofs.Ends.{closes, comes_home}
+use Rattle.drm_model.specs.Run.{History}
+use Rattle.drm_turns.proofs.Ends.{closes, closes_counted, comes_home}
+use Rattle.drm_turns.proofs.Held.{events-length}
 use Rattle.drm_turns.proofs.shared.SharedDevice.close.Goals as goal
 use Rattle.drm_turns.proofs.shared.SharedDevice.close.Goals.{in_default-via-in-Some+else-is_quiet, in_default-via-in_default}
 
@@ -24,3 +26,14 @@ returns-in-Some-clause-closes c =
     let is = c.in-Some.is in
     let device : c.in-Some.device ≡ device_at v.origin found.0 = cc in
     subst (λ (s : Standing). Closes s c.in-Some.device) c.seat.view_is (found.0, device, found.2.2, found.2.0, found.2.3 c.seat.invariant.numbered)
+
+pub returns-in-Some-clause-counted : goal.returns-in-Some-clause-counted
+returns-in-Some-clause-counted c first none_out =
+    let v = c.seat.inside.place.me.0 in
+    let quiet : c.word.result ≡ c.word-2.result = search rules in
+    let found = closes_counted c.seat.inside.place.id v _ _ c.word.result c.word-2.result c.take-slot.result c.seat.invariant.idle c.close_with-closed.ensures.values.2 c.word.ensures c.word-2.ensures quiet c.take-slot.ensures.value
+    (ap (λ (s : Standing). s.number) c.seat.view_is ∙ first) (ap (λ (s : Standing). s.out) c.seat.view_is ∙ none_out) in
+    let there = found.1 in
+    let is = c.in-Some.is in
+    let device : c.in-Some.device ≡ device_at v.origin found.0 = cc in
+    ap (λ (d : History). length d.journal) device ∙ (events-length found.0 ∙ (found.2 ∙ ap (λ (s : Standing). length s.origin.journal + s.noted) c.seat.view_is))
