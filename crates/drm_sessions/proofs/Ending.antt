@@ -11,9 +11,10 @@ use Rattle.drm_streams.specs.Turns.{NeverFall, Spends, Pays, PaysPart}
 use Rattle.drm_sessions.specs.declared.end.SessionEnd.{SessionEnd}
 use Rattle.drm_sessions.specs.declared.end.SessionEnd.TheVariants as ends
 use Rattle.drm_sessions.specs.Intakes.{ends_in_chunk}
-use Rattle.drm_sessions.specs.Reading.{Comes, Uses, StopsAt, ReadShows, WriteShows}
+use Rattle.drm_sessions.specs.Reading.{Comes, HandsLater, Uses, StopsAt, ReadShows, WriteShows}
 use Rattle.drm_sessions.specs.Runs.{asked, one_if_noted, session_text, Requests}
 use Rattle.drm_sessions.specs.Ends.{CutsLast, Leaves, Moves, Shows, Ends}
+use Rattle.drm_sessions.proofs.Telling.{hands-read}
 use Rattle.drm_sessions.proofs.Composing.{none-yet, bytes-more, frame-more, session_text-push}
 
 -- ---- what waits, and what wasn't written
@@ -115,7 +116,7 @@ module _ {A : Type 0} (answers : A → Event → Outcome → A → Type 0) (clie
 
   pub stopped-reading : {a0 a1 : A} {in0 in1 in2 : SourceAccount} {out0 out1 : SinkAccount} {w0 w1 w2 : List ℕ} {steps s t : ℕ} (e : SessionEnd)
       → SoFar a0 a1 in0 in1 out0 out1 w0 w1 steps → Comes in1 in2 w1 w2 s t → StopsAt e w2 → Ends answers client a0 a1 in0 in2 out0 out1 [] w0 steps e
-  stopped-reading {w2} e r m h = record {
+  stopped-reading {out1} {w2} e r m h = record {
     waits = w2;
     results = r.results;
     front = session_text r.results;
@@ -125,13 +126,14 @@ module _ {A : Type 0} (answers : A → Event → Outcome → A → Type 0) (clie
     puts = record { parts = sym (append-nil (session_text r.results)); adds = r.wrote };
     leaves = leaves-read e w2 r.results h;
     prompt = λ _. refl;
+    handed = hands-read e w2 out1 h;
   }
 
   -- the last answer is written in part
   pub stopped-writing : {a0 a1 a2 : A} {in0 in1 in2 : SourceAccount} {out0 out1 out2 : SinkAccount} {w0 w1 w2 : List ℕ} {steps one s t u v : ℕ} {frame : Packet} {result : Outcome} (e : SessionEnd)
       → SoFar a0 a1 in0 in1 out0 out1 w0 w1 steps → Uses in1 in2 w1 w2 s t frame → answers a1 (asked client frame) result a2 → one ≡ one_if_noted result
-      → PaysPart out1 out2 (answer_text result) u v → WriteShows e out1 out2 v → Ends answers client a0 a2 in0 in2 out0 out2 [] w0 (steps + one) e
-  stopped-writing {a0} {a2} {in0} {in2} {out0} {out1} {out2} {w0} {w2} {steps} {v} {result} e r m h n p shows =
+      → (p : PaysPart out1 out2 (answer_text result) u v) → WriteShows e out1 out2 v → HandsLater e out2 p.rest → Ends answers client a0 a2 in0 in2 out0 out2 [] w0 (steps + one) e
+  stopped-writing {a0} {a2} {in0} {in2} {out0} {out1} {out2} {w0} {w2} {steps} {v} {result} e r m h n p shows handed =
       let results : List Outcome = r.results ++ result ∷ [] in
       record {
         waits = w2;
@@ -146,4 +148,5 @@ module _ {A : Type 0} (answers : A → Event → Outcome → A → Type 0) (clie
         };
         leaves = leaves-write e w2 results p.rest out1 out2 v shows (record { before = r.results; last = result; sent = p.front; whole = refl; parts = p.parts; more = p.more });
         prompt = λ wrong. absurd (not-behind wrong);
+        handed = handed;
       }

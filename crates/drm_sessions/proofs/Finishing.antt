@@ -20,13 +20,14 @@ use Rattle.drm_sessions.specs.declared.end.SessionEnd.{SessionEnd}
 use Rattle.drm_sessions.specs.declared.end.SessionEnd.TheVariants as ends
 use Rattle.drm_sessions.specs.Opening.{opening_in}
 use Rattle.drm_sessions.specs.Intakes.{Used, Takes, ends_in_chunk}
-use Rattle.drm_sessions.specs.Reading.{Comes, Uses, StopsAt, WriteShows}
+use Rattle.drm_sessions.specs.Reading.{Comes, HandsLater, Uses, StopsAt, WriteShows}
 use Rattle.drm_sessions.specs.Runs.{Exchange, exchange, outcomes, session_text, noted, one_if_noted}
 use Rattle.drm_sessions.specs.Ends.{CutsLast, Leaves, Ends, Refuses, EndsClosed, EndsRequests, EndsUnopened, EndsWriting, EndsRefused}
 use Rattle.drm_sessions.specs.Serving.{Follows, Because, EndsAfter, Serves, Continues}
 use Rattle.drm_sessions.proofs.Taking.{Takes-none, Takes-then, Uses-takes, ends_in_chunk-then}
 use Rattle.drm_sessions.proofs.Composing.{none-yet, Runs-push, noted-push, outcomes-push}
 use Rattle.drm_sessions.proofs.Ending.{leaves-write, not-behind}
+use Rattle.drm_sessions.proofs.Telling.{hands-closed, hands-read}
 
 -- ---- causes
 
@@ -158,11 +159,12 @@ module _ {A : Type 0} (answers : A → Event → Outcome → A → Type 0) where
         leaves = leaves-cons e result h.waits h.results h.later h.leaves;
         behind = h.behind;
         prompt = h.prompt;
+        handed = h.handed;
       }
 
   pub said-in-part : {client : ℕ} {a : A} {source : SourceAccount} {out0 out1 : SinkAccount} {said : List ℕ} {waited : List ℕ} {t u : ℕ} {e : SessionEnd} (result : Outcome)
-      → said ≡ answer_text result → PaysPart out0 out1 said t u → WriteShows e out0 out1 u → Ends answers client a a source source out0 out1 (result ∷ []) waited 0 e
-  said-in-part {client} {a} {source} {out0} {out1} {said} {waited} {t} {u} {e} result is p shows = record {
+      → said ≡ answer_text result → (p : PaysPart out0 out1 said t u) → WriteShows e out0 out1 u → HandsLater e out1 p.rest → Ends answers client a a source source out0 out1 (result ∷ []) waited 0 e
+  said-in-part {client} {a} {source} {out0} {out1} {said} {waited} {t} {u} {e} result is p shows handed = record {
     waits = waited;
     results = [];
     front = p.front;
@@ -172,6 +174,7 @@ module _ {A : Type 0} (answers : A → Event → Outcome → A → Type 0) where
     leaves = leaves-write e waited (result ∷ []) p.rest out0 out1 u shows (cut-of-part result is p);
     behind = false;
     prompt = λ wrong. absurd (not-behind wrong);
+    handed = handed;
   }
 
   pub continues-client : {class : Class} {opening : Opening} {client : ℕ} {a0 a1 a2 a3 : A} {in0 in1 : SourceAccount} {out0 out1 : SinkAccount} {waited : List ℕ} {steps : ℕ} {e : SessionEnd} {r : Outcome} {s : Session}
@@ -207,14 +210,15 @@ module _ {A : Type 0} (answers : A → Event → Outcome → A → Type 0) where
         intakes = h.did.intakes;
         in_turn = h.did.takes;
         prompt = λ behind. (tt, h.prompt (sym h.did.last ∙ behind));
+        handed = hands-closed e r s.end out1 h.later ended h.handed;
       }
 
   continues-refused : {class : Class} {opening : Opening} (result : Outcome) {a0 a1 : A} {source : SourceAccount} {out0 out1 : SinkAccount} {waited said : List ℕ} (meant : SessionEnd) {s : Session} {t u : ℕ}
       → answers a0 (Open opening) result a1 → said ≡ answer_text result → Follows result [] [] [] s.client → noted (result ∷ []) ≡ s.steps
       → Because meant class waited (exchange (Open opening) result ∷ []) [] [] → ((end : SessionEnd) (later : List ℕ) → EndsRefused meant later end → EndsAfter result [] later end)
-      → Refuses meant s.end out0 out1 said t u
+      → HandsLater meant out1 [] → Refuses meant s.end out0 out1 said t u
       → Continues answers class opening a0 a1 source source out0 out1 waited s
-  continues-refused {class} {opening} result {a1} {source} {waited} {said} meant {s} opened is f n b after (inl p) = record {
+  continues-refused {class} {opening} result {a1} {source} {out1} {waited} {said} meant {s} opened is f n b after plain (inl p) = record {
     read = [];
     frames = [];
     rest = waited;
@@ -235,8 +239,9 @@ module _ {A : Type 0} (answers : A → Event → Outcome → A → Type 0) where
     intakes = [];
     in_turn = Takes-none source waited;
     prompt = λ wrong. absurd (not-behind wrong);
+    handed = subst (λ (x : SessionEnd). HandsLater x out1 []) (sym p.0) plain;
   }
-  continues-refused {class} {opening} result {a1} {source} {out0} {out1} {waited} meant {s} {u} opened is f n b after (inr p) = record {
+  continues-refused {class} {opening} result {a1} {source} {out0} {out1} {waited} meant {s} {u} opened is f n b after plain (inr p) = record {
     read = [];
     frames = [];
     rest = waited;
@@ -258,17 +263,18 @@ module _ {A : Type 0} (answers : A → Event → Outcome → A → Type 0) where
     intakes = [];
     in_turn = Takes-none source waited;
     prompt = λ wrong. absurd (not-behind wrong);
+    handed = p.2;
   }
 
   pub continues-denied : {class : Class} {opening : Opening} (rule : Rule) {a0 a1 : A} {source : SourceAccount} {out0 out1 : SinkAccount} {waited said : List ℕ} {s : Session} {t u : ℕ}
       → answers a0 (Open opening) (Ok (Denied rule)) a1 → said ≡ answer_text (Ok (Denied rule)) → s.client ≡ 0 → s.steps ≡ 1 → Refuses (ends.OpenRefused rule) s.end out0 out1 said t u
       → Continues answers class opening a0 a1 source source out0 out1 waited s
-  continues-denied {opening} rule opened is c n r = continues-refused (Ok (Denied rule)) (ends.OpenRefused rule) opened is (refl, refl, refl, c) (sym n) ((opening, refl), refl) (λ end later h. h) r
+  continues-denied {opening} rule opened is c n r = continues-refused (Ok (Denied rule)) (ends.OpenRefused rule) opened is (refl, refl, refl, c) (sym n) ((opening, refl), refl) (λ end later h. h) tt r
 
   pub continues-apart : {class : Class} {opening : Opening} (apart : Apart) {a0 a1 : A} {source : SourceAccount} {out0 out1 : SinkAccount} {waited said : List ℕ} {s : Session} {t u : ℕ}
       → answers a0 (Open opening) (Err apart) a1 → said ≡ answer_text (Err apart) → s.client ≡ 0 → s.steps ≡ 0 → Refuses (ends.Apart apart) s.end out0 out1 said t u
       → Continues answers class opening a0 a1 source source out0 out1 waited s
-  continues-apart {opening} apart opened is c n r = continues-refused (Err apart) (ends.Apart apart) opened is (refl, refl, refl, c) (sym n) (inl ((opening, refl), refl)) (λ end later h. h) r
+  continues-apart {opening} apart opened is c n r = continues-refused (Err apart) (ends.Apart apart) opened is (refl, refl, refl, c) (sym n) (inl ((opening, refl), refl)) (λ end later h. h) tt r
 
   -- ---- from the first frame
 
@@ -294,6 +300,7 @@ module _ {A : Type 0} (answers : A → Event → Outcome → A → Type 0) where
     intakes = m.intakes;
     in_turn = subst (λ (w : List ℕ). Takes in0 in1 [] w m.intakes m.more []) m.parts m.takes;
     prompt = λ _. tt;
+    handed = hands-read e rest sink h;
   }
 
   pub serves-no-hello : (class : Class) (a : A) (sink : SinkAccount) {in0 in1 : SourceAccount} {waits : List ℕ} {t u : ℕ} {frame : Packet} {found : Option Opening}
@@ -319,6 +326,7 @@ module _ {A : Type 0} (answers : A → Event → Outcome → A → Type 0) where
     intakes = m.intakes;
     in_turn = subst (λ (w : List ℕ). Takes in0 in1 [] w m.intakes m.more []) (sym m.parts) m.takes;
     prompt = λ _. tt;
+    handed = tt;
   }
 
   pub serves-session : {class : Class} {opening : Opening} {a0 a1 : A} {in0 in1 in2 : SourceAccount} {out0 out1 : SinkAccount} {waits : List ℕ} {t u : ℕ} {frame : Packet} {found : Option Opening} {s : Session}
@@ -350,4 +358,5 @@ module _ {A : Type 0} (answers : A → Event → Outcome → A → Type 0) where
             sym (ap (λ (was : Bool). ends_in_chunk h.intakes was) (ends_in_chunk-then m.intakes (Used frame ∷ []) false))
             ∙ sym (ends_in_chunk-then (m.intakes ++ Used frame ∷ []) h.intakes false) ∙ behind
             );
+        handed = h.handed;
       }

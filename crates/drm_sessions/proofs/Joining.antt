@@ -1,5 +1,5 @@
 -- Jobs that were served through seats of a seat that was itself split off.
-use Rattle.std.proofs.Common.{◌≡◌, ◌+◌, ℕ, Result, Ok, Err, ap, sym, ◌∙◌, arith}
+use Rattle.std.proofs.Common.{◌≡◌, ◌+◌, ℕ, List, [], ◌∷◌, ◌++◌, Result, Ok, Err, ap, sym, ◌∙◌, arith}
 use Rattle.std.specs.Prelude.{IfOk, OnErr, OnOk}
 use Rattle.drm_turns.specs.Seats.{Standing, with_out}
 use Rattle.drm_turns.specs.Views.{out_after}
@@ -7,11 +7,22 @@ use Rattle.drm_turns.proofs.Taken.{given_back, split-off-again}
 use Rattle.drm_streams.specs.Streams.{SourceAccount, SinkAccount}
 use Rattle.drm_sessions.specs.declared.jobs.Finished.{Finished}
 use Rattle.drm_sessions.specs.declared.jobs.Job.{Job}
-use Rattle.drm_sessions.specs.Jobs.{IsServedBeside}
+use Rattle.drm_sessions.specs.declared.end.Session.{Session}
+use Rattle.drm_sessions.specs.Serving.{all_steps}
+use Rattle.drm_sessions.specs.Jobs.{IsServedBeside, sessions_of}
 
-pub served-beside-again : {G S K : Type 0} (source_account : S → SourceAccount) (sink_account : K → SinkAccount) (seat own : Standing) → own.table ≡ seat.table → own.origin ≡ seat.origin
-    → (job : Job G S K) (finished : Finished S K) → IsServedBeside source_account sink_account own job finished → IsServedBeside source_account sink_account seat job finished
-served-beside-again source_account sink_account seat own table origin job finished h = record { own = h.own; split = split-off-again seat own h.own table origin h.split; served = h.served }
+pub served-beside-again : {G S K : Type 0} (passes : G → ℕ → G → Type 0) (source_account : S → SourceAccount) (sink_account : K → SinkAccount) (seat own : Standing) → own.table ≡ seat.table → own.origin ≡ seat.origin
+    → (job : Job G S K) (finished : Finished S K) → IsServedBeside passes source_account sink_account own job finished → IsServedBeside passes source_account sink_account seat job finished
+served-beside-again passes source_account sink_account seat own table origin job finished h = record { own = h.own; split = split-off-again seat own h.own table origin h.split; served = h.served }
+
+pub all_steps-push : (sessions : List Session) (session : Session) → all_steps (sessions ++ session ∷ []) ≡ all_steps sessions + session.steps
+all_steps-push [] session = omega arith
+all_steps-push (first ∷ sessions) session = let more = all_steps-push sessions session in omega arith
+
+-- one more job is done
+pub all_steps-done : {S K : Type 0} (done : List (Finished S K)) (finished : Finished S K) → all_steps (sessions_of (done ++ finished ∷ [])) ≡ all_steps (sessions_of done) + finished.session.steps
+all_steps-done [] finished = omega arith
+all_steps-done (first ∷ done) finished = let more = all_steps-done done finished in omega arith
 
 pub if_ok : {D E : Type 0} {P Q : D → Type 0} (r : Result D E) → ((d : D) → P d → Q d) → IfOk r P → IfOk r Q
 if_ok (Ok d) step h = step d h

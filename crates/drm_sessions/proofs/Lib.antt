@@ -5,6 +5,8 @@ pub mod Ending
 pub mod Finishing
 pub mod Costing
 pub mod Mapping
+pub mod Gating
+pub mod Telling
 pub mod Openings
 pub mod DeviceRuns
 pub mod SameInput

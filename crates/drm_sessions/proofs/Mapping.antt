@@ -13,7 +13,7 @@ module _ {A B : Type 0} (view : A → B) (p : A → Event → Outcome → A → 
   Runs-map a b [] e = ap view e
   Runs-map a b (call ∷ log) r = (view r.0, seen a call.event call.outcome r.0 r.1, Runs-map r.0 b log r.2)
 
-  pub Serves-map : {class : Class} {a b : A} {in0 in1 : SourceAccount} {out0 out1 : SinkAccount} {s : Session} → Serves p class a b in0 in1 out0 out1 s → Serves q class (view a) (view b) in0 in1 out0 out1 s
+  unfoldable pub Serves-map : {class : Class} {a b : A} {in0 in1 : SourceAccount} {out0 out1 : SinkAccount} {s : Session} → Serves p class a b in0 in1 out0 out1 s → Serves q class (view a) (view b) in0 in1 out0 out1 s
   Serves-map {a} {b} h = record {
     read = h.read;
     frames = h.frames;
@@ -34,6 +34,7 @@ module _ {A B : Type 0} (view : A → B) (p : A → Event → Outcome → A → 
     intakes = h.intakes;
     in_turn = h.in_turn;
     prompt = h.prompt;
+    handed = h.handed;
   }
 
 -- what each call keeps, a session keeps

@@ -1,5 +1,5 @@
 -- A session on a device that it has alone.
-use Rattle.std.specs.Prelude.{◌≡◌, ◌⊎◌, List, [], ◌∷◌, ◌++◌, map, Option, Some, None, Ok, Err, ⊤}
+use Rattle.std.specs.Prelude.{◌≡◌, ℕ, ◌⊎◌, List, [], ◌∷◌, ◌++◌, map, Option, Some, None, Ok, Err, ⊤}
 use Rattle.std.specs.List.{AllByRecursion}
 use Rattle.drm_table.specs.declared.events.Event.{Event}
 use Rattle.drm_table.specs.declared.events.Event.TheVariants.{Open}
@@ -19,16 +19,18 @@ use Rattle.drm_sessions.specs.declared.end.SessionEnd.{SessionEnd}
 use Rattle.drm_sessions.specs.declared.end.SessionEnd.TheVariants as ends
 use Rattle.drm_sessions.specs.Opening.{opening_in}
 use Rattle.drm_sessions.specs.Runs.{asked, events, outcomes}
-use Rattle.drm_sessions.specs.Serving.{Serves}
+use Rattle.drm_sessions.specs.Gates.{LetsAllPass}
+use Rattle.drm_sessions.specs.Serving.{Serves, calls_made}
 
 -- the history with these events more
 abbrev pub noted_all : History → List Event → History
 noted_all h more = record h { journal = h.journal ++ more }
 
 -- A session on a device alone: its results are what the device answers from its rows, and the journal has its
--- noted events more.
-pub record ServesAlone (class : Class) (old new : History) (in0 in1 : SourceAccount) (out0 out1 : SinkAccount) (session : Session) : Type 0 where
+-- noted events more. The gate was called once for each request.
+pub record ServesAlone {G : Type 0} (passes : G → ℕ → G → Type 0) (class : Class) (gate0 gate1 : G) (old new : History) (in0 in1 : SourceAccount) (out0 out1 : SinkAccount) (session : Session) : Type 0 where
   pub serves : Serves Steps class old new in0 in1 out0 out1 session
+  pub gated : LetsAllPass passes gate0 (calls_made serves) gate1
   pub answers : Answers (rows_of old) (events (serves.answered ++ serves.closing)) (outcomes (serves.answered ++ serves.closing)) (rows_of new)
   pub history : new ≡ noted_all old (noted_events (events (serves.answered ++ serves.closing)) (outcomes (serves.answered ++ serves.closing)))
 

@@ -4,11 +4,11 @@ use Rattle.std.specs.Io.KnownBytes.{IsAtEnd}
 use Rattle.drm_table.specs.declared.events.Event.{Event}
 use Rattle.drm_table.specs.declared.apart.Apart.TheVariants as aparts
 use Rattle.drm_frames.specs.Answers.{Outcome, answer_text}
-use Rattle.drm_streams.specs.Streams.{SourceAccount, SinkAccount}
+use Rattle.drm_streams.specs.Streams.{Counts, SourceAccount, SinkAccount}
 use Rattle.drm_streams.specs.Turns.{NeverFall, Pays, PaysPart}
 use Rattle.drm_sessions.specs.declared.end.SessionEnd.{SessionEnd}
 use Rattle.drm_sessions.specs.declared.end.SessionEnd.TheVariants as ends
-use Rattle.drm_sessions.specs.Reading.{StopsAt, WriteShows, Puts}
+use Rattle.drm_sessions.specs.Reading.{HandsLater, Puts, SinkTells, SourceTells, StopsAt, Untold, WriteShows}
 use Rattle.drm_sessions.specs.Runs.{Requests, session_text}
 
 -- What wasn't written is the end of the last answer.
@@ -47,6 +47,11 @@ Shows ends.WriteFault in0 in1 out0 out1 unused = out0.counts.faults < out1.count
 Shows ends.TurnsUsed in0 in1 out0 out1 unused = unused ≡ 0
 Shows _ in0 in1 out0 out1 unused = ⊤
 
+-- What source and sink told at an end: one end or one fault, which is what the calls stop by, or neither.
+pub record Tells (end : SessionEnd) (in0 in1 out0 out1 : Counts) : Type 0 where
+  pub source : SourceTells end in0 in1
+  pub sink : SinkTells end out0 out1
+
 -- The requests of a client up to their end, after these results were said: what was written is a front of the
 -- text of all results. Bytes were taken behind the last frame only where it was all of it.
 pub record Ends {A : Type 0} (answers : A → Event → Outcome → A → Type 0) (client : ℕ) (old new : A) (in0 in1 : SourceAccount) (out0 out1 : SinkAccount) (said : List Outcome) (waited : List ℕ) (steps : ℕ) (end : SessionEnd) : Type 0 where
@@ -59,15 +64,23 @@ pub record Ends {A : Type 0} (answers : A → Event → Outcome → A → Type 0
   pub puts : Puts out0 out1 (session_text (said ++ results)) front later
   pub leaves : Leaves end waits (said ++ results) later
   pub prompt : behind ≡ true → later ≡ []
+  pub handed : HandsLater end out1 later
 
 -- The text of a refusal is written whole and the session ends as is meant, or writing stopped it.
 abbrev pub Refuses : SessionEnd → SessionEnd → SinkAccount → SinkAccount → List ℕ → ℕ → ℕ → Type 0
-Refuses meant end from to text had has = ((end ≡ meant) × Pays from to text had has) ⊎ (PaysPart from to text had has × WriteShows end from to has)
+Refuses meant end from to text had has = ((end ≡ meant) × Pays from to text had has × Untold from.counts to.counts)
+    ⊎ ((part : PaysPart from to text had has) × WriteShows end from to has × HandsLater end to part.rest × SinkTells end from.counts to.counts)
 
 -- A closing that finds the turn worn is the end.
 abbrev pub EndsClosed : SessionEnd → Outcome → SessionEnd → Type 0
 EndsClosed stopped (Err aparts.Worn) end = end ≡ ends.Apart aparts.Worn
 EndsClosed stopped _ end = end ≡ stopped
+
+-- What source and sink told at the end of a session, which is how its calls stopped, or that its closing found the turn worn.
+pub record TellsStop (end : SessionEnd) (in0 in1 out0 out1 : Counts) : Type 0 where
+  pub stopped : SessionEnd
+  pub same : (end ≡ stopped) ⊎ (end ≡ ends.Apart aparts.Worn)
+  pub tells : Tells stopped in0 in1 out0 out1
 
 -- ---- the ends of a session by how its opening was answered
 

@@ -2,6 +2,7 @@ pub mod Intakes
 pub mod Reading
 pub mod Opening
 pub mod Accepting
+pub mod Gates
 pub mod Runs
 pub mod Ends
 pub mod Serving

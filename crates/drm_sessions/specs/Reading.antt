@@ -1,14 +1,47 @@
 -- What reading takes from a source into the bytes that wait, and what writing one answer gives to a sink.
-use Rattle.std.specs.Prelude.{◌≡◌, ◌≢◌, ℕ, ◌<◌, List, [], ◌++◌, length, Result, Ok, Err, ⊤}
+use Rattle.std.specs.Prelude.{◌≡◌, ◌≢◌, ◌⊎◌, ℕ, ◌+◌, ◌<◌, ◌≤◌, List, [], ◌++◌, length, Result, Ok, Err, ⊤}
 use Rattle.std.specs.Io.KnownBytes.{Appends, IsAtEnd}
 use Rattle.drm_frames.specs.Grammar.{Packet, frame_text, IsPacket, IsPart, IsTooLong}
-use Rattle.drm_streams.specs.Streams.{SourceAccount, SinkAccount}
+use Rattle.drm_streams.specs.Streams.{Counts, SourceAccount, SinkAccount}
 use Rattle.drm_streams.specs.Turns.{Spends, Pays, PaysPart}
 use Rattle.drm_streams.specs.declared.turns.Refill.{Refill}
 use Rattle.drm_streams.specs.declared.turns.Refill.TheVariants as refill
 use Rattle.drm_sessions.specs.Intakes.{Intake, Takes}
 use Rattle.drm_sessions.specs.declared.end.SessionEnd.{SessionEnd}
 use Rattle.drm_sessions.specs.declared.end.SessionEnd.TheVariants as ends
+
+-- Neither an end was told nor a failure.
+pub record Untold (old new : Counts) : Type 0 where
+  pub ends : new.ends ≡ old.ends
+  pub failures : new.failures ≡ old.failures
+  pub faults : old.faults ≤ new.faults
+
+-- One end was told, and no failure.
+pub record EndTold (old new : Counts) : Type 0 where
+  pub ends : new.ends ≡ old.ends + 1
+  pub failures : new.failures ≡ old.failures
+
+-- One failure was told, or 1,000 interruptions at least and no failure; and no end.
+pub record FaultTold (old new : Counts) : Type 0 where
+  pub ends : new.ends ≡ old.ends
+  pub fault : (new.failures ≡ old.failures + 1) ⊎ ((new.failures ≡ old.failures) × (old.faults + 1000 ≤ new.faults))
+
+-- what a source told by which a session ends
+abbrev pub SourceTells : SessionEnd → Counts → Counts → Type 0
+SourceTells ends.Ended old new = EndTold old new
+SourceTells ends.Truncated old new = EndTold old new
+SourceTells ends.ReadFault old new = FaultTold old new
+SourceTells _ old new = Untold old new
+
+-- what a sink told by which a session ends
+abbrev pub SinkTells : SessionEnd → Counts → Counts → Type 0
+SinkTells ends.WriteFault old new = FaultTold old new
+SinkTells _ old new = Untold old new
+
+-- At a fault of the sink its last call was handed all that isn't written of the answer.
+abbrev pub HandsLater : SessionEnd → SinkAccount → List ℕ → Type 0
+HandsLater ends.WriteFault to later = to.handed ≡ length later
+HandsLater _ to later = ⊤
 
 -- One call of the source gave bytes, which wait behind those that waited.
 pub record Gives (from to : SourceAccount) (waited waits : List ℕ) (had has : ℕ) : Type 0 where
@@ -17,6 +50,7 @@ pub record Gives (from to : SourceAccount) (waited waits : List ℕ) (had has : 
   pub parts : waits ≡ waited ++ more
   pub some : 0 < length more
   pub gave : to.gave ≡ length more
+  pub untold : Untold from.counts to.counts
 
 -- Bytes came from the source in turn, each call at the cost of a turn, and wait behind those that waited.
 pub record Comes (from to : SourceAccount) (waited waits : List ℕ) (had has : ℕ) : Type 0 where
@@ -34,13 +68,14 @@ pub record Uses (from to : SourceAccount) (waited waits : List ℕ) (had has : �
   pub fits : IsPacket frame
   pub intakes : List Intake
   pub takes : Takes from to waited (frame_text frame ++ waits) intakes more []
+  pub untold : Untold from.counts to.counts
 
 -- what came of taking bytes behind those that wait
 abbrev pub Supplies : Refill → SourceAccount → SourceAccount → List ℕ → List ℕ → ℕ → ℕ → Type 0
 Supplies (refill.Got n) from to waited waits had has = Gives from to waited waits had has × (has < had)
-Supplies refill.End from to waited waits had has = Spends from to [] had has × (waits ≡ waited) × IsAtEnd to.left × (from.counts.ends < to.counts.ends) × (to.gave ≡ from.gave)
-Supplies refill.Fault from to waited waits had has = Spends from to [] had has × (waits ≡ waited) × (from.counts.faults < to.counts.faults) × (to.gave ≡ from.gave)
-Supplies refill.TurnsUsed from to waited waits had has = Spends from to [] had has × (waits ≡ waited) × (has ≡ 0) × (to.gave ≡ from.gave)
+Supplies refill.End from to waited waits had has = Spends from to [] had has × (waits ≡ waited) × IsAtEnd to.left × (from.counts.ends < to.counts.ends) × (to.gave ≡ from.gave) × EndTold from.counts to.counts
+Supplies refill.Fault from to waited waits had has = Spends from to [] had has × (waits ≡ waited) × (from.counts.faults < to.counts.faults) × (to.gave ≡ from.gave) × FaultTold from.counts to.counts
+Supplies refill.TurnsUsed from to waited waits had has = Spends from to [] had has × (waits ≡ waited) × (has ≡ 0) × (to.gave ≡ from.gave) × Untold from.counts to.counts
 
 -- what waits where reading stops: never a whole frame
 abbrev pub StopsAt : SessionEnd → List ℕ → Type 0
@@ -65,7 +100,7 @@ ReadShows _ from to has = ⊤
 -- the next frame, or how reading for it stopped
 abbrev pub Reads : Result Packet SessionEnd → SourceAccount → SourceAccount → List ℕ → List ℕ → ℕ → ℕ → Type 0
 Reads (Ok frame) from to waited waits had has = Uses from to waited waits had has frame
-Reads (Err end) from to waited waits had has = Comes from to waited waits had has × StopsAt end waits × ReadShows end from to has
+Reads (Err end) from to waited waits had has = Comes from to waited waits had has × StopsAt end waits × ReadShows end from to has × SourceTells end from.counts to.counts
 
 -- what the sink's account shows where writing stops a session
 abbrev pub WriteShows : SessionEnd → SinkAccount → SinkAccount → ℕ → Type 0
@@ -75,8 +110,8 @@ WriteShows _ from to has = ⊥
 
 -- all of the text is written, or a front of it and not the whole
 abbrev pub Wrote : Result ⊤ SessionEnd → SinkAccount → SinkAccount → List ℕ → ℕ → ℕ → Type 0
-Wrote (Ok _) from to text had has = Pays from to text had has × (0 < length text → has < had)
-Wrote (Err end) from to text had has = PaysPart from to text had has × WriteShows end from to has
+Wrote (Ok _) from to text had has = Pays from to text had has × (0 < length text → has < had) × Untold from.counts to.counts
+Wrote (Err end) from to text had has = (part : PaysPart from to text had has) × WriteShows end from to has × HandsLater end to part.rest × SinkTells end from.counts to.counts
 
 -- A front of the text was given to the sink, and the later part wasn't.
 pub record Puts (from to : SinkAccount) (text front later : List ℕ) : Type 0 where

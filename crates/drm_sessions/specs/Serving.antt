@@ -1,5 +1,5 @@
 -- A whole session.
-use Rattle.std.specs.Prelude.{◌≡◌, ℕ, true, false, ◌⊎◌, List, [], ◌∷◌, ◌++◌, map, Some, None, Ok, Err, ⊤}
+use Rattle.std.specs.Prelude.{◌≡◌, ℕ, true, false, ◌⊎◌, ◌+◌, List, [], ◌∷◌, ◌++◌, map, Some, None, Ok, Err, ⊤}
 use Rattle.std.specs.List.{flat_map, AllByRecursion}
 use Rattle.std.specs.Io.KnownBytes.{Consumes}
 use Rattle.drm_table.specs.declared.events.Event.{Event}
@@ -16,9 +16,9 @@ use Rattle.drm_sessions.specs.declared.end.SessionEnd.{SessionEnd}
 use Rattle.drm_sessions.specs.declared.end.SessionEnd.TheVariants as ends
 use Rattle.drm_sessions.specs.Opening.{opening_in}
 use Rattle.drm_sessions.specs.Intakes.{Intake, Takes, ends_in_chunk}
-use Rattle.drm_sessions.specs.Reading.{Puts, StopsAt}
+use Rattle.drm_sessions.specs.Reading.{HandsLater, Puts, StopsAt}
 use Rattle.drm_sessions.specs.Runs.{Exchange, exchange, Runs, asked, events, outcomes, session_text, noted}
-use Rattle.drm_sessions.specs.Ends.{CutsLast, EndsClosed, EndsRefused, EndsRequests, EndsUnopened, Moves, Shows}
+use Rattle.drm_sessions.specs.Ends.{CutsLast, EndsClosed, EndsRefused, EndsRequests, EndsUnopened, Moves, Shows, TellsStop}
 
 -- After the opening: of a client its requests and one closing, and else nothing.
 abbrev pub Follows : Outcome → List Packet → List Exchange → List Exchange → ℕ → Type 0
@@ -95,6 +95,7 @@ pub record Serves {A : Type 0} (answers : A → Event → Outcome → A → Type
   pub intakes : List Intake
   pub in_turn : Takes in0 in1 [] rest intakes read frames
   pub prompt : ends_in_chunk intakes false ≡ true → MayRead answered later
+  pub handed : HandsLater session.end out1 later
 
 -- the same from the opening on, with bytes that wait
 pub record Continues {A : Type 0} (answers : A → Event → Outcome → A → Type 0) (class : Class) (opening : Opening) (old new : A) (in0 in1 : SourceAccount) (out0 out1 : SinkAccount) (waited : List ℕ) (session : Session) : Type 0 where
@@ -118,9 +119,22 @@ pub record Continues {A : Type 0} (answers : A → Event → Outcome → A → T
   pub intakes : List Intake
   pub in_turn : Takes in0 in1 waited rest intakes read frames
   pub prompt : ends_in_chunk intakes false ≡ true → IsAccepted result × (later ≡ [])
+  pub handed : HandsLater session.end out1 later
 
--- At most `turns` calls were made of the source and the sink, and the accounts show the end's cause.
+-- the calls that a session made, in their order
+abbrev pub calls_made : {A : Type 0} {answers : A → Event → Outcome → A → Type 0} {class : Class} {old new : A} {in0 in1 : SourceAccount} {out0 out1 : SinkAccount} {session : Session}
+    → Serves answers class old new in0 in1 out0 out1 session → List Event
+calls_made serves = events (serves.answered ++ serves.closing)
+
+-- how many events of all these sessions the device noted
+abbrev pub all_steps : List Session → ℕ
+all_steps [] = 0
+all_steps (session ∷ sessions) = session.steps + all_steps sessions
+
+-- At most `turns` calls were made of the source and the sink, and the accounts show the end's cause: where one of them told an end
+-- or a fault, that was the last call, and no other was asked of either.
 pub record Costs (in0 in1 : SourceAccount) (out0 out1 : SinkAccount) (turns : ℕ) (end : SessionEnd) : Type 0 where
   pub unused : ℕ
   pub moves : Moves in0 in1 out0 out1 turns unused
   pub shows : Shows end in0 in1 out0 out1 unused
+  pub tells : TellsStop end in0.counts in1.counts out0.counts out1.counts

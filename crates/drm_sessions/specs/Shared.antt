@@ -4,7 +4,7 @@ use Rattle.std.specs.List.{AllByRecursion, flat_map}
 use Rattle.drm_table.specs.declared.events.Event.{Event}
 use Rattle.drm_turns.specs.declared.history.Entry.{Entry}
 use Rattle.drm_turns.specs.History.{StartsWith, entry}
-use Rattle.drm_turns.specs.Seats.{Adds, Excuses, Reaches, Same, Standing, Stays}
+use Rattle.drm_turns.specs.Seats.{Adds, Excuses, Reaches, Same, Standing, Stays, entries_of}
 use Rattle.drm_turns.specs.Turns.{Answered}
 use Rattle.drm_frames.specs.Answers.{Outcome}
 use Rattle.drm_streams.specs.Streams.{SourceAccount, SinkAccount}
@@ -22,6 +22,7 @@ pub record TakesTurn (old : Standing) (event : Event) (result : Outcome) (new : 
   pub ok : IfOk result (λ answer. Adds old event answer new)
   pub err : IfErr result (λ apart. Excuses old event apart new)
   pub turn : Answered event result
+  pub noted : new.noted ≡ old.noted + entries_of result
 
 -- the entry of a call that was noted, by the seat of this number
 abbrev pub noted_by : ℕ → Event → Outcome → List Entry
@@ -43,3 +44,4 @@ pub record ServesShared (class : Class) (old new : Standing) (in0 in1 : SourceAc
   pub seen : StartsWith new.seen old.seen
   pub mine : new.mine ≡ old.mine ++ entries_by old.number (serves.answered ++ serves.closing)
   pub steps : length new.mine ≡ length old.mine + session.steps
+  pub noted : new.noted ≡ old.noted + session.steps

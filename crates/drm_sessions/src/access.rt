@@ -22,8 +22,14 @@ pub trait Access {
 
 /// What is called before each request of a client is carried out.
 pub trait Gate {
+    ghost use Rattle.std.specs.Prelude.{ℕ};
+
+    /// The gate before and after one call for the client of this number.
+    ghost passes: { Self → ℕ → Self → Type 0 };
+
     /// The client of this number is about to make a request.
-    fn before(&mut self, client: u32);
+    fn before(&mut self, client: u32)
+        ensures passes { passes self.old client self.new };
 }
 
 /// A gate that does nothing.
@@ -31,5 +37,9 @@ pub trait Gate {
 pub struct NoGate;
 
 impl Gate for NoGate {
+    ghost use Rattle.std.specs.Prelude.{◌≡◌};
+
+    ghost passes = { λ before client after. after ≡ before };
+
     fn before(&mut self, _client: u32) {}
 }

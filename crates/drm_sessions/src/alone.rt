@@ -44,7 +44,7 @@ pub fn serve_lent<G: Gate, S: Source, K: Sink>(
     requires source { (S.account source.old).counts.calls + turns < 2 ^ 48 }
     requires sink { (K.account sink.old).counts.calls + turns < 2 ^ 48 }
     ensures same { alone.new.device.ghost_name ≡ alone.old.device.ghost_name }
-    ensures serves { ServesAlone class alone.old.device.now alone.new.device.now
+    ensures serves { ServesAlone G.passes class gate.old gate.new alone.old.device.now alone.new.device.now
         (S.account source.old) (S.account source.new) (K.account sink.old) (K.account sink.new)
         result }
     ensures costs { Costs (S.account source.old) (S.account source.new)
@@ -66,7 +66,7 @@ pub fn serve_alone<G: Gate, S: Source, K: Sink>(
 ) -> Session
     requires source { (S.account source.old).counts.calls + turns < 2 ^ 48 }
     requires sink { (K.account sink.old).counts.calls + turns < 2 ^ 48 }
-    ensures serves { ServesAlone class device.old device.new
+    ensures serves { ServesAlone G.passes class gate.old gate.new device.old device.new
         (S.account source.old) (S.account source.new) (K.account sink.old) (K.account sink.new)
         result }
     ensures costs { Costs (S.account source.old) (S.account source.new)

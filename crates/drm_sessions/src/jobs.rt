@@ -55,9 +55,9 @@ pub(crate) struct JobServed<G, S, K> {
     pub(crate) seat: Snapshot<Seat>,
 }
 
-impl<G, S: Source, K: Sink> Promise<Returned<S, K>> for JobServed<G, S, K> {
+impl<G: Gate, S: Source, K: Sink> Promise<Returned<S, K>> for JobServed<G, S, K> {
     ghost kept_by = { λ promise returned.
-        IsServed S.account K.account promise.seat.value promise.job.value returned.finished
+        IsServed G.passes S.account K.account promise.seat.value promise.job.value returned.finished
         × (returned.finished.seat.value ≡ returned.seat) };
 }
 
@@ -73,7 +73,7 @@ fn run_job<R: Wait, D: Sharing, G: Gate + Drop, S: Source, K: Sink>(
 ) -> Returned<S, K>
     requires turns { HasTurns S.account K.account job }
     requires own { seat.table ≡ D.table shared.now }
-    ensures served { IsServed S.account K.account seat job result.finished }
+    ensures served { IsServed G.passes S.account K.account seat job result.finished }
     ensures seat { result.finished.seat.value ≡ result.seat }
 {
     let Job {

@@ -6,7 +6,8 @@ ghost use Rattle.std.specs.Vec.{vec_capacity};
 ghost use Rattle.drm_turns.specs.History.{AllDiffer};
 ghost use Rattle.drm_turns.specs.Seats.{HasSeen, HasTakenIn, IsChild, IsSplitOff, Reaches, Same, numbers_of, with_out};
 ghost use Rattle.drm_sessions.specs.declared.many.ManyFault.TheVariants.{NoMemory};
-ghost use Rattle.drm_sessions.specs.Jobs.{HasTurns, IsServed, IsServedBeside, seats_of};
+ghost use Rattle.drm_sessions.specs.Serving.{all_steps};
+ghost use Rattle.drm_sessions.specs.Jobs.{HasTurns, IsServed, IsServedBeside, seats_of, sessions_of};
 ghost use Rattle.drm_sessions.specs.Matched.{Matched};
 
 use crate::access::Gate;
@@ -69,7 +70,7 @@ fn start_all<
 }
 
 // Joins the threads and takes in their seats, in order.
-fn join_all<R: Wait + Threads + Sync, G, S: Source + Drop, K: Sink + Drop>(
+fn join_all<R: Wait + Threads + Sync, G: Gate, S: Source + Drop, K: Sink + Drop>(
     rt: &R,
     shared: &SharedDevice,
     own: &mut Seat,
@@ -83,12 +84,13 @@ fn join_all<R: Wait + Threads + Sync, G, S: Source + Drop, K: Sink + Drop>(
     requires empty { sessions.items ≡ [] }
     requires reserved { vec_len handles ≤ vec_capacity sessions }
     ensures served { Matched
-        (λ handle finished. IsServed S.account K.account handle.promise.seat.value handle.promise.job.value finished)
+        (λ handle finished. IsServed G.passes S.account K.account handle.promise.seat.value handle.promise.job.value finished)
         handles.items result.items }
     ensures taken { HasTakenIn own.new (seats_of result.items) }
     ensures same { Same own.old own.new }
     ensures parent { own.new.parent ≡ own.old.parent }
     ensures out { own.new.out ≡ own.old.out - vec_len result }
+    ensures noted { own.new.noted ≡ own.old.noted + all_steps (sessions_of result.items) }
 {
     let mut sessions = sessions;
     for handle in handles {
@@ -119,13 +121,15 @@ fn serve_in_scope<
     requires own { own.old.table ≡ shared.now }
     requires joined { own.old.joined ≡ [] }
     ensures served { IfOk result (λ sessions. Matched
-        (λ job finished. IsServedBeside S.account K.account own.old job finished) jobs.items sessions.items) }
+        (λ job finished. IsServedBeside G.passes S.account K.account own.old job finished) jobs.items sessions.items) }
     ensures taken { IfOk result (λ sessions. HasTakenIn own.new (seats_of sessions.items)) }
     ensures same { Same own.old own.new }
     ensures parent { own.new.parent ≡ own.old.parent }
     ensures out { OnOk result (own.new.out ≡ own.old.out) }
     ensures unstarted { result ≡ Err NoMemory → own.new.out ≡ own.old.out }
     ensures fault { OnErr result (own.new.joined ≡ []) }
+    ensures noted { IfOk result (λ sessions. own.new.noted ≡ own.old.noted + all_steps (sessions_of sessions.items)) }
+    ensures unnoted { OnErr result (own.new.noted ≡ own.old.noted) }
 {
     let count = jobs.len();
     let handles = Vec::with_capacity(alloc, count).map_err(|_| ManyFault::NoMemory)?;
@@ -140,7 +144,8 @@ fn serve_in_scope<
 /// told, and the entries of its number there are those of its session. The numbers of the jobs' seats differ, and stand
 /// behind the number of one that took them in. On a fault the threads that were started are waited for, and their steps of
 /// the device stand. What the lent seat made itself is as it was, and without a fault no more are out of it. Where memory was
-/// wanting no job was started: no job's seat was taken in, and none is out.
+/// wanting no job was started: no job's seat was taken in, and none is out. The seat and those that it took in made as many
+/// entries more as the jobs' sessions have steps, and without sessions none.
 pub fn serve_many<
     R: Wait + Threads + Sync,
     G: Gate + Send + Drop,
@@ -156,7 +161,7 @@ pub fn serve_many<
     requires turns { All (λ job. HasTurns S.account K.account job) jobs.items }
     requires own { seat.old.table ≡ shared.now }
     ensures served { IfOk result (λ sessions. Matched
-        (λ job finished. IsServedBeside S.account K.account seat.old job finished) jobs.items sessions.items) }
+        (λ job finished. IsServedBeside G.passes S.account K.account seat.old job finished) jobs.items sessions.items) }
     ensures seen { IfOk result (λ sessions. AllByRecursion (λ other. HasSeen seat.new other) (seats_of sessions.items)) }
     ensures joined { (number : ℕ)
         × IfOk result (λ sessions. seat.new.joined ≡ seat.old.joined ++ number ∷ numbers_of (seats_of sessions.items))
@@ -167,6 +172,8 @@ pub fn serve_many<
     ensures parent { seat.new.parent ≡ seat.old.parent }
     ensures out { OnOk result (seat.new.out ≡ seat.old.out) }
     ensures unstarted { result ≡ Err NoMemory → seat.new.out ≡ seat.old.out }
+    ensures noted { IfOk result (λ sessions. seat.new.noted ≡ seat.old.noted + all_steps (sessions_of sessions.items)) }
+    ensures unnoted { OnErr result (seat.new.noted ≡ seat.old.noted) }
 {
     let own = shared.split(seat);
     let (own, sessions) = thread::scope(
@@ -176,14 +183,16 @@ pub fn serve_many<
             requires { All (λ job. HasTurns S.account K.account job) jobs.items
                 × (own.table ≡ shared.now) × (own.joined ≡ []) }
             ensures { IfOk result.1 (λ sessions. Matched
-                (λ job finished. IsServedBeside S.account K.account own job finished)
+                (λ job finished. IsServedBeside G.passes S.account K.account own job finished)
                 jobs.items sessions.items)
                 × IfOk result.1 (λ sessions. HasTakenIn result.0 (seats_of sessions.items))
                 × Same own result.0
                 × (result.0.parent ≡ own.parent)
                 × OnOk result.1 (result.0.out ≡ own.out)
                 × (result.1 ≡ Err NoMemory → result.0.out ≡ own.out)
-                × OnErr result.1 (result.0.joined ≡ []) }
+                × OnErr result.1 (result.0.joined ≡ [])
+                × IfOk result.1 (λ sessions. result.0.noted ≡ own.noted + all_steps (sessions_of sessions.items))
+                × OnErr result.1 (result.0.noted ≡ own.noted) }
         {
             let mut own = own;
             let sessions = serve_in_scope(scope, rt, alloc, shared, &mut own, jobs);

@@ -2,9 +2,10 @@
 
 ghost use Rattle.std.specs.Prelude.{◌≡◌, ◌^◌, ◌+◌, ◌<◌, ◌≤◌, [], length};
 ghost use Rattle.drm_frames.specs.Answers.{Outcome, answer_text};
+ghost use Rattle.drm_sessions.specs.Gates.{Gated};
 ghost use Rattle.drm_sessions.specs.Reading.{Wrote};
 ghost use Rattle.drm_sessions.specs.Runs.{asked, one_if_noted};
-ghost use Rattle.drm_sessions.specs.Ends.{Ends, Moves, Shows};
+ghost use Rattle.drm_sessions.specs.Ends.{Ends, Moves, Shows, Tells};
 
 use crate::access::{Access, Gate};
 use crate::end::SessionEnd;
@@ -64,13 +65,15 @@ pub(crate) fn answer_requests<A: Access, G: Gate, S: Source, K: Sink>(
 ) -> Stopped
     requires source { (S.account source.old).counts.calls + turns.old < 2 ^ 48 }
     requires sink { (K.account sink.old).counts.calls + turns.old < 2 ^ 48 }
-    ensures ends { Ends A.answers client access.old access.new
+    ensures ends { Ends (Gated A.answers G.passes) client (access.old, gate.old) (access.new, gate.new)
         (S.account source.old) (S.account source.new) (K.account sink.old) (K.account sink.new)
         [] inbox.old result.steps result.end }
     ensures moves { Moves (S.account source.old) (S.account source.new)
         (K.account sink.old) (K.account sink.new) turns.old turns.new }
     ensures shows { Shows result.end (S.account source.old) (S.account source.new)
         (K.account sink.old) (K.account sink.new) turns.new }
+    ensures tells { Tells result.end (S.account source.old).counts (S.account source.new).counts
+        (K.account sink.old).counts (K.account sink.new).counts }
     ensures few { result.steps ≤ turns.old + 1 }
 {
     let mut steps = 0;

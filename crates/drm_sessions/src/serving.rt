@@ -4,9 +4,10 @@ ghost use Rattle.std.specs.Prelude.{◌≡◌, ◌^◌, ◌+◌, ◌<◌, ◌≤
 ghost use Rattle.drm_table.specs.declared.events.Event.TheVariants.{Close};
 ghost use Rattle.drm_table.specs.declared.answers.Answer.TheVariants.{Opened};
 ghost use Rattle.drm_frames.specs.Answers.{Outcome, answer_text};
+ghost use Rattle.drm_sessions.specs.Gates.{Gated, LetsAllPass};
 ghost use Rattle.drm_sessions.specs.Runs.{one_if_noted};
-ghost use Rattle.drm_sessions.specs.Ends.{Ends, EndsClosed, Moves, Refuses, Shows};
-ghost use Rattle.drm_sessions.specs.Serving.{Continues, Costs, Serves};
+ghost use Rattle.drm_sessions.specs.Ends.{Ends, EndsClosed, Moves, Refuses, Shows, Tells, TellsStop};
+ghost use Rattle.drm_sessions.specs.Serving.{Continues, Costs, Serves, calls_made};
 
 use crate::accepted::{Accepted, read_opening};
 use crate::access::{Access, Gate};
@@ -35,13 +36,15 @@ fn serve_client<A: Access, G: Gate, S: Source, K: Sink>(
     requires source { (S.account source.old).counts.calls + turns.old < 2 ^ 48 }
     requires sink { (K.account sink.old).counts.calls + turns.old < 2 ^ 48 }
     requires said { said.now ≡ answer_text (Ok (Opened client)) }
-    ensures ends { Ends A.answers client access.old access.new
+    ensures ends { Ends (Gated A.answers G.passes) client (access.old, gate.old) (access.new, gate.new)
         (S.account source.old) (S.account source.new) (K.account sink.old) (K.account sink.new)
         (Ok (Opened client) ∷ []) inbox.old result.steps result.end }
     ensures moves { Moves (S.account source.old) (S.account source.new)
         (K.account sink.old) (K.account sink.new) turns.old turns.new }
     ensures shows { Shows result.end (S.account source.old) (S.account source.new)
         (K.account sink.old) (K.account sink.new) turns.new }
+    ensures tells { Tells result.end (S.account source.old).counts (S.account source.new).counts
+        (K.account sink.old).counts (K.account sink.new).counts }
     ensures few { result.steps ≤ turns.old + 1 }
 {
     match write_answer(sink, said, turns) {
@@ -108,13 +111,16 @@ fn run_session<A: Access, G: Gate, S: Source, K: Sink>(
 ) -> Session
     requires source { (S.account source.old).counts.calls + turns.old < 2 ^ 48 }
     requires sink { (K.account sink.old).counts.calls + turns.old < 2 ^ 48 }
-    ensures continues { Continues A.answers class opening access.old access.new
+    ensures continues { Continues (Gated A.answers G.passes) class opening
+        (access.old, gate.old) (access.new, gate.new)
         (S.account source.old) (S.account source.new) (K.account sink.old) (K.account sink.new)
         inbox.old result }
     ensures moves { Moves (S.account source.old) (S.account source.new)
         (K.account sink.old) (K.account sink.new) turns.old turns.new }
     ensures shows { Shows result.end (S.account source.old) (S.account source.new)
         (K.account sink.old) (K.account sink.new) turns.new }
+    ensures tells { TellsStop result.end (S.account source.old).counts (S.account source.new).counts
+        (K.account sink.old).counts (K.account sink.new).counts }
 {
     let outcome = access.call(Event::Open(opening));
     let text = encode_answer(&outcome);
@@ -134,7 +140,8 @@ fn run_session<A: Access, G: Gate, S: Source, K: Sink>(
 ///
 /// At most `turns` calls are made of the source and the sink together. Each answer is written
 /// before the next frame is looked for; the closing's isn't written. Whichever read or write
-/// fails, the client is closed.
+/// fails, the client is closed, and nothing more is read or written. The gate is called once for
+/// each request, and for nothing else.
 pub fn serve<A: Access, G: Gate, S: Source, K: Sink>(
     access: &mut A,
     gate: &mut G,
@@ -145,9 +152,9 @@ pub fn serve<A: Access, G: Gate, S: Source, K: Sink>(
 ) -> Session
     requires source { (S.account source.old).counts.calls + turns < 2 ^ 48 }
     requires sink { (K.account sink.old).counts.calls + turns < 2 ^ 48 }
-    ensures serves { Serves A.answers class access.old access.new
+    ensures serves { (serves : Serves A.answers class access.old access.new
         (S.account source.old) (S.account source.new) (K.account sink.old) (K.account sink.new)
-        result }
+        result) × LetsAllPass G.passes gate.old (calls_made serves) gate.new }
     ensures costs { Costs (S.account source.old) (S.account source.new)
         (K.account sink.old) (K.account sink.new) turns result.end }
 {

@@ -1,7 +1,8 @@
 //! A device that several sessions share.
 
 ghost use Rattle.std.specs.Prelude.{◌≡◌, ◌^◌, ◌+◌, ◌<◌};
-ghost use Rattle.drm_sessions.specs.Serving.{Costs};
+ghost use Rattle.drm_sessions.specs.Gates.{LetsAllPass};
+ghost use Rattle.drm_sessions.specs.Serving.{Costs, calls_made};
 ghost use Rattle.drm_sessions.specs.Shared.{ServesShared, TakesTurn};
 
 use crate::access::{Access, Gate};
@@ -86,9 +87,9 @@ pub fn serve_through<R: Wait, G: Gate, S: Source, K: Sink>(
     requires own { seat.table ≡ shared.now }
     requires source { (S.account source.old).counts.calls + turns < 2 ^ 48 }
     requires sink { (K.account sink.old).counts.calls + turns < 2 ^ 48 }
-    ensures serves { ServesShared class seat result.seat
+    ensures serves { (serves : ServesShared class seat result.seat
         (S.account source.old) (S.account source.new) (K.account sink.old) (K.account sink.new)
-        result.session }
+        result.session) × LetsAllPass G.passes gate.old (calls_made serves.serves) gate.new }
     ensures costs { Costs (S.account source.old) (S.account source.new)
         (K.account sink.old) (K.account sink.new) turns result.session.end }
 {

@@ -3,7 +3,9 @@ use Rattle.std.proofs.lemmas.List.{map_push}
 use Rattle.std.proofs.lemmas.List.Elements.{All-head, All-same, All-tail}
 use Rattle.drm_turns.specs.Seats.{HasTakenIn, IsChild, IsSplitOff, Standing}
 use Rattle.drm_turns.proofs.Taken.{given_back, none-taken-in, one-more-taken-in}
-use Rattle.drm_sessions.specs.Jobs.{IsServed, seats_of}
+use Rattle.drm_sessions.specs.Serving.{all_steps}
+use Rattle.drm_sessions.specs.Jobs.{IsServed, seats_of, sessions_of}
+use Rattle.drm_sessions.proofs.Joining.{all_steps-done}
 use Rattle.drm_sessions.proofs.Matching.{Matched-push}
 use Rattle.drm_sessions.proofs.many.join_all.Goals as goal
 
@@ -18,6 +20,7 @@ loop-handle-init g c = record {
   children = All-same (λ handle. IsChild c.args.own.now handle.promise.seat.value) _ _ c.into_iter-handle-iterator.ensures.into_iter_gives.0 c.requires.children;
   taken = rw c.requires.empty (none-taken-in _ c.requires.joined);
   served = search rules;
+  noted = rw c.requires.empty (omega arith);
   room = search rules;
 }
 
@@ -49,7 +52,9 @@ loop-handle-preserved g c =
       taken = rw c.push_reserved.ensures.items
           (subst (λ (l : List Standing). HasTakenIn c.join.new.seat l) (sym (map_push (λ done. done.seat.value) c.loop-handle.sessions.items finished))
           (subst (λ (s : Standing). HasTakenIn c.join.new.seat (seats_of c.loop-handle.sessions.items ++ s ∷ [])) (sym is) more));
-      served = rw c.push_reserved.ensures.items (Matched-push (λ handle done. IsServed g.S.Source.account g.K.Sink.account handle.promise.seat.value handle.promise.job.value done) _ _ _ _ before.served c.join-finished.ensures.0);
+      served = rw c.push_reserved.ensures.items (Matched-push (λ handle done. IsServed g.G.Gate.passes g.S.Source.account g.K.Sink.account handle.promise.seat.value handle.promise.job.value done) _ _ _ _ before.served c.join-finished.ensures.0);
+      noted = (let all = before.noted in let now = c.join.ensures.counts.1 in let own = c.join-finished.ensures.0.serves.noted in let none = split.noted in let same = ap (λ (s : Standing). s.noted) is in
+          let steps = ap (λ l. all_steps (sessions_of l)) c.push_reserved.ensures.items ∙ all_steps-done c.loop-handle.sessions.items finished in omega arith);
       room = (let room = before.room in let capacity = c.push_reserved.ensures.capacity in omega arith);
     }
 

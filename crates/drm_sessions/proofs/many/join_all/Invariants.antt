@@ -1,7 +1,8 @@
 use Rattle.std.proofs.Common.{◌≡◌, ◌+◌, ◌-◌, ◌≤◌, All, length}
 use Rattle.std.specs.Vec.{vec_capacity}
 use Rattle.drm_turns.specs.Seats.{HasTakenIn, IsChild, IsSplitOff, Same}
-use Rattle.drm_sessions.specs.Jobs.{IsServed, seats_of}
+use Rattle.drm_sessions.specs.Serving.{all_steps}
+use Rattle.drm_sessions.specs.Jobs.{IsServed, seats_of, sessions_of}
 use Rattle.drm_sessions.specs.Matched.{Matched}
 use Rattle.drm_sessions.proofs.many.join_all.Given as goal
 
@@ -16,6 +17,7 @@ invariant-loop-handle g l = record {
   split : All (λ handle. IsSplitOff l.initial.own handle.promise.seat.value) l.handle-iterator.rest.items;
   children : All (λ handle. IsChild l.initial.own handle.promise.seat.value) l.handle-iterator.rest.items;
   taken : HasTakenIn l.own (seats_of l.sessions.items);
-  served : Matched (λ handle finished. IsServed g.S.Source.account g.K.Sink.account handle.promise.seat.value handle.promise.job.value finished) l.yielded l.sessions.items;
+  served : Matched (λ handle finished. IsServed g.G.Gate.passes g.S.Source.account g.K.Sink.account handle.promise.seat.value handle.promise.job.value finished) l.yielded l.sessions.items;
+  noted : l.own.noted ≡ l.initial.own.noted + all_steps (sessions_of l.sessions.items);
   room : length l.sessions.items + length l.handle-iterator.rest.items ≤ vec_capacity l.sessions;
 }

@@ -26,7 +26,7 @@ join_all-requires-clause-children g c κs within =
 pub returns-clause-out : goal.returns-clause-out
 returns-clause-out g c =
     let started = c.in_ok-handles-2.ensures in
-    let all = Matched-length (λ handle finished. IsServed g.S.Source.account g.K.Sink.account handle.promise.seat.value handle.promise.job.value finished) _ _ c.join_all.ensures.served in
+    let all = Matched-length (λ handle finished. IsServed g.G.Gate.passes g.S.Source.account g.K.Sink.account handle.promise.seat.value handle.promise.job.value finished) _ _ c.join_all.ensures.served in
     let more = started.out in
     let fewer = c.join_all.ensures.out in
     omega arith
@@ -34,7 +34,7 @@ returns-clause-out g c =
 pub returns-clause-served : goal.returns-clause-served
 returns-clause-served g c =
     Matched-beside (λ handle. IsSplitOff c.args.own.now handle.promise.seat.value) (λ job handle. handle.promise.job.value ≡ job)
-    (λ handle finished. IsServed g.S.Source.account g.K.Sink.account handle.promise.seat.value handle.promise.job.value finished)
-    (λ job finished. IsServedBeside g.S.Source.account g.K.Sink.account c.args.own.now job finished)
-    (λ job handle finished split is served. record { own = handle.promise.seat.value; split = split; served = subst (λ j. IsServed g.S.Source.account g.K.Sink.account handle.promise.seat.value j finished) is served })
+    (λ handle finished. IsServed g.G.Gate.passes g.S.Source.account g.K.Sink.account handle.promise.seat.value handle.promise.job.value finished)
+    (λ job finished. IsServedBeside g.G.Gate.passes g.S.Source.account g.K.Sink.account c.args.own.now job finished)
+    (λ job handle finished split is served. record { own = handle.promise.seat.value; split = split; served = subst (λ j. IsServed g.G.Gate.passes g.S.Source.account g.K.Sink.account handle.promise.seat.value j finished) is served })
     _ _ _ c.in_ok-handles-2.ensures.split c.in_ok-handles-2.ensures.started c.join_all.ensures.served

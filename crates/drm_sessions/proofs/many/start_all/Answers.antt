@@ -20,6 +20,7 @@ loop-job-preserved g c =
       origin = c.split-seat.ensures.own.1 ∙ ap (λ (s : Standing). s.origin) before.own;
       mine = c.split-seat.ensures.fresh.0;
       joined = c.split-seat.ensures.fresh.1;
+      noted = c.split-seat.ensures.counts.1;
     } in
     let child : IsChild c.args.own.now c.split-seat.result = record {
       parent = c.split-seat.ensures.parent ∙ ap (λ (s : Standing). s.number) before.own;

@@ -1,6 +1,7 @@
 use Rattle.std.proofs.Common.{◌≡◌, arith, take, List, ℕ, ◌-◌, ◌++◌, ◌∙◌, length, ap, sym}
 use Rattle.std.proofs.lemmas.List.{length-take-le}
 use Rattle.drm_sessions.proofs.Parts.{take-written}
+use Rattle.drm_sessions.proofs.Telling.{got-untold}
 use Rattle.drm_sessions.proofs.inbox.Inbox.refill.Goals as goal
 
 pub returns-in-Got : goal.returns-in-Got
@@ -20,6 +21,7 @@ returns-in-Got g c =
               ∙ ap (λ (t : List ℕ). t ++ more) c.self.view_is;
           some = omega (arith, len, some);
           gave = c.in-Got.ensures.gave ∙ sym len;
+          untold = got-untold c.in-Got.ensures.calls.0 c.in-Got.ensures.calls.2;
         },
         came.3,
       );

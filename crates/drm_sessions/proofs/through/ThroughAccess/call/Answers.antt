@@ -13,6 +13,7 @@ returns-clause-answers g c =
       ok = c.call.ensures.ok;
       err = c.call.ensures.err;
       turn = c.call.ensures.turn;
+      noted = c.call.ensures.counts.1;
     } in
     subst (λ (s : Standing). TakesTurn s c.args.event c.call.result c.call.new.seat) c.self.view_is turn
 
