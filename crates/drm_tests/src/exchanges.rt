@@ -36,6 +36,10 @@ struct Counted {
 }
 
 impl Gate for Counted {
+    ghost use Rattle.std.specs.Prelude.{⊤};
+
+    ghost passes = { λ before client after. ⊤ };
+
     fn before(&mut self, client: u32) {
         if client == self.client {
             self.requests = self.requests.wrapping_add(1);

@@ -49,6 +49,10 @@ impl<R: Clock> FlagGate<'_, R> {
 }
 
 impl<R: Clock> Gate for FlagGate<'_, R> {
+    ghost use Rattle.std.specs.Prelude.{⊤};
+
+    ghost passes = { λ before client after. ⊤ };
+
     fn before(&mut self, _client: u32) {
         if self.calls_left == 1 {
             self.meet();

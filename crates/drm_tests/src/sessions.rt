@@ -489,6 +489,10 @@ fn note(calls: &Calls, call: u64) {
 struct NotedGate<'a>(&'a Calls);
 
 impl Gate for NotedGate<'_> {
+    ghost use Rattle.std.specs.Prelude.{⊤};
+
+    ghost passes = { λ before client after. ⊤ };
+
     fn before(&mut self, client: u32) {
         note(self.0, if client == 1 { 1 } else { 5 });
     }
