@@ -11,6 +11,7 @@ use Rattle.drm_turns.proofs.Taken.{all-seen-more, starts_on}
 use Rattle.drm_sessions.specs.declared.class.Class.{Class}
 use Rattle.drm_sessions.specs.declared.class.Class.TheVariants.{Card, Render, Root}
 use Rattle.drm_sessions.specs.declared.end.Session.{Session}
+use Rattle.drm_sessions.specs.Serving.{all_steps}
 use Rattle.drm_listeners.specs.declared.connections.ServedListener.{ServedListener}
 use Rattle.drm_listeners.specs.declared.counts.Counts.{Counts}
 use Rattle.drm_listeners.specs.declared.listeners.ByClass.{ByClass}
@@ -42,6 +43,13 @@ if_ok (Err e) step h = tt
 pub on_ok : {D E : Type 0} {P Q : Type 0} (r : Result D E) → (P → Q) → OnOk r P → OnOk r Q
 on_ok (Ok d) step h = step h
 on_ok (Err e) step h = tt
+
+all_steps-both : (xs ys : List Session) → all_steps (xs ++ ys) ≡ all_steps xs + all_steps ys
+all_steps-both [] ys = omega arith
+all_steps-both (x ∷ xs) ys = let more = all_steps-both xs ys in omega arith
+
+pub steps-three : (xs ys zs : List Session) → all_steps (xs ++ (ys ++ zs)) ≡ all_steps xs + (all_steps ys + all_steps zs)
+steps-three xs ys zs = all_steps-both xs (ys ++ zs) ∙ ap (λ (n : ℕ). all_steps xs + n) (all_steps-both ys zs)
 
 -- ---- numbers that differ do so without one of them
 

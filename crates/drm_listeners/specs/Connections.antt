@@ -5,7 +5,7 @@ use Rattle.drm_turns.specs.Seats.{HasTakenIn, Same, Standing, Stays}
 use Rattle.drm_streams.specs.Streams.{SourceAccount, SinkAccount, no_calls}
 use Rattle.drm_sessions.specs.declared.class.Class.{Class}
 use Rattle.drm_sessions.specs.declared.end.Session.{Session}
-use Rattle.drm_sessions.specs.Serving.{Costs}
+use Rattle.drm_sessions.specs.Serving.{Costs, all_steps}
 use Rattle.drm_sessions.specs.Shared.{ServesShared}
 use Rattle.drm_listeners.specs.declared.connections.ServedListener.{ServedListener}
 use Rattle.drm_listeners.specs.declared.serve_faults.ServeFault.{ServeFault}
@@ -26,6 +26,7 @@ pub record IsSessionBy (class : Class) (seat : Standing) (session : Session) : T
   pub unread : in0.counts ≡ no_calls
   pub unwritten : out0.counts ≡ no_calls
   pub nothing_made : own.mine ≡ []
+  pub nothing_noted : own.noted ≡ 0
   pub serves : ServesShared class own seat in0 in1 out0 out1 session
   pub costs : Costs in0 in1 out0 out1 connection_turns session.end
 
@@ -46,7 +47,7 @@ sessions_in sittings = map (λ sitting. sitting.session) sittings
 
 -- a seat of this shared device that has made nothing and taken in no other
 abbrev pub IsFresh : TableId → Standing → Type 0
-IsFresh table seat = (seat.table ≡ table) × (seat.mine ≡ []) × (seat.joined ≡ [])
+IsFresh table seat = (seat.table ≡ table) × (seat.mine ≡ []) × (seat.joined ≡ []) × (seat.noted ≡ 0)
 
 -- the faults of a listener's connections: of no other listener, and not of the turn
 abbrev pub IsFaultOf : Class → ServeFault → Type 0
@@ -55,7 +56,8 @@ IsFaultOf class faults.NoThread = ⊤
 IsFaultOf class faults.NoMemory = ⊤
 IsFaultOf class faults.TurnOut = ⊥
 
--- The sessions of so many connections, all of one class, and the listener's seat, which has taken in that of each.
+-- The sessions of so many connections, all of one class, and the listener's seat, which has taken in that of each and made
+-- nothing itself.
 pub record IsServed (class : Class) (count : ℕ) (seat : Standing) (served : ServedListener) : Type 0 where
   pub number : length served.sessions.items ≡ count
   pub same : Same seat served.seat
@@ -64,6 +66,7 @@ pub record IsServed (class : Class) (count : ℕ) (seat : Standing) (served : Se
   pub sessions : served.sessions.items ≡ sessions_in sittings
   pub of_class : All (λ sitting. IsSessionBy class sitting.seat sitting.session) sittings
   pub taken : HasTakenIn served.seat (seats_in sittings)
+  pub noted : served.seat.noted ≡ all_steps served.sessions.items
 
 -- what came of a listener that was to accept so many connections, through a seat of its own
 abbrev pub Serves : Class → ℕ → Standing → Result ServedListener ServeFault → Type 0

@@ -5,7 +5,7 @@ ghost use Rattle.std.specs.Vec.{vec_capacity};
 ghost use Rattle.drm_turns.specs.Seats.{HasTakenIn, IsChild, Same, Stays, with_out};
 ghost use Rattle.drm_streams.specs.Streams.{no_calls};
 ghost use Rattle.drm_sessions.specs.Matched.{Matched};
-ghost use Rattle.drm_sessions.specs.Serving.{Costs};
+ghost use Rattle.drm_sessions.specs.Serving.{Costs, all_steps};
 ghost use Rattle.drm_sessions.specs.Shared.{ServesShared};
 ghost use Rattle.drm_listeners.specs.Connections.{IsFaultOf, IsFresh, IsSessionBy, Serves, Sitting, connection_turns, seats_in, sessions_in};
 
@@ -201,6 +201,7 @@ fn join_connections<R: Threads>(
     ensures same { Same own.old own.new }
     ensures parent { own.new.parent ≡ own.old.parent }
     ensures out { own.new.out ≡ own.old.out - vec_len result }
+    ensures noted { own.new.noted ≡ own.old.noted + all_steps result.items }
 {
     let mut sessions = sessions;
     for handle in handles {

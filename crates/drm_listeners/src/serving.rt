@@ -1,9 +1,10 @@
 //! Serving the connections of three listeners.
 
-ghost use Rattle.std.specs.Prelude.{◌≡◌, ◌≢◌, ◌+◌, ◌-◌, ◌≤◌, ◌∷◌, ◌++◌, [], Err, All, IfOk, OnOk, vec_len};
+ghost use Rattle.std.specs.Prelude.{◌≡◌, ◌≢◌, ◌+◌, ◌-◌, ◌≤◌, ◌∷◌, ◌++◌, [], Err, All, IfOk, OnOk, length, vec_len};
 ghost use Rattle.std.specs.Vec.{vec_capacity};
 ghost use Rattle.drm_turns.specs.History.{AllDiffer, StartsWith};
 ghost use Rattle.drm_turns.specs.Seats.{Same};
+ghost use Rattle.drm_sessions.specs.Serving.{all_steps};
 ghost use Rattle.drm_sessions.specs.declared.class.Class.TheVariants.{Card, Render, Root};
 ghost use Rattle.drm_listeners.specs.declared.serve_faults.ServeFault.TheVariants.{TurnOut};
 ghost use Rattle.drm_listeners.specs.Connections.{IsSessionOf};
@@ -62,6 +63,7 @@ fn gather(
         ++ served.render.seat.number ∷ served.render.seat.joined) ++ served.root.seat.number ∷ served.root.seat.joined }
     ensures differ { AllDiffer seat.new.joined }
     ensures out { seat.new.out ≡ seat.old.out - 3 }
+    ensures noted { seat.new.noted ≡ seat.old.noted + (served.card.seat.noted + (served.render.seat.noted + served.root.seat.noted)) }
 {
     let ByClass { card, render, root } = served;
     shared.join(seat, card.seat);
@@ -91,6 +93,7 @@ fn serve_shared<R: Wait + Threads + Log + Sync>(
     ensures seats { IfOk result (λ sessions. HaveSat seat.new sessions.items) }
     ensures same { Same seat.old seat.new × StartsWith seat.new.seen seat.old.seen }
     ensures out { OnOk result (seat.new.out ≡ seat.old.out) }
+    ensures noted { IfOk result (λ sessions. seat.new.noted ≡ seat.old.noted + all_steps sessions.items) }
     ensures turn { result ≢ Err TurnOut }
 {
     let count = usize::from(counts.cards) + usize::from(counts.renders) + usize::from(counts.roots);
@@ -116,7 +119,7 @@ fn serve_shared<R: Wait + Threads + Log + Sync>(
 /// connection is closed as it ends. However a session ends, the others go on.
 ///
 /// The device has the events of one legal history, which begins with what it had noted before. Each session's steps stand
-/// there as the entries of its seat, whose number no other session's has.
+/// there as the entries of its seat, whose number no other session's has, and nothing else was noted.
 ///
 /// A listener is closed once it has accepted its last connection, or couldn't accept one, while sessions go on: whoever
 /// connects later is refused. One that accepts none is closed at once. Where the system lacks descriptors or memory for a connection,
@@ -147,6 +150,7 @@ pub fn serve_until_told<R: Wait + Threads + Log + Sync>(
     ensures renders { IfOk result (λ served. All (IsSessionOf Render) (render_sessions counts served.1.items)) }
     ensures roots { IfOk result (λ served. All (IsSessionOf Root) (root_sessions counts served.1.items)) }
     ensures history { IfOk result (λ served. IsHistoryOf device served.0 served.1.items) }
+    ensures noted { IfOk result (λ served. length served.0.journal ≡ length device.journal + all_steps served.1.items) }
     ensures turn { result ≢ Err TurnOut }
 {
     let Ok((shared, mut seat)) = SharedDevice::new(alloc, device) else {
@@ -175,6 +179,7 @@ pub fn serve_all<R: Wait + Threads + Log + Sync>(
     ensures renders { IfOk result (λ served. All (IsSessionOf Render) (render_sessions counts served.1.items)) }
     ensures roots { IfOk result (λ served. All (IsSessionOf Root) (root_sessions counts served.1.items)) }
     ensures history { IfOk result (λ served. IsHistoryOf device served.0 served.1.items) }
+    ensures noted { IfOk result (λ served. length served.0.journal ≡ length device.journal + all_steps served.1.items) }
     ensures turn { result ≢ Err TurnOut }
 {
     let open = OpenConnections::new(alloc, counts, None).map_err(|_| ServeFault::NoMemory)?;

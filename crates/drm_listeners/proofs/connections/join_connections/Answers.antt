@@ -5,6 +5,8 @@ use Rattle.drm_turns.specs.Seats.{HasTakenIn, IsChild, Standing}
 use Rattle.drm_turns.proofs.Taken.{given_back, none-taken-in, one-more-taken-in}
 use Rattle.drm_sessions.specs.declared.end.Session.{Session}
 use Rattle.drm_sessions.specs.Matched.{Matched}
+use Rattle.drm_sessions.specs.Serving.{all_steps}
+use Rattle.drm_sessions.proofs.Joining.{all_steps-push}
 use Rattle.drm_listeners.specs.Connections.{IsSessionBy, Sitting}
 use Rattle.drm_listeners.proofs.Matching.{Matched-push}
 use Rattle.drm_listeners.proofs.connections.join_connections.Goals as goal
@@ -23,6 +25,7 @@ loop-handle-init g c = record {
   sessions = c.requires.empty;
   by = tt;
   taken = none-taken-in _ c.requires.joined;
+  noted = rw c.requires.empty (omega arith);
   room = search rules;
 }
 
@@ -51,6 +54,8 @@ loop-handle-preserved g c =
       by = Matched-push (λ handle sitting. IsSessionBy handle.promise.class sitting.seat sitting.session) _ _ _ _ before.by c.join-seat.ensures.0;
       taken = subst (λ (l : List Standing). HasTakenIn c.join.new.seat l) (sym (map_push (λ (s : Sitting). s.seat) before.sittings done))
           (one-more-taken-in _ _ done.seat _ before.taken kept.1 c.join.ensures.seen c.join.ensures.theirs c.join.ensures.joined c.join-seat.ensures.2 c.join.ensures.differ);
+      noted = (let all = before.noted in let now = c.join.ensures.counts.1 in let own = c.join-seat.ensures.0.serves.noted in let none = c.join-seat.ensures.0.nothing_noted in
+          let steps = ap all_steps c.push_reserved.ensures.items ∙ all_steps-push c.loop-handle.sessions.items c.join-seat.result.session in omega arith);
       room = (let room = before.room in let capacity = c.push_reserved.ensures.capacity in omega arith);
     }
 

@@ -2,6 +2,7 @@ use Rattle.std.proofs.Common.{◌≡◌, ◌+◌, ◌-◌, ◌++◌, ◌≤◌, 
 use Rattle.std.specs.Vec.{vec_capacity}
 use Rattle.drm_turns.specs.Seats.{HasTakenIn, IsChild, Same}
 use Rattle.drm_sessions.specs.Matched.{Matched}
+use Rattle.drm_sessions.specs.Serving.{all_steps}
 use Rattle.drm_listeners.specs.Connections.{IsSessionBy, Sitting, seats_in, sessions_in}
 use Rattle.drm_listeners.proofs.connections.join_connections.Given as goal
 
@@ -20,5 +21,6 @@ invariant-loop-handle g l = record {
   sessions : l.sessions.items ≡ sessions_in sittings;
   by : Matched (λ handle sitting. IsSessionBy handle.promise.class sitting.seat sitting.session) l.yielded sittings;
   taken : HasTakenIn l.own (seats_in sittings);
+  noted : l.own.noted ≡ l.initial.own.noted + all_steps l.sessions.items;
   room : length l.sessions.items + length l.handle-iterator.rest.items ≤ vec_capacity l.sessions;
 }

@@ -31,4 +31,5 @@ returns g c =
       sessions = joined.sessions.1;
       of_class = Matched-all (λ handle. handle.promise.class ≡ class) (λ handle sitting. IsSessionBy handle.promise.class sitting.seat sitting.session) (λ sitting. IsSessionBy class sitting.seat sitting.session) (λ handle sitting is served. subst (λ x. IsSessionBy x sitting.seat sitting.session) is served) _ _ started.class joined.sessions.2;
       taken = joined.sessions.3;
+      noted = (let all = joined.noted in let same = ap (λ (s : Standing). s.noted) started.own in let none = c.requires.3 in omega arith);
     }

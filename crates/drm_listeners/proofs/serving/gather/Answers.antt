@@ -17,3 +17,10 @@ returns-clause-out c =
     let second = c.join-2.ensures.out ∙ given_back one.number one.out render.parent render.out (children.render.parent ∙ sym same) children.render.out in
     let third = c.join-3.ensures.out ∙ given_back two.number two.out root.parent root.out (children.root.parent ∙ sym same ∙ sym same') children.root.out in
     omega arith
+
+pub returns-clause-noted : goal.returns-clause-noted
+returns-clause-noted c =
+    let first = c.join.ensures.counts.1 in
+    let second = c.join-2.ensures.counts.1 in
+    let third = c.join-3.ensures.counts.1 in
+    omega (arith, first, second, third)

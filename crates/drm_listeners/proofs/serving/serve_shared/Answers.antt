@@ -5,7 +5,8 @@ use Rattle.drm_turns.specs.Seats.{Standing}
 use Rattle.drm_turns.proofs.Crossing.{shared_sync}
 use Rattle.drm_sessions.specs.declared.end.Session.{Session}
 use Rattle.drm_listeners.specs.Serving.{AreSessionsOf}
-use Rattle.drm_listeners.proofs.Gathering.{are-sessions, have-sat}
+use Rattle.drm_sessions.specs.Serving.{all_steps}
+use Rattle.drm_listeners.proofs.Gathering.{are-sessions, have-sat, steps-three}
 use Rattle.drm_listeners.proofs.serving.serve_shared.Goals as goal
 
 pub returns-clause-sessions : goal.returns-clause-sessions
@@ -38,3 +39,16 @@ returns-clause-out g c =
 
 pub serve_listeners-requires-sync-D : goal.serve_listeners-requires-sync-D
 serve_listeners-requires-sync-D g c κs within = search (shared_sync, crosses, sendable) depth 30
+
+pub returns-clause-noted : goal.returns-clause-noted
+returns-clause-noted g c =
+    let first = ap (λ (s : Standing). s.noted) c.split.ensures.same in
+    let second = ap (λ (s : Standing). s.noted) c.split-2.ensures.same in
+    let third = ap (λ (s : Standing). s.noted) c.split-3.ensures.same in
+    let served = c.in_ok-served.ensures.served in
+    let card = served.card.noted in
+    let render = served.render.noted in
+    let root = served.root.noted in
+    let gathered = c.gather.ensures.noted in
+    let steps = ap all_steps c.gather.ensures.sessions ∙ steps-three c.in_ok-served.served.card.sessions.items c.in_ok-served.served.render.sessions.items c.in_ok-served.served.root.sessions.items in
+    omega (arith, first, second, third, card, render, root, gathered, steps)

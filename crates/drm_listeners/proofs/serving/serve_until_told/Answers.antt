@@ -1,4 +1,4 @@
-use Rattle.std.proofs.Common.{◌≡◌, List, ◌∙◌, ap, subst}
+use Rattle.std.proofs.Common.{◌≡◌, List, length, ◌∙◌, ap, subst, arith}
 use Rattle.drm_model.specs.Run.{History}
 use Rattle.drm_turns.specs.declared.history.Entry.{Entry}
 use Rattle.drm_turns.specs.History.{IsLegal, StartsWith, device_at, noted_before}
@@ -27,3 +27,14 @@ returns-clause-history g c =
       told = all-told log last closes.3 sat.sittings sat.by sat.seen;
       differ = sat.differ;
     }
+
+pub returns-clause-noted : goal.returns-clause-noted
+returns-clause-noted g c =
+    let last : Standing = c.serve_shared.new.seat in
+    let same = c.in_ok-sessions.ensures.same in
+    let more = c.in_ok-sessions.ensures.noted in
+    let none = c.in-Ok.ensures.counts.1 in
+    let origin : last.origin ≡ c.args.device = same.0.2 ∙ c.in-Ok.ensures.seen.0 in
+    let journal = ap (λ (h : History). length h.journal) origin in
+    let counted = c.in-Ok-close.ensures.counted (same.0.1 ∙ c.in-Ok.ensures.number) (c.in_ok-sessions.ensures.out ∙ c.in-Ok.ensures.none_out) in
+    omega (arith, more, none, journal, counted)
