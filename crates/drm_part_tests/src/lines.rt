@@ -3,8 +3,8 @@
 use crate::lists::{list_of, named, page_of, resources_of, row};
 use arrayvec::ArrayString;
 use drm_script::{
-    Command, LINE, Label, Malformation, Reading, audit_line, line_of, malformation_of, push_number,
-    read_line,
+    Command, LINE, Label, Malformation, Malformed, Reading, Wanted, audit_line, first_line,
+    line_of, push_number, read_line,
 };
 use drm_table::{Answer, Apart, AuditKind, AuditRow, Call, Limits, Opening, Rule};
 use std::alloc::Global;
@@ -12,7 +12,7 @@ use std::process::Abort;
 use std::test::Fail;
 
 fn check_command(rt: &impl Abort, line: &[u8], command: Command) {
-    assert_eq!(rt; read_line(line), Reading::Says(command));
+    assert_eq!(rt; read_line(line), Ok(Reading::Says(command)));
 }
 
 /// Lines by which the client of label a asks.
@@ -278,7 +278,7 @@ const LIMITS: [(&[u8], Limits); 2] = [
 #[test]
 fn limits_are_read(rt: HostRuntime) {
     for (line, limits) in LIMITS {
-        assert_eq!(rt; read_line(line), Reading::Limits(limits));
+        assert_eq!(rt; read_line(line), Ok(Reading::Limits(limits)));
     }
 }
 
@@ -287,93 +287,236 @@ const BLANK: [&[u8]; 5] = [b"", b" ", b"# any text", b"#\ttab", &[b' '; 255]];
 #[test]
 fn blank_lines_are_read(rt: HostRuntime) {
     for line in BLANK {
-        assert_eq!(rt; read_line(line), Reading::Skipped);
+        assert_eq!(rt; read_line(line), Ok(Reading::Skipped));
     }
 }
 
-/// Lines that can't be used, with the reason.
-const REASONS: [(&[u8], Malformation); 60] = [
-    (&[b'#'; 256], Malformation::TooLong),
-    (&[b' '; 256], Malformation::TooLong),
-    (&[0xc8; 256], Malformation::TooLong),
-    (b"# \xc8", Malformation::NotAscii),
-    (b"close \xc8\r", Malformation::NotAscii),
-    (b"close a\r", Malformation::CarriageReturn),
-    (b"\ta version\r", Malformation::CarriageReturn),
-    (b"close\ta", Malformation::Tab),
-    (b"\t", Malformation::Tab),
-    (b"fly", Malformation::FirstWord),
-    (b" # no comment", Malformation::FirstWord),
-    (b"A version", Malformation::FirstWord),
-    (b"-> done", Malformation::FirstWord),
-    (b"close A", Malformation::Label),
-    (b"close a\0", Malformation::Label),
-    (b"open aa card", Malformation::Label),
-    (b"open a primary", Malformation::Opening),
-    (b"a versions", Malformation::Call),
-    (b"a VERSION", Malformation::Call),
-    (b"a version\0", Malformation::Call),
-    (b"a raws 7", Malformation::Call),
-    (b"a -> done", Malformation::Call),
-    (b"open", Malformation::TooFewFields),
-    (b"open a", Malformation::TooFewFields),
-    (b"open a lease", Malformation::TooFewFields),
-    (b"close", Malformation::TooFewFields),
-    (b"a", Malformation::TooFewFields),
-    (b"a gem_close", Malformation::TooFewFields),
-    (b"a audit 1", Malformation::TooFewFields),
-    (b"a addfb 64 64 256 32", Malformation::TooFewFields),
-    (b"a raw", Malformation::TooFewFields),
-    (b"limits", Malformation::TooFewFields),
-    (b"limits 4 8 8 8 8 4 4", Malformation::TooFewFields),
-    (b"open a card 1", Malformation::TooManyFields),
-    (b"open a lease 1 2", Malformation::TooManyFields),
-    (b"close a a", Malformation::TooManyFields),
-    (b"a version 1", Malformation::TooManyFields),
-    (b"a audit 1 0 0", Malformation::TooManyFields),
-    (b"a raw 1 1", Malformation::TooManyFields),
+/// Lines that can't be used, with the column and the word at fault, and the reason.
+const REASONS: [(&[u8], usize, &str, Malformation); 64] = [
+    (&[b'#'; 256], 256, "", Malformation::TooLong),
+    (&[b' '; 256], 256, "", Malformation::TooLong),
+    (&[0xc8; 256], 256, "", Malformation::TooLong),
+    (b"# \xc8", 3, "", Malformation::NotAscii),
+    (b"close \xc8\r", 7, "", Malformation::NotAscii),
+    (b"close a\r", 8, "", Malformation::CarriageReturn),
+    (b"\ta version\r", 11, "", Malformation::CarriageReturn),
+    (b"close\ta", 6, "", Malformation::Tab),
+    (b"\t", 1, "", Malformation::Tab),
+    (b"fly", 1, "fly", Malformation::Unfit(Wanted::FirstWord)),
+    (
+        b" # no comment",
+        2,
+        "#",
+        Malformation::Unfit(Wanted::FirstWord),
+    ),
+    (b"A version", 1, "A", Malformation::Unfit(Wanted::FirstWord)),
+    (b"-> done", 1, "->", Malformation::Unfit(Wanted::FirstWord)),
+    (b"close A", 7, "A", Malformation::Unfit(Wanted::Label)),
+    (b"close a\0", 7, "a?", Malformation::Unfit(Wanted::Label)),
+    (b"open aa card", 6, "aa", Malformation::Unfit(Wanted::Label)),
+    (
+        b"open a primary",
+        8,
+        "primary",
+        Malformation::Unfit(Wanted::Opening),
+    ),
+    (
+        b"a versions",
+        3,
+        "versions",
+        Malformation::Unfit(Wanted::Call),
+    ),
+    (
+        b"a VERSION",
+        3,
+        "VERSION",
+        Malformation::Unfit(Wanted::Call),
+    ),
+    (
+        b"a version\0",
+        3,
+        "version?",
+        Malformation::Unfit(Wanted::Call),
+    ),
+    (b"a raws 7", 3, "raws", Malformation::Unfit(Wanted::Call)),
+    (b"a -> done", 3, "->", Malformation::Unfit(Wanted::Call)),
+    (b"open", 5, "", Malformation::Lacks(Wanted::Label)),
+    (b"open a", 7, "", Malformation::Lacks(Wanted::Opening)),
+    (
+        b"open a lease",
+        13,
+        "",
+        Malformation::Lacks(Wanted::Number(4_294_967_295)),
+    ),
+    (b"close", 6, "", Malformation::Lacks(Wanted::Label)),
+    (b"a", 2, "", Malformation::Lacks(Wanted::Call)),
+    (
+        b"a gem_close",
+        12,
+        "",
+        Malformation::Lacks(Wanted::Number(4_294_967_295)),
+    ),
+    (
+        b"a audit 1",
+        10,
+        "",
+        Malformation::Lacks(Wanted::Number(4_294_967_295)),
+    ),
+    (
+        b"a addfb 64 64 256 32",
+        21,
+        "",
+        Malformation::Lacks(Wanted::Number(4_294_967_295)),
+    ),
+    (b"a raw", 6, "", Malformation::Lacks(Wanted::Number(65_535))),
+    (
+        b"limits",
+        7,
+        "",
+        Malformation::Lacks(Wanted::Number(4_294_967_295)),
+    ),
+    (
+        b"limits 4 8 8 8 8 4 4",
+        21,
+        "",
+        Malformation::Lacks(Wanted::Number(4_294_967_295)),
+    ),
+    (b"open a card 1", 13, "1", Malformation::TooManyWords),
+    (b"open a lease 1 2", 16, "2", Malformation::TooManyWords),
+    (b"close a a", 9, "a", Malformation::TooManyWords),
+    (b"a version 1", 11, "1", Malformation::TooManyWords),
+    (b"a audit 1 0 0", 13, "0", Malformation::TooManyWords),
+    (b"a raw 1 1", 9, "1", Malformation::TooManyWords),
     (
         b"a create_lease 1 2 3 4 5 6 7 8 9 10 11 12 13 14 15 16 17 18 19 20 21 22 23 24 25 26 27 28 29 30 31 32 33",
-        Malformation::TooManyFields,
+        103,
+        "33",
+        Malformation::TooManyWords,
     ),
-    (b"limits 4 8 8 8 8 4 4 50 1", Malformation::TooManyFields),
+    (
+        b"limits 4 8 8 8 8 4 4 50 1",
+        25,
+        "1",
+        Malformation::TooManyWords,
+    ),
     (
         b"open a lease 4294967296",
-        Malformation::Number(4_294_967_295),
+        14,
+        "4294967296",
+        Malformation::Unfit(Wanted::Number(4_294_967_295)),
     ),
-    (b"open a rootlease one", Malformation::Number(4_294_967_295)),
-    (b"a gem_close +1", Malformation::Number(4_294_967_295)),
-    (b"a gem_close -1", Malformation::Number(4_294_967_295)),
-    (b"a gem_close 1_000", Malformation::Number(4_294_967_295)),
+    (
+        b"open a rootlease one",
+        18,
+        "one",
+        Malformation::Unfit(Wanted::Number(4_294_967_295)),
+    ),
+    (
+        b"a gem_close +1",
+        13,
+        "+1",
+        Malformation::Unfit(Wanted::Number(4_294_967_295)),
+    ),
+    (
+        b"a gem_close -1",
+        13,
+        "-1",
+        Malformation::Unfit(Wanted::Number(4_294_967_295)),
+    ),
+    (
+        b"a gem_close 1_000",
+        13,
+        "1_000",
+        Malformation::Unfit(Wanted::Number(4_294_967_295)),
+    ),
     (
         b"a gem_close 4294967296",
-        Malformation::Number(4_294_967_295),
+        13,
+        "4294967296",
+        Malformation::Unfit(Wanted::Number(4_294_967_295)),
     ),
     (
         b"a get_cap 18446744073709551616",
-        Malformation::Number(18_446_744_073_709_551_615),
+        11,
+        "18446744073709551616",
+        Malformation::Unfit(Wanted::Number(18_446_744_073_709_551_615)),
     ),
     (
         b"a stamp_write 1 0x10",
-        Malformation::Number(18_446_744_073_709_551_615),
+        17,
+        "0x10",
+        Malformation::Unfit(Wanted::Number(18_446_744_073_709_551_615)),
     ),
-    (b"a audit client 0", Malformation::Number(4_294_967_295)),
+    (
+        b"a audit client 0",
+        9,
+        "client",
+        Malformation::Unfit(Wanted::Number(4_294_967_295)),
+    ),
     (
         b"a create_lease 1 2 4294967296",
-        Malformation::Number(4_294_967_295),
+        20,
+        "4294967296",
+        Malformation::Unfit(Wanted::Number(4_294_967_295)),
     ),
-    (b"a raw 65536", Malformation::Number(65_535)),
+    (
+        b"a raw 65536",
+        7,
+        "65536",
+        Malformation::Unfit(Wanted::Number(65_535)),
+    ),
     (
         b"limits 4 8 8 8 8 4 4 4294967296",
-        Malformation::Number(4_294_967_295),
+        22,
+        "4294967296",
+        Malformation::Unfit(Wanted::Number(4_294_967_295)),
     ),
-    (b"a audit 0 0", Malformation::AuditKind),
-    (b"a audit 11 0", Malformation::AuditKind),
-    (b"limits 0 8 8 8 8 4 4 50", Malformation::LimitRange),
-    (b"limits 4 8 8 8 8 65 4 50", Malformation::LimitRange),
-    (b"limits 4 8 8 8 8 4 4 1", Malformation::LimitRange),
-    (b"close \xc8", Malformation::NotAscii),
-    (b"close a\t", Malformation::Tab),
+    (
+        b"a audit 0 0",
+        9,
+        "0",
+        Malformation::Unfit(Wanted::AuditKind),
+    ),
+    (
+        b"a audit 11 0",
+        9,
+        "11",
+        Malformation::Unfit(Wanted::AuditKind),
+    ),
+    (b"limits 0 8 8 8 8 4 4 50", 8, "0", Malformation::LimitRange),
+    (
+        b"limits 4 8 8 8 8 65 4 50",
+        18,
+        "65",
+        Malformation::LimitRange,
+    ),
+    (b"limits 4 8 8 8 8 4 4 1", 22, "1", Malformation::LimitRange),
+    (b"close \xc8", 7, "", Malformation::NotAscii),
+    (b"close a\t", 8, "", Malformation::Tab),
+    (
+        b"  a   gem_close  ",
+        18,
+        "",
+        Malformation::Lacks(Wanted::Number(4_294_967_295)),
+    ),
+    (
+        b"  a   gem_close   x ",
+        19,
+        "x",
+        Malformation::Unfit(Wanted::Number(4_294_967_295)),
+    ),
+    (
+        b" open2 b  card1 ",
+        11,
+        "card1",
+        Malformation::Unfit(Wanted::Opening),
+    ),
+    (
+        b"a aaaaaaaaaabbbbbbbbbbccccccccccdddddddddd",
+        3,
+        "aaaaaaaaaabbbbbbbbbbccccccccccdd",
+        Malformation::Unfit(Wanted::Call),
+    ),
 ];
 
 /// More lines that can't be used.
@@ -454,63 +597,143 @@ const MALFORMED: &str = "\
     a destroy_dumb 1 1\n\
     a destroy_dum 1";
 
+/// What is told of a line that can't be used.
+fn malformed(column: usize, word: &str, cause: Malformation) -> Malformed {
+    Malformed {
+        column,
+        word: ArrayString::from(word).unwrap_or(ArrayString::new()),
+        cause,
+    }
+}
+
 #[test]
 fn other_lines_are_malformed(rt: HostRuntime) {
-    for (line, reason) in REASONS {
-        assert_eq!(rt; read_line(line), Reading::Malformed);
-        assert_eq!(rt; malformation_of(line), reason);
+    for (line, column, word, cause) in REASONS {
+        assert_eq!(rt; read_line(line), Err(malformed(column, word, cause)));
     }
-    let late = malformation_of(b"limits 4 8 8 8 8 4 4 50");
-    assert_eq!(rt; late, Malformation::LateLimits);
+    let late = malformed(2, "limits", Malformation::LateLimits);
+    assert_eq!(rt; Malformed::late_limits(b" limits 4 8 8 8 8 4 4 50"), late);
+    let long = malformed(256, "", Malformation::TooLong);
+    assert_eq!(rt; Malformed::too_long(), long);
     for line in MALFORMED.lines() {
-        assert_eq!(rt; read_line(line.as_bytes()), Reading::Malformed, "{line}");
+        assert!(rt; read_line(line.as_bytes()).is_err(), "{line}");
     }
 }
 
 /// The texts of the reasons.
-const TEXTS: [(Malformation, &str); 14] = [
-    (Malformation::TooLong, "it has more than 255 bytes"),
-    (Malformation::NotAscii, "it has a byte above 127"),
-    (Malformation::CarriageReturn, "it has a carriage return"),
+const TEXTS: [(usize, &str, Malformation, &str); 15] = [
     (
+        256,
+        "",
+        Malformation::TooLong,
+        "column 256: it has more than 255 bytes",
+    ),
+    (
+        3,
+        "",
+        Malformation::NotAscii,
+        "column 3: it has a byte above 127",
+    ),
+    (
+        8,
+        "",
+        Malformation::CarriageReturn,
+        "column 8: it has a carriage return",
+    ),
+    (
+        1,
+        "",
         Malformation::Tab,
-        "it has a tab, and spaces alone separate words",
+        "column 1: it has a tab, and spaces alone separate words",
     ),
     (
-        Malformation::FirstWord,
-        "its first word is no label from a to z, and none of limits, open, open2 and close",
+        1,
+        "fly",
+        Malformation::Unfit(Wanted::FirstWord),
+        "column 1: `fly` is no label from a to z, and none of limits, open, open2 and close",
     ),
     (
-        Malformation::Label,
-        "its second word is no label from a to z",
+        7,
+        "A",
+        Malformation::Unfit(Wanted::Label),
+        "column 7: `A` is no label from a to z",
     ),
     (
-        Malformation::Opening,
-        "its third word is none of card, root, render, lease and rootlease",
+        9,
+        "card1",
+        Malformation::Unfit(Wanted::Opening),
+        "column 9: `card1` is no kind of opening: card, render, root, lease or rootlease",
     ),
-    (Malformation::Call, "its second word is no call"),
-    (Malformation::TooFewFields, "it has too few fields"),
-    (Malformation::TooManyFields, "it has too many fields"),
     (
-        Malformation::Number(65_535),
-        "a field is no number from 0 to 65535",
+        3,
+        "fly",
+        Malformation::Unfit(Wanted::Call),
+        "column 3: `fly` is no call",
     ),
-    (Malformation::AuditKind, "there is no audit of this kind"),
-    (Malformation::LimitRange, "a limit is out of its range"),
     (
+        7,
+        "65536",
+        Malformation::Unfit(Wanted::Number(65_535)),
+        "column 7: `65536` is no number from 0 to 65535",
+    ),
+    (
+        9,
+        "11",
+        Malformation::Unfit(Wanted::AuditKind),
+        "column 9: `11` is no kind of an audit, from 1 to 10",
+    ),
+    (
+        12,
+        "",
+        Malformation::Lacks(Wanted::Number(4_294_967_295)),
+        "column 12: it lacks a number from 0 to 4294967295",
+    ),
+    (
+        7,
+        "",
+        Malformation::Lacks(Wanted::Opening),
+        "column 7: it lacks a kind of opening: card, render, root, lease or rootlease",
+    ),
+    (
+        9,
+        "a",
+        Malformation::TooManyWords,
+        "column 9: `a` is a word too many",
+    ),
+    (
+        8,
+        "0",
+        Malformation::LimitRange,
+        "column 8: `0` is a limit out of its range",
+    ),
+    (
+        1,
+        "limits",
         Malformation::LateLimits,
-        "it sets limits behind the first line that isn't skipped",
+        "column 1: `limits` sets limits behind the first line that isn't skipped",
     ),
 ];
 
 #[test]
 fn texts_of_reasons(rt: HostRuntime) -> Result<(), Fail> {
     let alloc: Global = rt.alloc();
-    for (reason, text) in TEXTS {
-        let told = format!(in alloc; "{reason}")?;
+    for (column, word, cause, text) in TEXTS {
+        let told = format!(in alloc; "{}", malformed(column, word, cause))?;
         assert_eq!(rt; told.as_str(), text);
     }
     Ok(())
+}
+
+#[test]
+fn first_lines(rt: HostRuntime) {
+    assert_eq!(rt; first_line(b""), (b"".as_slice(), b"".as_slice()));
+    assert_eq!(rt; first_line(b"a"), (b"a".as_slice(), b"".as_slice()));
+    assert_eq!(rt; first_line(b"a\n"), (b"a".as_slice(), b"".as_slice()));
+    assert_eq!(rt; first_line(b"\na\n"), (b"".as_slice(), b"a\n".as_slice()));
+    assert_eq!(rt;
+        first_line(b"a\nb\nc"),
+        (b"a".as_slice(), b"b\nc".as_slice())
+    );
 }
 
 /// Answers with their lines.

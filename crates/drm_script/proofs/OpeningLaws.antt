@@ -8,7 +8,7 @@ use Rattle.drm_script.specs.declared.openings.TheConstants.{OPENING_WORDS}
 use Rattle.drm_script.specs.Fields.{Words, ◌>>=◌, end_at}
 use Rattle.drm_script.specs.Grammar.{Part, SpellEach, Opens, opening_parts}
 use Rattle.drm_script.specs.Grammar.Part.{word, number}
-use Rattle.drm_script.specs.Openings.{opening_text, opening_word_of, lease_at, primary_at, opening_fields_at, opening_at}
+use Rattle.drm_script.specs.Openings.{opening_text, opening_word_of, lease_at, primary_at, render_at, opening_fields_at, opening_at}
 use Rattle.drm_script.proofs.FieldLaws.{some_same, bind_some, word_bind, words_behind, spelled, end_bind, number_bind, number32_at_some, found}
 
 -- ---- an opening by its word
@@ -37,12 +37,16 @@ lease_reads universal root name ws opening parts e =
       spelled opening_parts name ws (a.w ∷ []) opening (openings.Lease a.n root universal) (words_behind a.words z.0) (some_same _ _ z.1) (subst P (sym (parts a.n)) (refl, (a.spells, tt))),
     )
 
+render_reads : (universal : Bool) (ws : Words) (opening : Opening) → render_at ws ≡ Some opening → Opens universal opening × SpellEach (opening_parts opening) (codes "render" ∷ ws)
+unfolding render_at
+render_reads universal ws opening e =
+    let it = plain_reads (codes "render") ws openings.Render opening (refl, tt) e in
+    (subst (Opens universal) it.0 tt, it.1)
+
 fields_read : (universal : Bool) (name : OpeningWord) (ws : Words) (opening : Opening) → opening_fields_at universal name ws ≡ Some opening → Opens universal opening × SpellEach (opening_parts opening) (opening_text name ∷ ws)
 fields_read universal words.Card ws opening e = primary_reads universal false (codes "card") ws opening (refl, tt) e
 fields_read universal words.Root ws opening e = primary_reads universal true (codes "root") ws opening (refl, tt) e
-fields_read universal words.Render ws opening e =
-    let it = plain_reads (codes "render") ws openings.Render opening (refl, tt) e in
-    (subst (Opens universal) it.0 tt, it.1)
+fields_read universal words.Render ws opening e = render_reads universal ws opening e
 fields_read universal words.Lease ws opening e = lease_reads universal false (codes "lease") ws opening (λ token. refl) e
 fields_read universal words.RootLease ws opening e = lease_reads universal true (codes "rootlease") ws opening (λ token. refl) e
 
@@ -79,7 +83,7 @@ lease_word_read w ws token false universal s = rw s.0 (lease_read universal fals
 lease_word_read w ws token true universal s = rw s.0 (lease_read universal true ws token s.1)
 
 render_word_read : (w : List ℕ) (universal : Bool) → SpellEach (opening_parts openings.Render) (w ∷ []) → opening_at universal (w ∷ []) ≡ Some openings.Render
-unfolding opening_at opening_word_of
+unfolding opening_at opening_word_of render_at
 render_word_read w universal s = rw s.0 refl
 
 opening_word_read : (on : Bool) (w : List ℕ) (ws : Words) (opening : Opening) → Opens on opening → SpellEach (opening_parts opening) (w ∷ ws) → opening_at on (w ∷ ws) ≡ Some opening

@@ -1,5 +1,5 @@
 -- What is read is what the grammar says, and an answer is one line.
-use Rattle.std.specs.Prelude.{◌≡◌, ◌≢◌, ◌↔◌, ℕ, List, Result, All}
+use Rattle.std.specs.Prelude.{◌≡◌, ◌≢◌, ◌↔◌, ℕ, List, Option, Some, None, Result, All}
 use Rattle.drm_table.specs.declared.answers.Answer.{Answer}
 use Rattle.drm_table.specs.declared.apart.Apart.{Apart}
 use Rattle.drm_table.specs.declared.limits.Limits.{Limits}
@@ -16,19 +16,19 @@ WordsStandBetweenSpaces = (line : List ℕ) (words : List (List ℕ)) → (words
 
 -- A line is read as a command just where the grammar says so.
 abbrev pub ReadsTheGrammar : Type 0
-ReadsTheGrammar = (line : List ℕ) (command : Command) → (reading_of line ≡ readings.Says command) ↔ IsCommandLine line command
+ReadsTheGrammar = (line : List ℕ) (command : Command) → (reading_of line ≡ Some (readings.Says command)) ↔ IsCommandLine line command
 
 -- The same of the limits.
 abbrev pub ReadsLimitsLines : Type 0
-ReadsLimitsLines = (line : List ℕ) (limits : Limits) → (reading_of line ≡ readings.Limits limits) ↔ IsLimitsLine line limits
+ReadsLimitsLines = (line : List ℕ) (limits : Limits) → (reading_of line ≡ Some (readings.Limits limits)) ↔ IsLimitsLine line limits
 
 -- Comments and lines with no word are skipped, and nothing else.
 abbrev pub SkipsCommentsAndBlankLines : Type 0
-SkipsCommentsAndBlankLines = (line : List ℕ) → (reading_of line ≡ readings.Skipped) ↔ IsSkippedLine line
+SkipsCommentsAndBlankLines = (line : List ℕ) → (reading_of line ≡ Some readings.Skipped) ↔ IsSkippedLine line
 
 -- What is left is malformed.
 abbrev pub RefusesAllOtherLines : Type 0
-RefusesAllOtherLines = (line : List ℕ) → (reading_of line ≡ readings.Malformed) ↔ IsOtherLine line
+RefusesAllOtherLines = (line : List ℕ) → (reading_of line ≡ None) ↔ IsOtherLine line
 
 -- No line end stands within the words of an answer.
 abbrev pub AnswersTakeOneLine : Type 0

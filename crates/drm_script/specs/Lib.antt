@@ -5,6 +5,7 @@ pub mod Grammar
 pub mod Laws
 pub mod LimitsLine
 pub mod Lines
+pub mod Malformations
 pub mod Openings
 pub mod Reading
 pub mod Words

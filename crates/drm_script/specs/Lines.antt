@@ -1,5 +1,5 @@
--- The line that each answer writes (own).
-use Rattle.std.specs.Prelude.{ℕ, List, [], ◌∷◌, ◌++◌, codes, decimal, length, Result, Ok, Err}
+-- Where a line ends, and the line that each answer writes (own).
+use Rattle.std.specs.Prelude.{ℕ, ◌+◌, Bool, ◌==◌, Option, None, Some, take, drop, List, [], ◌∷◌, ◌++◌, codes, decimal, length, Result, Ok, Err}
 use Rattle.std.specs.List.{flat_map}
 use Rattle.drm_table.specs.declared.rules.Rule.{Rule}
 use Rattle.drm_table.specs.declared.answers.Answer.{Answer}
@@ -12,6 +12,18 @@ use Rattle.drm_table.specs.Answers.Told.{row, resources, list, page, denial}
 use Rattle.drm_table.specs.Audits.{kind_name}
 use Rattle.drm_table.specs.Fields.{number_in}
 use Rattle.drm_table.specs.Rules.{rule_number, rule_name, rule_errno, apart_number, apart_name, apart_errno}
+
+abbrev pub is_line_end : ℕ → Bool
+is_line_end b = b == 10
+
+-- what stands before a line end at this place, and behind it; all and nothing where no line ends
+abbrev pub line_before : Option ℕ → List ℕ → List ℕ
+line_before None text = text
+line_before (Some place) text = take place text
+
+abbrev pub text_behind : Option ℕ → List ℕ → List ℕ
+text_behind None text = []
+text_behind (Some place) text = drop (place + 1) text
 
 -- a number behind a word, or behind another number
 abbrev pub number_behind : Field → List ℕ

@@ -33,11 +33,17 @@ primary_at universal root ws = do
   end ← end_at ws
   Some (openings.Primary root universal)
 
+-- a render node
+unfoldable pub render_at : Words → Option Opening
+render_at ws = do
+  end ← end_at ws
+  Some openings.Render
+
 -- the opening of a word and its fields; a render client has universal planes on in any case
 abbrev pub opening_fields_at : Bool → OpeningWord → Words → Option Opening
 opening_fields_at universal words.Card ws = primary_at universal false ws
 opening_fields_at universal words.Root ws = primary_at universal true ws
-opening_fields_at universal words.Render ws = end_at ws >>= (λ _. Some openings.Render)
+opening_fields_at universal words.Render ws = render_at ws
 opening_fields_at universal words.Lease ws = lease_at universal false ws
 opening_fields_at universal words.RootLease ws = lease_at universal true ws
 

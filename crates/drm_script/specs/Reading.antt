@@ -27,18 +27,18 @@ line_text words.Close = codes "close"
 unfoldable pub line_word_of : List ℕ → Option LineWord
 line_word_of w = find (λ name. bytes_eq (line_text name) w) LINE_WORDS
 
--- a command, or a malformed line where there is none
-abbrev pub command_said : Option Command → Reading
-command_said None = readings.Malformed
-command_said (Some command) = readings.Says command
+-- a command, or nothing where the line is malformed
+abbrev pub command_said : Option Command → Option Reading
+command_said None = None
+command_said (Some command) = Some (readings.Says command)
 
 -- the same of the limits
-abbrev pub limits_said : Option Limits → Reading
-limits_said None = readings.Malformed
-limits_said (Some limits) = readings.Limits limits
+abbrev pub limits_said : Option Limits → Option Reading
+limits_said None = None
+limits_said (Some limits) = Some (readings.Limits limits)
 
 -- by the first word, and apart from it the others
-abbrev pub said_behind : Option LineWord → List ℕ → Words → Reading
+abbrev pub said_behind : Option LineWord → List ℕ → Words → Option Reading
 said_behind (Some words.Limits) w ws = limits_said (limits_at ws)
 said_behind (Some words.Open) w ws = command_said (open_at true ws)
 said_behind (Some words.Open2) w ws = command_said (open_at false ws)
@@ -46,8 +46,8 @@ said_behind (Some words.Close) w ws = command_said (close_at ws)
 said_behind None w ws = command_said (ask_at w ws)
 
 -- what words say
-abbrev pub words_said : Words → Reading
-words_said [] = readings.Skipped
+abbrev pub words_said : Words → Option Reading
+words_said [] = Some readings.Skipped
 words_said (w ∷ ws) = said_behind (line_word_of w) w ws
 
 -- the first byte is #
@@ -71,10 +71,10 @@ abbrev pub IfLimits : Reading → (Limits → Type 0) → Type 0
 IfLimits (readings.Limits limits) P = P limits
 IfLimits _ P = ⊤
 
--- what a line is read as, without its end
-unfoldable pub reading_of : List ℕ → Reading
+-- what a line is read as, without its end; nothing where it is malformed
+unfoldable pub reading_of : List ℕ → Option Reading
 reading_of line =
-    if nat_lt 255 (length line) then readings.Malformed
-    else (if not (list_all is_ascii line) then readings.Malformed
-    else (if is_comment line then readings.Skipped
+    if nat_lt 255 (length line) then None
+    else (if not (list_all is_ascii line) then None
+    else (if is_comment line then Some readings.Skipped
     else words_said (words_of line)))

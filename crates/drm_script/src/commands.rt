@@ -1,13 +1,15 @@
 //! What a line asks of the device.
 
 ghost use Rattle.std.specs.Prelude.{◌≡◌};
+ghost use Rattle.std.specs.Result.{result_ok};
 ghost use Rattle.drm_script.specs.Commands.{open_at, close_at, ask_at};
 ghost use Rattle.drm_script.specs.Words.{words_of};
 
 use crate::calls::call_of;
 use crate::labels::{Label, label_of_word};
+use crate::malformations::{Fault, Wanted};
 use crate::openings::opening_of;
-use crate::words::{end_of, next_word};
+use crate::words::{end_of, word_of};
 use drm_table::{Call, Opening};
 
 /// What a line asks of the device (own).
@@ -23,32 +25,38 @@ pub enum Command {
 
 /// `open L OPENING` or `open2 L OPENING`, behind its first word: with universal planes on or off.
 #[tactic(auto, unfolding(crate::specs::Commands::open_at))]
-pub(crate) fn open(universal: bool, text: &[u8]) -> Option<Command>
-    ensures { result ≡ open_at universal (words_of text.now) }
+pub(crate) fn open(universal: bool, text: &[u8]) -> Result<Command, Fault<'_>>
+    ensures { result_ok result ≡ open_at universal (words_of text.now) }
 {
-    let (first, rest) = next_word(text)?;
-    let label = label_of_word(first)?;
+    let (first, rest) = word_of(Wanted::Label, text)?;
+    let Some(label) = label_of_word(first) else {
+        return Err(Fault::unfit(text, Wanted::Label));
+    };
     let opening = opening_of(universal, rest)?;
-    Some(Command::Open { label, opening })
+    Ok(Command::Open { label, opening })
 }
 
 /// `close L`, behind its first word.
 #[tactic(auto, unfolding(crate::specs::Commands::close_at))]
-pub(crate) fn close(text: &[u8]) -> Option<Command>
-    ensures { result ≡ close_at (words_of text.now) }
+pub(crate) fn close(text: &[u8]) -> Result<Command, Fault<'_>>
+    ensures { result_ok result ≡ close_at (words_of text.now) }
 {
-    let (first, rest) = next_word(text)?;
-    let label = label_of_word(first)?;
+    let (first, rest) = word_of(Wanted::Label, text)?;
+    let Some(label) = label_of_word(first) else {
+        return Err(Fault::unfit(text, Wanted::Label));
+    };
     end_of(rest)?;
-    Some(Command::Close { label })
+    Ok(Command::Close { label })
 }
 
-/// `L CALL FIELDS`, the first word apart from the others.
+/// `L CALL FIELDS` from its first word on, and apart from that the first word and the others.
 #[tactic(auto, unfolding(crate::specs::Commands::ask_at))]
-pub(crate) fn ask(first: &[u8], text: &[u8]) -> Option<Command>
-    ensures { result ≡ ask_at first.now (words_of text.now) }
+pub(crate) fn ask<'a>(whole: &'a [u8], first: &[u8], text: &'a [u8]) -> Result<Command, Fault<'a>>
+    ensures { result_ok result ≡ ask_at first.now (words_of text.now) }
 {
-    let label = label_of_word(first)?;
+    let Some(label) = label_of_word(first) else {
+        return Err(Fault::unfit(whole, Wanted::FirstWord));
+    };
     let call = call_of(text)?;
-    Some(Command::Ask { label, call })
+    Ok(Command::Ask { label, call })
 }

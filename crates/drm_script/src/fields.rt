@@ -2,36 +2,38 @@
 
 ghost use Rattle.std.specs.Prelude.{◌≡◌, ◌≤◌, length};
 ghost use Rattle.std.specs.Option.{option_map};
+ghost use Rattle.std.specs.Result.{result_ok};
 ghost use Rattle.drm_table.specs.Fields.{IsShort, layout_of};
 ghost use Rattle.drm_script.specs.Fields.{field_at, few_words, fields_at, numbers_at};
 ghost use Rattle.drm_script.specs.Words.{words_of};
 
+use crate::malformations::Fault;
 use crate::numbers::{u32_word, u64_word};
 use crate::words::{end_of, next_word};
 use drm_table::{Field, Fields, Layout, Width};
 
 /// The field that the first word spells, and what follows it.
 #[tactic(auto, unfolding(crate::specs::Fields::field_at))]
-fn field_of(width: Width, text: &[u8]) -> Option<(Field, &[u8])>
-    ensures { option_map (λ read. (read.0, words_of read.1.now)) result ≡ field_at width (words_of text.now) }
+fn field_of(width: Width, text: &[u8]) -> Result<(Field, &[u8]), Fault<'_>>
+    ensures { option_map (λ read. (read.0, words_of read.1.now)) (result_ok result) ≡ field_at width (words_of text.now) }
 {
     match width {
         Width::U32 => {
             let (number, rest) = u32_word(text)?;
-            Some((Field::U32(number), rest))
+            Ok((Field::U32(number), rest))
         }
         Width::U64 => {
             let (number, rest) = u64_word(text)?;
-            Some((Field::U64(number), rest))
+            Ok((Field::U64(number), rest))
         }
     }
 }
 
 /// The fields of these widths that the words spell, where no word is behind them.
 #[tactic(auto, unfolding(crate::specs::Fields::numbers_at))]
-fn numbers_of(widths: &[Width], text: &[u8]) -> Option<Fields>
+fn numbers_of<'a>(widths: &[Width], text: &'a [u8]) -> Result<Fields, Fault<'a>>
     requires { length widths.now ≤ 32 }
-    ensures { result ≡ numbers_at widths.now (words_of text.now) }
+    ensures { result_ok result ≡ numbers_at widths.now (words_of text.now) }
 {
     let mut fields = Fields::new();
     let mut rest = text;
@@ -41,28 +43,29 @@ fn numbers_of(widths: &[Width], text: &[u8]) -> Option<Fields>
         rest = behind;
     }
     end_of(rest)?;
-    Some(fields)
+    Ok(fields)
 }
 
 /// How many words there are, if as many as a call has ids at most.
-fn few_words(text: &[u8]) -> Option<usize>
-    ensures { result ≡ few_words (words_of text.now) }
+fn few_words(text: &[u8]) -> Result<usize, Fault<'_>>
+    ensures { result_ok result ≡ few_words (words_of text.now) }
 {
     let mut rest = text;
-    for count in 0..Layout::MOST_IDS + 1 {
+    for count in 0..Layout::MOST_IDS {
         let Some((_, behind)) = next_word(rest) else {
-            return Some(count);
+            return Ok(count);
         };
         rest = behind;
     }
-    None
+    end_of(rest)?;
+    Ok(Layout::MOST_IDS)
 }
 
 /// The fields of a layout that the words spell, where no word is behind them.
 #[tactic(auto, unfolding(crate::specs::Fields::fields_at))]
-pub(crate) fn fields_of(layout: Layout, text: &[u8]) -> Option<Fields>
+pub(crate) fn fields_of(layout: Layout, text: &[u8]) -> Result<Fields, Fault<'_>>
     requires { IsShort (layout_of layout) }
-    ensures { result ≡ fields_at (layout_of layout) (words_of text.now) }
+    ensures { result_ok result ≡ fields_at (layout_of layout) (words_of text.now) }
 {
     match layout {
         Layout::Numbers(widths) => numbers_of(widths, text),

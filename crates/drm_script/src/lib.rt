@@ -14,6 +14,7 @@ mod malformations;
 mod numbers;
 mod openings;
 mod reading;
+mod splitting;
 mod texts;
 mod words;
 
@@ -25,6 +26,7 @@ pub use laws::{
     skips_comments_and_blank_lines, words_stand_between_spaces,
 };
 pub use lines::line_of;
-pub use malformations::{Malformation, malformation_of};
+pub use malformations::{Malformation, Malformed, WORD, Wanted};
 pub use reading::{Reading, read_line};
+pub use splitting::first_line;
 pub use texts::{LINE, LineText, push_number};

@@ -1,14 +1,48 @@
-//! Why a line can't be used, for who wrote it.
+//! Why a line can't be used, for who wrote it, and where in the line.
 
-use crate::calls::{RAW, row_call};
-use crate::labels::label_of_word;
-use crate::limits_line::limits_of;
-use crate::numbers::number;
-use crate::openings::{OpeningWord, opening_word};
-use crate::reading::{LONGEST, LineWord, is_ascii, is_comment, line_word};
-use crate::words::{end_of, next_word};
-use drm_table::{CallKind, Layout, Width};
+ghost use Rattle.std.specs.Prelude.{◌≡◌, ◌<◌, ◌≤◌, ◌++◌, [], ◌∷◌, length, map};
+ghost use Rattle.arrayvec.specs.ArrayString.{array_string_len};
+ghost use Rattle.drm_script.specs.Malformations.{first_told, shown, told};
+ghost use Rattle.drm_script.specs.Words.{words_of};
+
+use crate::words::{next_word, trim_spaces};
+use arrayvec::ArrayString;
+use std::error::Error;
+use std::fmt;
 use thiserror::Error;
+
+/// What would have fitted in the place of a word (own).
+#[derive(Clone, Copy, Debug, PartialEq, Eq)]
+pub enum Wanted {
+    /// A label, or a word that begins a line.
+    FirstWord,
+    /// A label, behind `open`, `open2` or `close`.
+    Label,
+    /// A way to open a client.
+    Opening,
+    /// The word of a call, behind a label.
+    Call,
+    /// A number from 0 to this.
+    Number(u64),
+    /// The number of a kind of an audit.
+    AuditKind,
+}
+
+impl fmt::Display for Wanted {
+    fn fmt<W: fmt::Write>(&self, f: &mut fmt::Formatter<W>) -> fmt::Result {
+        match self {
+            Wanted::FirstWord => write!(
+                f,
+                "label from a to z, and none of limits, open, open2 and close"
+            ),
+            Wanted::Label => write!(f, "label from a to z"),
+            Wanted::Opening => write!(f, "kind of opening: card, render, root, lease or rootlease"),
+            Wanted::Call => write!(f, "call"),
+            Wanted::Number(greatest) => write!(f, "number from 0 to {greatest}"),
+            Wanted::AuditKind => write!(f, "kind of an audit, from 1 to 10"),
+        }
+    }
+}
 
 /// Why a line of a script can't be used (own).
 #[derive(Clone, Copy, Debug, PartialEq, Eq, Error)]
@@ -25,163 +59,163 @@ pub enum Malformation {
     /// A tab, which separates no words.
     #[error("it has a tab, and spaces alone separate words")]
     Tab,
-    /// The first word is neither a label nor a word that begins a line.
-    #[error("its first word is no label from a to z, and none of limits, open, open2 and close")]
-    FirstWord,
-    /// A line of `open`, `open2` or `close` names no label.
-    #[error("its second word is no label from a to z")]
-    Label,
-    /// There is no such way to open a client.
-    #[error("its third word is none of card, root, render, lease and rootlease")]
-    Opening,
-    /// Behind the label stands no word of a call.
-    #[error("its second word is no call")]
-    Call,
-    /// A word or a field is wanting.
-    #[error("it has too few fields")]
-    TooFewFields,
-    /// More words than the line takes.
-    #[error("it has too many fields")]
-    TooManyFields,
-    /// A field has another letter than a digit, or is above this number.
-    #[error("a field is no number from 0 to {0}")]
-    Number(u64),
-    /// The number names no kind of an audit.
-    #[error("there is no audit of this kind")]
-    AuditKind,
+    /// The word isn't what would have fitted.
+    #[error("is no {0}")]
+    Unfit(Wanted),
+    /// The line ends where this would have fitted.
+    #[error("it lacks a {0}")]
+    Lacks(Wanted),
+    /// A word behind all that the line takes.
+    #[error("is a word too many")]
+    TooManyWords,
     /// A limit is a number, but out of its range.
-    #[error("a limit is out of its range")]
+    #[error("is a limit out of its range")]
     LimitRange,
     /// The line is well formed, and sets limits where the device is made already.
-    #[error("it sets limits behind the first line that isn't skipped")]
+    #[error("sets limits behind the first line that isn't skipped")]
     LateLimits,
 }
 
-fn word(text: &[u8]) -> Result<(&[u8], &[u8]), Malformation> {
-    next_word(text).ok_or(Malformation::TooFewFields)
+/// How many bytes of a word are told at most (own).
+pub const WORD: usize = 32;
+
+/// A line that can't be used: where, the word there, and why (own).
+#[derive(Clone, Copy, Debug, PartialEq, Eq)]
+pub struct Malformed {
+    /// The place in the line, in bytes from 1, where the word at fault begins, or would have stood; else that of the byte at fault.
+    pub column: usize,
+    /// The word at fault: what has more than 32 bytes is cut, and a byte that doesn't show is `?`. Empty where one lacks, and where a
+    /// byte is at fault.
+    pub word: ArrayString<WORD>,
+    /// Why the line can't be used.
+    pub cause: Malformation,
 }
 
-fn end(text: &[u8]) -> Result<(), Malformation> {
-    end_of(text).ok_or(Malformation::TooManyFields)
-}
-
-/// What follows a number that is no greater than this.
-fn number_to(greatest: u64, text: &[u8]) -> Result<&[u8], Malformation> {
-    let (word, rest) = word(text)?;
-    match number(word) {
-        Some(found) if found <= greatest => Ok(rest),
-        _ => Err(Malformation::Number(greatest)),
-    }
-}
-
-fn numbers(widths: &[Width], text: &[u8]) -> Result<(), Malformation> {
-    let mut rest = text;
-    for width in widths {
-        let greatest = match width {
-            Width::U32 => u64::from(u32::MAX),
-            Width::U64 => u64::MAX,
-        };
-        rest = number_to(greatest, rest)?;
-    }
-    end(rest)
-}
-
-fn ids(text: &[u8]) -> Result<(), Malformation> {
-    let mut rest = text;
-    for _ in 0..Layout::MOST_IDS {
-        if next_word(rest).is_none() {
-            return Ok(());
+impl fmt::Display for Malformed {
+    fn fmt<W: fmt::Write>(&self, f: &mut fmt::Formatter<W>) -> fmt::Result {
+        if self.word.is_empty() {
+            write!(f, "column {}: {}", self.column, self.cause)
+        } else {
+            write!(f, "column {}: `{}` {}", self.column, self.word, self.cause)
         }
-        rest = number_to(u64::from(u32::MAX), rest)?;
-    }
-    end(rest)
-}
-
-fn limits(text: &[u8]) -> Result<(), Malformation> {
-    numbers(&[Width::U32; 8], text)?;
-    match limits_of(text) {
-        Some(_) => Ok(()),
-        None => Err(Malformation::LimitRange),
     }
 }
 
-/// What follows a label.
-fn label(text: &[u8]) -> Result<&[u8], Malformation> {
-    let (first, rest) = word(text)?;
-    match label_of_word(first) {
-        Some(_) => Ok(rest),
-        None => Err(Malformation::Label),
+impl Error for Malformed {}
+
+/// What a reader can't go on with: the text from the word at fault on, and why.
+#[derive(Clone, Copy)]
+pub(crate) struct Fault<'a> {
+    pub(crate) at: &'a [u8],
+    pub(crate) cause: Malformation,
+}
+
+impl<'a> Fault<'a> {
+    /// The first word of this text isn't what would have fitted.
+    pub(crate) fn unfit(at: &'a [u8], wanted: Wanted) -> Fault<'a> {
+        Fault {
+            at,
+            cause: Malformation::Unfit(wanted),
+        }
     }
 }
 
-fn opening(text: &[u8]) -> Result<(), Malformation> {
-    let (first, rest) = word(text)?;
-    match opening_word(first) {
-        Some(OpeningWord::Card | OpeningWord::Root | OpeningWord::Render) => end(rest),
-        Some(OpeningWord::Lease | OpeningWord::RootLease) => numbers(&[Width::U32], rest),
-        None => Err(Malformation::Opening),
+/// A byte of a word behind the text: what doesn't show is `?`.
+fn push_shown(text: &mut ArrayString<WORD>, byte: u8)
+    requires { array_string_len text.old < WORD }
+    ensures { text.new.bytes ≡ text.old.bytes ++ shown byte ∷ [] }
+{
+    if byte.is_ascii_graphic() {
+        text.push(char::from(byte));
+    } else {
+        text.push('?');
     }
 }
 
-/// The fields of a call that has a word, of which an audit's kind alone may be none where they are numbers.
-fn fields(word: &[u8], text: &[u8]) -> Result<(), Malformation> {
-    match CallKind::of_word(word).map(CallKind::layout) {
-        Some(Layout::Numbers(widths)) => numbers(widths, text)?,
-        Some(Layout::Ids) => ids(text)?,
-        None => return Err(Malformation::Call),
+/// The bytes of a word that has 32 at most, as they are told.
+fn all_shown(word: &[u8]) -> ArrayString<WORD>
+    requires { length word.now ≤ WORD }
+    ensures { result.bytes ≡ map shown word.now }
+{
+    let mut text = ArrayString::new();
+    for byte in word {
+        push_shown(&mut text, *byte);
     }
-    match row_call(word, text) {
-        Some(_) => Ok(()),
-        None => Err(Malformation::AuditKind),
+    text
+}
+
+/// A word as it is told, by its first 32 bytes.
+fn told(word: &[u8]) -> ArrayString<WORD>
+    ensures { result.bytes ≡ told word.now }
+{
+    if word.len() <= WORD {
+        return all_shown(word);
+    }
+    all_shown(word.split_at(WORD).0)
+}
+
+/// The first word of a text as it is told; nothing where there is none.
+fn first_told(text: &[u8]) -> ArrayString<WORD>
+    ensures { result.bytes ≡ first_told (words_of text.now) }
+{
+    match next_word(text) {
+        Some((word, _)) => told(word),
+        None => ArrayString::new(),
     }
 }
 
-fn call(text: &[u8]) -> Result<(), Malformation> {
-    let (first, rest) = word(text)?;
-    if first == RAW {
-        return end(number_to(u64::from(u16::MAX), rest)?);
-    }
-    fields(first, rest)
-}
+impl Malformed {
+    ghost use Rattle.std.specs.Prelude.{◌≡◌, ◌≤◌, ◌<◌, ◌+◌, ◌^◌, [], length};
+    ghost use Rattle.drm_script.specs.Malformations.{TellsTheWordThere};
 
-fn words(text: &[u8]) -> Result<(), Malformation> {
-    let Some((first, rest)) = next_word(text) else {
-        return Ok(());
-    };
-    match line_word(first) {
-        Some(LineWord::Limits) => limits(rest),
-        Some(LineWord::Open | LineWord::Open2) => opening(label(rest)?),
-        Some(LineWord::Close) => end(label(rest)?),
-        None => match label_of_word(first) {
-            Some(_) => call(rest),
-            None => Err(Malformation::FirstWord),
-        },
+    /// A line that is too long, by its first byte too many.
+    pub fn too_long() -> Malformed
+        ensures column { result.column ≡ 256 }
+        ensures word { result.word.bytes ≡ [] }
+    {
+        Malformed {
+            column: 256,
+            word: ArrayString::new(),
+            cause: Malformation::TooLong,
+        }
     }
-}
 
-/// Nothing where the line is well formed.
-fn judge(line: &[u8]) -> Result<(), Malformation> {
-    if line.len() > LONGEST {
-        return Err(Malformation::TooLong);
+    /// A line by a byte, which has this place in it, from 0.
+    pub(crate) fn at_byte(place: usize, cause: Malformation) -> Malformed
+        requires { place + 1 < 2 ^ 64 }
+        ensures column { result.column ≡ place + 1 }
+        ensures word { result.word.bytes ≡ [] }
+    {
+        Malformed {
+            column: place + 1,
+            word: ArrayString::new(),
+            cause,
+        }
     }
-    if !is_ascii(line) {
-        return Err(Malformation::NotAscii);
-    }
-    if is_comment(line) {
-        return Ok(());
-    }
-    if line.contains(&b'\r') {
-        return Err(Malformation::CarriageReturn);
-    }
-    if line.contains(&b'\t') {
-        return Err(Malformation::Tab);
-    }
-    words(line)
-}
 
-/// Why a line that was refused can't be used, of which the bytes are given without the line end (own).
-///
-/// Where the line by itself is well formed, it can only be one that sets limits too late.
-pub fn malformation_of(line: &[u8]) -> Malformation {
-    judge(line).err().unwrap_or(Malformation::LateLimits)
+    /// A line by a fault in it.
+    pub(crate) fn at_fault(line: &[u8], fault: Fault<'_>) -> Malformed
+        ensures first { 1 ≤ result.column }
+        ensures last { result.column ≤ length line.now + 1 }
+        ensures word { TellsTheWordThere line.now result }
+    {
+        let left = trim_spaces(fault.at).len();
+        let place = line.len().saturating_sub(left);
+        let (_, at) = line.split_at(place);
+        Malformed {
+            column: place + 1,
+            word: first_told(at),
+            cause: fault.cause,
+        }
+    }
+
+    /// A line that sets limits where the device is made already.
+    pub fn late_limits(line: &[u8]) -> Malformed
+        ensures first { 1 ≤ result.column }
+        ensures last { result.column ≤ length line.now + 1 }
+        ensures word { TellsTheWordThere line.now result }
+    {
+        let cause = Malformation::LateLimits;
+        Malformed::at_fault(line, Fault { at: line, cause })
+    }
 }

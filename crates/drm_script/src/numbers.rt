@@ -1,11 +1,13 @@
 //! The numbers of a line, in decimal digits, each within the type of its field.
 
-ghost use Rattle.std.specs.Prelude.{◌≡◌};
+ghost use Rattle.std.specs.Prelude.{◌≡◌, option_and_then};
 ghost use Rattle.std.specs.Option.{option_map};
-ghost use Rattle.drm_script.specs.Fields.{number_of, number_at};
+ghost use Rattle.std.specs.Result.{result_ok};
+ghost use Rattle.drm_script.specs.Fields.{number_of, number_at, of_bits};
 ghost use Rattle.drm_script.specs.Words.{words_of};
 
-use crate::words::next_word;
+use crate::malformations::{Fault, Wanted};
+use crate::words::word_of;
 
 /// The sign that `parse` takes in front of a number, and a script doesn't.
 const PLUS: u8 = b'+';
@@ -28,30 +30,53 @@ pub(crate) fn number(word: &[u8]) -> Option<u64>
 
 /// The number of 64 bits that the first word spells, and what follows it.
 #[tactic(auto, unfolding(crate::specs::Fields::number_at))]
-pub(crate) fn u64_word(text: &[u8]) -> Option<(u64, &[u8])>
-    ensures { option_map (λ found. (found.0, words_of found.1.now)) result ≡ number_at 64 (words_of text.now) }
+pub(crate) fn u64_word(text: &[u8]) -> Result<(u64, &[u8]), Fault<'_>>
+    ensures { option_map (λ found. (found.0, words_of found.1.now)) (result_ok result) ≡ number_at 64 (words_of text.now) }
 {
-    let (word, rest) = next_word(text)?;
-    let value = number(word)?;
-    Some((value, rest))
+    let wanted = Wanted::Number(u64::MAX);
+    let (word, rest) = word_of(wanted, text)?;
+    let Some(value) = number(word) else {
+        return Err(Fault::unfit(text, wanted));
+    };
+    Ok((value, rest))
+}
+
+/// The number that a word spells; None where it is none of 32 bits.
+fn u32_of(word: &[u8]) -> Option<u32>
+    ensures { result ≡ option_and_then (of_bits 32) (number_of word.now) }
+{
+    u32::try_from(number(word)?).ok()
 }
 
 /// The number of 32 bits that the first word spells, and what follows it.
 #[tactic(auto, unfolding(crate::specs::Fields::number_at))]
-pub(crate) fn u32_word(text: &[u8]) -> Option<(u32, &[u8])>
-    ensures { option_map (λ found. (found.0, words_of found.1.now)) result ≡ number_at 32 (words_of text.now) }
+pub(crate) fn u32_word(text: &[u8]) -> Result<(u32, &[u8]), Fault<'_>>
+    ensures { option_map (λ found. (found.0, words_of found.1.now)) (result_ok result) ≡ number_at 32 (words_of text.now) }
 {
-    let (word, rest) = next_word(text)?;
-    let value = u32::try_from(number(word)?).ok()?;
-    Some((value, rest))
+    let wanted = Wanted::Number(u64::from(u32::MAX));
+    let (word, rest) = word_of(wanted, text)?;
+    let Some(value) = u32_of(word) else {
+        return Err(Fault::unfit(text, wanted));
+    };
+    Ok((value, rest))
+}
+
+/// The number that a word spells; None where it is none of 16 bits.
+fn u16_of(word: &[u8]) -> Option<u16>
+    ensures { result ≡ option_and_then (of_bits 16) (number_of word.now) }
+{
+    u16::try_from(number(word)?).ok()
 }
 
 /// The number of 16 bits that the first word spells, and what follows it.
 #[tactic(auto, unfolding(crate::specs::Fields::number_at))]
-pub(crate) fn u16_word(text: &[u8]) -> Option<(u16, &[u8])>
-    ensures { option_map (λ found. (found.0, words_of found.1.now)) result ≡ number_at 16 (words_of text.now) }
+pub(crate) fn u16_word(text: &[u8]) -> Result<(u16, &[u8]), Fault<'_>>
+    ensures { option_map (λ found. (found.0, words_of found.1.now)) (result_ok result) ≡ number_at 16 (words_of text.now) }
 {
-    let (word, rest) = next_word(text)?;
-    let value = u16::try_from(number(word)?).ok()?;
-    Some((value, rest))
+    let wanted = Wanted::Number(u64::from(u16::MAX));
+    let (word, rest) = word_of(wanted, text)?;
+    let Some(value) = u16_of(word) else {
+        return Err(Fault::unfit(text, wanted));
+    };
+    Ok((value, rest))
 }

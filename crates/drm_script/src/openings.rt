@@ -1,11 +1,13 @@
 //! The words that say how a client is opened.
 
 ghost use Rattle.std.specs.Prelude.{◌≡◌};
-ghost use Rattle.drm_script.specs.Openings.{opening_text, opening_word_of, lease_at, primary_at, opening_fields_at, opening_at};
+ghost use Rattle.std.specs.Result.{result_ok};
+ghost use Rattle.drm_script.specs.Openings.{opening_text, opening_word_of, lease_at, primary_at, render_at, opening_fields_at, opening_at};
 ghost use Rattle.drm_script.specs.Words.{words_of};
 
+use crate::malformations::{Fault, Wanted};
 use crate::numbers::u32_word;
-use crate::words::{end_of, next_word};
+use crate::words::{end_of, word_of};
 use drm_table::Opening;
 
 /// The words that name an opening.
@@ -53,12 +55,12 @@ pub(crate) fn opening_word(word: &[u8]) -> Option<OpeningWord>
 
 /// A lease, by its token.
 #[tactic(auto, unfolding(crate::specs::Openings::lease_at))]
-fn lease(universal: bool, root: bool, text: &[u8]) -> Option<Opening>
-    ensures { result ≡ lease_at universal root (words_of text.now) }
+fn lease(universal: bool, root: bool, text: &[u8]) -> Result<Opening, Fault<'_>>
+    ensures { result_ok result ≡ lease_at universal root (words_of text.now) }
 {
     let (token, rest) = u32_word(text)?;
     end_of(rest)?;
-    Some(Opening::Lease {
+    Ok(Opening::Lease {
         token,
         root,
         universal,
@@ -67,21 +69,30 @@ fn lease(universal: bool, root: bool, text: &[u8]) -> Option<Opening>
 
 /// A primary node.
 #[tactic(auto, unfolding(crate::specs::Openings::primary_at))]
-fn primary(universal: bool, root: bool, text: &[u8]) -> Option<Opening>
-    ensures { result ≡ primary_at universal root (words_of text.now) }
+fn primary(universal: bool, root: bool, text: &[u8]) -> Result<Opening, Fault<'_>>
+    ensures { result_ok result ≡ primary_at universal root (words_of text.now) }
 {
     end_of(text)?;
-    Some(Opening::Primary { root, universal })
+    Ok(Opening::Primary { root, universal })
+}
+
+/// A render node.
+#[tactic(auto, unfolding(crate::specs::Openings::render_at))]
+fn render(text: &[u8]) -> Result<Opening, Fault<'_>>
+    ensures { result_ok result ≡ render_at (words_of text.now) }
+{
+    end_of(text)?;
+    Ok(Opening::Render)
 }
 
 /// The opening of a word and its fields.
-fn opening_fields(universal: bool, word: OpeningWord, text: &[u8]) -> Option<Opening>
-    ensures { result ≡ opening_fields_at universal word (words_of text.now) }
+fn opening_fields(universal: bool, word: OpeningWord, text: &[u8]) -> Result<Opening, Fault<'_>>
+    ensures { result_ok result ≡ opening_fields_at universal word (words_of text.now) }
 {
     match word {
         OpeningWord::Card => primary(universal, false, text),
         OpeningWord::Root => primary(universal, true, text),
-        OpeningWord::Render => end_of(text).map(|()| Opening::Render),
+        OpeningWord::Render => render(text),
         OpeningWord::Lease => lease(universal, false, text),
         OpeningWord::RootLease => lease(universal, true, text),
     }
@@ -89,9 +100,12 @@ fn opening_fields(universal: bool, word: OpeningWord, text: &[u8]) -> Option<Ope
 
 /// The opening that the words of a text spell, with universal planes on or off.
 #[tactic(auto, unfolding(crate::specs::Openings::opening_at))]
-pub(crate) fn opening_of(universal: bool, text: &[u8]) -> Option<Opening>
-    ensures { result ≡ opening_at universal (words_of text.now) }
+pub(crate) fn opening_of(universal: bool, text: &[u8]) -> Result<Opening, Fault<'_>>
+    ensures { result_ok result ≡ opening_at universal (words_of text.now) }
 {
-    let (first, fields) = next_word(text)?;
-    opening_fields(universal, opening_word(first)?, fields)
+    let (first, fields) = word_of(Wanted::Opening, text)?;
+    let Some(word) = opening_word(first) else {
+        return Err(Fault::unfit(text, Wanted::Opening));
+    };
+    opening_fields(universal, word, fields)
 }

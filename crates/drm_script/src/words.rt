@@ -1,11 +1,15 @@
 //! The words of a line, which spaces alone separate.
 
 ghost use Rattle.std.specs.Prelude.{◌≡◌, [], ◌∷◌, MatchOption, position};
+ghost use Rattle.std.specs.Option.{option_map};
+ghost use Rattle.std.specs.Result.{result_ok};
 ghost use Rattle.drm_script.specs.Words.{words_of, is_space, trimmed};
-ghost use Rattle.drm_script.specs.Fields.{end_at};
+ghost use Rattle.drm_script.specs.Fields.{end_at, word_at};
+
+use crate::malformations::{Fault, Malformation, Wanted};
 
 /// The text from its first byte on that is no space.
-fn trim_spaces(mut text: &[u8]) -> &[u8]
+pub(crate) fn trim_spaces(mut text: &[u8]) -> &[u8]
     ensures { result.now ≡ trimmed text.entry.now }
 {
     while let [b' ', rest @ ..] = text {
@@ -35,12 +39,28 @@ pub(crate) fn next_word(text: &[u8]) -> Option<(&[u8], &[u8])>
     }
 }
 
-/// Some where no word is left.
-pub(crate) fn end_of(text: &[u8]) -> Option<()>
-    ensures { result ≡ end_at (words_of text.now) }
+/// The first word of a text, and what follows it; a fault where the text has no word, and this is wanted.
+pub(crate) fn word_of(wanted: Wanted, text: &[u8]) -> Result<(&[u8], &[u8]), Fault<'_>>
+    ensures { option_map (λ found. (found.0.now, words_of found.1.now)) (result_ok result) ≡ word_at (words_of text.now) }
 {
     match next_word(text) {
-        None => Some(()),
-        Some(_) => None,
+        Some(found) => Ok(found),
+        None => Err(Fault {
+            at: text,
+            cause: Malformation::Lacks(wanted),
+        }),
+    }
+}
+
+/// A fault where a word is left.
+pub(crate) fn end_of(text: &[u8]) -> Result<(), Fault<'_>>
+    ensures { result_ok result ≡ end_at (words_of text.now) }
+{
+    match next_word(text) {
+        None => Ok(()),
+        Some(_) => Err(Fault {
+            at: text,
+            cause: Malformation::TooManyWords,
+        }),
     }
 }
