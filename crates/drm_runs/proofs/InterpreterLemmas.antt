@@ -1,17 +1,15 @@
 -- One line of a script, from what the code made of it.
 use Rattle.std.proofs.Common.{◌≡◌, ℕ, List, [], ◌∷◌, refl, sym, ap, subst, ◌∙◌, true, false, Some, None, Option, Result, Ok, Err, OnOk, OnErr}
-use Rattle.std.specs.Option.{option_map, is_some}
+use Rattle.std.specs.Option.{is_some}
 use Rattle.drm_table.specs.declared.answers.Answer.{Answer}
 use Rattle.drm_table.specs.declared.apart.Apart.{Apart}
 use Rattle.drm_table.specs.declared.events.Event.{Event}
 use Rattle.drm_table.specs.declared.limits.Limits.{Limits}
-use Rattle.drm_model.specs.Rows.{Rows}
-use Rattle.drm_model.specs.Run.{History, noted_in, rows_of, run}
-use Rattle.drm_model.proofs.Journals.{rows_of-limits}
+use Rattle.drm_model.specs.Run.{History, Step, noted_in, rows_of}
 use Rattle.drm_script.specs.declared.commands.Command.{Command}
 use Rattle.drm_script.specs.declared.reading.Reading.TheVariants as readings
 use Rattle.drm_script.specs.Reading.{reading_of}
-use Rattle.drm_runs.specs.Script.{Setting, Place, Uses, IsAt, IsNowhere, event_of, label_bound, empty_device, limited_to}
+use Rattle.drm_runs.specs.Script.{Setting, Place, StepsOn, Uses, IsAt, IsNowhere, event_of, label_bound, empty_device, limited_to}
 use Rattle.drm_runs.specs.Script.Place.{Made, Planned}
 use Rattle.drm_runs.specs.Script.Uses.{limited, asked}
 use Rattle.drm_runs.specs.Script.IsMisplaced.{late}
@@ -20,32 +18,27 @@ use Rattle.drm_runs.specs.Interpreter.{HasLimits, Standing, Steps, Interprets, S
 use Rattle.drm_runs.specs.declared.interpreter.LineResult.{LineResult}
 use Rattle.drm_runs.specs.declared.interpreter.LineResult.TheVariants as results
 
-abbrev pub new_history : Setting → History
-new_history setting = record { topology = setting.topology; limits = setting.limits; journal = [] }
+pub at_some : (d : Option History) (p : Option Setting) (x : History) → d ≡ Some x → IsAt (place_of d p) x
+at_some d p x e = subst (λ o. IsAt (place_of o p) x) (sym e) refl
 
-pub rows_of-new : (setting : Setting) → rows_of (new_history setting) ≡ empty_device setting
-unfolding rows_of run
-rows_of-new setting = refl
+pub at_none : (d : Option History) (p : Option Setting) (s : Setting) (x : History) → d ≡ None → p ≡ Some s → x ≡ empty_device s → IsAt (place_of d p) x
+at_none d p s x e f h = subst (λ o. IsAt (place_of o p) x) (sym e) (subst (λ q. IsAt (place_of None q) x) (sym f) h)
 
-abbrev pub place : Option History → Option Setting → Place
-place device planned = place_of (option_map rows_of device) planned
+pub nowhere : (d : Option History) (p : Option Setting) → d ≡ None → IsNowhere (place_of d p)
+nowhere d None e = subst (λ o. IsNowhere (place_of o None)) (sym e) tt
+nowhere d (Some s) e = subst (λ o. IsNowhere (place_of o (Some s))) (sym e) tt
 
-pub at_some : (d : Option History) (p : Option Setting) (x : History) → d ≡ Some x → IsAt (place d p) (rows_of x)
-at_some d p x e = subst (λ o. IsAt (place o p) (rows_of x)) (sym e) refl
+pub planned_is : (d : Option History) (p : Option Setting) (s : Setting) → d ≡ None → p ≡ Some s → place_of d p ≡ Planned s
+planned_is d p s e f = ap (λ o. place_of o p) e ∙ ap (place_of None) f
 
-pub at_none : (d : Option History) (p : Option Setting) (s : Setting) (x : History) → d ≡ None → p ≡ Some s → x ≡ new_history s → IsAt (place d p) (rows_of x)
-at_none d p s x e f h =
-    subst (λ o. IsAt (place o p) (rows_of x)) (sym e) (subst (λ q. IsAt (place None q) (rows_of x)) (sym f) (ap rows_of h ∙ rows_of-new s))
+pub made_is : (d : Option History) (p : Option Setting) (x : History) → d ≡ Some x → place_of d p ≡ Made x
+made_is d p x e = ap (λ o. place_of o p) e
 
-pub nowhere : (d : Option History) (p : Option Setting) → d ≡ None → IsNowhere (place d p)
-nowhere d None e = subst (λ o. IsNowhere (place o None)) (sym e) tt
-nowhere d (Some s) e = subst (λ o. IsNowhere (place o (Some s))) (sym e) tt
-
-pub planned_is : (d : Option History) (p : Option Setting) (s : Setting) → d ≡ None → p ≡ Some s → place d p ≡ Planned s
-planned_is d p s e f = ap (λ o. place o p) e ∙ ap (place None) f
-
-pub made_is : (d : Option History) (p : Option Setting) (x : History) → d ≡ Some x → place d p ≡ Made (rows_of x)
-made_is d p x e = ap (λ o. place o p) e
+-- a step, as the device tells of it
+pub steps_on : (old new : History) (event : Event) (r : Result Answer Apart) → Step (rows_of old) event r (rows_of new) → OnOk r (new ≡ noted_in old event) → OnErr r (new ≡ old)
+    → StepsOn old event r new
+steps_on old new event (Ok answer) s h k = record { answered = s; noted = h }
+steps_on old new event (Err apart) s h k = record { answered = s; noted = k }
 
 -- the limits that are kept beside the device
 
@@ -53,20 +46,17 @@ pub step_limits : (old new : History) (event : Event) (r : Result Answer Apart) 
 step_limits old new event (Ok answer) h k = ap (λ (x : History). x.limits) h
 step_limits old new event (Err apart) h k = ap (λ (x : History). x.limits) k
 
-pub limits_of_made : (x : History) (limits : Limits) → limits ≡ x.limits → HasLimits (Made (rows_of x)) limits
-limits_of_made x limits e = e ∙ sym (rows_of-limits x)
-
-pub limits_stay : (d : Option History) (p : Option Setting) (limits : Limits) (x y : History) → d ≡ Some x → HasLimits (place d p) limits → y.limits ≡ x.limits
-    → HasLimits (Made (rows_of y)) limits
+pub limits_stay : (d : Option History) (p : Option Setting) (limits : Limits) (x y : History) → d ≡ Some x → HasLimits (place_of d p) limits → y.limits ≡ x.limits
+    → HasLimits (Made y) limits
 limits_stay d p limits x y e h s =
-    let was : limits ≡ (rows_of x).limits = subst (λ o. HasLimits (place o p) limits) e h in
-    limits_of_made y limits (was ∙ rows_of-limits x ∙ sym s)
+    let was : limits ≡ x.limits = subst (λ o. HasLimits (place_of o p) limits) e h in
+    was ∙ sym s
 
-pub limits_begin : (d : Option History) (p : Option Setting) (limits : Limits) (s : Setting) (x y : History) → d ≡ None → p ≡ Some s → HasLimits (place d p) limits
-    → x ≡ new_history s → y.limits ≡ x.limits → HasLimits (Made (rows_of y)) limits
+pub limits_begin : (d : Option History) (p : Option Setting) (limits : Limits) (s : Setting) (x y : History) → d ≡ None → p ≡ Some s → HasLimits (place_of d p) limits
+    → x ≡ empty_device s → y.limits ≡ x.limits → HasLimits (Made y) limits
 limits_begin d p limits s x y e f h n k =
-    let planned : HasLimits (Planned s) limits = subst (λ q. HasLimits (place None q) limits) f (subst (λ o. HasLimits (place o p) limits) e h) in
-    limits_of_made y limits (planned ∙ ap (λ (x : History). x.limits) (sym n) ∙ sym k)
+    let planned : HasLimits (Planned s) limits = subst (λ q. HasLimits (place_of None q) limits) f (subst (λ o. HasLimits (place_of o p) limits) e h) in
+    planned ∙ ap (λ (x : History). x.limits) (sym n) ∙ sym k
 
 pub some_of : (d : Option History) → is_some d ≡ true → (x : History) × (d ≡ Some x)
 some_of None h = absurd (cc)
@@ -79,18 +69,18 @@ none_of (Some x) h = absurd (cc)
 -- a line of limits
 
 pub sets_interprets : (old new : Standing) (line : List ℕ) (limits : Limits) (result : LineResult)
-    → reading_of line ≡ readings.Limits limits → SetsLimits old new limits result → Interprets old new line result
+    → reading_of line ≡ Some (readings.Limits limits) → SetsLimits old new limits result → Interprets old new line result
 sets_interprets old new line limits results.Unanswered h s =
     let made : Place = Made (empty_device (limited_to s.0 limits)) in
     let used : Uses old.device old.labels line [] made old.labels = limited s.1 h in
     subst (λ o. Uses old.device old.labels line [] o new.labels) (sym s.2) (subst (λ m. Uses old.device old.labels line [] made m) (sym s.3) used)
 sets_interprets old new line limits (results.Answered result) h s = absurd s
-sets_interprets old new line limits results.Malformed h s = late s.1 h
-sets_interprets old new line limits results.NoMemory h s = (s, wants_limits h)
+sets_interprets old new line limits (results.Malformed malformed) h s = (late s.1 h, s.2)
+sets_interprets old new line limits results.NoMemory h s = (s.0, wants_limits h, s.1, s.2)
 
 -- a line that asks the device
 
-pub uses_asked : (old new : Standing) (line : List ℕ) (command : Command) (r : Result Answer Apart) → reading_of line ≡ readings.Says command
+pub uses_asked : (old new : Standing) (line : List ℕ) (command : Command) (r : Result Answer Apart) → reading_of line ≡ Some (readings.Says command)
     → Steps old new (label_bound command) (event_of old.labels command) r → Uses old.device old.labels line (r ∷ []) new.device new.labels
 uses_asked old new line command r h s =
     subst (λ o. Uses old.device old.labels line (r ∷ []) o new.labels) (sym s.device)

@@ -19,8 +19,8 @@ use Rattle.drm_runs.specs.Interpreter.{Standing}
 use Rattle.drm_runs.specs.Writing.{UsesLine}
 use Rattle.drm_runs.specs.Runs.{Results, EndsLine, RunsOn, IsCutInLast, IsStopped}
 use Rattle.drm_runs.specs.RunSteps.{SoFar, stop_of}
-use Rattle.drm_runs.specs.declared.run.ScriptEnd.{ScriptEnd}
-use Rattle.drm_runs.specs.declared.run.ScriptEnd.TheVariants as ends
+use Rattle.drm_runs.specs.declared.stops.ScriptEnd.{ScriptEnd}
+use Rattle.drm_runs.specs.declared.stops.ScriptEnd.TheVariants as ends
 use Rattle.drm_runs.specs.declared.writing.LineEnd.{LineEnd}
 use Rattle.drm_runs.specs.declared.writing.LineEnd.TheVariants as line_ends
 
@@ -76,7 +76,7 @@ module _ {setting : Setting} {s0 s : SourceAccount} {k0 k : SinkAccount} {turns 
   bounded = let b = so.cost in omega arith
 
   pub run_malformed : (bad more : List ℕ) → rest ≡ bad ++ more → IsMisplaced device bad → IsBare bad → EndsLine (s0.counts.ends < s.counts.ends) more ⊎ (length bad ≡ 256)
-      → length bad ≤ 256 → length more ≤ 256 → RunsOn setting s0 s k0 k turns (ends.Malformed (n + 1))
+      → length bad ≤ 256 → length more ≤ 256 → RunsOn setting s0 s k0 k turns (ends.Malformed (n + 1)) device labels
   run_malformed bad more e m b u short behind = record {
     read = so.read;
     written = script_text so.results;
@@ -87,8 +87,6 @@ module _ {setting : Setting} {s0 s : SourceAccount} {k0 k : SinkAccount} {turns 
     ends = record {
       lines = so.lines;
       results = so.results;
-      device = device;
-      labels = labels;
       bad = bad;
       rest = more;
       script = so.script;
@@ -103,7 +101,7 @@ module _ {setting : Setting} {s0 s : SourceAccount} {k0 k : SinkAccount} {turns 
     };
   }
 
-  pub run_read_fault : IsBare rest → length rest ≤ 255 → s0.counts.faults < s.counts.faults → RunsOn setting s0 s k0 k turns ends.ReadFault
+  pub run_read_fault : IsBare rest → length rest ≤ 255 → s0.counts.faults < s.counts.faults → RunsOn setting s0 s k0 k turns ends.ReadFault device labels
   run_read_fault b short f = record {
     read = so.read;
     written = script_text so.results;
@@ -111,10 +109,10 @@ module _ {setting : Setting} {s0 s : SourceAccount} {k0 k : SinkAccount} {turns 
     took = so.took;
     chunks = so.chunks;
     turns_at_most = bounded;
-    ends = (record { lines = so.lines; results = so.results; device = device; labels = labels; rest = rest; script = so.script; whole = so.whole; bare = b; short = short; text = refl }, f);
+    ends = (record { lines = so.lines; results = so.results; rest = rest; script = so.script; whole = so.whole; bare = b; short = short; text = refl }, f);
   }
 
-  pub run_turns_used : IsBare rest → length rest ≤ 255 → has ≡ 0 → RunsOn setting s0 s k0 k turns ends.TurnsUsed
+  pub run_turns_used : IsBare rest → length rest ≤ 255 → has ≡ 0 → RunsOn setting s0 s k0 k turns ends.TurnsUsed device labels
   run_turns_used b short h = record {
     read = so.read;
     written = script_text so.results;
@@ -123,12 +121,12 @@ module _ {setting : Setting} {s0 s : SourceAccount} {k0 k : SinkAccount} {turns 
     chunks = so.chunks;
     turns_at_most = bounded;
     ends = (
-      inl (record { lines = so.lines; results = so.results; device = device; labels = labels; rest = rest; script = so.script; whole = so.whole; bare = b; short = short; text = refl }),
+      inl (record { lines = so.lines; results = so.results; rest = rest; script = so.script; whole = so.whole; bare = b; short = short; text = refl }),
       (let b = so.cost in omega arith),
     );
   }
 
-  pub run_done_empty : rest ≡ [] → s0.counts.ends < s.counts.ends → RunsOn setting s0 s k0 k turns ends.Done
+  pub run_done_empty : rest ≡ [] → s0.counts.ends < s.counts.ends → RunsOn setting s0 s k0 k turns ends.Done device labels
   run_done_empty e f = record {
     read = so.read;
     written = script_text so.results;
@@ -136,11 +134,11 @@ module _ {setting : Setting} {s0 s : SourceAccount} {k0 k : SinkAccount} {turns 
     took = so.took;
     chunks = so.chunks;
     turns_at_most = bounded;
-    ends = (record { lines = so.lines; results = so.results; device = device; labels = labels; script = so.script; covers = inl (so.whole ∙ ap (λ z. joined so.lines ++ z) e); text = refl }, f);
+    ends = (record { lines = so.lines; results = so.results; script = so.script; covers = inl (so.whole ∙ ap (λ z. joined so.lines ++ z) e); text = refl }, f);
   }
 
   pub run_done_last : (results : Results) (device' : Place) (labels' : List ℕ) (k' : SinkAccount) (has' : ℕ) → IsBare rest → Uses device labels rest results device' labels'
-      → Pays k k' (script_text results) has has' → s0.counts.ends < s.counts.ends → RunsOn setting s0 s k0 k' turns ends.Done
+      → Pays k k' (script_text results) has has' → s0.counts.ends < s.counts.ends → RunsOn setting s0 s k0 k' turns ends.Done device' labels'
   run_done_last results device' labels' k' has' bare u p f = record {
     read = so.read;
     written = script_text so.results ++ script_text results;
@@ -152,8 +150,6 @@ module _ {setting : Setting} {s0 s : SourceAccount} {k0 k : SinkAccount} {turns 
       record {
         lines = so.lines ++ rest ∷ [];
         results = so.results ++ results;
-        device = device';
-        labels = labels';
         script = line so.script bare u;
         covers = inr (so.lines, rest, refl, so.whole, refl, f);
         text = sym (script_text-append so.results results);
@@ -163,13 +159,11 @@ module _ {setting : Setting} {s0 s : SourceAccount} {k0 k : SinkAccount} {turns 
   }
 
   stopped_at : (next more : List ℕ) (result : Result Answer Apart) (device' : Place) (labels' written : List ℕ) → rest ≡ next ++ more → EndsLine (s0.counts.ends < s.counts.ends) more → length more ≤ 256 → IsBare next
-      → Uses device labels next (result ∷ []) device' labels' → IsCutInLast (so.results ++ result ∷ []) written → IsStopped setting (s0.counts.ends < s.counts.ends) so.read written
+      → Uses device labels next (result ∷ []) device' labels' → IsCutInLast (so.results ++ result ∷ []) written → IsStopped setting (s0.counts.ends < s.counts.ends) so.read written device' labels'
   stopped_at next more result device' labels' written e (inl (none, f)) m bare u cut =
       let whole : so.read ≡ joined so.lines ++ next = so.whole ∙ ap (λ z. joined so.lines ++ z) (e ∙ ap (λ z. next ++ z) none ∙ append-nil next) in record {
         lines = so.lines ++ next ∷ [];
         results = so.results ++ result ∷ [];
-        device = device';
-        labels = labels';
         rest = [];
         script = line so.script bare u;
         covers = inr (so.lines, next, refl, whole, refl, f);
@@ -181,8 +175,6 @@ module _ {setting : Setting} {s0 s : SourceAccount} {k0 k : SinkAccount} {turns 
       so.whole ∙ ap (λ z. joined so.lines ++ z) (e ∙ ap (λ z. next ++ z) f) ∙ sym (joined-push so.lines next behind) in record {
         lines = so.lines ++ next ∷ [];
         results = so.results ++ result ∷ [];
-        device = device';
-        labels = labels';
         rest = behind;
         script = line so.script bare u;
         covers = inl whole;
@@ -192,7 +184,7 @@ module _ {setting : Setting} {s0 s : SourceAccount} {k0 k : SinkAccount} {turns 
 
   run_stopped : (next more : List ℕ) (result : Result Answer Apart) (device' : Place) (labels' : List ℕ) (k' : SinkAccount) (has' : ℕ) → rest ≡ next ++ more → EndsLine (s0.counts.ends < s.counts.ends) more → length more ≤ 256 → IsBare next
       → Uses device labels next (result ∷ []) device' labels' → PaysPart k k' (answer_line result) has has'
-      → (written : List ℕ) × Took k0 k' written × (k'.counts.calls + has' ≡ k.counts.calls + has) × IsStopped setting (s0.counts.ends < s.counts.ends) so.read written
+      → (written : List ℕ) × Took k0 k' written × (k'.counts.calls + has' ≡ k.counts.calls + has) × IsStopped setting (s0.counts.ends < s.counts.ends) so.read written device' labels'
   run_stopped next more result device' labels' k' has' e ending m bare u p =
       let written = script_text so.results ++ p.front in
       let cut : IsCutInLast (so.results ++ result ∷ []) written =
@@ -200,8 +192,8 @@ module _ {setting : Setting} {s0 s : SourceAccount} {k0 k : SinkAccount} {turns 
       (written, Took-then so.took p.pays.took, p.pays.cost, stopped_at next more result device' labels' written e ending m bare u cut)
 
   pub run_unmade : (next more : List ℕ) → rest ≡ next ++ more → EndsLine (s0.counts.ends < s.counts.ends) more → length more ≤ 256 → IsBare next → IsNowhere device → WantsDevice next
-      → RunsOn setting s0 s k0 k turns ends.NoMemory
-  run_unmade next more e t m b none wants =
+      → (device' : Place) → IsNowhere device' → RunsOn setting s0 s k0 k turns ends.NoMemory device' labels
+  run_unmade next more e t m b none wants device' nowhere =
       let nothing = unmade so.script none in record {
         read = so.read;
         written = script_text so.results;
@@ -211,7 +203,6 @@ module _ {setting : Setting} {s0 s : SourceAccount} {k0 k : SinkAccount} {turns 
         turns_at_most = bounded;
         ends = record {
           lines = so.lines;
-          labels = labels;
           next = next;
           rest = more;
           script = subst (λ d. Script setting so.lines [] d labels) nothing.1 (subst (λ r. Script setting so.lines r device labels) nothing.0 so.script);
@@ -220,6 +211,7 @@ module _ {setting : Setting} {s0 s : SourceAccount} {k0 k : SinkAccount} {turns 
           until = t;
           behind = m;
           wants = wants;
+          none = nowhere;
           nothing = ap script_text nothing.0;
         };
       }
@@ -230,13 +222,16 @@ some_end a b e = cc
 -- a line that doesn't let the run go on
 pub run_stop : {setting : Setting} {s0 s : SourceAccount} {k0 k : SinkAccount} {turns has n : ℕ} {rest : List ℕ} (old new : Standing) (next more : List ℕ) (k' : SinkAccount) (has' : ℕ) (end : LineEnd) (stop : ScriptEnd)
     → SoFar setting s0 s k0 k turns has n rest old.device old.labels → rest ≡ next ++ more → EndsLine (s0.counts.ends < s.counts.ends) more → length next ≤ 255 → length more ≤ 256 → IsBare next
-    → UsesLine old new next k k' has has' end → stop_of end (n + 1) ≡ Some stop → RunsOn setting s0 s k0 k' turns stop
+    → UsesLine old new next k k' has has' end → stop_of end (n + 1) ≡ Some stop → RunsOn setting s0 s k0 k' turns stop new.device new.labels
 run_stop old new next more k' has' line_ends.Used stop so e t l m b u h = absurd (cc)
-run_stop {setting} {s0} {s} {k0} {k} {turns} old new next more k' has' line_ends.Malformed stop so e t l m b u h =
-    subst (λ q. RunsOn setting s0 s k0 q turns stop) (sym u.1) (subst (RunsOn setting s0 s k0 k turns) (some_end _ _ h) (run_malformed so next more e u.0 b (inl t) (omega arith) m))
+run_stop {setting} {s0} {s} {k0} {k} {turns} old new next more k' has' (line_ends.Malformed cause) stop so e t l m b u h =
+    let P : Standing → Type 0 = λ z. RunsOn setting s0 s k0 k' turns stop z.device z.labels in
+    subst P (sym u.3)
+    (subst (λ q. RunsOn setting s0 s k0 q turns stop old.device old.labels) (sym u.1)
+    (subst (λ x. RunsOn setting s0 s k0 k turns x old.device old.labels) (some_end _ _ h) (run_malformed so next more e u.0 b (inl t) (omega arith) m)))
 run_stop {setting} {s0} {s} {k0} {k} {turns} old new next more k' has' line_ends.WriteFault stop so e t l m b u h =
     let w = run_stopped so next more u.0 new.device new.labels k' has' e t m b u.1 u.2 in
-    subst (RunsOn setting s0 s k0 k' turns) (some_end _ _ h) (record {
+    subst (λ x. RunsOn setting s0 s k0 k' turns x new.device new.labels) (some_end _ _ h) (record {
       read = so.read;
       written = w.0;
       gave = so.gave;
@@ -247,7 +242,7 @@ run_stop {setting} {s0} {s} {k0} {k} {turns} old new next more k' has' line_ends
     })
 run_stop {setting} {s0} {s} {k0} {k} {turns} old new next more k' has' line_ends.TurnsUsed stop so e t l m b u h =
     let w = run_stopped so next more u.0 new.device new.labels k' has' e t m b u.1 u.2 in
-    subst (RunsOn setting s0 s k0 k' turns) (some_end _ _ h) (record {
+    subst (λ x. RunsOn setting s0 s k0 k' turns x new.device new.labels) (some_end _ _ h) (record {
       read = so.read;
       written = w.0;
       gave = so.gave;
@@ -257,20 +252,22 @@ run_stop {setting} {s0} {s} {k0} {k} {turns} old new next more k' has' line_ends
       ends = (inr w.3, (let a = w.2 in let c = so.cost in omega (arith, a, c, u.3)));
     })
 run_stop {setting} {s0} {s} {k0} {k} {turns} old new next more k' has' line_ends.NoMemory stop so e t l m b u h =
-    subst (λ q. RunsOn setting s0 s k0 q turns stop) (sym u.2) (subst (RunsOn setting s0 s k0 k turns) (some_end _ _ h) (run_unmade so next more e t m b u.0 u.1))
+    subst (λ z. RunsOn setting s0 s k0 k' turns stop new.device z) (sym u.5)
+    (subst (λ q. RunsOn setting s0 s k0 q turns stop new.device old.labels) (sym u.2)
+    (subst (λ x. RunsOn setting s0 s k0 k turns x new.device old.labels) (some_end _ _ h) (run_unmade so next more e t m b u.0 u.1 new.device u.4)))
 
 -- the last line
 pub run_last : {setting : Setting} {s0 s : SourceAccount} {k0 k : SinkAccount} {turns has n : ℕ} {rest : List ℕ} (old new : Standing) (k' : SinkAccount) (has' : ℕ) (end : LineEnd)
     → SoFar setting s0 s k0 k turns has n rest old.device old.labels → IsBare rest → length rest ≤ 255 → s0.counts.ends < s.counts.ends
-    → UsesLine old new rest k k' has has' end → RunsOn setting s0 s k0 k' turns (unwrap_or (stop_of end (n + 1)) ends.Done)
+    → UsesLine old new rest k k' has has' end → RunsOn setting s0 s k0 k' turns (unwrap_or (stop_of end (n + 1)) ends.Done) new.device new.labels
 run_last {rest} old new k' has' line_ends.Used so b l f u = run_done_last so u.0 new.device new.labels k' has' b u.1 u.2 f
-run_last {rest} old new k' has' line_ends.Malformed so b l f u = run_stop old new rest [] k' has' line_ends.Malformed _ so (sym (append-nil rest)) (inl (refl, f)) l (omega arith) b u refl
+run_last {rest} old new k' has' (line_ends.Malformed cause) so b l f u = run_stop old new rest [] k' has' (line_ends.Malformed cause) _ so (sym (append-nil rest)) (inl (refl, f)) l (omega arith) b u refl
 run_last {rest} old new k' has' line_ends.WriteFault so b l f u = run_stop old new rest [] k' has' line_ends.WriteFault _ so (sym (append-nil rest)) (inl (refl, f)) l (omega arith) b u refl
 run_last {rest} old new k' has' line_ends.TurnsUsed so b l f u = run_stop old new rest [] k' has' line_ends.TurnsUsed _ so (sym (append-nil rest)) (inl (refl, f)) l (omega arith) b u refl
 run_last {rest} old new k' has' line_ends.NoMemory so b l f u = run_stop old new rest [] k' has' line_ends.NoMemory _ so (sym (append-nil rest)) (inl (refl, f)) l (omega arith) b u refl
 
 pub run_too_long : {setting : Setting} {s0 s : SourceAccount} {k0 k : SinkAccount} {turns has n : ℕ} {rest : List ℕ} {device : Place} {labels : List ℕ} (front more : List ℕ)
-    → SoFar setting s0 s k0 k turns has n rest device labels → IsTooLong rest front more → RunsOn setting s0 s k0 k turns (ends.Malformed (n + 1))
+    → SoFar setting s0 s k0 k turns has n rest device labels → IsTooLong rest front more → RunsOn setting s0 s k0 k turns (ends.Malformed (n + 1)) device labels
 run_too_long front more so t = run_malformed so front more t.whole (malformed (reading_of-long front (omega (arith, t.long)))) t.bare (inr t.long) (omega (arith, t.long)) (omega (arith, t.behind))
 
 pub so_far_none : (setting : Setting) (source : SourceAccount) (sink : SinkAccount) (turns : ℕ) (rest : List ℕ) (device : Place) (labels : List ℕ) → rest ≡ [] → device ≡ Planned setting → labels ≡ unbound
@@ -293,7 +290,7 @@ pub so_far_used : {setting : Setting} {s0 s : SourceAccount} {k0 k : SinkAccount
     → SoFar setting s0 s k0 k turns has n rest old.device old.labels → rest ≡ next ++ 10 ∷ more → IsBare next
     → UsesLine old new next k k' has has' end → stop_of end m ≡ None → SoFar setting s0 s k0 k' turns has' (n + 1) more new.device new.labels
 so_far_used old new next more k' has' m line_ends.Used so e b u h = so_far_line so next more u.0 new.device new.labels k' has' e b u.1 u.2
-so_far_used old new next more k' has' m line_ends.Malformed so e b u h = absurd (cc)
+so_far_used old new next more k' has' m (line_ends.Malformed cause) so e b u h = absurd (cc)
 so_far_used old new next more k' has' m line_ends.WriteFault so e b u h = absurd (cc)
 so_far_used old new next more k' has' m line_ends.TurnsUsed so e b u h = absurd (cc)
 so_far_used old new next more k' has' m line_ends.NoMemory so e b u h = absurd (cc)
@@ -302,7 +299,12 @@ so_far_used old new next more k' has' m line_ends.NoMemory so e b u h = absurd (
 pub used_cost : (old new : Standing) (next : List ℕ) (k k' : SinkAccount) (has has' m : ℕ) (end : LineEnd) → UsesLine old new next k k' has has' end → stop_of end m ≡ None
     → (k'.counts.calls + has' ≡ k.counts.calls + has) × (has' ≤ has)
 used_cost old new next k k' has has' m line_ends.Used u h = (u.2.cost, (let a = u.2.cost in let b = u.2.took.counts.calls in omega arith))
-used_cost old new next k k' has has' m line_ends.Malformed u h = absurd (cc)
+used_cost old new next k k' has has' m (line_ends.Malformed cause) u h = absurd (cc)
 used_cost old new next k k' has has' m line_ends.WriteFault u h = absurd (cc)
 used_cost old new next k k' has has' m line_ends.TurnsUsed u h = absurd (cc)
 used_cost old new next k k' has has' m line_ends.NoMemory u h = absurd (cc)
+
+-- a run that is told to have ended as it did
+pub ends_as : {setting : Setting} {s0 s : SourceAccount} {k0 k : SinkAccount} {turns : ℕ} {device : Place} {labels : List ℕ} {told end : ScriptEnd} → told ≡ end
+    → RunsOn setting s0 s k0 k turns end device labels → RunsOn setting s0 s k0 k turns told device labels
+ends_as {setting} {s0} {s} {k0} {k} {turns} {device} {labels} same ran = subst (λ (e : ScriptEnd). RunsOn setting s0 s k0 k turns e device labels) (sym same) ran

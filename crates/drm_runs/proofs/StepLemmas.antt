@@ -3,13 +3,14 @@ use Rattle.std.proofs.Common.{◌≡◌, ℕ, ◌+◌, ◌≤◌, List, [], ◌�
 use Rattle.drm_streams.specs.Streams.{SourceAccount, SinkAccount}
 use Rattle.drm_runs.specs.Reader.{Buffered, Reads}
 use Rattle.drm_runs.specs.Script.{Setting}
+use Rattle.drm_runs.specs.Interpreter.{Standing}
 use Rattle.drm_runs.specs.Runs.{RunsOn}
 use Rattle.drm_runs.specs.RunSteps.{SoFar, StandsSoFar, UsesHeld, UsesLast, GoesOn, Advances, at_first}
 use Rattle.drm_runs.specs.declared.run.Run.{Run}
-use Rattle.drm_runs.specs.declared.run.ScriptEnd.{ScriptEnd}
-use Rattle.drm_runs.specs.declared.run.ScriptEnd.TheVariants as ends
+use Rattle.drm_runs.specs.declared.stops.ScriptEnd.{ScriptEnd}
+use Rattle.drm_runs.specs.declared.stops.ScriptEnd.TheVariants as ends
 use Rattle.drm_runs.specs.declared.reader.NextLine.TheVariants as next_line
-use Rattle.drm_runs.proofs.RunLemmas.{so_far_none, so_far_read, so_far_used, used_cost, run_stop, run_last, run_done_empty, run_too_long, run_read_fault, run_turns_used}
+use Rattle.drm_runs.proofs.RunLemmas.{so_far_none, so_far_read, so_far_used, used_cost, run_stop, run_last, run_done_empty, run_too_long, run_read_fault, run_turns_used, ends_as}
 
 -- the run once a line is read, and before it is used
 abbrev pub with_line : Run → Buffered → ℕ → Run
@@ -55,22 +56,25 @@ module _ (old new : Run) (reader : Buffered) (has : ℕ) (source source' : Sourc
   advances_last end r (inl u) setting start first turns so =
       let read = so_far_read so source' given has reader.held r.spent r.chunks r.splits.0 in
       let done = run_done_empty read u.0 (omega (arith, so.gave.counts.ends, r.splits.4)) in
-      subst (RunsOn setting start source' first sink' turns) (sym u.2) (subst (λ (k : SinkAccount). RunsOn setting start source' first k turns ends.Done) (sym u.1) done)
+      let P : Standing → Type 0 = λ z. RunsOn setting start source' first sink' turns end z.device z.labels in
+      subst P (sym u.3)
+      (subst (λ (e : ScriptEnd). RunsOn setting start source' first sink' turns e old.interpreter.device old.interpreter.labels) (sym u.2)
+      (subst (λ (k : SinkAccount). RunsOn setting start source' first k turns ends.Done old.interpreter.device old.interpreter.labels) (sym u.1) done))
   advances_last end r (inr u) setting start first turns so =
       let read = so_far_read so source' given has reader.held r.spent r.chunks r.splits.0 in
       let last = run_last old.interpreter new.interpreter sink' new.turns u.0 read r.splits.2 r.splits.3 (omega (arith, so.gave.counts.ends, r.splits.4)) u.1 in
-      subst (RunsOn setting start source' first sink' turns) (sym u.2) last
+      subst (λ (e : ScriptEnd). RunsOn setting start source' first sink' turns e new.interpreter.device new.interpreter.labels) (sym u.2) last
 
 module _ (old : Run) (reader : Buffered) (has : ℕ) (source source' : SourceAccount) (sink : SinkAccount) (given : List ℕ) where
-  pub advances_too_long : Reads old.reader reader source source' old.turns has next_line.TooLong given → Advances old old source source' sink sink (Some (ends.Malformed (old.number + 1)))
-  advances_too_long r setting start first turns so = run_too_long r.splits.0 r.splits.1 (so_far_read so source' given has _ r.spent r.chunks refl) r.splits.2
+  pub advances_too_long : (end : ScriptEnd) → end ≡ ends.Malformed (old.number + 1) → Reads old.reader reader source source' old.turns has next_line.TooLong given → Advances old (with_line old reader has) source source' sink sink (Some end)
+  advances_too_long end same r setting start first turns so = ends_as same (run_too_long r.splits.0 r.splits.1 (so_far_read so source' given has _ r.spent r.chunks refl) r.splits.2)
 
-  pub advances_read_fault : Reads old.reader reader source source' old.turns has next_line.ReadFault given → Advances old old source source' sink sink (Some ends.ReadFault)
-  advances_read_fault r setting start first turns so =
+  pub advances_read_fault : (end : ScriptEnd) → end ≡ ends.ReadFault → Reads old.reader reader source source' old.turns has next_line.ReadFault given → Advances old (with_line old reader has) source source' sink sink (Some end)
+  advances_read_fault end same r setting start first turns so =
       let read = so_far_read so source' given has reader.held r.spent r.chunks r.splits.0 in
-      run_read_fault read r.splits.2 r.splits.3 (omega (arith, so.gave.counts.faults, r.splits.4))
+      ends_as same (run_read_fault read r.splits.2 r.splits.3 (omega (arith, so.gave.counts.faults, r.splits.4)))
 
-  pub advances_turns_used : Reads old.reader reader source source' old.turns has next_line.TurnsUsed given → Advances old old source source' sink sink (Some ends.TurnsUsed)
-  advances_turns_used r setting start first turns so =
+  pub advances_turns_used : (end : ScriptEnd) → end ≡ ends.TurnsUsed → Reads old.reader reader source source' old.turns has next_line.TurnsUsed given → Advances old (with_line old reader has) source source' sink sink (Some end)
+  advances_turns_used end same r setting start first turns so =
       let read = so_far_read so source' given has reader.held r.spent r.chunks r.splits.0 in
-      run_turns_used read r.splits.2 r.splits.3 r.splits.4
+      ends_as same (run_turns_used read r.splits.2 r.splits.3 r.splits.4)

@@ -19,5 +19,5 @@ pub answered_uses : (old new : Standing) (line : List ℕ) (r : Result Answer Ap
 answered_uses old new line r before after had has ends.Used u w = (r ∷ [], u, subst (λ t. Pays before after t had has) (text_one r) w)
 answered_uses old new line r before after had has ends.WriteFault u w = (r, u, w.0, w.1)
 answered_uses old new line r before after had has ends.TurnsUsed u w = (r, u, w.0, w.1)
-answered_uses old new line r before after had has ends.Malformed u w = absurd w
+answered_uses old new line r before after had has (ends.Malformed malformed) u w = absurd w
 answered_uses old new line r before after had has ends.NoMemory u w = absurd w

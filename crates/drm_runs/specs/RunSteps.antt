@@ -8,8 +8,8 @@ use Rattle.drm_runs.specs.Interpreter.{at_start}
 use Rattle.drm_runs.specs.Writing.{UsesLine}
 use Rattle.drm_runs.specs.Runs.{Results, RunsOn}
 use Rattle.drm_runs.specs.declared.run.Run.{Run}
-use Rattle.drm_runs.specs.declared.run.ScriptEnd.{ScriptEnd}
-use Rattle.drm_runs.specs.declared.run.ScriptEnd.TheVariants as ends
+use Rattle.drm_runs.specs.declared.stops.ScriptEnd.{ScriptEnd}
+use Rattle.drm_runs.specs.declared.stops.ScriptEnd.TheVariants as ends
 use Rattle.drm_runs.specs.declared.writing.LineEnd.{LineEnd}
 use Rattle.drm_runs.specs.declared.writing.LineEnd.TheVariants as line_ends
 
@@ -29,7 +29,7 @@ pub record SoFar (setting : Setting) (source source' : SourceAccount) (sink sink
 -- how a run ends where a line does not let it go on
 abbrev pub stop_of : LineEnd → ℕ → Option ScriptEnd
 stop_of line_ends.Used number = None
-stop_of line_ends.Malformed number = Some (ends.Malformed number)
+stop_of (line_ends.Malformed malformed) number = Some (ends.Malformed number)
 stop_of line_ends.WriteFault number = Some ends.WriteFault
 stop_of line_ends.TurnsUsed number = Some ends.TurnsUsed
 stop_of line_ends.NoMemory number = Some ends.NoMemory
@@ -61,7 +61,7 @@ UsesHeld old new sink sink' end =
 -- what came of what stands behind the last line end: nothing does, or it was used
 abbrev pub UsesLast : Run → Run → SinkAccount → SinkAccount → ScriptEnd → Type 0
 UsesLast old new sink sink' end =
-    ((old.reader.held ≡ []) × (sink' ≡ sink) × (end ≡ ends.Done))
+    ((old.reader.held ≡ []) × (sink' ≡ sink) × (end ≡ ends.Done) × (new.interpreter ≡ old.interpreter))
     ⊎ ((used : LineEnd) × UsesLine old.interpreter new.interpreter old.reader.held sink sink' old.turns new.turns used × (end ≡ unwrap_or (stop_of used (old.number + 1)) ends.Done))
 
 -- One line more was used.
@@ -76,4 +76,4 @@ pub record GoesOn (old new : Run) (source source' : SourceAccount) (sink sink' :
 abbrev pub Advances : Run → Run → SourceAccount → SourceAccount → SinkAccount → SinkAccount → Option ScriptEnd → Type 0
 Advances old new source source' sink sink' None = GoesOn old new source source' sink sink'
 Advances old new source source' sink sink' (Some end) =
-    (setting : Setting) (start : SourceAccount) (first : SinkAccount) (turns : ℕ) → StandsSoFar setting start source first sink turns old → RunsOn setting start source' first sink' turns end
+    (setting : Setting) (start : SourceAccount) (first : SinkAccount) (turns : ℕ) → StandsSoFar setting start source first sink turns old → RunsOn setting start source' first sink' turns end new.interpreter.device new.interpreter.labels

@@ -6,10 +6,10 @@ use Rattle.drm_streams.specs.Streams.{SourceAccount, SinkAccount}
 use Rattle.drm_streams.specs.Turns.{Gave, Took}
 use Rattle.drm_script.specs.Lines.{answer_line}
 use Rattle.drm_runs.specs.Lines.{IsBare, joined}
-use Rattle.drm_runs.specs.Script.{Setting, Place, Script, usual, script_text, IsMisplaced, WantsDevice}
+use Rattle.drm_runs.specs.Script.{Setting, Place, Script, usual, script_text, IsMisplaced, IsNowhere, WantsDevice}
 use Rattle.drm_runs.specs.Script.Place.{Planned}
-use Rattle.drm_runs.specs.declared.run.ScriptEnd.{ScriptEnd}
-use Rattle.drm_runs.specs.declared.run.ScriptEnd.TheVariants as ends
+use Rattle.drm_runs.specs.declared.stops.ScriptEnd.{ScriptEnd}
+use Rattle.drm_runs.specs.declared.stops.ScriptEnd.TheVariants as ends
 
 abbrev pub Results : Type 0
 Results = List (Result Answer Apart)
@@ -20,11 +20,9 @@ Covers ended read lines rest =
     (read ≡ joined lines ++ rest) ⊎ ((front : List (List ℕ)) × (last : List ℕ) × (lines ≡ front ++ last ∷ []) × (read ≡ joined front ++ last) × (rest ≡ []) × ended)
 
 -- Every line that was read was used, and what the results write was written.
-pub record IsDone (setting : Setting) (ended : Type 0) (read written : List ℕ) : Type 0 where
+pub record IsDone (setting : Setting) (ended : Type 0) (read written : List ℕ) (device : Place) (labels : List ℕ) : Type 0 where
   pub lines : List (List ℕ)
   pub results : Results
-  pub device : Place
-  pub labels : List ℕ
   pub script : Script setting lines results device labels
   pub covers : Covers ended read lines []
   pub text : written ≡ script_text results
@@ -35,11 +33,9 @@ EndsLine ended rest = ((rest ≡ []) × ended) ⊎ ((more : List ℕ) × (rest �
 
 -- The lines before the bad one were used. The bad one can't be used: its end was read, or the input ended, or it is too long,
 -- which its first 256 bytes tell. No more was read behind it than one read gives.
-pub record IsMalformed (setting : Setting) (ended : Type 0) (number : ℕ) (read written : List ℕ) : Type 0 where
+pub record IsMalformed (setting : Setting) (ended : Type 0) (number : ℕ) (read written : List ℕ) (device : Place) (labels : List ℕ) : Type 0 where
   pub lines : List (List ℕ)
   pub results : Results
-  pub device : Place
-  pub labels : List ℕ
   pub bad : List ℕ
   pub rest : List ℕ
   pub script : Script setting lines results device labels
@@ -53,11 +49,9 @@ pub record IsMalformed (setting : Setting) (ended : Type 0) (number : ℕ) (read
   pub text : written ≡ script_text results
 
 -- Every whole line that was read was used, and what is left is shorter than a line that is too long.
-pub record IsCutShort (setting : Setting) (read written : List ℕ) : Type 0 where
+pub record IsCutShort (setting : Setting) (read written : List ℕ) (device : Place) (labels : List ℕ) : Type 0 where
   pub lines : List (List ℕ)
   pub results : Results
-  pub device : Place
-  pub labels : List ℕ
   pub rest : List ℕ
   pub script : Script setting lines results device labels
   pub whole : read ≡ joined lines ++ rest
@@ -78,11 +72,9 @@ pub record IsCutInLast (results : Results) (written : List ℕ) : Type 0 where
 
 -- Some lines were used, and writing stopped in the answer of the last one; so no line is used after a failed write, and no
 -- more was read behind it than one read gives.
-pub record IsStopped (setting : Setting) (ended : Type 0) (read written : List ℕ) : Type 0 where
+pub record IsStopped (setting : Setting) (ended : Type 0) (read written : List ℕ) (device : Place) (labels : List ℕ) : Type 0 where
   pub lines : List (List ℕ)
   pub results : Results
-  pub device : Place
-  pub labels : List ℕ
   pub rest : List ℕ
   pub script : Script setting lines results device labels
   pub covers : Covers ended read lines rest
@@ -91,9 +83,8 @@ pub record IsStopped (setting : Setting) (ended : Type 0) (read written : List �
 
 -- The lines before were all skipped; the next one wants a device, for which there was no memory. Nothing was written, and no
 -- more was read behind that line than one read gives.
-pub record IsUnmade (setting : Setting) (ended : Type 0) (read written : List ℕ) : Type 0 where
+pub record IsUnmade (setting : Setting) (ended : Type 0) (read written : List ℕ) (device : Place) (labels : List ℕ) : Type 0 where
   pub lines : List (List ℕ)
-  pub labels : List ℕ
   pub next : List ℕ
   pub rest : List ℕ
   pub script : Script setting lines [] (Planned setting) labels
@@ -102,6 +93,7 @@ pub record IsUnmade (setting : Setting) (ended : Type 0) (read written : List �
   pub until : EndsLine ended rest
   pub behind : length rest ≤ 256
   pub wants : WantsDevice next
+  pub none : IsNowhere device
   pub nothing : written ≡ []
 
 -- a line can't be used
@@ -113,29 +105,33 @@ is_malformed ends.WriteFault = false
 is_malformed ends.TurnsUsed = false
 is_malformed ends.NoMemory = false
 
--- each end with its cause
-abbrev pub Ends : Setting → ScriptEnd → SourceAccount → SourceAccount → SinkAccount → SinkAccount → ℕ → List ℕ → List ℕ → Type 0
-Ends setting ends.Done source source' sink sink' turns read written =
-    IsDone setting (source.counts.ends < source'.counts.ends) read written × (source.counts.ends < source'.counts.ends)
-Ends setting (ends.Malformed number) source source' sink sink' turns read written = IsMalformed setting (source.counts.ends < source'.counts.ends) number read written
-Ends setting ends.ReadFault source source' sink sink' turns read written = IsCutShort setting read written × (source.counts.faults < source'.counts.faults)
-Ends setting ends.WriteFault source source' sink sink' turns read written =
-    IsStopped setting (source.counts.ends < source'.counts.ends) read written × (sink.counts.faults < sink'.counts.faults)
-Ends setting ends.TurnsUsed source source' sink sink' turns read written =
-    (IsCutShort setting read written ⊎ IsStopped setting (source.counts.ends < source'.counts.ends) read written)
+-- each end with its cause, and the device and the labels at it
+abbrev pub Ends : Setting → ScriptEnd → SourceAccount → SourceAccount → SinkAccount → SinkAccount → ℕ → List ℕ → List ℕ → Place → List ℕ → Type 0
+Ends setting ends.Done source source' sink sink' turns read written device labels =
+    IsDone setting (source.counts.ends < source'.counts.ends) read written device labels × (source.counts.ends < source'.counts.ends)
+Ends setting (ends.Malformed number) source source' sink sink' turns read written device labels =
+    IsMalformed setting (source.counts.ends < source'.counts.ends) number read written device labels
+Ends setting ends.ReadFault source source' sink sink' turns read written device labels =
+    IsCutShort setting read written device labels × (source.counts.faults < source'.counts.faults)
+Ends setting ends.WriteFault source source' sink sink' turns read written device labels =
+    IsStopped setting (source.counts.ends < source'.counts.ends) read written device labels × (sink.counts.faults < sink'.counts.faults)
+Ends setting ends.TurnsUsed source source' sink sink' turns read written device labels =
+    (IsCutShort setting read written device labels ⊎ IsStopped setting (source.counts.ends < source'.counts.ends) read written device labels)
     × (source'.counts.calls + sink'.counts.calls ≡ source.counts.calls + sink.counts.calls + turns)
-Ends setting ends.NoMemory source source' sink sink' turns read written = IsUnmade setting (source.counts.ends < source'.counts.ends) read written
+Ends setting ends.NoMemory source source' sink sink' turns read written device labels =
+    IsUnmade setting (source.counts.ends < source'.counts.ends) read written device labels
 
--- A run on a device that begins so: what it read and wrote, at what cost, and why it ended. Each take asks for 256 bytes at most.
-pub record RunsOn (setting : Setting) (source source' : SourceAccount) (sink sink' : SinkAccount) (turns : ℕ) (end : ScriptEnd) : Type 0 where
+-- A run on a device that begins so: what it read and wrote, at what cost, why it ended, and the device and the labels then. Each take asks
+-- for 256 bytes at most.
+pub record RunsOn (setting : Setting) (source source' : SourceAccount) (sink sink' : SinkAccount) (turns : ℕ) (end : ScriptEnd) (device : Place) (labels : List ℕ) : Type 0 where
   pub read : List ℕ
   pub written : List ℕ
   pub gave : Gave source source' read
   pub took : Took sink sink' written
   pub chunks : length read + 256 * source.counts.calls ≤ 256 * source'.counts.calls
   pub turns_at_most : source'.counts.calls + sink'.counts.calls ≤ source.counts.calls + sink.counts.calls + turns
-  pub ends : Ends setting end source source' sink sink' turns read written
+  pub ends : Ends setting end source source' sink sink' turns read written device labels
 
 -- a run on a device of the test topology, with the program's limits where the script sets none
 abbrev pub Runs : SourceAccount → SourceAccount → SinkAccount → SinkAccount → ℕ → ScriptEnd → Type 0
-Runs source source' sink sink' turns end = RunsOn usual source source' sink sink' turns end
+Runs source source' sink sink' turns end = (device : Place) × (labels : List ℕ) × RunsOn usual source source' sink sink' turns end device labels

@@ -1,5 +1,5 @@
 -- What the lines of a script ask of the device, and what a run writes (scripts are this project's own).
-use Rattle.std.specs.Prelude.{◌≡◌, ℕ, List, [], ◌∷◌, ◌++◌, Option, Some, None, Result, Ok, slice_index, slice_set, replicate}
+use Rattle.std.specs.Prelude.{◌≡◌, ℕ, List, [], ◌∷◌, ◌++◌, Option, Some, None, Result, Ok, Err, slice_index, slice_set, replicate}
 use Rattle.drm_table.specs.declared.answers.Answer.{Answer}
 use Rattle.drm_table.specs.declared.answers.Answer.TheVariants as answers
 use Rattle.drm_table.specs.declared.apart.Apart.{Apart}
@@ -8,8 +8,8 @@ use Rattle.drm_table.specs.declared.events.Event.TheVariants as events
 use Rattle.drm_table.specs.declared.limits.Limits.{Limits}
 use Rattle.drm_modes.specs.declared.kinds.PlaneKind.TheVariants.{Overlay as OverlayPlane, Primary as PrimaryPlane}
 use Rattle.drm_modes.specs.Topology.{Topology}
-use Rattle.drm_model.specs.Rows.{Rows, empty_rows}
-use Rattle.drm_model.specs.Run.{Step, Answers}
+use Rattle.drm_model.specs.Rows.{empty_rows}
+use Rattle.drm_model.specs.Run.{History, Step, Answers, noted_events, noted_in, rows_of}
 use Rattle.drm_script.specs.declared.commands.Command.{Command}
 use Rattle.drm_script.specs.declared.commands.Command.TheVariants as commands
 use Rattle.drm_script.specs.declared.reading.Reading.TheVariants as readings
@@ -37,20 +37,21 @@ usual = record { topology = test_topology; limits = program_limits }
 abbrev pub limited_to : Setting → Limits → Setting
 limited_to setting limits = record { topology = setting.topology; limits = limits }
 
-abbrev pub empty_device : Setting → Rows
-empty_device setting = empty_rows setting.topology setting.limits
+-- a device of this topology and these limits that has noted nothing
+abbrev pub empty_device : Setting → History
+empty_device setting = record { topology = setting.topology; limits = setting.limits; journal = [] }
 
 -- the device of a script: there is none yet, and it will begin so; it is made; or memory for it was refused
 pub data Place : Type 0 where
   Planned : Setting → Place
-  Made : Rows → Place
+  Made : History → Place
   Refused : Place
 
--- the rows of the device, which is made as the first line asks for it
-abbrev pub IsAt : Place → Rows → Type 0
-IsAt (Planned setting) rows = rows ≡ empty_device setting
-IsAt (Made device) rows = rows ≡ device
-IsAt Refused rows = ⊥
+-- the device, which is made as the first line asks for it
+abbrev pub IsAt : Place → History → Type 0
+IsAt (Planned setting) device = device ≡ empty_device setting
+IsAt (Made made) device = device ≡ made
+IsAt Refused device = ⊥
 
 -- there is no device
 abbrev pub IsNowhere : Place → Type 0
@@ -63,6 +64,16 @@ abbrev pub event_of : List ℕ → Command → Event
 event_of labels (commands.Open label opening) = events.Open opening
 event_of labels (commands.Close label) = events.Close (slice_index labels label)
 event_of labels (commands.Ask label call) = events.Ask (slice_index labels label) call
+
+-- the device behind an event: it is noted, save where what stands apart is answered
+abbrev pub noted_by : History → Event → Result Answer Apart → History
+noted_by device event (Ok answer) = noted_in device event
+noted_by device event (Err apart) = device
+
+-- The device answers the event so.
+pub record StepsOn (before : History) (event : Event) (result : Result Answer Apart) (after : History) : Type 0 where
+  pub answered : Step (rows_of before) event result (rows_of after)
+  pub noted : after ≡ noted_by before event result
 
 -- the label that a command would bind
 abbrev pub label_bound : Command → Option ℕ
@@ -78,11 +89,11 @@ bound labels None result = labels
 
 -- what one line comes to: the results that it adds, the device and the labels after it
 pub data Uses (device : Place) (labels line : List ℕ) : List (Result Answer Apart) → Place → List ℕ → Type 0 where
-  skipped : reading_of line ≡ readings.Skipped → Uses device labels line [] device labels
-  limited : {setting : Setting} {limits : Limits} → device ≡ Planned setting → reading_of line ≡ readings.Limits limits
+  skipped : reading_of line ≡ Some readings.Skipped → Uses device labels line [] device labels
+  limited : {setting : Setting} {limits : Limits} → device ≡ Planned setting → reading_of line ≡ Some (readings.Limits limits)
       → Uses device labels line [] (Made (empty_device (limited_to setting limits))) labels
-  asked : {command : Command} {result : Result Answer Apart} {after : Rows} (before : Rows) → reading_of line ≡ readings.Says command → IsAt device before
-      → Step before (event_of labels command) result after → Uses device labels line (result ∷ []) (Made after) (bound labels (label_bound command) result)
+  asked : {command : Command} {result : Result Answer Apart} {after : History} (before : History) → reading_of line ≡ Some (readings.Says command) → IsAt device before
+      → StepsOn before (event_of labels command) result after → Uses device labels line (result ∷ []) (Made after) (bound labels (label_bound command) result)
 
 -- no label is bound yet
 abbrev pub unbound : List ℕ
@@ -101,31 +112,33 @@ script_text (result ∷ results) = answer_line result ++ script_text results
 
 -- a line that can't be used here: it is malformed, or sets limits where the device is made already
 pub data IsMisplaced (device : Place) (line : List ℕ) : Type 0 where
-  malformed : reading_of line ≡ readings.Malformed → IsMisplaced device line
-  late : {limits : Limits} {rows : Rows} → device ≡ Made rows → reading_of line ≡ readings.Limits limits → IsMisplaced device line
+  malformed : reading_of line ≡ None → IsMisplaced device line
+  late : {limits : Limits} {made : History} → device ≡ Made made → reading_of line ≡ Some (readings.Limits limits) → IsMisplaced device line
 
 -- a line that wants a device where none is made yet
 pub data WantsDevice (line : List ℕ) : Type 0 where
-  limits : {limits : Limits} → reading_of line ≡ readings.Limits limits → WantsDevice line
-  command : {command : Command} → reading_of line ≡ readings.Says command → WantsDevice line
+  limits : {limits : Limits} → reading_of line ≡ Some (readings.Limits limits) → WantsDevice line
+  command : {command : Command} → reading_of line ≡ Some (readings.Says command) → WantsDevice line
 
 -- The lines ask the device these events, one for each command, in order, where these results came: a label stands for the client of the
 -- last opening by it that was accepted. The last list has whom the labels stand for behind the lines.
 pub data AskFor : List (List ℕ) → List (Result Answer Apart) → List Event → List ℕ → Type 0 where
   nothing : AskFor [] [] [] unbound
   skipped_line : {lines : List (List ℕ)} {results : List (Result Answer Apart)} {events : List Event} {labels : List ℕ} (next : List ℕ) → AskFor lines results events labels
-      → reading_of next ≡ readings.Skipped → AskFor (lines ++ next ∷ []) results events labels
+      → reading_of next ≡ Some readings.Skipped → AskFor (lines ++ next ∷ []) results events labels
   limits_line : {lines : List (List ℕ)} {results : List (Result Answer Apart)} {events : List Event} {labels : List ℕ} (next : List ℕ) (limits : Limits) → AskFor lines results events labels
-      → reading_of next ≡ readings.Limits limits → AskFor (lines ++ next ∷ []) results events labels
+      → reading_of next ≡ Some (readings.Limits limits) → AskFor (lines ++ next ∷ []) results events labels
   command_line : {lines : List (List ℕ)} {results : List (Result Answer Apart)} {events : List Event} {labels : List ℕ} (next : List ℕ) (command : Command) (result : Result Answer Apart)
-      → AskFor lines results events labels → reading_of next ≡ readings.Says command
+      → AskFor lines results events labels → reading_of next ≡ Some (readings.Says command)
       → AskFor (lines ++ next ∷ []) (results ++ result ∷ []) (events ++ event_of labels command ∷ []) (bound labels (label_bound command) result)
 
--- The results are the device's answers to the events that the lines ask for, from an empty one on, of this topology and of some limits.
+-- The results are the device's answers to the events that the lines ask for, from an empty one on, of this topology and of some limits;
+-- its journal has these events, save those to which what stands apart was answered.
 abbrev pub AnswersFromEmpty : Topology → List (List ℕ) → List (Result Answer Apart) → Place → List ℕ → Type 0
 AnswersFromEmpty topology lines results device labels =
     (limits : Limits) × (events : List Event) × AskFor lines results events labels
-    × (rows : Rows) × IsAt device rows × Answers (empty_rows topology limits) events results rows
+    × (made : History) × IsAt device made × Answers (empty_rows topology limits) events results (rows_of made)
+    × (made ≡ record { topology = topology; limits = limits; journal = noted_events events results })
 
 abbrev pub ScriptsAreAnswered : Type 0
 ScriptsAreAnswered = (setting : Setting) (lines : List (List ℕ)) (results : List (Result Answer Apart)) (device : Place) (labels : List ℕ)

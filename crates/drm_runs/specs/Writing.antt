@@ -15,7 +15,7 @@ abbrev pub WritesAnswer : Result Answer Apart → SinkAccount → SinkAccount �
 WritesAnswer result before after had has ends.Used = Pays before after (answer_line result) had has
 WritesAnswer result before after had has ends.WriteFault = PaysPart before after (answer_line result) had has × (before.counts.faults < after.counts.faults)
 WritesAnswer result before after had has ends.TurnsUsed = PaysPart before after (answer_line result) had has × (has ≡ 0)
-WritesAnswer result before after had has ends.Malformed = ⊥
+WritesAnswer result before after had has (ends.Malformed malformed) = ⊥
 WritesAnswer result before after had has ends.NoMemory = ⊥
 
 -- what came of a line: it was used and its results written, or a front of its answer, or it changed nothing
@@ -28,5 +28,6 @@ UsesLine old new line before after had has ends.WriteFault =
 UsesLine old new line before after had has ends.TurnsUsed =
     (result : Result Answer Apart) × Uses old.device old.labels line (result ∷ []) new.device new.labels
     × PaysPart before after (answer_line result) had has × (has ≡ 0)
-UsesLine old new line before after had has ends.Malformed = IsMisplaced old.device line × (after ≡ before) × (has ≡ had)
-UsesLine old new line before after had has ends.NoMemory = IsNowhere old.device × WantsDevice line × (after ≡ before) × (has ≡ had)
+UsesLine old new line before after had has (ends.Malformed malformed) = IsMisplaced old.device line × (after ≡ before) × (has ≡ had) × (new ≡ old)
+UsesLine old new line before after had has ends.NoMemory =
+    IsNowhere old.device × WantsDevice line × (after ≡ before) × (has ≡ had) × IsNowhere new.device × (new.labels ≡ old.labels)

@@ -2,7 +2,7 @@
 
 use crate::devices::Setup;
 use drm_device::{Device, Limits};
-use drm_script::{Command, Label, Reading, read_line};
+use drm_script::{Command, Label, Malformed, Reading, read_line};
 use drm_table::{Answer, Apart, Event};
 use std::alloc::Global;
 use std::marker::Model;
@@ -14,8 +14,8 @@ pub enum LineResult {
     Unanswered,
     /// The device's answer.
     Answered(Result<Answer, Apart>),
-    /// It can't be used here: it is malformed, or sets limits where the device is made already.
-    Malformed,
+    /// It can't be used here: it is malformed, or sets limits where the device is made already. Nothing has changed.
+    Malformed(Malformed),
     /// It wants a device where none is made yet, and there was no memory for it. No later line makes one.
     NoMemory,
 }
@@ -33,27 +33,24 @@ pub struct Interpreter {
 
 impl Model for Interpreter {
     ghost use Rattle.std.specs.Prelude.{◌≡◌, true};
-    ghost use Rattle.std.specs.Option.{option_map};
     ghost use Rattle.drm_table.specs.Limits.{are_in_range};
-    ghost use Rattle.drm_model.specs.Run.{rows_of};
     ghost use Rattle.drm_runs.specs.Interpreter.{HasLimits, Standing, place_of};
 
     ghost Value = { Standing };
 
-    ghost view = { λ s. record { device = place_of (option_map rows_of s.device) s.planned; labels = s.labels } };
+    ghost view = { λ s. record { device = place_of s.device s.planned; labels = s.labels } };
 
-    ghost invariant = { λ s. (are_in_range s.limits ≡ true) × HasLimits (place_of (option_map rows_of s.device) s.planned) s.limits };
+    ghost invariant = { λ s. (are_in_range s.limits ≡ true) × HasLimits (place_of s.device s.planned) s.limits };
 }
 
 impl Interpreter {
     ghost use Rattle.std.specs.Prelude.{◌≡◌, slice_index, IfSome, IfNone, None, Some, true};
     ghost use Rattle.std.specs.Option.{option_map};
     ghost use Rattle.drm_table.specs.Limits as ranges;
-    ghost use Rattle.drm_model.specs.Rows.{Rows};
-    ghost use Rattle.drm_model.specs.Run.{Step, rows_of};
-    ghost use Rattle.drm_runs.specs.Script.{IsAt, IsNowhere, bound, event_of, label_bound};
+    ghost use Rattle.drm_model.specs.Run.{History};
+    ghost use Rattle.drm_runs.specs.Script.{IsAt, IsNowhere, StepsOn, bound, event_of, label_bound};
     ghost use Rattle.drm_runs.specs.Script.Place.{Made};
-    ghost use Rattle.drm_runs.specs.Interpreter.{Asks, HasLimits, Interprets, SetsLimits, at_start, rows_made};
+    ghost use Rattle.drm_runs.specs.Interpreter.{Asks, HasLimits, Interprets, SetsLimits, at_start, device_made};
 
     /// No device yet, which will begin as it is set up, and no label bound.
     pub fn new(setup: Setup) -> Interpreter
@@ -69,7 +66,7 @@ impl Interpreter {
 
     /// The device, once a line has made it.
     pub fn device(&self) -> Option<&Device>
-        ensures { option_map (λ device. rows_of device.now) result ≡ rows_made self.now.device }
+        ensures { option_map (λ device. device.now) result ≡ device_made self.now.device }
     {
         self.device.as_ref()
     }
@@ -109,9 +106,9 @@ impl Interpreter {
 
     /// One step of the device, which is made if it isn't there; none if there is no memory to make it.
     fn step(&mut self, alloc: Global, event: Event) -> Option<Result<Answer, Apart>>
-        ensures some { IfSome result (λ outcome. (before : Rows) × (after : Rows) × IsAt self.old.device before × Step before event outcome after × (self.new.device ≡ Made after)) }
+        ensures some { IfSome result (λ outcome. (before : History) × (after : History) × IsAt self.old.device before × StepsOn before event outcome after × (self.new.device ≡ Made after)) }
         ensures labels { self.new.labels ≡ self.old.labels }
-        ensures none { IfNone result (IsNowhere self.old.device) }
+        ensures none { IfNone result (IsNowhere self.old.device × IsNowhere self.new.device) }
     {
         match &mut self.device {
             Some(device) => Some(device.step(event)),
@@ -156,13 +153,13 @@ impl Interpreter {
         }
     }
 
-    /// Makes a device with these limits, where there is none.
-    fn limit(&mut self, alloc: Global, limits: Limits) -> LineResult
+    /// Makes a device with these limits, where there is none; the line that sets them is given.
+    fn limit(&mut self, alloc: Global, limits: Limits, line: &[u8]) -> LineResult
         requires { ranges.are_in_range limits ≡ true }
         ensures { SetsLimits self.old self.new limits result }
     {
         if self.device.is_some() {
-            return LineResult::Malformed;
+            return LineResult::Malformed(Malformed::late_limits(line));
         }
         let Some(setup) = self.planned.take() else {
             return LineResult::NoMemory;
@@ -179,10 +176,13 @@ impl Interpreter {
     pub fn interpret(&mut self, alloc: Global, line: &[u8]) -> LineResult
         ensures { Interprets self.old self.new line.now result }
     {
-        match read_line(line) {
-            Reading::Malformed => LineResult::Malformed,
+        let reading = match read_line(line) {
+            Ok(reading) => reading,
+            Err(malformed) => return LineResult::Malformed(malformed),
+        };
+        match reading {
             Reading::Skipped => LineResult::Unanswered,
-            Reading::Limits(limits) => self.limit(alloc, limits),
+            Reading::Limits(limits) => self.limit(alloc, limits, line),
             Reading::Says(command) => match self.perform(alloc, command) {
                 Some(answer) => LineResult::Answered(answer),
                 None => LineResult::NoMemory,

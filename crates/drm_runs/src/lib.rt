@@ -1,17 +1,17 @@
 //! Scripts: lines are read from a source, a device is asked, and its answers are written to a sink.
 #![tactic(auto)]
 
-mod causes;
 mod devices;
 mod interpreter;
 mod laws;
 mod reader;
 mod run;
+mod stops;
 mod writing;
 
-pub use causes::cause_of;
 pub use devices::{Setup, make_device, test_topology};
 pub use interpreter::{Interpreter, LineResult};
 pub use laws::scripts_are_answered;
 pub use reader::{LineReader, NextLine};
-pub use run::{Ran, ScriptEnd, run_on, run_script, run_with_cause};
+pub use run::{Ran, run_on, run_script, run_with_cause};
+pub use stops::{ScriptEnd, Stop};

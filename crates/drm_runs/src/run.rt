@@ -4,42 +4,25 @@ ghost use Rattle.std.specs.Prelude.{◌≡◌, ◌<◌, ◌+◌, ◌^◌, is_som
 ghost use Rattle.drm_runs.specs.Runs.{Runs, RunsOn, is_malformed};
 ghost use Rattle.drm_runs.specs.RunSteps.{stop_of};
 
-use crate::causes::cause_of;
 use crate::devices::Setup;
 use crate::interpreter::Interpreter;
 use crate::reader::{LineReader, NextLine};
+use crate::stops::{ScriptEnd, Stop};
 use crate::writing::{LineEnd, use_line};
-use drm_script::Malformation;
+use drm_script::Malformed;
 use drm_streams::{Sink, Source};
 use std::alloc::Global;
 
-/// How the run of a script ends (own).
-#[derive(Clone, Copy, Debug, PartialEq, Eq)]
-pub enum ScriptEnd {
-    /// The input ended, and every line was used.
-    Done,
-    /// The line of this number, from 1, can't be used; those before it were, and their answers are written.
-    Malformed(u64),
-    /// The source failed; every whole line that it gave was used, and the answers are written.
-    ReadFault,
-    /// The sink failed; a front of the answers is written.
-    WriteFault,
-    /// A call of the source or the sink was wanted, and no turn was left for it; a front of the answers is written.
-    TurnsUsed,
-    /// No memory for the device; nothing is written.
-    NoMemory,
-}
-
 /// How a run ends where a line does not let it go on.
-fn stop(line: LineEnd, number: u64) -> Option<ScriptEnd>
+fn stop(line: LineEnd, number: u64) -> Option<Stop>
     ensures { result ≡ stop_of line number }
 {
     match line {
         LineEnd::Used => None,
-        LineEnd::Malformed => Some(ScriptEnd::Malformed(number)),
-        LineEnd::WriteFault => Some(ScriptEnd::WriteFault),
-        LineEnd::TurnsUsed => Some(ScriptEnd::TurnsUsed),
-        LineEnd::NoMemory => Some(ScriptEnd::NoMemory),
+        LineEnd::Malformed(cause) => Some(Stop::malformed(number, cause)),
+        LineEnd::WriteFault => Some(Stop::of(ScriptEnd::WriteFault)),
+        LineEnd::TurnsUsed => Some(Stop::of(ScriptEnd::TurnsUsed)),
+        LineEnd::NoMemory => Some(Stop::of(ScriptEnd::NoMemory)),
     }
 }
 
@@ -70,7 +53,7 @@ impl Run {
     }
 
     /// Uses the line that is held. Gives how the run ends, where it doesn't go on.
-    fn use_held<K: Sink>(&mut self, alloc: Global, sink: &mut K) -> Option<ScriptEnd>
+    fn use_held<K: Sink>(&mut self, alloc: Global, sink: &mut K) -> Option<Stop>
         requires number { self.old.number + 1 < 2 ^ 64 }
         requires sink_calls { (K.account sink.old).counts.calls + self.old.turns < 2 ^ 48 }
         ensures number { self.new.number ≡ self.old.number + 1 }
@@ -84,15 +67,16 @@ impl Run {
     }
 
     /// Uses what stands behind the last line end, if anything does.
-    fn use_last<K: Sink>(&mut self, alloc: Global, sink: &mut K) -> ScriptEnd
+    fn use_last<K: Sink>(&mut self, alloc: Global, sink: &mut K) -> Stop
         requires number { self.old.number + 1 < 2 ^ 64 }
         requires sink_calls { (K.account sink.old).counts.calls + self.old.turns < 2 ^ 48 }
         ensures { UsesLast self.old self.new (K.account sink.old) (K.account sink.new) result }
     {
         if self.reader.line().is_empty() {
-            return ScriptEnd::Done;
+            return Stop::of(ScriptEnd::Done);
         }
-        self.use_held(alloc, sink).unwrap_or(ScriptEnd::Done)
+        self.use_held(alloc, sink)
+            .unwrap_or(Stop::of(ScriptEnd::Done))
     }
 
     /// Reads a line and uses it. Gives how the run ends, where it doesn't go on.
@@ -101,16 +85,16 @@ impl Run {
         alloc: Global,
         source: &mut S,
         sink: &mut K,
-    ) -> Option<ScriptEnd>
+    ) -> Option<Stop>
         requires countable { IsCountable self.old (S.account source.old) (K.account sink.old) }
         ensures { Advances self.old self.new (S.account source.old) (S.account source.new) (K.account sink.old) (K.account sink.new) result }
     {
         match self.reader.next_line(source, &mut self.turns) {
             NextLine::Line => self.use_held(alloc, sink),
             NextLine::End => Some(self.use_last(alloc, sink)),
-            NextLine::TooLong => Some(ScriptEnd::Malformed(self.number + 1)),
-            NextLine::ReadFault => Some(ScriptEnd::ReadFault),
-            NextLine::TurnsUsed => Some(ScriptEnd::TurnsUsed),
+            NextLine::TooLong => Some(Stop::malformed(self.number + 1, Malformed::too_long())),
+            NextLine::ReadFault => Some(Stop::of(ScriptEnd::ReadFault)),
+            NextLine::TurnsUsed => Some(Stop::of(ScriptEnd::TurnsUsed)),
         }
     }
 }
@@ -139,7 +123,7 @@ pub fn run_with_cause<S: Source, K: Sink>(
     source: &mut S,
     sink: &mut K,
     turns: u64,
-) -> (ScriptEnd, Option<Malformation>)
+) -> (ScriptEnd, Option<Malformed>)
     requires source_calls { (S.account source.old).counts.calls + turns < 2 ^ 48 }
     requires sink_calls { (K.account sink.old).counts.calls + turns < 2 ^ 48 }
     ensures runs { Runs (S.account source.old) (S.account source.new) (K.account sink.old) (K.account sink.new) turns result.0 }
@@ -154,8 +138,8 @@ pub fn run_with_cause<S: Source, K: Sink>(
 pub struct Ran {
     /// How it ended.
     pub end: ScriptEnd,
-    /// Why a line can't be used, where one can't.
-    pub cause: Option<Malformation>,
+    /// Why a line can't be used and where in it, where one can't.
+    pub cause: Option<Malformed>,
     /// The device at the end, and the clients that the labels stand for.
     pub interpreter: Interpreter,
 }
@@ -171,18 +155,16 @@ pub fn run_on<S: Source, K: Sink>(
 ) -> Ran
     requires source_calls { (S.account source.old).counts.calls + turns < 2 ^ 48 }
     requires sink_calls { (K.account sink.old).counts.calls + turns < 2 ^ 48 }
-    ensures runs { RunsOn setup (S.account source.old) (S.account source.new) (K.account sink.old) (K.account sink.new) turns result.end }
+    ensures runs { RunsOn setup (S.account source.old) (S.account source.new) (K.account sink.old) (K.account sink.new) turns result.end result.interpreter.device result.interpreter.labels }
     ensures told { is_some result.cause ≡ is_malformed result.end }
 {
     let mut run = Run::new(setup, turns);
     'lines: loop {
-        if let Some(end) = run.use_next(alloc, source, sink) {
-            let cause = cause_of(end, run.number, run.reader.line());
-            let interpreter = run.interpreter;
+        if let Some(stop) = run.use_next(alloc, source, sink) {
             return Ran {
-                end,
-                cause,
-                interpreter,
+                end: stop.end(),
+                cause: stop.cause(),
+                interpreter: run.interpreter,
             };
         }
     }

@@ -4,7 +4,7 @@ ghost use Rattle.std.specs.Prelude.{◌≡◌, ◌<◌, ◌+◌, ◌^◌};
 ghost use Rattle.drm_runs.specs.Writing.{UsesLine, WritesAnswer};
 
 use crate::interpreter::{Interpreter, LineResult};
-use drm_script::line_of;
+use drm_script::{Malformed, line_of};
 use drm_streams::{Sink, Written, put_all};
 use drm_table::{Answer, Apart};
 use std::alloc::Global;
@@ -13,7 +13,7 @@ use std::alloc::Global;
 #[derive(Clone, Copy, Debug, PartialEq, Eq)]
 pub(crate) enum LineEnd {
     Used,
-    Malformed,
+    Malformed(Malformed),
     WriteFault,
     TurnsUsed,
     NoMemory,
@@ -46,7 +46,7 @@ pub(crate) fn use_line<K: Sink>(
     match interpreter.interpret(alloc, line) {
         LineResult::Unanswered => LineEnd::Used,
         LineResult::Answered(answer) => write_answer(&answer, sink, turns),
-        LineResult::Malformed => LineEnd::Malformed,
+        LineResult::Malformed(malformed) => LineEnd::Malformed(malformed),
         LineResult::NoMemory => LineEnd::NoMemory,
     }
 }

@@ -1,4 +1,5 @@
 use Rattle.std.proofs.Common.{arith, ap}
+use Rattle.drm_runs.proofs.RunLemmas.{ends_as}
 use Rattle.drm_runs.proofs.StepLemmas.{first_so_far}
 use Rattle.drm_runs.specs.RunSteps.{fuel_of}
 use Rattle.drm_runs.specs.declared.run.Run.{Run}
@@ -17,7 +18,7 @@ lines-init g c =
     }
 
 pub returns-in-Some-clause-runs : goal.returns-in-Some-clause-runs
-returns-in-Some-clause-runs g c = c.in-Some.ensures _ _ _ _ c.lines.invariant.so_far
+returns-in-Some-clause-runs g c = ends_as c.end.ensures (c.in-Some.ensures _ _ _ _ c.lines.invariant.so_far)
 
 pub lines-preserved : goal.lines-preserved
 lines-preserved g c =

@@ -1,22 +1,22 @@
-use Rattle.std.proofs.Common.{◌≡◌, Some, sym, ap, ◌∙◌}
-use Rattle.drm_model.specs.Run.{History, rows_of}
+use Rattle.std.proofs.Common.{◌≡◌, Some, refl, sym, ap, ◌∙◌}
+use Rattle.drm_model.specs.Run.{History}
 use Rattle.drm_runs.specs.Script.{Setting, empty_device}
 use Rattle.drm_runs.specs.Script.Place.{Made}
 use Rattle.drm_runs.specs.Interpreter.{Standing}
-use Rattle.drm_runs.proofs.InterpreterLemmas.{some_of, none_of, made_is, planned_is, limits_of_made, rows_of-new}
+use Rattle.drm_runs.proofs.InterpreterLemmas.{some_of, none_of, made_is, planned_is}
 use Rattle.drm_runs.proofs.interpreter.Interpreter.limit.Goals as goal
 
 pub returns-then-is_some : goal.returns-then-is_some
 returns-then-is_some c =
     let s = c.self.inside in
     let device = some_of s.device (sym c.is_some.ensures ∙ c.if-is_some.true) in
-    (rows_of device.0, sym (ap (λ (s : Standing). s.device) c.self.view_is) ∙ made_is s.device s.planned device.0 device.1)
+    (device.0, sym (ap (λ (s : Standing). s.device) c.self.view_is) ∙ made_is s.device s.planned device.0 device.1, refl)
 
 pub invariant_of-self-2 : goal.invariant_of-self-2
 invariant_of-self-2 c =
     let device = ap (λ (h : History). h.limits) c.in-Some-make.ensures in
     let setup = ap (λ (s : Setting). s.limits) c.limited_to.ensures in
-    (c.requires, limits_of_made c.in-Some-make.device c.args.limits (sym (device ∙ setup)))
+    (c.requires, sym (device ∙ setup))
 
 pub returns : goal.returns
 returns c =
@@ -26,6 +26,6 @@ returns c =
     let planned : s.planned ≡ Some setup = let taken = c.take.ensures.value in let is = c.in-Some.is in cc in (
       setup,
       sym (ap (λ (s : Standing). s.device) c.self.view_is) ∙ planned_is s.device s.planned setup none planned,
-      ap Made (ap rows_of c.in-Some-make.ensures ∙ rows_of-new c.limited_to.result ∙ ap empty_device c.limited_to.ensures),
+      ap Made (c.in-Some-make.ensures ∙ ap empty_device c.limited_to.ensures),
       ap (λ (s : Standing). s.labels) c.self.view_is,
     )

@@ -1,8 +1,7 @@
 use Rattle.std.proofs.Common.{◌≡◌, Some, refl, subst}
-use Rattle.drm_model.specs.Run.{rows_of}
 use Rattle.drm_runs.specs.Script.{IsAt}
 use Rattle.drm_runs.specs.Interpreter.{Standing}
-use Rattle.drm_runs.proofs.InterpreterLemmas.{at_some, at_none, step_limits, limits_stay, limits_begin}
+use Rattle.drm_runs.proofs.InterpreterLemmas.{at_some, at_none, steps_on, step_limits, limits_stay, limits_begin}
 use Rattle.drm_runs.proofs.interpreter.Interpreter.step.Goals as goal
 
 pub invariant_of-self : goal.invariant_of-self
@@ -23,17 +22,18 @@ invariant_of-self-in-None c =
 pub returns-in-Some-clause-some : goal.returns-in-Some-clause-some
 returns-in-Some-clause-some c =
     let s = c.self.inside in
-    let before = rows_of c.in-Some.device in
-    let after = rows_of c.step.new.self in
-    (before, after, subst (λ (s : Standing). IsAt s.device before) c.self.view_is (at_some s.device s.planned c.in-Some.device c.in-Some.is), c.step.ensures.step, refl)
+    let before = c.in-Some.device in
+    let after = c.step.new.self in
+    let steps = steps_on before after c.args.event c.step.result c.step.ensures.step c.step.ensures.ok c.step.ensures.err in
+    (before, after, subst (λ (s : Standing). IsAt s.device before) c.self.view_is (at_some s.device s.planned before c.in-Some.is), steps, refl)
 
 pub returns-in_ok-device-in-None-clause-some : goal.returns-in_ok-device-in-None-clause-some
 returns-in_ok-device-in-None-clause-some c =
     let s = c.self.inside in
     let setup = c.in_ok-setup-in-None.setup in
-    let device = c.in_ok-device-in-None.device in
-    let before = rows_of device in
-    let after = rows_of c.step-outcome.new.self in
+    let before = c.in_ok-device-in-None.device in
+    let after = c.step-outcome.new.self in
     let planned : s.planned ≡ Some setup = let taken = c.take.ensures.value in let is = c.in_ok-setup-in-None.was in cc in
-    let here = at_none s.device s.planned setup device c.in-None.is planned c.in_ok-device-in-None.ensures in
-    (before, after, subst (λ (s : Standing). IsAt s.device before) c.self.view_is here, c.step-outcome.ensures.step, refl)
+    let here = at_none s.device s.planned setup before c.in-None.is planned c.in_ok-device-in-None.ensures in
+    let steps = steps_on before after c.args.event c.step-outcome.result c.step-outcome.ensures.step c.step-outcome.ensures.ok c.step-outcome.ensures.err in
+    (before, after, subst (λ (s : Standing). IsAt s.device before) c.self.view_is here, steps, refl)
