@@ -12,8 +12,8 @@ use Rattle.drm_runs.specs.Runs.{Covers, EndsLine}
 use Rattle.drm_runs.specs.Reader.{IsTooLong}
 use Rattle.drm_runs.specs.Script.{Setting, Place, Uses, IsMisplaced, IsNowhere, WantsDevice, unbound}
 use Rattle.drm_runs.specs.Script.Place.{Planned}
-use Rattle.drm_runs.specs.declared.run.ScriptEnd.{ScriptEnd}
-use Rattle.drm_runs.specs.declared.run.ScriptEnd.TheVariants as ends
+use Rattle.drm_runs.specs.declared.stops.ScriptEnd.{ScriptEnd}
+use Rattle.drm_runs.specs.declared.stops.ScriptEnd.TheVariants as ends
 use Rattle.drm_runs.proofs.RunLemmas.{joined-push}
 use Rattle.drm_checks.specs.Expectations.{script_part, expected_part, is_met}
 use Rattle.drm_checks.specs.Differences.{Difference, File, differences_text, text_of, met, unmet}

@@ -1,16 +1,17 @@
 -- A line that was used, from what the code made of it.
-use Rattle.std.proofs.Common.{◌≡◌, ℕ, ◌+◌, ◌∙◌, List, length, sym, ap, subst, Option, Result}
+use Rattle.std.proofs.Common.{◌≡◌, ℕ, ◌+◌, ◌∙◌, List, length, sym, ap, subst, Option, Some, Result}
 use Rattle.drm_table.specs.declared.answers.Answer.{Answer}
 use Rattle.drm_table.specs.declared.apart.Apart.{Apart}
 use Rattle.drm_streams.specs.Streams.{SinkAccount}
 use Rattle.drm_streams.specs.Texts.{WritesOut}
-use Rattle.drm_runs.specs.Script.{Uses}
+use Rattle.drm_runs.specs.Script.{Uses, IsMisplaced, IsNowhere, WantsDevice}
 use Rattle.drm_runs.specs.Interpreter.{Standing}
-use Rattle.drm_runs.specs.declared.run.ScriptEnd.{ScriptEnd}
+use Rattle.drm_runs.specs.declared.stops.ScriptEnd.{ScriptEnd}
+use Rattle.drm_runs.specs.declared.stops.ScriptEnd.TheVariants as ends
 use Rattle.drm_checks.specs.Expectations.{script_part, expected_part}
 use Rattle.drm_checks.specs.Differences.{File, met, unmet, differences_text}
-use Rattle.drm_checks.specs.Checker.{Notes, ChecksLine, results_of}
-use Rattle.drm_checks.specs.Checker.ChecksLine.{used}
+use Rattle.drm_checks.specs.Checker.{Notes, Stands, ChecksLine, results_of}
+use Rattle.drm_checks.specs.Checker.ChecksLine.{used, bad, unmade}
 use Rattle.drm_checks.specs.declared.checker.Checker.{Checker}
 
 -- the checker once a line was interpreted, and before what it expects is noted
@@ -32,3 +33,12 @@ used_line old new after file line script expected came sink sink' end s e u n =
       failed = n.failed ∙ ap (λ (x : Option (List ℕ)). old.failed + length (unmet (old.number + 1) x came)) e;
       number = n.number;
     })
+
+-- a line that can't be used, and one that wants a device for which there was no memory
+pub bad_line : {old new : Checker} {file : File} {line : List ℕ} {sink sink' : SinkAccount} {end : ScriptEnd} → end ≡ ends.Malformed (old.number + 1) → IsMisplaced old.interpreter.device (script_part line)
+    → Stands old new sink sink' → ChecksLine old new file line sink sink' (Some end)
+bad_line {old} {new} {file} {line} {sink} {sink'} same m s = subst (λ (e : ScriptEnd). ChecksLine old new file line sink sink' (Some e)) (sym same) (bad m s)
+
+pub unmade_line : {old new : Checker} {file : File} {line : List ℕ} {sink sink' : SinkAccount} {end : ScriptEnd} → end ≡ ends.NoMemory → IsNowhere old.interpreter.device → WantsDevice (script_part line)
+    → Stands old new sink sink' → ChecksLine old new file line sink sink' (Some end)
+unmade_line {old} {new} {file} {line} {sink} {sink'} same none wants s = subst (λ (e : ScriptEnd). ChecksLine old new file line sink sink' (Some e)) (sym same) (unmade none wants s)

@@ -11,8 +11,8 @@ use Rattle.drm_runs.specs.Lines.{IsBare}
 use Rattle.drm_runs.specs.Reader.{Buffered, Reads}
 use Rattle.drm_runs.specs.Runs.{EndsLine}
 use Rattle.drm_runs.specs.Script.{Setting, Place, Uses}
-use Rattle.drm_runs.specs.declared.run.ScriptEnd.{ScriptEnd}
-use Rattle.drm_runs.specs.declared.run.ScriptEnd.TheVariants as ends
+use Rattle.drm_runs.specs.declared.stops.ScriptEnd.{ScriptEnd}
+use Rattle.drm_runs.specs.declared.stops.ScriptEnd.TheVariants as ends
 use Rattle.drm_runs.specs.declared.reader.NextLine.TheVariants as next_line
 use Rattle.drm_checks.specs.Expectations.{script_part, expected_part}
 use Rattle.drm_checks.specs.Differences.{File, differences_text, met, unmet, end_of_writing}
@@ -142,15 +142,31 @@ module _ (file : File) (old : Check) (reader : Buffered) (has : ℕ) (source sou
         subst (λ (x : ScriptEnd). ChecksOn setting file start source' first sink' turns (report_of new x)) (sym u.3) (subst (λ (x : SinkAccount). ChecksOn setting file start source' first x turns (report_of new ends.Done)) (sym u.1) told)
     advances_last end r (inr u) setting start first turns so = last_line end u.0 r u.1 u.2 setting start first turns so
 
-  pub advances_too_long : Reads old.reader reader source source' old.checker.turns has next_line.TooLong given
-      → Advances old (record { reader = reader; checker = with_turns old.checker has }) file source source' sink sink (Some (ends.Malformed (old.checker.number + 1)))
-  advances_too_long r setting start first turns so = too_long (so_far_read so source' given has _ r.spent refl) r.splits.0 r.splits.1 r.splits.2
+  -- how the check is told to have ended is how it ended
+  told_as : {setting : Setting} {start : SourceAccount} {first : SinkAccount} {turns : ℕ} (check : Check) (told end : ScriptEnd) → told ≡ end
+      → ChecksOn setting file start source' first sink turns (report_of check end) → ChecksOn setting file start source' first sink turns (report_of check told)
+  told_as {setting} {start} {first} {turns} check told end same c = subst (λ (x : ScriptEnd). ChecksOn setting file start source' first sink turns (report_of check x)) (sym same) c
 
-  pub advances_read_fault : Reads old.reader reader source source' old.checker.turns has next_line.ReadFault given
-      → Advances old (record { reader = reader; checker = with_turns old.checker has }) file source source' sink sink (Some ends.ReadFault)
-  advances_read_fault r setting start first turns so =
-      read_fault (so_far_read so source' given has reader.held r.spent r.splits.0) (r.splits.2, r.splits.3) (omega (arith, so.gave.counts.faults, r.splits.4))
+  pub advances_too_long : (end : ScriptEnd) → end ≡ ends.Malformed (old.checker.number + 1) → Reads old.reader reader source source' old.checker.turns has next_line.TooLong given
+      → Advances old (record { reader = reader; checker = with_turns old.checker has }) file source source' sink sink (Some end)
+  advances_too_long end same r setting start first turns so =
+      told_as (record { reader = reader; checker = with_turns old.checker has }) end _ same (too_long (so_far_read so source' given has _ r.spent refl) r.splits.0 r.splits.1 r.splits.2)
 
-  pub advances_turns_used : Reads old.reader reader source source' old.checker.turns has next_line.TurnsUsed given
-      → Advances old (record { reader = reader; checker = with_turns old.checker has }) file source source' sink sink (Some ends.TurnsUsed)
-  advances_turns_used r setting start first turns so = turns_used (so_far_read so source' given has reader.held r.spent r.splits.0) (r.splits.2, r.splits.3) r.splits.4
+  pub advances_read_fault : (end : ScriptEnd) → end ≡ ends.ReadFault → Reads old.reader reader source source' old.checker.turns has next_line.ReadFault given
+      → Advances old (record { reader = reader; checker = with_turns old.checker has }) file source source' sink sink (Some end)
+  advances_read_fault end same r setting start first turns so =
+      told_as (record { reader = reader; checker = with_turns old.checker has }) end _ same
+      (read_fault (so_far_read so source' given has reader.held r.spent r.splits.0) (r.splits.2, r.splits.3) (omega (arith, so.gave.counts.faults, r.splits.4)))
+
+  pub advances_turns_used : (end : ScriptEnd) → end ≡ ends.TurnsUsed → Reads old.reader reader source source' old.checker.turns has next_line.TurnsUsed given
+      → Advances old (record { reader = reader; checker = with_turns old.checker has }) file source source' sink sink (Some end)
+  advances_turns_used end same r setting start first turns so =
+      told_as (record { reader = reader; checker = with_turns old.checker has }) end _ same
+      (turns_used (so_far_read so source' given has reader.held r.spent r.splits.0) (r.splits.2, r.splits.3) r.splits.4)
+
+-- a check of the file by another name that is told to have ended as it did
+pub ends_as : {setting : Setting} {file named : File} {s0 s : SourceAccount} {k0 k : SinkAccount} {turns passed failed : ℕ} {told end : ScriptEnd} → told ≡ end → named ≡ file
+    → ChecksOn setting named s0 s k0 k turns (report_with end passed failed) → ChecksOn setting file s0 s k0 k turns (report_with told passed failed)
+ends_as {setting} {file} {named} {s0} {s} {k0} {k} {turns} {passed} {failed} {told} {end} same files c =
+    subst (λ (x : ScriptEnd). ChecksOn setting file s0 s k0 k turns (report_with x passed failed)) (sym same)
+    (subst (λ (f : File). ChecksOn setting f s0 s k0 k turns (report_with end passed failed)) files c)

@@ -7,8 +7,8 @@ use Rattle.drm_streams.specs.Texts.{WritesOut}
 use Rattle.drm_streams.specs.declared.turns.Written.{Written}
 use Rattle.drm_runs.specs.Script.{Setting, Uses, IsMisplaced, IsNowhere, WantsDevice}
 use Rattle.drm_runs.specs.Interpreter.{at_start}
-use Rattle.drm_runs.specs.declared.run.ScriptEnd.{ScriptEnd}
-use Rattle.drm_runs.specs.declared.run.ScriptEnd.TheVariants as ends
+use Rattle.drm_runs.specs.declared.stops.ScriptEnd.{ScriptEnd}
+use Rattle.drm_runs.specs.declared.stops.ScriptEnd.TheVariants as ends
 use Rattle.drm_checks.specs.Expectations.{script_part, expected_part}
 use Rattle.drm_checks.specs.Differences.{File, differences_text, met, unmet, end_of_writing}
 use Rattle.drm_checks.specs.declared.checker.Checker.{Checker}

@@ -8,8 +8,8 @@ use Rattle.drm_runs.specs.Lines.{IsBare}
 use Rattle.drm_runs.specs.Script.{Setting, Place, Script, Uses, IsMisplaced, IsNowhere, WantsDevice, unbound, usual}
 use Rattle.drm_runs.specs.Script.Place.{Planned}
 use Rattle.drm_runs.specs.Runs.{Covers, EndsLine}
-use Rattle.drm_runs.specs.declared.run.ScriptEnd.{ScriptEnd}
-use Rattle.drm_runs.specs.declared.run.ScriptEnd.TheVariants as ends
+use Rattle.drm_runs.specs.declared.stops.ScriptEnd.{ScriptEnd}
+use Rattle.drm_runs.specs.declared.stops.ScriptEnd.TheVariants as ends
 use Rattle.drm_checks.specs.Expectations.{script_part, expected_part}
 use Rattle.drm_checks.specs.Differences.{Difference, File, differences_text, met, text_of, unmet}
 use Rattle.drm_checks.specs.Checker.{results_of}

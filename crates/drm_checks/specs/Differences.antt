@@ -6,8 +6,8 @@ use Rattle.drm_table.specs.declared.apart.Apart.{Apart}
 use Rattle.drm_streams.specs.declared.turns.Written.{Written}
 use Rattle.drm_streams.specs.declared.turns.Written.TheVariants as written
 use Rattle.drm_script.specs.Lines.{answer_line}
-use Rattle.drm_runs.specs.declared.run.ScriptEnd.{ScriptEnd}
-use Rattle.drm_runs.specs.declared.run.ScriptEnd.TheVariants as ends
+use Rattle.drm_runs.specs.declared.stops.ScriptEnd.{ScriptEnd}
+use Rattle.drm_runs.specs.declared.stops.ScriptEnd.TheVariants as ends
 use Rattle.drm_checks.specs.Expectations.{is_met}
 
 -- a file by its name, and the command that explains one of its lines, but for the line's number; empty where there is none

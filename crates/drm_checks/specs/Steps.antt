@@ -4,8 +4,8 @@ use Rattle.drm_streams.specs.Streams.{SourceAccount, SinkAccount}
 use Rattle.drm_streams.specs.Turns.{Gave, Took}
 use Rattle.drm_runs.specs.Lines.{joined}
 use Rattle.drm_runs.specs.Script.{Setting, Place}
-use Rattle.drm_runs.specs.declared.run.ScriptEnd.{ScriptEnd}
-use Rattle.drm_runs.specs.declared.run.ScriptEnd.TheVariants as ends
+use Rattle.drm_runs.specs.declared.stops.ScriptEnd.{ScriptEnd}
+use Rattle.drm_runs.specs.declared.stops.ScriptEnd.TheVariants as ends
 use Rattle.drm_checks.specs.Differences.{Difference, File, differences_text}
 use Rattle.drm_checks.specs.Checker.{ChecksLine, first_checker}
 use Rattle.drm_checks.specs.Checks.{Checked, ChecksOn}

@@ -6,9 +6,8 @@ ghost use Rattle.drm_checks.specs.Checks.{Checks, ChecksOn};
 ghost use Rattle.drm_checks.specs.Differences.{file_of};
 
 use crate::checker::Checker;
-use crate::expectations::parts_of;
-use drm_runs::{LineReader, NextLine, ScriptEnd, Setup, cause_of};
-use drm_script::Malformation;
+use drm_runs::{LineReader, NextLine, ScriptEnd, Setup, Stop};
+use drm_script::Malformed;
 use drm_streams::{Sink, Source};
 use std::alloc::Global;
 
@@ -51,7 +50,7 @@ impl Check {
         name: &[u8],
         command: &[u8],
         sink: &mut K,
-    ) -> ScriptEnd
+    ) -> Stop
         requires number { self.old.checker.number + 1 < 2 ^ 64 }
         requires passed { self.old.checker.passed + 1 < 2 ^ 64 }
         requires failed { self.old.checker.failed + 1 < 2 ^ 64 }
@@ -60,10 +59,10 @@ impl Check {
     {
         let line = self.reader.line();
         if line.is_empty() {
-            return ScriptEnd::Done;
+            return Stop::of(ScriptEnd::Done);
         }
-        let end = self.checker.check_line(alloc, name, command, line, sink);
-        end.unwrap_or(ScriptEnd::Done)
+        let stop = self.checker.check_line(alloc, name, command, line, sink);
+        stop.unwrap_or(Stop::of(ScriptEnd::Done))
     }
 
     /// Reads a line and checks it. Gives how the check ends, where it doesn't go on.
@@ -74,7 +73,7 @@ impl Check {
         command: &[u8],
         source: &mut S,
         sink: &mut K,
-    ) -> Option<ScriptEnd>
+    ) -> Option<Stop>
         requires countable { IsCountable self.old (S.account source.old) (K.account sink.old) }
         ensures { Advances self.old self.new (file_of name.now command.now) (S.account source.old) (S.account source.new) (K.account sink.old) (K.account sink.new) result }
     {
@@ -84,9 +83,12 @@ impl Check {
                 self.checker.check_line(alloc, name, command, line, sink)
             }
             NextLine::End => Some(self.check_last(alloc, name, command, sink)),
-            NextLine::TooLong => Some(ScriptEnd::Malformed(self.checker.number + 1)),
-            NextLine::ReadFault => Some(ScriptEnd::ReadFault),
-            NextLine::TurnsUsed => Some(ScriptEnd::TurnsUsed),
+            NextLine::TooLong => {
+                let number = self.checker.number + 1;
+                Some(Stop::malformed(number, Malformed::too_long()))
+            }
+            NextLine::ReadFault => Some(Stop::of(ScriptEnd::ReadFault)),
+            NextLine::TurnsUsed => Some(Stop::of(ScriptEnd::TurnsUsed)),
         }
     }
 }
@@ -110,14 +112,15 @@ pub fn check_script<S: Source, K: Sink>(
     check_with_cause(alloc, name, source, sink, turns).0
 }
 
-/// Checks a file as `check_script` does, and tells beside the report why a line can't be used, where one can't.
+/// Checks a file as `check_script` does, and tells beside the report why a line can't be used and where in it, where one can't: why
+/// what stands before its first ` -> ` is no line of a script, or that the whole is too long.
 pub fn check_with_cause<S: Source, K: Sink>(
     alloc: Global,
     name: &str,
     source: &mut S,
     sink: &mut K,
     turns: u64,
-) -> (Report, Option<Malformation>)
+) -> (Report, Option<Malformed>)
     requires source_calls { (S.account source.old).counts.calls + turns < 2 ^ 48 }
     requires sink_calls { (K.account sink.old).counts.calls + turns < 2 ^ 48 }
     ensures checks { Checks name.now (S.account source.old) (S.account source.new) (K.account sink.old) (K.account sink.new) turns result.0 }
@@ -138,7 +141,7 @@ pub fn check_on<S: Source, K: Sink>(
     source: &mut S,
     sink: &mut K,
     turns: u64,
-) -> (Report, Option<Malformation>)
+) -> (Report, Option<Malformed>)
     requires source_calls { (S.account source.old).counts.calls + turns < 2 ^ 48 }
     requires sink_calls { (K.account sink.old).counts.calls + turns < 2 ^ 48 }
     ensures checks { ChecksOn setup (file_of name.now command.now) (S.account source.old) (S.account source.new) (K.account sink.old) (K.account sink.new) turns result.0 }
@@ -148,15 +151,13 @@ pub fn check_on<S: Source, K: Sink>(
     let command = command.as_bytes();
     let mut check = Check::new(setup, turns);
     'lines: loop {
-        if let Some(end) = check.check_next(alloc, name, command, source, sink) {
-            let (script, _) = parts_of(check.reader.line());
-            let cause = cause_of(end, check.checker.number, script);
+        if let Some(stop) = check.check_next(alloc, name, command, source, sink) {
             let report = Report {
-                end,
+                end: stop.end(),
                 passed: check.checker.passed,
                 failed: check.checker.failed,
             };
-            return (report, cause);
+            return (report, stop.cause());
         }
     }
 }

@@ -5,20 +5,20 @@ ghost use Rattle.drm_streams.specs.Texts.{WritesOut};
 ghost use Rattle.drm_checks.specs.Differences.{command_text, difference_text, end_of_expected, end_of_writing, file_of, front_of, line_text, why_text};
 
 use crate::expectations::{is_met, parts_of};
-use drm_runs::{Interpreter, LineResult, ScriptEnd, Setup};
+use drm_runs::{Interpreter, LineResult, ScriptEnd, Setup, Stop};
 use drm_script::line_of;
 use drm_streams::{Sink, Written, put_each};
 use drm_table::{Answer, Apart};
 use std::alloc::Global;
 
 /// How a check ends where a difference could not be told.
-fn end_of(written: Written) -> Option<ScriptEnd>
+fn end_of(written: Written) -> Option<Stop>
     ensures { result ≡ end_of_writing written }
 {
     match written {
         Written::Whole => None,
-        Written::Fault => Some(ScriptEnd::WriteFault),
-        Written::TurnsUsed => Some(ScriptEnd::TurnsUsed),
+        Written::Fault => Some(Stop::of(ScriptEnd::WriteFault)),
+        Written::TurnsUsed => Some(Stop::of(ScriptEnd::TurnsUsed)),
     }
 }
 
@@ -178,7 +178,7 @@ impl Checker {
         expected: Option<&[u8]>,
         came: &Option<Result<Answer, Apart>>,
         sink: &mut K,
-    ) -> Option<ScriptEnd>
+    ) -> Option<Stop>
         requires passed { self.old.passed + 1 < 2 ^ 64 }
         requires failed { self.old.failed + 1 < 2 ^ 64 }
         requires sink_calls { (K.account sink.old).counts.calls + self.old.turns < 2 ^ 48 }
@@ -211,7 +211,7 @@ impl Checker {
         command: &[u8],
         line: &[u8],
         sink: &mut K,
-    ) -> Option<ScriptEnd>
+    ) -> Option<Stop>
         requires number { self.old.number + 1 < 2 ^ 64 }
         requires passed { self.old.passed + 1 < 2 ^ 64 }
         requires failed { self.old.failed + 1 < 2 ^ 64 }
@@ -225,8 +225,8 @@ impl Checker {
             LineResult::Answered(answer) => {
                 self.note(name, command, expected, &Some(answer), sink)
             },
-            LineResult::Malformed => Some(ScriptEnd::Malformed(self.number)),
-            LineResult::NoMemory => Some(ScriptEnd::NoMemory),
+            LineResult::Malformed(cause) => Some(Stop::malformed(self.number, cause)),
+            LineResult::NoMemory => Some(Stop::of(ScriptEnd::NoMemory)),
         }
     }
 }

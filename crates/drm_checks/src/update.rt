@@ -2,7 +2,7 @@
 
 use crate::expectations::{ARROW, is_met, parts_of};
 use drm_runs::{Interpreter, LineResult, Setup};
-use drm_script::{Malformation, line_of, malformation_of};
+use drm_script::{Malformed, first_line, line_of};
 use drm_table::{Answer, Apart};
 use std::alloc::{AllocError, Global};
 
@@ -14,8 +14,9 @@ const LINE_END: &[u8] = b"\n";
 /// Why a script can't be updated (own).
 #[derive(Clone, Copy, Debug, PartialEq, Eq)]
 pub enum UpdateFault {
-    /// The line of this number, from 1, can't be used.
-    Malformed(u64, Malformation),
+    /// The line of this number, from 1, can't be used: why what stands before its first ` -> ` is no line of a script, or that the whole is
+    /// too long.
+    Malformed(u64, Malformed),
     /// No memory for the device, or for the text.
     NoMemory,
 }
@@ -23,20 +24,6 @@ pub enum UpdateFault {
 impl From<AllocError> for UpdateFault {
     fn from(_error: AllocError) -> UpdateFault {
         UpdateFault::NoMemory
-    }
-}
-
-/// The first line of a text without its end, and what stands behind that.
-fn first_line(text: &[u8]) -> (&[u8], &[u8]) {
-    match text.iter().position(|byte| *byte == b'\n') {
-        Some(at) => {
-            let (line, rest) = text.split_at(at);
-            match rest {
-                [_, behind @ ..] => (line, behind),
-                _ => (line, rest),
-            }
-        }
-        None => (text, b""),
     }
 }
 
@@ -65,15 +52,13 @@ fn update_line(
     updated: &mut Vec<u8>,
 ) -> Result<(), UpdateFault> {
     if line.len() > LONGEST {
-        return Err(UpdateFault::Malformed(number, Malformation::TooLong));
+        return Err(UpdateFault::Malformed(number, Malformed::too_long()));
     }
     let (script, expected) = parts_of(line);
     let came = match interpreter.interpret(alloc, script) {
         LineResult::Unanswered => None,
         LineResult::Answered(answer) => Some(answer),
-        LineResult::Malformed => {
-            return Err(UpdateFault::Malformed(number, malformation_of(script)));
-        }
+        LineResult::Malformed(cause) => return Err(UpdateFault::Malformed(number, cause)),
         LineResult::NoMemory => return Err(UpdateFault::NoMemory),
     };
     let Some(expected) = expected else {
@@ -97,7 +82,8 @@ fn update_line(
 /// and, where the text sets none, with these limits (own).
 ///
 /// A line that expects nothing stays so, and an expectation that is met stays as it is written. Where nothing is answered, or the
-/// line would have more than 255 bytes with its answer, what it expected goes.
+/// line would have more than 255 bytes with its answer, what it expected goes. An error leaves no text: what was asked before it went with
+/// the device.
 pub fn update_script(alloc: Global, setup: Setup, text: &[u8]) -> Result<Vec<u8>, UpdateFault> {
     let mut interpreter = Interpreter::new(setup);
     let mut updated = Vec::new(alloc);

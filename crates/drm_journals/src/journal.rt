@@ -134,7 +134,8 @@ fn write_events(
 /// Its first line sets the limits, and behind each event stands ` -> ` with the answer that an empty device, which is given with
 /// those limits, gives it in its turn. A client has a label while it is open, and after that until another one takes it. An answer
 /// with which the line would be longer than 255 bytes is left out. A call that is by itself too long for a line, which is one of
-/// a lease of ids that no device has, is written by its bare number, and is denied as well.
+/// a lease of ids that no device has, is written by its bare number, and is denied as well. An error, which is want of memory, leaves no
+/// text; the device is gone in any case.
 pub fn journal_of(
     alloc: Global,
     events: &[Event],

@@ -2,26 +2,13 @@
 
 use crate::parts::{Parts, Unfit};
 use drm_modes::{PlaneKind, Topology};
+use drm_script::first_line;
 
 /// The line of a topology that can't be used, counted from 1, and why.
 #[derive(Clone, Copy, Debug, PartialEq, Eq)]
 pub struct UnfitLine {
     pub number: u64,
     pub cause: Unfit,
-}
-
-/// The first line of a text without its end, and what stands behind that.
-fn first_line(text: &[u8]) -> (&[u8], &[u8]) {
-    match text.iter().position(|byte| *byte == b'\n') {
-        Some(at) => {
-            let (line, rest) = text.split_at(at);
-            match rest {
-                [_, behind @ ..] => (line, behind),
-                _ => (line, rest),
-            }
-        }
-        None => (text, b""),
-    }
 }
 
 /// The first word of a text, and what stands behind it; none where there are spaces alone.

@@ -1,7 +1,8 @@
-use Rattle.std.proofs.Common.{arith, ap}
-use Rattle.drm_checks.specs.Steps.{fuel_of}
+use Rattle.std.proofs.Common.{◌≡◌, ◌∙◌, ℕ, List, arith, ap, sym, subst}
+use Rattle.drm_checks.specs.Differences.{File, file_of}
+use Rattle.drm_checks.specs.Steps.{StandsSoFar, fuel_of}
 use Rattle.drm_checks.specs.declared.check.Check.{Check}
-use Rattle.drm_checks.proofs.StepLemmas.{first_so_far}
+use Rattle.drm_checks.proofs.StepLemmas.{first_so_far, ends_as}
 use Rattle.drm_checks.proofs.check.check_on.Goals as goal
 
 pub lines-init : goal.lines-init
@@ -19,3 +20,14 @@ lines-init g c =
       sink_calls = omega (arith, turns);
       fuel = omega (arith, number, fuel);
     }
+
+pub returns-in-Some-clause-checks : goal.returns-in-Some-clause-checks
+returns-in-Some-clause-checks g c =
+    let source = g.S.Source.account in
+    let sink = g.K.Sink.account in
+    let name = c.as_bytes-name.result.now in
+    let command = c.as_bytes-command.result.now in
+    let named : file_of name command ≡ file_of c.args.name.now c.args.command.now =
+    ap (λ (n : List ℕ). file_of n command) c.as_bytes-name.ensures.value ∙ ap (file_of c.args.name.now) c.as_bytes-command.ensures.value in
+    let P : File → Type 0 = λ f. StandsSoFar c.args.setup f (source c.args.source.now) (source c.lines.source) (sink c.args.sink.now) (sink c.lines.sink) c.args.turns c.lines.check in
+    ends_as c.end.ensures named (c.in-Some.ensures _ _ _ _ (subst P (sym named) c.lines.invariant.so_far))

@@ -15,10 +15,10 @@ pub returns-in-End : goal.returns-in-End
 returns-in-End g c = let r = c.in-End.ensures in advances_last (file_of c.args.name.now c.args.command.now) c.args.self.now c.next_line.new.self c.next_line.new.turns _ _ _ r.0 c.check_last.new.self _ _ r.1 c.check_last.ensures
 
 pub returns-in-TooLong : goal.returns-in-TooLong
-returns-in-TooLong g c = let r = c.in-TooLong.ensures in advances_too_long (file_of c.args.name.now c.args.command.now) c.args.self.now _ _ _ _ (g.K.Sink.account c.args.sink.now) r.0 r.1
+returns-in-TooLong g c = let r = c.in-TooLong.ensures in advances_too_long (file_of c.args.name.now c.args.command.now) c.args.self.now _ _ _ _ (g.K.Sink.account c.args.sink.now) r.0 _ c.malformed.ensures r.1
 
 pub returns-in-ReadFault : goal.returns-in-ReadFault
-returns-in-ReadFault g c = let r = c.in-ReadFault.ensures in advances_read_fault (file_of c.args.name.now c.args.command.now) c.args.self.now _ _ _ _ (g.K.Sink.account c.args.sink.now) r.0 r.1
+returns-in-ReadFault g c = let r = c.in-ReadFault.ensures in advances_read_fault (file_of c.args.name.now c.args.command.now) c.args.self.now _ _ _ _ (g.K.Sink.account c.args.sink.now) r.0 _ c.of.ensures r.1
 
 pub returns-in-TurnsUsed : goal.returns-in-TurnsUsed
-returns-in-TurnsUsed g c = let r = c.in-TurnsUsed.ensures in advances_turns_used (file_of c.args.name.now c.args.command.now) c.args.self.now _ _ _ _ (g.K.Sink.account c.args.sink.now) r.0 r.1
+returns-in-TurnsUsed g c = let r = c.in-TurnsUsed.ensures in advances_turns_used (file_of c.args.name.now c.args.command.now) c.args.self.now _ _ _ _ (g.K.Sink.account c.args.sink.now) r.0 _ c.of-in-TurnsUsed.ensures r.1

@@ -1,7 +1,6 @@
 use Rattle.std.proofs.Common.{None, Some, subst, refl}
 use Rattle.drm_runs.specs.Script.{IsMisplaced, WantsDevice}
-use Rattle.drm_checks.specs.Checker.ChecksLine.{bad, unmade}
-use Rattle.drm_checks.proofs.CheckerLemmas.{used_line}
+use Rattle.drm_checks.proofs.CheckerLemmas.{used_line, bad_line, unmade_line}
 use Rattle.drm_checks.proofs.checker.Checker.check_line.Goals as goal
 
 pub returns-in-Unanswered : goal.returns-in-Unanswered
@@ -12,8 +11,8 @@ returns-in-Answered g c = used_line _ _ _ _ _ _ _ (Some c.in-Answered.answer) _ 
 
 pub returns-in-Malformed : goal.returns-in-Malformed
 returns-in-Malformed g c =
-    bad (subst (IsMisplaced c.args.self.now.interpreter.device) c.parts_of.ensures.script c.in-Malformed.ensures) (record { unwritten = refl; turns = refl; passed = refl; failed = refl })
+    bad_line c.malformed.ensures (subst (IsMisplaced c.args.self.now.interpreter.device) c.parts_of.ensures.script c.in-Malformed.ensures.0) (record { unwritten = refl; turns = refl; passed = refl; failed = refl })
 
 pub returns-in-NoMemory : goal.returns-in-NoMemory
 returns-in-NoMemory g c =
-    unmade c.in-NoMemory.ensures.0 (subst WantsDevice c.parts_of.ensures.script c.in-NoMemory.ensures.1) (record { unwritten = refl; turns = refl; passed = refl; failed = refl })
+    unmade_line c.of.ensures c.in-NoMemory.ensures.0 (subst WantsDevice c.parts_of.ensures.script c.in-NoMemory.ensures.1) (record { unwritten = refl; turns = refl; passed = refl; failed = refl })
