@@ -1,8 +1,8 @@
 -- What the program ends with, by how the script's run or the listing ended (own).
-use Rattle.std.specs.Prelude.{ℕ, List, [], Option, None, Some, nat_lt, if◌then◌else◌}
+use Rattle.std.specs.Prelude.{ℕ, List, [], Option, None, Some, Result, Ok, Err, nat_lt, if◌then◌else◌}
 use Rattle.std.specs.Option.{option_map_or}
-use Rattle.drm_runs.specs.declared.run.ScriptEnd.{ScriptEnd}
-use Rattle.drm_runs.specs.declared.run.ScriptEnd.TheVariants as ends
+use Rattle.drm_runs.specs.declared.stops.ScriptEnd.{ScriptEnd}
+use Rattle.drm_runs.specs.declared.stops.ScriptEnd.TheVariants as ends
 use Rattle.drm_checks.specs.declared.totals.Totals.{Totals}
 use Rattle.drm_server.specs.declared.listing.ListEnd.{ListEnd}
 use Rattle.drm_server.specs.declared.listing.ListEnd.TheVariants as list_ends
@@ -18,6 +18,11 @@ fault_of ends.ReadFault = Some faults.Read
 fault_of ends.WriteFault = Some faults.Write
 fault_of ends.TurnsUsed = Some faults.Turns
 fault_of ends.NoMemory = Some faults.Memory
+
+-- nothing but a fault where there is one
+abbrev pub unless_fault : Option Fault → Result (Unit {0}) Fault
+unless_fault None = Ok tt
+unless_fault (Some fault) = Err fault
 
 -- the fault that the end of a listing is, if it is one
 abbrev pub fault_of_listing : ListEnd → Option Fault

@@ -1,7 +1,10 @@
 //! Checking files.
 
-ghost use Rattle.std.specs.Prelude.{◌≡◌, IfOk};
+ghost use Rattle.std.specs.Prelude.{◌≡◌, false, IfOk};
 ghost use Rattle.drm_streams.specs.Streams.{no_calls};
+ghost use Rattle.drm_runs.specs.Runs.{is_malformed};
+ghost use Rattle.drm_server.specs.Outcomes.{unless_fault};
+ghost use Rattle.drm_server.specs.Outcomes as outcomes;
 
 use crate::command_line::{AskedDevice, Checking};
 use crate::commands::explain_command;
@@ -10,7 +13,7 @@ use crate::faults::Fault;
 use crate::outcomes::{Outcome, outcome_of_checks, outcome_of_fault, script_fault};
 use drm_checks::{Report, Totals, check_on, write_malformed, write_totals};
 use drm_runs::ScriptEnd;
-use drm_script::Malformation;
+use drm_script::Malformed;
 use drm_streams::{FromRead, ToWrite, Written};
 use log::{Log, error};
 use std::alloc::Global;
@@ -51,7 +54,7 @@ fn check_file<R: Input + Files + Print + AllocGlobal + Log>(
     alloc: Global,
     asked: AskedDevice<'_>,
     path: &str,
-) -> Result<(Report, Option<Malformation>), Fault> {
+) -> Result<(Report, Option<Malformed>), Fault> {
     let setup = asked_setup(rt, asked)?;
     let mut sink = ToWrite::new(io::writer(rt));
     if path == INPUT {
@@ -74,13 +77,15 @@ fn check_file<R: Input + Files + Print + AllocGlobal + Log>(
     ))
 }
 
-/// Tells on standard output of a line that can't be used, and logs the cause. What else ended a run early is a fault.
+/// Tells on standard output of a line that can't be used, and logs the cause. What else ended a run early is its fault.
 pub(crate) fn tell_end<R: Print + Log>(
     rt: &R,
     path: &str,
     end: &ScriptEnd,
-    cause: Option<Malformation>,
-) -> Result<(), Fault> {
+    cause: Option<Malformed>,
+) -> Result<(), Fault>
+    ensures faults { is_malformed end.now ≡ false → result ≡ unless_fault (outcomes.fault_of end.now) }
+{
     match end {
         ScriptEnd::Malformed(number) => {
             if let Some(cause) = cause {

@@ -5,10 +5,10 @@ use crate::command_line::Explaining;
 use crate::devices::{asked_setup, asked_topology};
 use crate::faults::{Fault, FaultLine};
 use crate::outcomes::{Outcome, outcome_of_fault};
-use crate::recording::{Recording, Stop, record};
+use crate::recording::{Recording, record};
 use drm_explanations::{Explanation, Labels, explain, lines_of};
 use drm_refusals::{AnswerRow, explain_answer, lines_of_answer};
-use drm_runs::ScriptEnd;
+use drm_runs::Stop;
 use drm_script::Label;
 use drm_streams::{ToWrite, put_all};
 use log::{Log, error};
@@ -138,8 +138,7 @@ fn text_of_answer<R: Files + AllocGlobal + Log>(
 
 /// The outcome of a script that could not be recorded: a malformed one is told of as a check tells it.
 fn outcome_of_stop<R: Print + Log>(rt: &R, path: &str, stop: Stop) -> Outcome {
-    let Stop { end, cause } = stop;
-    match tell_end(rt, path, &end, cause) {
+    match tell_end(rt, path, &stop.end(), stop.cause()) {
         Ok(()) => Outcome {
             status: 2,
             line: FaultLine::empty(),

@@ -17,7 +17,10 @@ pub(crate) fn limits_of(numbers: &str) -> Option<Limits>
     let mut line: ArrayString<LINE> = ArrayString::new();
     line.push_str("limits ");
     line.try_push_str(numbers).ok()?;
-    match read_line(line.as_str().as_bytes()) {
+    let Ok(reading) = read_line(line.as_str().as_bytes()) else {
+        return None;
+    };
+    match reading {
         Reading::Limits(limits) => Some(limits),
         _ => None,
     }

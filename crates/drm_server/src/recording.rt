@@ -6,8 +6,8 @@ use drm_checks::script_of;
 use drm_explanations::Labels;
 use drm_refusals::Line;
 use drm_rights::{Ledger, Step};
-use drm_runs::{Interpreter, LineReader, LineResult, NextLine, ScriptEnd, Setup, cause_of};
-use drm_script::{Malformation, line_of};
+use drm_runs::{Interpreter, LineReader, LineResult, NextLine, ScriptEnd, Setup, Stop};
+use drm_script::{Malformed, line_of};
 use drm_streams::Source;
 use drm_table::{Answer, Apart, Limits};
 use std::alloc::{AllocError, Global};
@@ -22,13 +22,6 @@ pub(crate) struct Recording {
     pub(crate) limits: Limits,
     pub(crate) lines: u64,
     pub(crate) last: Option<Line>,
-}
-
-/// Why there is no recording: a line can't be used, or reading ended early.
-#[derive(Drop)]
-pub(crate) struct Stop {
-    pub(crate) end: ScriptEnd,
-    pub(crate) cause: Option<Malformation>,
 }
 
 /// A script that is being run.
@@ -104,7 +97,7 @@ impl Recorder {
     }
 
     /// Uses the line that is held. Gives how the script ends, where it doesn't go on.
-    fn use_held(&mut self, alloc: Global) -> Option<ScriptEnd>
+    fn use_held(&mut self, alloc: Global) -> Option<Stop>
         ensures { self.new.reader ≡ self.old.reader }
     {
         self.lines = self.lines.saturating_add(1);
@@ -113,19 +106,19 @@ impl Recorder {
             LineResult::Unanswered => None,
             LineResult::Answered(answer) => match self.keep(alloc, answer) {
                 Ok(()) => None,
-                Err(_) => Some(ScriptEnd::NoMemory),
+                Err(_) => Some(Stop::of(ScriptEnd::NoMemory)),
             },
-            LineResult::Malformed => Some(ScriptEnd::Malformed(self.lines)),
-            LineResult::NoMemory => Some(ScriptEnd::NoMemory),
+            LineResult::Malformed(cause) => Some(Stop::malformed(self.lines, cause)),
+            LineResult::NoMemory => Some(Stop::of(ScriptEnd::NoMemory)),
         }
     }
 
     /// Uses what stands behind the last line end, if anything does.
-    fn use_last(&mut self, alloc: Global) -> ScriptEnd {
+    fn use_last(&mut self, alloc: Global) -> Stop {
         if self.reader.line().is_empty() {
-            return ScriptEnd::Done;
+            return Stop::of(ScriptEnd::Done);
         }
-        self.use_held(alloc).unwrap_or(ScriptEnd::Done)
+        self.use_held(alloc).unwrap_or(Stop::of(ScriptEnd::Done))
     }
 
     /// Reads a line and uses it. Gives how the script ends, where it doesn't go on.
@@ -134,7 +127,7 @@ impl Recorder {
         alloc: Global,
         source: &mut S,
         turns: &mut u64,
-    ) -> Option<ScriptEnd>
+    ) -> Option<Stop>
         requires countable { (S.account source.old).counts.calls + turns.old < 2 ^ 48 }
         ensures calls { (S.account source.new).counts.calls + turns.new ≡ (S.account source.old).counts.calls + turns.old }
         ensures fewer { IfNone result (256 * turns.new + length self.new.reader.pending < 256 * turns.old + length self.old.reader.pending) }
@@ -142,9 +135,12 @@ impl Recorder {
         match self.reader.next_line(source, turns) {
             NextLine::Line => self.use_held(alloc),
             NextLine::End => Some(self.use_last(alloc)),
-            NextLine::TooLong => Some(ScriptEnd::Malformed(self.lines.saturating_add(1))),
-            NextLine::ReadFault => Some(ScriptEnd::ReadFault),
-            NextLine::TurnsUsed => Some(ScriptEnd::TurnsUsed),
+            NextLine::TooLong => {
+                let number = self.lines.saturating_add(1);
+                Some(Stop::malformed(number, Malformed::too_long()))
+            }
+            NextLine::ReadFault => Some(Stop::of(ScriptEnd::ReadFault)),
+            NextLine::TurnsUsed => Some(Stop::of(ScriptEnd::TurnsUsed)),
         }
     }
 
@@ -191,12 +187,10 @@ pub(crate) fn record<S: Source>(
         match recorder.use_next(alloc, source, &mut left) {
             None if recorder.is_at_last() => break,
             None => {}
-            Some(ScriptEnd::Done) => break,
-            Some(end) => {
-                let script = script_of(recorder.reader.line());
-                let cause = cause_of(end, recorder.lines, script);
-                return Err(Stop { end, cause });
-            }
+            Some(stop) => match stop.end() {
+                ScriptEnd::Done => break,
+                _ => return Err(stop),
+            },
         }
     }
     Ok(recorder.finish())

@@ -2,7 +2,7 @@
 
 use crate::cuts::{Cut, sink_of, source_of};
 use drm_runs::{ScriptEnd, run_script, run_with_cause};
-use drm_script::Malformation;
+use drm_script::{Malformation, Wanted};
 use std::alloc::Global;
 use std::process::Abort;
 
@@ -221,28 +221,35 @@ fn scripts_in_pieces_that_fail_at_each_byte(rt: HostRuntime) {
     }
 }
 
-/// Scripts that end at a line that can't be used, with its number and the cause.
-const CAUSES: [(&[u8], u64, Malformation); 7] = [
-    (b"fly\n", 1, Malformation::FirstWord),
-    (b"open a card\r\n", 1, Malformation::CarriageReturn),
-    (b"# a\r\n\na\tversion", 3, Malformation::Tab),
+/// Scripts that end at a line that can't be used, with its number, the column and the cause.
+const CAUSES: [(&[u8], u64, usize, Malformation); 8] = [
+    (b"fly\n", 1, 1, Malformation::Unfit(Wanted::FirstWord)),
+    (b"open a card\r\n", 1, 12, Malformation::CarriageReturn),
+    (b"# a\r\n\na\tversion", 3, 2, Malformation::Tab),
     (
         b"open a card\na gem_close x\na version\n",
         2,
-        Malformation::Number(4_294_967_295),
+        13,
+        Malformation::Unfit(Wanted::Number(4_294_967_295)),
     ),
-    (b"limits 2 8 8 8 8 4 4 0\n", 1, Malformation::LimitRange),
+    (b"open a card\nopen", 2, 5, Malformation::Lacks(Wanted::Label)),
+    (b"limits 2 8 8 8 8 4 4 0\n", 1, 22, Malformation::LimitRange),
     (
-        b"open a card\nlimits 2 8 8 8 8 4 4 7\n",
+        b"open a card\n limits 2 8 8 8 8 4 4 7\n",
+        2,
         2,
         Malformation::LateLimits,
     ),
     (
         b"limits 2 8 8 8 8 4 4 7\nlimits 2 8 8 8 8 4 4 7",
         2,
+        1,
         Malformation::LateLimits,
     ),
 ];
+
+/// How a script ended, and the column and the cause of a malformed line.
+type Told = (ScriptEnd, Option<(usize, Malformation)>);
 
 /// Runs a script that comes in pieces, and compares its end with the cause.
 fn check_cause(
@@ -250,25 +257,29 @@ fn check_cause(
     alloc: Global,
     script: &[u8],
     cut: Cut,
-    ended: (ScriptEnd, Option<Malformation>),
+    ended: Told,
 ) {
     for piece in [1, 7, 100, 256] {
         let mut source = source_of(script, piece, cut);
         let mut sink = sink_of(256, Cut::Never);
-        let found = run_with_cause(alloc, &mut source, &mut sink, TURNS);
-        assert_eq!(rt; found, ended);
+        let (end, malformed) = run_with_cause(alloc, &mut source, &mut sink, TURNS);
+        let cause = malformed.map(|told| (told.column, told.cause));
+        assert_eq!(rt; (end, cause), ended);
     }
 }
 
 #[test]
 fn causes_of_malformed_lines(rt: HostRuntime) {
-    for (script, number, cause) in CAUSES {
-        let ended = (ScriptEnd::Malformed(number), Some(cause));
+    for (script, number, column, cause) in CAUSES {
+        let ended = (ScriptEnd::Malformed(number), Some((column, cause)));
         check_cause(&rt, rt.alloc(), script, Cut::Never, ended);
     }
     let mut long = [b'#'; 320];
     long[0] = b'\n';
-    let too_long = (ScriptEnd::Malformed(2), Some(Malformation::TooLong));
+    let too_long = (
+        ScriptEnd::Malformed(2),
+        Some((256, Malformation::TooLong)),
+    );
     check_cause(&rt, rt.alloc(), &long, Cut::Never, too_long);
     let script = b"open a card\n";
     check_cause(&rt, rt.alloc(), script, Cut::Never, (ScriptEnd::Done, None));

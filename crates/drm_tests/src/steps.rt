@@ -27,7 +27,7 @@ use std::test::Fail;
 pub(crate) fn limits_of(script: &str) -> Limits {
     match script.lines().next() {
         Some(line) => match read_line(line.as_bytes()) {
-            Reading::Limits(limits) => limits,
+            Ok(Reading::Limits(limits)) => limits,
             _ => Limits::PROGRAM,
         },
         None => Limits::PROGRAM,
@@ -136,7 +136,7 @@ pub(crate) fn ask_line(
     place: Place,
 ) -> Result<Option<(Event, Answer)>, AllocError> {
     let (script, expected) = parts_of(line.as_bytes());
-    let Reading::Says(command) = read_line(script) else {
+    let Ok(Reading::Says(command)) = read_line(script) else {
         check_answer(rt, expected, &None, place);
         return Ok(None);
     };
