@@ -232,7 +232,12 @@ const CAUSES: [(&[u8], u64, usize, Malformation); 8] = [
         13,
         Malformation::Unfit(Wanted::Number(4_294_967_295)),
     ),
-    (b"open a card\nopen", 2, 5, Malformation::Lacks(Wanted::Label)),
+    (
+        b"open a card\nopen",
+        2,
+        5,
+        Malformation::Lacks(Wanted::Label),
+    ),
     (b"limits 2 8 8 8 8 4 4 0\n", 1, 22, Malformation::LimitRange),
     (
         b"open a card\n limits 2 8 8 8 8 4 4 7\n",
@@ -252,13 +257,7 @@ const CAUSES: [(&[u8], u64, usize, Malformation); 8] = [
 type Told = (ScriptEnd, Option<(usize, Malformation)>);
 
 /// Runs a script that comes in pieces, and compares its end with the cause.
-fn check_cause(
-    rt: &impl Abort,
-    alloc: Global,
-    script: &[u8],
-    cut: Cut,
-    ended: Told,
-) {
+fn check_cause(rt: &impl Abort, alloc: Global, script: &[u8], cut: Cut, ended: Told) {
     for piece in [1, 7, 100, 256] {
         let mut source = source_of(script, piece, cut);
         let mut sink = sink_of(256, Cut::Never);
@@ -276,10 +275,7 @@ fn causes_of_malformed_lines(rt: HostRuntime) {
     }
     let mut long = [b'#'; 320];
     long[0] = b'\n';
-    let too_long = (
-        ScriptEnd::Malformed(2),
-        Some((256, Malformation::TooLong)),
-    );
+    let too_long = (ScriptEnd::Malformed(2), Some((256, Malformation::TooLong)));
     check_cause(&rt, rt.alloc(), &long, Cut::Never, too_long);
     let script = b"open a card\n";
     check_cause(&rt, rt.alloc(), script, Cut::Never, (ScriptEnd::Done, None));
