@@ -5,7 +5,7 @@ ghost use Rattle.std.specs.Prelude.{◌≡◌, IfOk};
 use crate::devices::new_device;
 use drm_device::Device;
 use drm_table::{Answer, Apart, Call, Event, Limits, Opening};
-use drm_turns::{NoMemory, Seat, SharedDevice, Sharing};
+use drm_turns::{Seat, SharedDevice, Sharing};
 use std::alloc::{AllocError, Global};
 use std::process::Abort;
 use std::sync::Wait;
@@ -13,14 +13,11 @@ use std::test::Fail;
 use std::thread;
 use std::thread::Threads;
 
-/// Shares a device, and gives the first seat. Where memory is refused the device comes back, and is shared once more.
-fn shared(alloc: Global, device: Device) -> Result<(SharedDevice, Seat), Fail>
+/// A new device within these limits, shared, and the first seat.
+fn shared(alloc: Global, limits: Limits) -> Result<(SharedDevice, Seat), Fail>
     ensures { IfOk result (λ made. made.1.table ≡ made.0) }
 {
-    let device = match SharedDevice::new(alloc, device) {
-        Ok(made) => return Ok(made),
-        Err((device, NoMemory)) => device,
-    };
+    let device = new_device(alloc, limits)?;
     match SharedDevice::new(alloc, device) {
         Ok(made) => Ok(made),
         Err(_) => Err("no memory".into()),
@@ -122,8 +119,7 @@ const OPENED_ONCE: [Turn; 1] = [OPENING];
 
 const ONE_VERSION: [Turn; 1] = [VERSION];
 
-/// Compares what a seat is answered, and the count, which is the length of the history. What is refused memory isn't counted, and is
-/// asked once more.
+/// Compares what a seat is answered, and the count, which is the length of the history.
 fn call_by(
     rt: &(impl Wait + Abort),
     shared: &SharedDevice,
@@ -135,11 +131,7 @@ fn call_by(
     ensures { seat.new.table ≡ seat.old.table }
 {
     let (_, event, answer) = turn;
-    let mut given = shared.call(rt, seat, event.clone()?);
-    if given == Err(Apart::NoMemory) {
-        assert_eq!(rt; shared.peek_count(), noted.len() as u64);
-        given = shared.call(rt, seat, event.clone()?);
-    }
+    let given = shared.call(rt, seat, event.clone()?);
     assert_eq!(rt; &given, answer);
     if answer.is_ok() {
         noted.push(event.clone()?)?;
@@ -198,7 +190,9 @@ fn share(
     in_turn: &[Turn],
     noted: &mut Vec<Event>,
 ) -> Result<Device, Fail> {
-    let (shared, mut seat) = shared(alloc, device)?;
+    let Ok((shared, mut seat)) = SharedDevice::new(alloc, device) else {
+        return Err("no memory".into());
+    };
     assert_eq!(rt; shared.peek_count(), noted.len() as u64);
     call_alone(rt, &shared, &mut seat, alone, noted)?;
     let mut other = shared.split(&mut seat);
@@ -303,8 +297,7 @@ fn two_hundred_events<R: Wait + Threads + Abort + Sync, D: Sharing + Sync>(
 
 #[test]
 fn threads_at_once_leave_one_journal(rt: HostRuntime) -> Result<(), Fail> {
-    let device = new_device(rt.alloc(), Limits::PROGRAM)?;
-    let (shared, mut seat) = shared(rt.alloc(), device)?;
+    let (shared, mut seat) = shared(rt.alloc(), Limits::PROGRAM)?;
     let other = shared.split(&mut seat);
     let (mut seat, other) = two_hundred_events(&rt, &shared, seat, other);
     assert_eq!(rt; shared.peek_count(), 200);
