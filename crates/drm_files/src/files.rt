@@ -31,12 +31,24 @@ pub(crate) struct FileRecord {
 
 /// The open clients with their flags, and the handles of each. Contracts see flat lists: the
 /// clients, rising by their numbers, and the handles, in the order of clients and then handles.
-#[derive(Drop)]
 pub struct Files {
     alloc: Global,
     pub(crate) clients: IndexArray<FileRecord>,
     open_limit: u32,
     last_handle: u32,
+}
+
+// Written out, so that it is proved once: a derived one is proved again in each crate that lets such a value go.
+impl Drop for Files {
+    fn drop(self) {
+        let Files {
+            alloc: _,
+            clients,
+            open_limit: _,
+            last_handle: _,
+        } = self;
+        drop(clients);
+    }
 }
 
 impl Model for Files {

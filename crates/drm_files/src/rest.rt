@@ -10,9 +10,16 @@ use std::marker::Model;
 
 /// The handles that a closed client had, each with its object, to be taken one after another.
 /// Contracts see the list of these pairs, in the order of the handles.
-#[derive(Drop)]
 pub struct FileRest {
     handles: IdTable<Held>,
+}
+
+// Written out, so that it is proved once: a derived one is proved again in each crate that lets such a value go.
+impl Drop for FileRest {
+    fn drop(self) {
+        let FileRest { handles } = self;
+        drop(handles);
+    }
 }
 
 impl Model for FileRest {

@@ -35,12 +35,24 @@ pub(crate) struct Kept {
 }
 
 /// The objects that are there, in the order of the steps that made them. Contracts see a flat list.
-#[derive(Drop)]
 pub struct Objects {
     // the keys, by the births of their objects
     keys: IndexArray<u32>,
     kept: Slab<Kept>,
     limit: u32,
+}
+
+// Written out, so that it is proved once: a derived one is proved again in each crate that lets such a value go.
+impl Drop for Objects {
+    fn drop(self) {
+        let Objects {
+            keys,
+            kept,
+            limit: _,
+        } = self;
+        drop(keys);
+        drop(kept);
+    }
 }
 
 impl Model for Objects {

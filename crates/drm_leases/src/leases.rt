@@ -27,12 +27,25 @@ use std::marker::Model;
 
 /// What lessees control, and the open lease tokens (drm-uapi, leases; tokens are own). A lessee is named by the number of the
 /// step that made it, since a key may be given again. Contracts see flat lists, in the order of the lessees.
-#[derive(Drop)]
 pub struct Leases {
     granted: Granted,
     tokens: Vec<LeaseToken>,
     last_given: Option<u32>,
     last: u32,
+}
+
+// Written out, so that it is proved once: a derived one is proved again in each crate that lets such a value go.
+impl Drop for Leases {
+    fn drop(self) {
+        let Leases {
+            granted,
+            tokens,
+            last_given: _,
+            last: _,
+        } = self;
+        drop(granted);
+        drop(tokens);
+    }
 }
 
 impl Model for Leases {

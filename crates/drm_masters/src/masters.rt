@@ -22,13 +22,27 @@ use std::marker::Model;
 
 /// The clients that stand to a master, the masters, and which of these is the device's (drm(7); drm-uapi, leases). A
 /// master stays while it, or one below it, is kept or named by a client. Contracts see flat lists, in the order of births.
-#[derive(Drop)]
 pub struct Masters {
     members: Members,
     masters: MasterTable,
     device_master: Option<u32>,
     last_magic: u32,
     last_lessee: u32,
+}
+
+// Written out, so that it is proved once: a derived one is proved again in each crate that lets such a value go.
+impl Drop for Masters {
+    fn drop(self) {
+        let Masters {
+            members,
+            masters,
+            device_master: _,
+            last_magic: _,
+            last_lessee: _,
+        } = self;
+        drop(members);
+        drop(masters);
+    }
 }
 
 impl Model for Masters {

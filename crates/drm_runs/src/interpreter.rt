@@ -21,7 +21,6 @@ pub enum LineResult {
 }
 
 /// The device of a script, once it is made, and the clients that its labels stand for.
-#[derive(Drop)]
 pub struct Interpreter {
     device: Option<Device>,
     /// What the device begins with, until it is made or there was no memory for it.
@@ -29,6 +28,20 @@ pub struct Interpreter {
     /// The limits of the device, or those that are planned.
     limits: Limits,
     labels: [u32; 26],
+}
+
+// Written out, so that it is proved once: a derived one is proved again in each crate that lets such a value go.
+impl Drop for Interpreter {
+    fn drop(self) {
+        let Interpreter {
+            device,
+            planned,
+            limits: _,
+            labels: _,
+        } = self;
+        drop(device);
+        drop(planned);
+    }
 }
 
 impl Model for Interpreter {

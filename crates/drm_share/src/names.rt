@@ -14,11 +14,19 @@ use std::marker::Model;
 
 /// The global names of objects (drm-gem(7): flink), each a number from 1 on. An object has one name at most. Contracts
 /// see a flat list, rising by the names.
-#[derive(Drop)]
 pub struct Names {
     objects: IdTable<ObjectKey>,
     // The names, by the numbers of their objects' keys.
     names: IndexArray<u32>,
+}
+
+// Written out, so that it is proved once: a derived one is proved again in each crate that lets such a value go.
+impl Drop for Names {
+    fn drop(self) {
+        let Names { objects, names } = self;
+        drop(objects);
+        drop(names);
+    }
 }
 
 impl Model for Names {

@@ -21,11 +21,19 @@ pub(crate) struct Export {
 /// The open tokens, which stand for the file descriptors of exported objects (drm-mm: PRIME; tokens are own), each a
 /// number from 1 on. An object may have several. Contracts see a flat list, rising by the tokens, and the last token
 /// given.
-#[derive(Drop)]
 pub struct Tokens {
     exports: IdTable<Export>,
     // the tokens, by the clients that exported them
     owned: Groups,
+}
+
+// Written out, so that it is proved once: a derived one is proved again in each crate that lets such a value go.
+impl Drop for Tokens {
+    fn drop(self) {
+        let Tokens { exports, owned } = self;
+        drop(exports);
+        drop(owned);
+    }
 }
 
 impl Model for Tokens {

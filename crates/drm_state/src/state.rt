@@ -8,7 +8,6 @@ use drm_modes::Modes;
 use drm_share::{Names, Tokens};
 
 /// The parts.
-#[derive(Drop)]
 pub struct State {
     /// The open clients, with their flags and handles.
     pub files: Files,
@@ -23,4 +22,26 @@ pub struct State {
     pub tokens: Tokens,
     /// The fixed mode objects, framebuffers, and what CRTCs and planes show.
     pub modes: Modes,
+}
+
+// Written out, so that it is proved once: a derived one is proved again in each crate that lets such a value go.
+impl Drop for State {
+    fn drop(self) {
+        let State {
+            files,
+            masters,
+            leases,
+            objects,
+            names,
+            tokens,
+            modes,
+        } = self;
+        drop(files);
+        drop(masters);
+        drop(leases);
+        drop(objects);
+        drop(names);
+        drop(tokens);
+        drop(modes);
+    }
 }
