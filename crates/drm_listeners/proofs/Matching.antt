@@ -1,6 +1,8 @@
 -- Lists that are matched member by member.
 use Rattle.std.proofs.Common.{◌≡◌, List, [], ◌∷◌, ◌++◌, All, length, refl, ap, suc}
 use Rattle.std.proofs.lemmas.List.Elements.{All-nil, All-cons, All-head, All-tail}
+use Rattle.std.specs.declared.option.Option.{Option}
+use Rattle.std.specs.Prelude.{IsSomeAnd, None, Some}
 use Rattle.drm_sessions.specs.Matched.{Matched}
 
 -- one more of each
@@ -22,3 +24,13 @@ Matched-all P R Q step [] [] a m = All-nil Q
 Matched-all P R Q step [] (b ∷ ys) a m = absurd m
 Matched-all P R Q step (x ∷ xs) [] a m = absurd m
 Matched-all P R Q step (x ∷ xs) (y ∷ ys) a m = All-cons Q y ys (step x y (All-head P x xs a) m.0) (Matched-all P R Q step xs ys (All-tail P x xs a) m.1)
+
+-- what holds of a value that is there, and of more
+pub some_and : {X : Type 0} {P Q : X → Type 0} (o : Option X) → ((x : X) → P x → Q x) → IsSomeAnd o P → IsSomeAnd o Q
+some_and None step h = h
+some_and (Some x) step h = step x h
+
+-- of two facts of a value that is there follows a third, which doesn't speak of it
+pub some_both : {X : Type 0} {P Q : X → Type 0} {R : Type 0} (o : Option X) → ((x : X) → P x → Q x → R) → IsSomeAnd o P → IsSomeAnd o Q → R
+some_both None step p q = absurd p
+some_both (Some x) step p q = step x p q

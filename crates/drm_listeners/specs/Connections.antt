@@ -1,5 +1,6 @@
 -- The sessions of the connections that a listener accepted.
-use Rattle.std.specs.Prelude.{◌≡◌, ℕ, All, List, [], length, map, Result, Ok, Err, ⊤}
+use Rattle.std.specs.Prelude.{◌≡◌, ℕ, ◌≤◌, All, List, [], Vec, length, map, Result, Ok, Err, ⊤}
+use Rattle.std.specs.Vec.{vec_capacity}
 use Rattle.atomic_table.specs.Seated.{TableId}
 use Rattle.drm_turns.specs.Seats.{HasTakenIn, Same, Standing, Stays}
 use Rattle.drm_streams.specs.Streams.{SourceAccount, SinkAccount, no_calls}
@@ -49,11 +50,15 @@ sessions_in sittings = map (λ sitting. sitting.session) sittings
 abbrev pub IsFresh : TableId → Standing → Type 0
 IsFresh table seat = (seat.table ≡ table) × (seat.mine ≡ []) × (seat.joined ≡ []) × (seat.noted ≡ 0)
 
--- the faults of a listener's connections: of no other listener, and not of the turn
+-- an empty list with room for so many sessions
+abbrev pub IsRoomFor : {A : Type 0} → ℕ → Vec Session A → Type 0
+IsRoomFor count sessions = (sessions.items ≡ []) × (count ≤ vec_capacity sessions)
+
+-- the faults of a listener's connections: of no other listener, not of the turn, and none for want of memory for lists
 abbrev pub IsFaultOf : Class → ServeFault → Type 0
 IsFaultOf class (faults.Accept other) = other ≡ class
 IsFaultOf class faults.NoThread = ⊤
-IsFaultOf class faults.NoMemory = ⊤
+IsFaultOf class faults.NoMemory = ⊥
 IsFaultOf class faults.TurnOut = ⊥
 
 -- The sessions of so many connections, all of one class, and the listener's seat, which has taken in that of each and made

@@ -1,25 +1,27 @@
 //! The connections of one listener, each served in a thread of its own.
 
-ghost use Rattle.std.specs.Prelude.{◌≡◌, ◌+◌, ◌-◌, ◌≤◌, [], All, List, IfOk, IfErr, vec_len};
+ghost use Rattle.std.specs.Prelude.{◌≡◌, ◌+◌, ◌-◌, ◌≤◌, [], All, List, IfOk, IfErr, IsSomeAnd, vec_len};
 ghost use Rattle.std.specs.Vec.{vec_capacity};
+ghost use Rattle.arrayvec.specs.ArrayVec.{array_vec_len};
 ghost use Rattle.drm_turns.specs.Seats.{HasTakenIn, IsChild, Same, Stays, with_out};
 ghost use Rattle.drm_streams.specs.Streams.{no_calls};
 ghost use Rattle.drm_sessions.specs.Matched.{Matched};
 ghost use Rattle.drm_sessions.specs.Serving.{Costs, all_steps};
 ghost use Rattle.drm_sessions.specs.Shared.{ServesShared};
-ghost use Rattle.drm_listeners.specs.Connections.{IsFaultOf, IsFresh, IsSessionBy, Serves, Sitting, connection_turns, seats_in, sessions_in};
+ghost use Rattle.drm_listeners.specs.Connections.{IsFaultOf, IsFresh, IsRoomFor, IsSessionBy, Serves, Sitting, connection_turns, seats_in, sessions_in};
 
 use crate::accepting::{accept_next, note_beyond};
 use crate::classes::class_word;
+use crate::counts::MOST;
 use crate::greeting::Greeting;
 use crate::hall::Gathering;
 use crate::notes::note_session;
 use crate::serve_faults::ServeFault;
+use arrayvec::ArrayVec;
 use drm_sessions::{Class, NoGate, Served, Session, serve_through};
 use drm_streams::{FromRead, Sink, Source, ToWrite};
 use drm_turns::{Seat, SharedDevice, Sharing};
 use log::{Log, error};
-use std::alloc::Global;
 use std::os::fd::AsRawFd;
 use std::os::unix::net::{UnixListener, UnixStream};
 use std::snapshot::Snapshot;
@@ -59,6 +61,10 @@ impl Promise<Served> for ConnectionServed {
 
 /// A thread that serves a connection.
 type ConnectionHandle = PromisedHandle<Served, ConnectionServed>;
+
+/// The threads of a listener's connections. They lie in the stack of the listener's own thread, and so take no memory: a list that is
+/// reserved before can't go to that thread, since handles don't cross threads.
+type ConnectionHandles = ArrayVec<Option<ConnectionHandle>, MOST>;
 
 // Serves a connection over its two sides, which nobody had asked before.
 fn serve_sides<R: Wait, D: Sharing, S: Source, K: Sink>(
@@ -158,24 +164,25 @@ fn start_connections<'s, E: 's, R: Wait + Threads + Log + Sync, D: Gathering + S
     shared: &'s D,
     own: &mut Seat,
     listener: Listener,
-    handles: Vec<ConnectionHandle>,
-) -> Result<Vec<ConnectionHandle>, ServeFault>
+) -> Result<ConnectionHandles, ServeFault>
     requires own { own.old.table ≡ D.table shared.now }
-    requires empty { handles.items ≡ [] }
-    requires reserved { listener.count ≤ vec_capacity handles }
-    ensures count { IfOk result (λ handles. vec_len handles ≡ listener.count) }
-    ensures class { IfOk result (λ handles. All (λ handle. handle.promise.class ≡ listener.class) handles.items) }
-    ensures seats { IfOk result (λ handles. All (λ handle. handle.promise.seat.value.table ≡ own.old.table) handles.items) }
-    ensures children { IfOk result (λ handles. All (λ handle. IsChild own.old handle.promise.seat.value) handles.items) }
+    ensures count { IfOk result (λ handles. array_vec_len handles ≡ listener.count) }
+    ensures class { IfOk result (λ handles. All (λ started. IsSomeAnd started (λ handle.
+        handle.promise.class ≡ listener.class)) handles.items) }
+    ensures seats { IfOk result (λ handles. All (λ started. IsSomeAnd started (λ handle.
+        handle.promise.seat.value.table ≡ own.old.table)) handles.items) }
+    ensures children { IfOk result (λ handles. All (λ started. IsSomeAnd started (λ handle.
+        IsChild own.old handle.promise.seat.value)) handles.items) }
     ensures fault { IfErr result (λ fault. IsFaultOf listener.class fault) }
     ensures own { own.new ≡ with_out own.old own.new.out }
-    ensures out { IfOk result (λ handles. own.new.out ≡ own.old.out + vec_len handles) }
+    ensures out { IfOk result (λ handles. own.new.out ≡ own.old.out + array_vec_len handles) }
 {
-    let mut handles = handles;
+    let mut handles = ConnectionHandles::new();
     let _attendance = shared.open().attend(rt, listener.socket.as_raw_fd());
     for _ in 0..listener.count {
         let seat = shared.device().split(own);
-        handles.push_reserved(start_connection(scope, rt, shared, seat, &listener)?);
+        let handle = start_connection(scope, rt, shared, seat, &listener)?;
+        handles.push(Some(handle));
     }
     note_beyond(rt, &listener.socket, listener.class);
     Ok(handles)
@@ -186,17 +193,19 @@ fn join_connections<R: Threads>(
     rt: &R,
     shared: &SharedDevice,
     own: &mut Seat,
-    handles: Vec<ConnectionHandle>,
+    handles: ConnectionHandles,
     sessions: Vec<Session>,
 ) -> Vec<Session>
     requires own { own.old.table ≡ shared.now }
     requires joined { own.old.joined ≡ [] }
-    requires seats { All (λ handle. handle.promise.seat.value.table ≡ own.old.table) handles.items }
-    requires children { All (λ handle. IsChild own.old handle.promise.seat.value) handles.items }
+    requires seats { All (λ started. IsSomeAnd started (λ handle.
+        handle.promise.seat.value.table ≡ own.old.table)) handles.items }
+    requires children { All (λ started. IsSomeAnd started (λ handle. IsChild own.old handle.promise.seat.value)) handles.items }
     requires empty { sessions.items ≡ [] }
-    requires reserved { vec_len handles ≤ vec_capacity sessions }
+    requires reserved { array_vec_len handles ≤ vec_capacity sessions }
     ensures sessions { (sittings : List Sitting) × (result.items ≡ sessions_in sittings)
-        × Matched (λ handle sitting. IsSessionBy handle.promise.class sitting.seat sitting.session) handles.items sittings
+        × Matched (λ started sitting. IsSomeAnd started (λ handle.
+            IsSessionBy handle.promise.class sitting.seat sitting.session)) handles.items sittings
         × HasTakenIn own.new (seats_in sittings) }
     ensures same { Same own.old own.new }
     ensures parent { own.new.parent ≡ own.old.parent }
@@ -204,7 +213,10 @@ fn join_connections<R: Threads>(
     ensures noted { own.new.noted ≡ own.old.noted + all_steps result.items }
 {
     let mut sessions = sessions;
-    for handle in handles {
+    for started in handles {
+        let Some(handle) = started else {
+            unreachable!()
+        };
         let Served { session, seat } = handle.join(rt);
         shared.join(own, seat);
         sessions.push_reserved(session);
@@ -212,46 +224,47 @@ fn join_connections<R: Threads>(
     sessions
 }
 
-// Serves the connections in threads of the scope. All memory is reserved before the first is accepted.
+// Serves the connections in threads of the scope. It takes no memory for lists.
 fn serve_in_scope<'s, E: 's, R: Wait + Threads + Log + Sync, D: Gathering + Sync>(
     scope: &Scope<'s, E>,
     rt: &'s R,
-    alloc: Global,
     shared: &'s D,
     seat: Seat,
     listener: Listener,
+    sessions: Vec<Session>,
 ) -> Result<ServedListener, ServeFault>
-    requires { IsFresh (D.table shared.now) seat }
+    requires fresh { IsFresh (D.table shared.now) seat }
+    requires room { IsRoomFor listener.count sessions }
     ensures { Serves listener.class listener.count seat result }
 {
     let mut seat = seat;
-    let count = usize::from(listener.count);
-    let handles = Vec::with_capacity(alloc, count).map_err(|_| ServeFault::NoMemory)?;
-    let sessions = Vec::with_capacity(alloc, count).map_err(|_| ServeFault::NoMemory)?;
-    let handles = start_connections(scope, rt, shared, &mut seat, listener, handles)?;
+    let handles = start_connections(scope, rt, shared, &mut seat, listener)?;
     let sessions = join_connections(rt, shared.device(), &mut seat, handles, sessions);
     Ok(ServedListener { sessions, seat })
 }
 
 /// Accepts the connections of a listener and serves each in a thread of its own, until all have ended. It may wait.
 ///
-/// The listener is closed before the sessions are waited for. On a fault the threads that were started are waited for.
+/// The listener is closed before the sessions are waited for. On a fault the threads that were started are waited for. The sessions
+/// are told in the list that is handed in, which has room for them.
 pub(crate) fn serve_listener<R: Wait + Threads + Log + Sync, D: Gathering + Sync>(
     rt: &R,
-    alloc: Global,
     shared: &D,
     seat: Seat,
     listener: Listener,
+    sessions: Vec<Session>,
 ) -> Result<ServedListener, ServeFault>
-    requires { IsFresh (D.table shared.now) seat }
+    requires fresh { IsFresh (D.table shared.now) seat }
+    requires room { IsRoomFor listener.count sessions }
     ensures { Serves listener.class listener.count seat result }
 {
     thread::scope(
         thread::scope_env(),
         rt,
         move |scope| -> Result<ServedListener, ServeFault>
-            requires { IsFresh (D.table shared.now) seat }
+            requires fresh { IsFresh (D.table shared.now) seat }
+            requires room { IsRoomFor listener.count sessions }
             ensures { Serves listener.class listener.count seat result }
-        { serve_in_scope(scope, rt, alloc, shared, seat, listener) },
+        { serve_in_scope(scope, rt, shared, seat, listener, sessions) },
     )
 }

@@ -1,18 +1,17 @@
 //! Three listeners at once, each in a thread of its own.
 
 ghost use Rattle.std.specs.Prelude.{◌≡◌, ◌≢◌, Err, IfErr, IfOk};
-ghost use Rattle.drm_listeners.specs.declared.serve_faults.ServeFault.TheVariants.{NoThread, TurnOut};
-ghost use Rattle.drm_listeners.specs.Connections.{IsFresh, Serves};
-ghost use Rattle.drm_listeners.specs.Listeners.{AreFresh, AreServed};
+ghost use Rattle.drm_listeners.specs.declared.serve_faults.ServeFault.TheVariants.{NoMemory, NoThread, TurnOut};
+ghost use Rattle.drm_listeners.specs.Connections.{IsFresh, IsRoomFor, Serves};
+ghost use Rattle.drm_listeners.specs.Listeners.{AreFresh, AreRooms, AreServed};
 
 use crate::connections::{Listener, ServedListener, serve_listener};
 use crate::counts::Counts;
 use crate::hall::Gathering;
 use crate::serve_faults::ServeFault;
-use drm_sessions::Class;
+use drm_sessions::{Class, Session};
 use drm_turns::Seat;
 use log::Log;
-use std::alloc::Global;
 use std::os::unix::net::UnixListener;
 use std::snapshot::Snapshot;
 use std::sync::Wait;
@@ -46,12 +45,13 @@ type ListenerHandle = PromisedHandle<Result<ServedListener, ServeFault>, Listene
 fn start_listener<'s, E: 's, R: Wait + Threads + Log + Sync, D: Gathering + Sync>(
     scope: &Scope<'s, E>,
     rt: &'s R,
-    alloc: Global,
     shared: &'s D,
     seat: Seat,
     listener: Listener,
+    sessions: Vec<Session>,
 ) -> Result<ListenerHandle, ServeFault>
-    requires { IsFresh (D.table shared.now) seat }
+    requires fresh { IsFresh (D.table shared.now) seat }
+    requires room { IsRoomFor listener.count sessions }
     ensures class { IfOk result (λ handle. handle.promise.class ≡ listener.class) }
     ensures count { IfOk result (λ handle. handle.promise.count ≡ listener.count) }
     ensures seat { IfOk result (λ handle. handle.promise.seat.value ≡ seat) }
@@ -65,9 +65,10 @@ fn start_listener<'s, E: 's, R: Wait + Threads + Log + Sync, D: Gathering + Sync
     let served = scope.spawn_with(
         promise,
         move || -> Result<ServedListener, ServeFault>
-            requires { IsFresh (D.table shared.now) seat }
+            requires fresh { IsFresh (D.table shared.now) seat }
+            requires room { IsRoomFor listener.count sessions }
             ensures { Serves listener.class listener.count seat result }
-        { serve_listener(rt, alloc, shared, seat, listener) },
+        { serve_listener(rt, shared, seat, listener, sessions) },
     );
     match served {
         Ok(handle) => Ok(handle),
@@ -79,15 +80,17 @@ fn start_listener<'s, E: 's, R: Wait + Threads + Log + Sync, D: Gathering + Sync
 fn serve_in_scope<'s, E: 's, R: Wait + Threads + Log + Sync, D: Gathering + Sync>(
     scope: &Scope<'s, E>,
     rt: &'s R,
-    alloc: Global,
     shared: &'s D,
     seats: ByClass<Seat>,
     sockets: ByClass<UnixListener>,
     counts: Counts,
+    rooms: ByClass<Vec<Session>>,
 ) -> Result<ByClass<ServedListener>, ServeFault>
-    requires { AreFresh (D.table shared.now) seats }
+    requires fresh { AreFresh (D.table shared.now) seats }
+    requires rooms { AreRooms counts rooms }
     ensures served { IfOk result (λ served. AreServed counts seats served) }
     ensures turn { result ≢ Err TurnOut }
+    ensures memory { result ≢ Err NoMemory }
 {
     let card = Listener {
         socket: sockets.card,
@@ -104,9 +107,9 @@ fn serve_in_scope<'s, E: 's, R: Wait + Threads + Log + Sync, D: Gathering + Sync
         class: Class::Root,
         count: counts.roots,
     };
-    let card = start_listener(scope, rt, alloc, shared, seats.card, card)?;
-    let render = start_listener(scope, rt, alloc, shared, seats.render, render)?;
-    let root = start_listener(scope, rt, alloc, shared, seats.root, root)?;
+    let card = start_listener(scope, rt, shared, seats.card, card, rooms.card)?;
+    let render = start_listener(scope, rt, shared, seats.render, render, rooms.render)?;
+    let root = start_listener(scope, rt, shared, seats.root, root, rooms.root)?;
     let (card, render, root) = (card.join(rt), render.join(rt), root.join(rt));
     Ok(ByClass {
         card: card?,
@@ -117,25 +120,30 @@ fn serve_in_scope<'s, E: 's, R: Wait + Threads + Log + Sync, D: Gathering + Sync
 
 /// Serves so many connections of three listeners at once, until all have ended. It may wait.
 ///
-/// On a fault the threads that were started are waited for.
+/// On a fault the threads that were started are waited for. None is for want of memory for lists: `rooms` has room for the sessions of
+/// each listener.
 pub(crate) fn serve_listeners<R: Wait + Threads + Log + Sync, D: Gathering + Sync>(
     rt: &R,
-    alloc: Global,
     shared: &D,
     seats: ByClass<Seat>,
     sockets: ByClass<UnixListener>,
     counts: Counts,
+    rooms: ByClass<Vec<Session>>,
 ) -> Result<ByClass<ServedListener>, ServeFault>
-    requires { AreFresh (D.table shared.now) seats }
+    requires fresh { AreFresh (D.table shared.now) seats }
+    requires rooms { AreRooms counts rooms }
     ensures served { IfOk result (λ served. AreServed counts seats served) }
     ensures turn { result ≢ Err TurnOut }
+    ensures memory { result ≢ Err NoMemory }
 {
     thread::scope(
         thread::scope_env(),
         rt,
         move |scope| -> Result<ByClass<ServedListener>, ServeFault>
-            requires { AreFresh (D.table shared.now) seats }
-            ensures { IfOk result (λ served. AreServed counts seats served) × (result ≢ Err TurnOut) }
-        { serve_in_scope(scope, rt, alloc, shared, seats, sockets, counts) },
+            requires fresh { AreFresh (D.table shared.now) seats }
+            requires rooms { AreRooms counts rooms }
+            ensures { IfOk result (λ served. AreServed counts seats served) × (result ≢ Err TurnOut)
+                × (result ≢ Err NoMemory) }
+        { serve_in_scope(scope, rt, shared, seats, sockets, counts, rooms) },
     )
 }

@@ -1,14 +1,14 @@
 //! Serving the connections of three listeners.
 
-ghost use Rattle.std.specs.Prelude.{◌≡◌, ◌≢◌, ◌+◌, ◌-◌, ◌≤◌, ◌∷◌, ◌++◌, [], Err, All, IfOk, OnOk, length, vec_len};
+ghost use Rattle.std.specs.Prelude.{◌≡◌, ◌≢◌, ◌+◌, ◌-◌, ◌≤◌, ◌∷◌, ◌++◌, [], Err, All, IfErr, IfOk, OnOk, length, vec_len};
 ghost use Rattle.std.specs.Vec.{vec_capacity};
 ghost use Rattle.drm_turns.specs.History.{AllDiffer, StartsWith};
 ghost use Rattle.drm_turns.specs.Seats.{Same};
 ghost use Rattle.drm_sessions.specs.Serving.{all_steps};
 ghost use Rattle.drm_sessions.specs.declared.class.Class.TheVariants.{Card, Render, Root};
-ghost use Rattle.drm_listeners.specs.declared.serve_faults.ServeFault.TheVariants.{TurnOut};
+ghost use Rattle.drm_listeners.specs.declared.serve_faults.ServeFault.TheVariants.{NoMemory, TurnOut};
 ghost use Rattle.drm_listeners.specs.Connections.{IsSessionOf};
-ghost use Rattle.drm_listeners.specs.Listeners.{AreChildren};
+ghost use Rattle.drm_listeners.specs.Listeners.{AreChildren, AreRooms};
 ghost use Rattle.drm_listeners.specs.Serving.{AreSessionsOf, HaveSat, IsHistoryOf, card_sessions, connections, render_sessions, root_sessions};
 
 use crate::connections::ServedListener;
@@ -76,8 +76,32 @@ fn gather(
     sessions
 }
 
-// Serves the listeners through seats that are split off and joined again. Room for all sessions is reserved before the first
-// thread.
+// An empty list with room for so many sessions.
+fn reserve(alloc: Global, count: usize) -> Result<Vec<Session>, ServeFault>
+    ensures empty { IfOk result (λ sessions. sessions.items ≡ []) }
+    ensures room { IfOk result (λ sessions. count ≤ vec_capacity sessions) }
+    ensures fault { IfErr result (λ fault. fault ≡ NoMemory) }
+{
+    match Vec::with_capacity(alloc, count) {
+        Ok(sessions) => Ok(sessions),
+        Err(_) => Err(ServeFault::NoMemory),
+    }
+}
+
+// For each listener an empty list with room for its sessions.
+fn reserve_each(alloc: Global, counts: Counts) -> Result<ByClass<Vec<Session>>, ServeFault>
+    ensures rooms { IfOk result (λ rooms. AreRooms counts rooms) }
+    ensures fault { IfErr result (λ fault. fault ≡ NoMemory) }
+{
+    Ok(ByClass {
+        card: reserve(alloc, usize::from(counts.cards))?,
+        render: reserve(alloc, usize::from(counts.renders))?,
+        root: reserve(alloc, usize::from(counts.roots))?,
+    })
+}
+
+// Serves the listeners through seats that are split off and joined again. Room for all sessions, and for those of each listener, is
+// reserved before: where memory for it is wanting no seat was split off, so that no thread was started.
 fn serve_shared<R: Wait + Threads + Log + Sync>(
     rt: &R,
     alloc: Global,
@@ -95,9 +119,11 @@ fn serve_shared<R: Wait + Threads + Log + Sync>(
     ensures out { OnOk result (seat.new.out ≡ seat.old.out) }
     ensures noted { IfOk result (λ sessions. seat.new.noted ≡ seat.old.noted + all_steps sessions.items) }
     ensures turn { result ≢ Err TurnOut }
+    ensures memory { IfErr result (λ fault. fault ≡ NoMemory → seat.new ≡ seat.old) }
 {
     let count = usize::from(counts.cards) + usize::from(counts.renders) + usize::from(counts.roots);
-    let sessions = Vec::with_capacity(alloc, count).map_err(|_| ServeFault::NoMemory)?;
+    let sessions = reserve(alloc, count)?;
+    let rooms = reserve_each(alloc, counts)?;
     let seats = ByClass {
         card: shared.split(seat),
         render: shared.split(seat),
@@ -107,7 +133,7 @@ fn serve_shared<R: Wait + Threads + Log + Sync>(
         device: shared,
         open,
     };
-    let served = serve_listeners(rt, alloc, &hall, seats, sockets, counts)?;
+    let served = serve_listeners(rt, &hall, seats, sockets, counts, rooms)?;
     Ok(gather(shared, seat, served, sessions))
 }
 
@@ -130,7 +156,8 @@ fn serve_shared<R: Wait + Threads + Log + Sync>(
 /// had ended before its first frame, so that it made no step. What ends so is not logged.
 ///
 /// On a fault the threads that were started are waited for, and then the device is dropped. `NoThread` comes where a thread
-/// can't be started, for whatever cause.
+/// can't be started, for whatever cause. `NoMemory` comes only before the first connection is accepted: room for the sessions of all
+/// listeners is reserved before the first thread is started, so that nothing that was served is lost for want of it.
 ///
 /// A session that ends in another way than `Ended` is logged as it ends, with its listener and its client; so is the system's
 /// reason where a connection can't be accepted, at the first try and at the last, and a connection that waits behind a listener's last
