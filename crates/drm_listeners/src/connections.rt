@@ -205,7 +205,7 @@ fn join_connections<R: Threads>(
     requires reserved { array_vec_len handles ≤ vec_capacity sessions }
     ensures sessions { (sittings : List Sitting) × (result.items ≡ sessions_in sittings)
         × Matched (λ started sitting. IsSomeAnd started (λ handle.
-            IsSessionBy handle.promise.class sitting.seat sitting.session)) handles.items sittings
+        IsSessionBy handle.promise.class sitting.seat sitting.session)) handles.items sittings
         × HasTakenIn own.new (seats_in sittings) }
     ensures same { Same own.old own.new }
     ensures parent { own.new.parent ≡ own.old.parent }

@@ -12,7 +12,7 @@ pub join_connections-sessions-requires-clause-children : goal.join_connections-s
 join_connections-sessions-requires-clause-children g c =
     let all = c.in_ok-handles.ensures in
     All-weaker (λ started. IsSomeAnd started (λ handle. IsChild c.args.seat handle.promise.seat.value)) _
-        (λ started h. some_and started (λ handle is. child_before c.args.seat _ handle.promise.seat.value all.own is) h) _ all.children
+    (λ started h. some_and started (λ handle is. child_before c.args.seat _ handle.promise.seat.value all.own is) h) _ all.children
 
 pub returns : goal.returns
 returns g c =
