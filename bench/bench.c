@@ -1,21 +1,24 @@
 /* Two loads on drm_server.
  *
- *     bench SERVER [REQUESTS]
+ *     bench SERVER [trips | handles] [REQUESTS [ROUNDS]]
  *
  * SERVER is the program drm_server; REQUESTS is the number of requests of one measurement of the first load, over all
- * connections (90,000 by default: a device notes 100,000 steps at most).
+ * connections (90,000 by default: a device notes 100,000 steps at most), and ROUNDS how often it is measured (5 by default).
  *
- * The first: requests per second and round trips, beside a plain echo of the same frames over a Unix socket. Each connection
- * is a thread of this program that sends VERSION, waits for the answer, and sends the next. The echo is another process with
- * a thread for each connection, as the server has.
+ * The first, trips: requests per second, round trips, context switches and futex calls, beside a plain echo of the same frames
+ * over a Unix socket, in rounds that measure the echo and the server in turn; each figure is the median of the rounds. Each
+ * connection is a thread of this program that sends VERSION, waits for the answer, and sends the next. The echo is another
+ * process with a thread for each connection, as the server has. Futex calls are counted by strace in a round of its own.
  *
- * The second: what a step costs among many handles. One connection makes so many buffers, then reads a stamp, closes and
- * makes a handle in their middle, over and over; a root client asks the last page of an audit of the handles; then the
+ * The second, handles: what a step costs among many handles. One connection makes so many buffers, then reads a stamp, closes
+ * and makes a handle in their middle, over and over; a root client asks the last page of an audit of the handles; then the
  * connection is closed, while another asks VERSION.
  */
+#include <dirent.h>
 #include <errno.h>
 #include <pthread.h>
 #include <signal.h>
+#include <stddef.h>
 #include <stdint.h>
 #include <stdio.h>
 #include <stdlib.h>
@@ -27,8 +30,10 @@
 #include <time.h>
 #include <unistd.h>
 
-#define MOST_CONNECTIONS 16
+#define MOST_CONNECTIONS 64
 #define MOST_FRAME 1028
+#define MOST_TRIP_ROUNDS 99
+#define TRACED_REQUESTS 16000 /* while strace counts */
 
 static const uint8_t HELLO[18] = {14, 0, 0, 0, 0, 1, 1, 0, 0, 0, 0, 0, 0, 0, 0, 0, 0, 0};
 static const uint8_t VERSION[6] = {2, 0, 0, 0, 0, 0};
@@ -36,12 +41,13 @@ static const uint8_t VERSION[6] = {2, 0, 0, 0, 0, 0};
 struct connection {
     const char *path;
     long requests;
-    double *micros; /* the round trip of each request */
-    pthread_barrier_t *opened;
+    double *micros, ended; /* the round trip of each request, and when the last one ended */
+    pthread_barrier_t *together; /* opened, begun, answered and closing are four waits at it */
 };
 
+/* Requests per second, round trips in microseconds, and context switches of the other process for each request. */
 struct measured {
-    double per_second, median, slow;
+    double per_second, median, slow, switches;
 };
 
 static void fail(const char *what) {
@@ -113,7 +119,8 @@ static void *talk(void *argument) {
     write_whole(server, HELLO, sizeof HELLO);
     if (!read_frame(server, frame))
         fail("the hello was not answered");
-    pthread_barrier_wait(own->opened);
+    pthread_barrier_wait(own->together);
+    pthread_barrier_wait(own->together);
     for (long i = 0; i < own->requests; i++) {
         double start = now();
         write_whole(server, VERSION, sizeof VERSION);
@@ -121,8 +128,41 @@ static void *talk(void *argument) {
             fail("a request was not answered");
         own->micros[i] = now() - start;
     }
+    own->ended = now();
+    pthread_barrier_wait(own->together);
+    pthread_barrier_wait(own->together);
     close(server);
     return NULL;
+}
+
+/* The context switches in one status of a task, those that it asked for and others. */
+static long switches_in(const char *path) {
+    char line[200];
+    long count, all = 0;
+    FILE *status = fopen(path, "r");
+    while (status && fgets(line, sizeof line, status))
+        if (sscanf(line, "voluntary_ctxt_switches: %ld", &count) == 1 || sscanf(line, "nonvoluntary_ctxt_switches: %ld", &count) == 1)
+            all += count;
+    if (status)
+        fclose(status);
+    return all;
+}
+
+/* The context switches of all threads of a process that live. */
+static long switches_of(pid_t process) {
+    char path[320];
+    long all = 0;
+    snprintf(path, sizeof path, "/proc/%d/task", process);
+    DIR *tasks = opendir(path);
+    if (!tasks)
+        fail(path);
+    for (struct dirent *task; (task = readdir(tasks));) {
+        snprintf(path, sizeof path, "/proc/%d/task/%s/status", process, task->d_name);
+        if (task->d_name[0] != '.')
+            all += switches_in(path);
+    }
+    closedir(tasks);
+    return all;
 }
 
 static int rising(const void *one, const void *other) {
@@ -130,27 +170,34 @@ static int rising(const void *one, const void *other) {
     return (a > b) - (a < b);
 }
 
-static struct measured measure(const char *path, int connections, long requests) {
+/* Sends so many requests over so many connections to the process that serves the socket. */
+static struct measured measure(pid_t process, const char *path, int connections, long requests) {
     pthread_t threads[MOST_CONNECTIONS];
     struct connection own[MOST_CONNECTIONS];
-    pthread_barrier_t opened;
+    pthread_barrier_t together;
     long each = requests / connections, all = each * connections;
     double *micros = malloc(all * sizeof *micros);
     if (!micros)
         fail("malloc");
-    pthread_barrier_init(&opened, NULL, connections + 1);
+    pthread_barrier_init(&together, NULL, connections + 1);
     for (int i = 0; i < connections; i++) {
-        own[i] = (struct connection){path, each, micros + i * each, &opened};
+        own[i] = (struct connection){path, each, micros + i * each, 0, &together};
         if (pthread_create(&threads[i], NULL, talk, &own[i]))
             fail("a thread");
     }
-    pthread_barrier_wait(&opened);
-    double start = now();
-    for (int i = 0; i < connections; i++)
+    pthread_barrier_wait(&together);
+    long switches = switches_of(process);
+    double start = now(), end = start;
+    pthread_barrier_wait(&together);
+    pthread_barrier_wait(&together);
+    switches = switches_of(process) - switches;
+    pthread_barrier_wait(&together);
+    for (int i = 0; i < connections; i++) {
         pthread_join(threads[i], NULL);
-    double seconds = (now() - start) / 1e6;
+        end = own[i].ended > end ? own[i].ended : end;
+    }
     qsort(micros, all, sizeof *micros, rising);
-    struct measured result = {all / seconds, micros[all / 2], micros[all * 99 / 100]};
+    struct measured result = {all / (end - start) * 1e6, micros[all / 2], micros[all * 99 / 100], (double)switches / all};
     free(micros);
     return result;
 }
@@ -164,10 +211,8 @@ static void *echo(void *argument) {
     return NULL;
 }
 
-static pid_t start_echo(const char *path, int connections) {
-    pid_t child = fork();
-    if (child != 0)
-        return child;
+/* Serves as an echo, in a process of its own: so many connections. */
+static int serve_echo(const char *path, int connections) {
     struct sockaddr_un address = address_of(path);
     int listener = socket(AF_UNIX, SOCK_STREAM, 0);
     if (listener < 0 || bind(listener, (struct sockaddr *)&address, sizeof address) || listen(listener, 64))
@@ -180,24 +225,46 @@ static pid_t start_echo(const char *path, int connections) {
     }
     for (int i = 0; i < connections; i++)
         pthread_join(threads[i], NULL);
-    exit(0);
+    return 0;
 }
 
-static pid_t start_server(const char *server, const char *folder, const char *path, int connections, int roots) {
+/* Starts a program with these words: where a file for a trace is named, under strace, which counts its futex calls. */
+static pid_t start(char **words, const char *trace) {
+    char *traced[32] = {"strace", "-f", "--seccomp-bpf", "-c", "-e", "trace=futex", "-o", (char *)trace};
+    int count = trace ? 8 : 0;
+    for (; *words; words++)
+        traced[count++] = *words;
+    traced[count] = NULL;
+    fflush(stdout);
     pid_t child = fork();
     if (child != 0)
         return child;
+    if (!freopen("/dev/null", "w", stdout))
+        fail("/dev/null");
+    execvp(traced[0], traced);
+    fail(traced[0]);
+    return -1;
+}
+
+static pid_t start_echo(const char *path, int connections, const char *trace) {
+    char count[16], self[300];
+    ssize_t length = readlink("/proc/self/exe", self, sizeof self - 1);
+    if (length < 0)
+        fail("/proc/self/exe");
+    self[length] = 0;
+    snprintf(count, sizeof count, "%d", connections);
+    return start((char *[]){self, "--echo", (char *)path, count, NULL}, trace);
+}
+
+static pid_t start_server(const char *server, const char *folder, const char *path, int connections, int roots, const char *trace) {
     char render[160], root[160], count[16], root_count[16];
     snprintf(render, sizeof render, "%s/render", folder);
     snprintf(root, sizeof root, "%s/root", folder);
     snprintf(count, sizeof count, "%d", connections);
     snprintf(root_count, sizeof root_count, "%d", roots);
-    if (!freopen("/dev/null", "w", stdout))
-        fail("/dev/null");
-    execl(server, server, "serve", "--quiet", "--card", path, "--render", render, "--root", root, "--cards", count, "--renders", "0",
-          "--roots", root_count, (char *)NULL);
-    fail(server);
-    return -1;
+    char *words[] = {(char *)server, "serve", "--quiet", "--card", (char *)path, "--render", render, "--root", root,
+                     "--cards", count, "--renders", "0", "--roots", root_count, NULL};
+    return start(words, trace);
 }
 
 static void finish(pid_t child) {
@@ -326,7 +393,7 @@ static void load_of_handles(const char *server, const char *folder, const char *
            "closing us, a handle", "slowest other us");
     fflush(stdout);
     for (size_t i = 0; i < sizeof handles / sizeof *handles; i++) {
-        pid_t child = start_server(server, folder, path, 2, 1);
+        pid_t child = start_server(server, folder, path, 2, 1, NULL);
         struct costs costs = measure_among(path, root, handles[i]);
         finish(child);
         if (i == 0)
@@ -338,43 +405,117 @@ static void load_of_handles(const char *server, const char *folder, const char *
     }
 }
 
-/* Round trips beside those of an echo, for 1, 4 and 16 connections. */
-static void load_of_round_trips(const char *server, const char *folder, long requests) {
-    static const int connections[] = {1, 4, 16};
-    char path[100];
-    printf("%11s  %28s  %28s  %s\n", "", "drm_server", "echo", "server / echo");
-    printf("connections  requests/s  50%% us  99%% us  requests/s  50%% us  99%% us  requests/s  50%% us  99%% us\n");
+/* What the programs are, and where their sockets and files lie. */
+struct place {
+    const char *server, *folder;
+    char path[160], trace[160];
+};
+
+/* One measurement of the echo, or of the server where it is named. */
+static struct measured measure_one(struct place *place, int is_server, int connections, long requests, const char *trace) {
+    snprintf(place->path, sizeof place->path, "%s/%s", place->folder, is_server ? "card" : "echo");
+    pid_t child = is_server ? start_server(place->server, place->folder, place->path, connections, 0, trace)
+                            : start_echo(place->path, connections, trace);
+    struct measured result = measure(child, place->path, connections, requests);
+    finish(child);
+    unlink(place->path);
+    return result;
+}
+
+/* The futex calls in a summary of strace. */
+static double calls_in(const char *path) {
+    char line[200];
+    double calls = 0, found;
+    FILE *summary = fopen(path, "r");
+    while (summary && fgets(line, sizeof line, summary))
+        if (strstr(line, " futex") && sscanf(line, "%*f %*f %*f %lf", &found) == 1)
+            calls = found;
+    if (summary)
+        fclose(summary);
+    return calls;
+}
+
+static int has_strace(void) {
+    return system("strace -V > /dev/null 2>&1") == 0;
+}
+
+/* The futex calls for each request, or "-" where there is no strace. The calls that start and join threads are among them. */
+static const char *futexes_of(struct place *place, int is_server, int connections) {
+    static char texts[2][16];
+    char *text = texts[is_server];
+    if (!has_strace())
+        return "-";
+    snprintf(place->trace, sizeof place->trace, "%s/trace", place->folder);
+    measure_one(place, is_server, connections, TRACED_REQUESTS, place->trace);
+    snprintf(text, sizeof texts[0], "%.3f", calls_in(place->trace) / TRACED_REQUESTS);
+    unlink(place->trace);
+    return text;
+}
+
+/* One figure of all rounds. */
+static double middle(struct measured *rounds, int count, size_t figure) {
+    double values[MOST_TRIP_ROUNDS];
+    for (int i = 0; i < count; i++)
+        values[i] = *(double *)((char *)&rounds[i] + figure);
+    return median_of(values, count);
+}
+
+static void print_trips(struct measured *rounds, int count) {
+    printf("  %10.0f %6.1f %7.1f %6.3f", middle(rounds, count, offsetof(struct measured, per_second)),
+           middle(rounds, count, offsetof(struct measured, median)), middle(rounds, count, offsetof(struct measured, slow)),
+           middle(rounds, count, offsetof(struct measured, switches)));
+}
+
+/* Round trips beside those of an echo, for 1, 4, 16 and 64 connections. */
+static void load_of_round_trips(struct place *place, long requests, int count) {
+    static const int connections[] = {1, 4, 16, 64};
+    printf("%11s  %39s  %39s  %s\n", "", "drm_server", "echo", "server / echo");
+    printf("connections  requests/s 50%% us  99%% us switch  futex  requests/s 50%% us  99%% us switch  futex  requests/s  least  most\n");
     fflush(stdout);
     for (size_t i = 0; i < sizeof connections / sizeof *connections; i++) {
-        snprintf(path, sizeof path, "%s/echo%zu", folder, i);
-        pid_t child = start_echo(path, connections[i]);
-        struct measured plain = measure(path, connections[i], requests);
-        finish(child);
-        unlink(path);
-        snprintf(path, sizeof path, "%s/card", folder);
-        child = start_server(server, folder, path, connections[i], 0);
-        struct measured served = measure(path, connections[i], requests);
-        finish(child);
-        printf("%11d  %10.0f  %6.1f  %6.1f  %10.0f  %6.1f  %6.1f  %10.2f  %6.2f  %6.2f\n", connections[i], served.per_second,
-               served.median, served.slow, plain.per_second, plain.median, plain.slow, served.per_second / plain.per_second,
-               served.median / plain.median, served.slow / plain.slow);
+        struct measured plain[MOST_TRIP_ROUNDS], served[MOST_TRIP_ROUNDS];
+        double ratios[MOST_TRIP_ROUNDS];
+        for (int round = 0; round < count; round++) {
+            plain[round] = measure_one(place, 0, connections[i], requests, NULL);
+            served[round] = measure_one(place, 1, connections[i], requests, NULL);
+            ratios[round] = served[round].per_second / plain[round].per_second;
+        }
+        double ratio = median_of(ratios, count);
+        printf("%11d", connections[i]);
+        print_trips(served, count);
+        printf(" %6s", futexes_of(place, 1, connections[i]));
+        print_trips(plain, count);
+        printf(" %6s  %10.2f %6.2f %5.2f\n", futexes_of(place, 0, connections[i]), ratio, ratios[0], ratios[count - 1]);
         fflush(stdout);
     }
 }
 
+static int usage(void) {
+    fprintf(stderr, "usage: bench SERVER [trips | handles] [REQUESTS [ROUNDS]]\n");
+    return 2;
+}
+
 int main(int count, char **words) {
-    if (count < 2) {
-        fprintf(stderr, "usage: bench SERVER [REQUESTS]\n");
-        return 2;
-    }
-    long requests = count > 2 ? atol(words[2]) : 90000;
-    char folder[] = "/tmp/drm_bench_XXXXXX", path[100];
-    if (requests < MOST_CONNECTIONS || !mkdtemp(folder))
+    if (count == 4 && !strcmp(words[1], "--echo"))
+        return serve_echo(words[2], atoi(words[3]));
+    if (count < 2)
+        return usage();
+    char folder[] = "/tmp/drm_bench_XXXXXX";
+    struct place place = {words[1], folder, "", ""};
+    int has_trips = count < 3 || strcmp(words[2], "handles"), has_handles = count < 3 || strcmp(words[2], "trips");
+    char **numbers = words + 2 + (has_trips != has_handles);
+    long requests = numbers < words + count ? atol(numbers[0]) : 90000;
+    long rounds = numbers + 1 < words + count ? atol(numbers[1]) : 5;
+    if (requests < MOST_CONNECTIONS || rounds < 1 || rounds > MOST_TRIP_ROUNDS)
+        return usage();
+    if (!mkdtemp(folder))
         fail("a folder for the sockets");
     signal(SIGPIPE, SIG_IGN);
-    load_of_round_trips(words[1], folder, requests);
-    snprintf(path, sizeof path, "%s/card", folder);
-    load_of_handles(words[1], folder, path);
+    if (has_trips)
+        load_of_round_trips(&place, requests, rounds);
+    snprintf(place.path, sizeof place.path, "%s/card", folder);
+    if (has_handles)
+        load_of_handles(words[1], folder, place.path);
     rmdir(folder);
     return 0;
 }
