@@ -1,17 +1,17 @@
 //! A device that threads share, and the turn of a call.
 
-ghost use Rattle.std.specs.Prelude.{◌≡◌, ◌≢◌, ◌<◌, ◌-◌, ◌^◌, ◌++◌, [], ◌∷◌, true, false, Some, None, Err, IfSome, IfNone, IfOk, IfErr, IsOk, ◌+◌, length};
+ghost use Rattle.std.specs.Prelude.{◌≡◌, ◌≢◌, ◌<◌, ◌-◌, ◌^◌, ◌++◌, [], ◌∷◌, true, false, Some, None, Err, IfSome, IfNone, IfOk, IfErr, IsOk, IsSome, ◌+◌, length};
 ghost use Rattle.drm_table.specs.Limits.{are_in_range};
 ghost use Rattle.drm_table.specs.Results.{IsFew};
 ghost use Rattle.drm_model.specs.Reply.{reply};
-ghost use Rattle.drm_model.specs.Run.{Step, no_room};
+ghost use Rattle.drm_model.specs.Run.{History, Step, no_room};
 ghost use Rattle.drm_turns.specs.declared.history.Stage.TheVariants.{Idle, Serving, Waiting};
 ghost use Rattle.drm_turns.specs.History.{AllDiffer, StartsWith, calls_by, device_at, entry, noted_before, rows_after};
 ghost use Rattle.drm_turns.specs.Views.{Grows, IsOwn, counted, found_at, out_after, passed, waiting};
 ghost use Rattle.drm_turns.specs.Plays.{IsInformed, IsServed};
 ghost use Rattle.drm_turns.specs.Seats.{Adds, Closes, Excuses, Reaches, Stays, entries_of, tickets_of, with_out};
 ghost use Rattle.drm_table.specs.declared.apart.Apart.TheVariants.{Worn};
-ghost use Rattle.drm_turns.specs.Turns.{Answered, Turn};
+ghost use Rattle.drm_turns.specs.Turns.{Answered, Stepped, Turn};
 
 use crate::history::View;
 use crate::seat::{Note, Seat};
@@ -37,8 +37,9 @@ const TICKET: usize = 1;
 /// The word of the ticket that is served.
 const SERVING: usize = 2;
 
-/// How often a call looks whether it is served, or whether the device is free, before it sleeps until it is woken (own).
-const LOOKS: u32 = 200;
+/// How often a call looks whether it is served, or whether the device is free, before it sleeps until it is woken (own): a look
+/// is a load, and all of them take about as long as a sleep and a wake, or as a few turns of others.
+const LOOKS: u32 = 5000;
 
 /// How many turns of others a call waits for at most, before it draws a ticket though the device isn't free (own).
 const PATIENCE: u32 = 64;
@@ -94,8 +95,24 @@ impl Sharing for SharedDevice {
     }
 }
 
+/// Steps the device that the slot has, where it lies.
+fn step_in(slot: &mut Slot, event: Event) -> Result<Answer, Apart>
+    requires full { IsSome slot.old }
+    ensures steps { (old : History) → slot.old ≡ Some old → (new : History) × (slot.new ≡ Some new) × Stepped old event result new }
+    ensures few { IsFew result }
+{
+    match slot {
+        Some(device) => device.step(event),
+        None => unreachable!(),
+    }
+}
+
 impl SharedDevice {
     /// Sleeps until a turn is passed on, unless one was since this ticket was seen to be served. It may end for no reason.
+    ///
+    /// No wake is lost: a call is counted among the sleepers before it sleeps, and a pass changes the served ticket before it
+    /// counts them. So either the pass sees the sleeper, and wakes, or the ticket has changed by then, and the call doesn't
+    /// sleep. Who is woken looks again: it draws, or another has drawn since, whose pass wakes again.
     fn sleep<R: Wait>(&self, rt: &R, served: u64) {
         self.sleepers.fetch_add(1, Ordering::SeqCst);
         let low = (served % (1 << 32)) as u32;
@@ -188,7 +205,7 @@ impl SharedDevice {
         self.table.shared.fetch_add::<Count<E>>(place, COUNT, 1);
     }
 
-    /// Takes the device, steps it, counts the step where it was noted, and puts the device back.
+    /// Steps the device where it lies, and counts the step where it was noted.
     fn carry_out(&self, place: &mut Place<Slot, View>, event: Event) -> Result<Answer, Apart>
         requires own { place.old.table_id ≡ self.now }
         requires serving { (place.old.me.0.stage ≡ Serving) × (place.old.me.0.number ≢ 0) }
@@ -203,15 +220,13 @@ impl SharedDevice {
         ensures turn { Turn event result }
         ensures few { IsFew result }
     {
-        let shared = &self.table.shared;
-        let mut device = shared.exchange(place, 0, None).unwrap();
         let noted = Snapshot::of(&event);
-        let result = device.step(event);
+        let slot = place.slot_mut(&self.table.shared, 0);
+        let result = step_in(slot, event);
         match &result {
             Ok(answer) => self.count::<Brand>(place, &noted, answer),
             Err(_) => {}
         }
-        drop(shared.exchange(place, 0, Some(device)));
         result
     }
 
