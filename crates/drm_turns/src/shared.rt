@@ -54,11 +54,19 @@ pub struct TurnOut;
 
 /// A device that threads share by reference. Each call has the device alone (own). Contracts see the name that it shares
 /// with its seats and notes.
-#[derive(Drop)]
 pub struct SharedDevice {
     table: Table<Slot, View, Snapshot<Device>, InTurn, Global>,
     /// How many calls sleep, or are about to.
     sleepers: AtomicU64,
+}
+
+// Written out, so that it is proved once: a derived one is proved again in each crate that lets such a value go.
+impl Drop for SharedDevice {
+    fn drop(self) {
+        let SharedDevice { table, sleepers } = self;
+        drop(table);
+        drop(sleepers);
+    }
 }
 
 impl Model for SharedDevice {
