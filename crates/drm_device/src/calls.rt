@@ -7,16 +7,8 @@ ghost use Rattle.drm_table.specs.declared.events.Event.TheVariants.{Ask};
 ghost use Rattle.drm_model.specs.Verdict as model;
 ghost use Rattle.drm_state.specs.Refinement.{Owes, OwesCall, IsAdmission};
 
-use crate::audits::audit;
-use crate::capabilities::{get_cap, version};
+use crate::families::{buffer_call, device_call, lease_call, master_call, share_call};
 use crate::mode_calls::mode_call;
-use drm_buffer_calls::{
-    Pixels, buf_create, create_dumb, gem_close, list_handles, stamp_read, stamp_write,
-};
-use drm_client_calls::set_client_cap;
-use drm_lease_calls::{create_lease, get_lease, list_lessees, revoke_lease};
-use drm_master_calls::{auth_magic, drop_master, get_magic, set_master};
-use drm_share_calls::{gem_flink, gem_open, prime_export, prime_import, token_close};
 use drm_state::State;
 use drm_table::{Answer, Call, Rule, Standing, permit};
 use std::alloc::AllocError;
@@ -84,37 +76,25 @@ fn carry_out(state: &mut State, birth: u32, client: u32, call: &Call) -> Result<
         // these two are never admitted
         Call::Unknown(_) => Ok(Answer::Denied(Rule::Unknown)),
         Call::BadLayout(_) => Ok(Answer::Denied(Rule::Layout)),
-        Call::Version => Ok(version()),
-        Call::GemClose { handle } => Ok(gem_close(state, client, *handle)),
-        Call::GemFlink { handle } => gem_flink(state, birth, client, *handle),
-        Call::GemOpen { name } => gem_open(state, birth, client, *name),
-        Call::GetMagic => Ok(get_magic(state, client)),
-        Call::GetCap { cap } => Ok(get_cap(state, client, *cap)),
-        Call::AuthMagic { magic } => Ok(auth_magic(state, client, *magic)),
-        Call::SetMaster => set_master(state, birth, client),
-        Call::DropMaster => Ok(drop_master(state, client)),
-        Call::SetClientCap { cap, value } => Ok(set_client_cap(state, client, *cap, *value)),
-        Call::PrimeHandleToFd { handle } => prime_export(state, birth, client, *handle),
-        Call::PrimeFdToHandle { token } => prime_import(state, birth, client, *token),
-        Call::BufCreate { size } => buf_create(state, birth, client, *size),
-        Call::StampWrite { handle, stamp } => Ok(stamp_write(state, client, *handle, *stamp)),
-        Call::StampRead { handle } => Ok(stamp_read(state, client, *handle)),
-        Call::TokenClose { token } => Ok(token_close(state, client, *token)),
-        Call::ListHandles { from } => Ok(list_handles(state, client, *from)),
-        Call::Audit { kind, from } => Ok(audit(state, birth, *kind, *from)),
-        Call::CreateDumb { width, height, bpp } => {
-            let pixels = Pixels {
-                width: *width,
-                height: *height,
-                bpp: *bpp,
-            };
-            create_dumb(state, birth, client, pixels)
-        }
-        Call::DestroyDumb { handle } => Ok(gem_close(state, client, *handle)),
-        Call::CreateLease { ids } => create_lease(state, birth, client, ids),
-        Call::ListLessees => Ok(list_lessees(state, client)),
-        Call::GetLease => Ok(get_lease(state, client)),
-        Call::RevokeLease { lessee } => Ok(revoke_lease(state, client, *lessee)),
+        Call::Version | Call::GetCap { .. } | Call::SetClientCap { .. } | Call::Audit { .. } =>
+            device_call(state, birth, client, call),
+        Call::GetMagic | Call::AuthMagic { .. } | Call::SetMaster | Call::DropMaster => master_call(
+            state, birth, client, call,
+        ),
+        Call::GemClose { .. }
+        | Call::DestroyDumb { .. }
+        | Call::BufCreate { .. }
+        | Call::CreateDumb { .. }
+        | Call::StampWrite { .. }
+        | Call::StampRead { .. }
+        | Call::ListHandles { .. } => buffer_call(state, birth, client, call),
+        Call::GemFlink { .. }
+        | Call::GemOpen { .. }
+        | Call::PrimeHandleToFd { .. }
+        | Call::PrimeFdToHandle { .. }
+        | Call::TokenClose { .. } => share_call(state, birth, client, call),
+        Call::CreateLease { .. } | Call::ListLessees | Call::GetLease | Call::RevokeLease { .. } =>
+            lease_call(state, birth, client, call),
         Call::GetResources
         | Call::GetPlaneResources
         | Call::GetCrtc { .. }

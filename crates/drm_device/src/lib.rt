@@ -6,6 +6,7 @@ mod calls;
 mod capabilities;
 mod device;
 mod events;
+mod families;
 mod mode_calls;
 mod replays;
 

@@ -1,7 +1,7 @@
 -- The table of calls: its rows are found by number and word, and a call is that of its row with its fields.
-use Rattle.std.proofs.Common.{◌≡◌, ℕ, ◌^◌, ◌<◌, List, [], ◌∷◌, Option, Some, None, is_some, true, refl, sym, ap, subst, lit<, lit≤}
+use Rattle.std.proofs.Common.{◌≡◌, ◌∙◌, ℕ, ◌^◌, ◌<◌, List, [], ◌∷◌, Option, Some, None, is_some, true, refl, sym, ap, subst, lit<, lit≤}
 use Rattle.std.specs.Prelude.{◌==◌}
-use Rattle.std.specs.Option.{option_map, option_or}
+use Rattle.std.specs.Option.{option_map, option_map_or, option_or}
 use Rattle.std.specs.Str.{bytes_eq}
 use Rattle.std.proofs.lemmas.Bool.{eqb-true}
 use Rattle.std.proofs.lemmas.Slice.Eq.{bytes_eq-Decides}
@@ -15,7 +15,7 @@ use Rattle.drm_table.specs.declared.fields.Field.TheVariants.{U32, U64}
 use Rattle.drm_table.specs.Audits as audits
 use Rattle.drm_table.specs.Fields.{Layout, IsShort}
 use Rattle.drm_table.specs.LeaseCalls.{ids_in}
-use Rattle.drm_table.specs.Table.{kind_row, kind_number, kind_word, kind_layout, call_kind_of, call_kind_of_word, all_kinds, call_row, call_with, IsReadBack, AreFieldsOf, HasWidths}
+use Rattle.drm_table.specs.Table.{TableRow, asked_number, call_number, flags_of, no_flags, row_of, kind_row, kind_number, kind_word, kind_layout, call_kind_of, call_kind_of_word, all_kinds, call_row, call_with, IsReadBack, AreFieldsOf, HasWidths}
 use Rattle.drm_table.proofs.AuditKinds as kinds_of_audits
 use Rattle.drm_table.proofs.Found.{found-passes}
 use Rattle.drm_table.proofs.IdFields.{ids-back, ids-are, ids-widths}
@@ -45,6 +45,18 @@ kind-found _ = refl
 pub kind-of-its-own : (number : ℕ) (kind : CallKind) → call_kind_of number ≡ Some kind → kind_number kind ≡ number
 unfolding call_kind_of
 kind-of-its-own number kind e = eqb-true (kind_number kind) number (found-passes (λ (k : CallKind). kind_number k == number) all_kinds kind e)
+
+numbered : (row : Option (CallKind × List Field)) (asked : ℕ) (kind : CallKind) → option_map (λ (row : CallKind × List Field). row.0) row ≡ Some kind → option_map_or (λ (row : CallKind × List Field). kind_number row.0) row asked ≡ kind_number kind
+numbered None asked kind e = absurd cc
+numbered (Some row) asked kind e = let same : row.0 ≡ kind = cc in ap kind_number same
+
+-- the flags of a call are those of its kind's row
+pub flags-by-kind : (call : Call) (kind : CallKind) → option_map (λ (row : CallKind × List Field). row.0) (call_row call) ≡ Some kind → flags_of call ≡ (kind_row kind).flags
+unfolding flags_of call_number row_of
+flags-by-kind call kind e =
+    let number : call_number call ≡ kind_number kind = numbered (call_row call) (asked_number call) kind e in
+    let found : row_of (call_number call) ≡ Some (kind_row kind) = ap row_of number ∙ ap (option_map kind_row) (kind-found kind) in
+    ap (λ (row : Option TableRow). option_map_or (λ (r : TableRow). r.flags) row no_flags) found
 
 pub word-found : (kind : CallKind) → call_kind_of_word (kind_word kind) ≡ Some kind
 unfolding call_kind_of_word kind_row

@@ -208,13 +208,58 @@ impl Call {
         call
     }
 
+    /// The kind of the call's row; none of a call without a row.
+    #[tactic(auto, unfolding(crate::specs::Table::call_row))]
+    pub(crate) fn kind(&self) -> Option<CallKind>
+        ensures { result ≡ option_map (λ row. row.0) (call_row self.now) }
+    {
+        Some(match self {
+            Call::Unknown(_) | Call::BadLayout(_) => return None,
+            Call::Version => CallKind::Version,
+            Call::GetMagic => CallKind::GetMagic,
+            Call::GemClose { .. } => CallKind::GemClose,
+            Call::GemFlink { .. } => CallKind::GemFlink,
+            Call::GemOpen { .. } => CallKind::GemOpen,
+            Call::GetCap { .. } => CallKind::GetCap,
+            Call::SetClientCap { .. } => CallKind::SetClientCap,
+            Call::AuthMagic { .. } => CallKind::AuthMagic,
+            Call::SetMaster => CallKind::SetMaster,
+            Call::DropMaster => CallKind::DropMaster,
+            Call::PrimeHandleToFd { .. } => CallKind::PrimeHandleToFd,
+            Call::PrimeFdToHandle { .. } => CallKind::PrimeFdToHandle,
+            Call::BufCreate { .. } => CallKind::BufCreate,
+            Call::StampWrite { .. } => CallKind::StampWrite,
+            Call::StampRead { .. } => CallKind::StampRead,
+            Call::TokenClose { .. } => CallKind::TokenClose,
+            Call::ListHandles { .. } => CallKind::ListHandles,
+            Call::Audit { .. } => CallKind::Audit,
+            Call::GetResources => CallKind::GetResources,
+            Call::GetCrtc { .. } => CallKind::GetCrtc,
+            Call::SetCrtc { .. } => CallKind::SetCrtc,
+            Call::GetEncoder { .. } => CallKind::GetEncoder,
+            Call::GetConnector { .. } => CallKind::GetConnector,
+            Call::GetFb { .. } => CallKind::GetFb,
+            Call::AddFb { .. } => CallKind::AddFb,
+            Call::RmFb { .. } => CallKind::RmFb,
+            Call::CreateDumb { .. } => CallKind::CreateDumb,
+            Call::DestroyDumb { .. } => CallKind::DestroyDumb,
+            Call::GetPlaneResources => CallKind::GetPlaneResources,
+            Call::GetPlane { .. } => CallKind::GetPlane,
+            Call::SetPlane { .. } => CallKind::SetPlane,
+            Call::CreateLease { .. } => CallKind::CreateLease,
+            Call::ListLessees => CallKind::ListLessees,
+            Call::GetLease => CallKind::GetLease,
+            Call::RevokeLease { .. } => CallKind::RevokeLease,
+        })
+    }
+
     /// The number of the call's row; of a call without one, the number that was asked.
     #[tactic(auto, unfolding(crate::specs::Table::call_number))]
     pub fn number(&self) -> u16
         ensures { result ≡ call_number self.now }
     {
-        match self.row() {
-            Some((kind, _)) => kind.number(),
+        match self.kind() {
+            Some(kind) => kind.number(),
             None => match self {
                 Call::Unknown(number) | Call::BadLayout(number) => *number,
                 _ => 0,
@@ -227,9 +272,12 @@ impl Call {
     pub fn flags(&self) -> RowFlags
         ensures { result ≡ flags_of self.now }
     {
-        match row(self.number()) {
-            Some(row) => row.flags,
-            None => RowFlags::empty(),
+        match self.kind() {
+            Some(kind) => kind.row().flags,
+            None => match row(self.number()) {
+                Some(row) => row.flags,
+                None => RowFlags::empty(),
+            },
         }
     }
 }
