@@ -435,8 +435,9 @@ static double calls_in(const char *path) {
     return calls;
 }
 
+/* Whether strace is there and may trace. */
 static int has_strace(void) {
-    return system("strace -V > /dev/null 2>&1") == 0;
+    return system("strace -f --seccomp-bpf -c -e trace=futex -o /dev/null true > /dev/null 2>&1") == 0;
 }
 
 /* The futex calls for each request, or "-" where there is no strace. The calls that start and join threads are among them. */
