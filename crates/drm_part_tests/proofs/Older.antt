@@ -1,5 +1,5 @@
 -- What the tests know of masters and leases stays so.
-use Rattle.std.proofs.Common.{◌≡◌, ℕ, ◌+◌, ◌<◌, Bool, true, false, not, ◌&&◌, List, [], ◌∷◌, map, find, Option, None, Some, Result, Ok, Err, refl, sym, ap, subst, ◌∙◌, arith}
+use Rattle.std.proofs.Common.{◌≡◌, ℕ, ◌+◌, ◌<◌, Bool, true, false, not, ◌&&◌, List, [], ◌∷◌, map, find, Option, None, Some, Result, Ok, Err, refl, sym, ap, subst, ◌∙◌, arith, filter}
 use Rattle.std.specs.Prelude.{IfSome, if◌then◌else◌}
 use Rattle.std.specs.List.{AllByRecursion}
 use Rattle.std.specs.Option.{is_some, option_map, option_map_or}
@@ -9,23 +9,23 @@ use Rattle.drm_lists.proofs.Rising.{found, all_found}
 use Rattle.drm_modes.specs.Modes.{ModeSet}
 use Rattle.drm_masters.specs.declared.rows.Master.{Master}
 use Rattle.drm_masters.specs.declared.rows.Member.{Member}
-use Rattle.drm_masters.specs.Masters.{MasterSet, AreMasters, is_key, is_birth, master_at, lessor_of, is_living, swept, IsKeyOf}
+use Rattle.drm_masters.specs.Masters.{MasterSet, AreMasters, is_key, is_birth, master_at, lessor_of, is_below, is_living, swept, IsKeyOf}
 use Rattle.drm_masters.specs.Calls as masters_calls
 use Rattle.drm_leases.specs.declared.faults.LeaseFault.{LeaseFault}
 use Rattle.drm_leases.specs.declared.faults.LeaseFault.TheVariants.{Denied, NoMemory}
 use Rattle.drm_leases.specs.declared.rows.Grant.{Grant}
 use Rattle.drm_leases.specs.declared.rows.LeaseToken.{LeaseToken}
 use Rattle.drm_leases.specs.declared.rows.Leased.{Leased}
-use Rattle.drm_leases.specs.Leases.{LeaseSet, is_token}
+use Rattle.drm_leases.specs.Leases.{LeaseSet, Lending, is_token}
 use Rattle.drm_leases.specs.Rules.{leased}
-use Rattle.drm_leases.specs.Calls.{IsNewLessee, Created, grant, lease_token, listed_objects, without_token, ended}
-use Rattle.drm_part_tests.specs.Older.{IsBefore, HasRoom}
+use Rattle.drm_leases.specs.Calls.{IsNewLessee, Created, grant, lease_token, listed_objects, without_token, ended, ended_below}
+use Rattle.drm_part_tests.specs.Older.{IsBefore}
 
 later_still : {X : Type 0} (f : X → ℕ) (n : ℕ) (xs : List X) → AllByRecursion (λ x. f x < n) xs → AllByRecursion (λ x. f x < n + 1) xs
 later_still f n xs h = all_weaker (λ x. f x < n) (λ x. f x < n + 1) (λ x lt. omega (arith, lt)) xs h
 
 pub later : (v : MasterSet) (n : ℕ) → IsBefore v n → IsBefore v (n + 1)
-later v n h = record { births = later_still (λ (x : Master). x.birth) n v.masters h.births; clients = later_still (λ (x : Member). x.client) n v.members h.clients; few = h.few }
+later v n h = record { births = later_still (λ (x : Master). x.birth) n v.masters h.births; clients = later_still (λ (x : Member). x.client) n v.members h.clients; few = h.few; four = h.four }
 
 pub later_lessees : (l : LeaseSet) (n : ℕ) → IsNewLessee l n → IsNewLessee l (n + 1)
 later_lessees l n h = record { tokens = later_still (λ (row : LeaseToken). row.master) n l.tokens h.tokens; grants = later_still (λ (g : Grant). g.master) n l.grants h.grants }
@@ -38,7 +38,7 @@ module _ (l : LeaseSet) (v : MasterSet) (s : ModeSet) (m : ℕ) (universal : Boo
       let z = masters_calls.lessee c.4.0 birth m made.id in
       let k = later v birth h in
       subst (λ (w : MasterSet). IsBefore w (birth + 1)) (sym c.4.2)
-      (record { births = all_append (λ (x : Master). x.birth < birth + 1) v.masters (z ∷ []) k.births (omega arith, tt); clients = k.clients; few = k.few })
+      (record { births = all_append (λ (x : Master). x.birth < birth + 1) v.masters (z ∷ []) k.births (omega arith, tt); clients = k.clients; few = k.few; four = k.four })
   created_before (Err (Denied rule)) l2 v2 h c = subst (λ (w : MasterSet). IsBefore w (birth + 1)) (sym c.2) (later v birth h)
   created_before (Err NoMemory) l2 v2 h c = subst (λ (w : MasterSet). IsBefore w (birth + 1)) (sym c.2) (later v birth h)
 
@@ -54,11 +54,6 @@ module _ (l : LeaseSet) (v : MasterSet) (s : ModeSet) (m : ℕ) (universal : Boo
   created_lessees (Err (Denied rule)) l2 v2 h c = subst (λ (w : LeaseSet). IsNewLessee w (birth + 1)) (sym c.1) (later_lessees l birth h)
   created_lessees (Err NoMemory) l2 v2 h c = subst (λ (w : LeaseSet). IsNewLessee w (birth + 1)) (sym c.1) (later_lessees l birth h)
 
-  pub created_room : (result : Result Leased LeaseFault) (l2 : LeaseSet) (v2 : MasterSet) → Created l v s m universal ids birth result l2 v2 → (n : ℕ) → HasRoom v n → HasRoom v2 n
-  created_room (Ok made) l2 v2 c n h = subst (λ (w : MasterSet). HasRoom w n) (sym c.4.2) h
-  created_room (Err (Denied rule)) l2 v2 c n h = subst (λ (w : MasterSet). HasRoom w n) (sym c.2) h
-  created_room (Err NoMemory) l2 v2 c n h = subst (λ (w : MasterSet). HasRoom w n) (sym c.2) h
-
 -- what is so of a client that is there
 pub of_some : {X : Type 0} (o : Option X) (P : X → Type 0) (Q : Type 0) → is_some o ≡ true → IfSome o P → ((x : X) → P x → Q) → Q
 of_some None P Q h k f = absurd (let e : false ≡ true = h in cc)
@@ -66,28 +61,37 @@ of_some (Some x) P Q h k f = f x k
 
 -- ---- what goes
 
-released_older : (v : MasterSet) (top n : ℕ) → IsBefore v n → IsBefore (swept (masters_calls.released_under top v)) n
-released_older v top n h =
-    let g = λ (x : Master). if is_under (lessor_of v.masters) top x.birth then masters_calls.kept_as false x else x in
-    let now = map g v.masters in
-    let older = λ (x : Master) (lt : x.birth < n). elim (is_under (lessor_of v.masters) top x.birth) as (λ b. (if b then masters_calls.kept_as false x else x).birth < n) [ true ↦ lt | false ↦ lt ] in
-    record {
-      births = all_filter (λ (x : Master). x.birth < n) (λ (x : Master). is_living v.members now x.birth) now (all_mapped (λ (x : Master). x.birth < n) g v.masters (all_weaker (λ (x : Master). x.birth < n) (λ x. (g x).birth < n) older v.masters h.births));
-      clients = h.clients;
-      few = h.few;
-    }
+module _ (v : MasterSet) (n : ℕ) (p : ℕ → Bool) (h : IsBefore v n) where
+  released_older : IsBefore (swept (record v { masters = map (λ (x : Master). if p x.birth then masters_calls.kept_as false x else x) v.masters })) n
+  released_older =
+      let g = λ (x : Master). if p x.birth then masters_calls.kept_as false x else x in
+      let now = map g v.masters in
+      let older = λ (x : Master) (lt : x.birth < n). elim (p x.birth) as (λ b. (if b then masters_calls.kept_as false x else x).birth < n) [ true ↦ lt | false ↦ lt ] in
+      record {
+        births = all_filter (λ (x : Master). x.birth < n) (λ (x : Master). is_living v.members now x.birth) now (all_mapped (λ (x : Master). x.birth < n) g v.masters (all_weaker (λ (x : Master). x.birth < n) (λ x. (g x).birth < n) older v.masters h.births));
+        clients = h.clients;
+        few = h.few;
+        four = h.four;
+      }
 
 pub ended_before : (v v2 : MasterSet) (top n : ℕ) → IsBefore v n → v2 ≡ swept (masters_calls.released_under top v) → IsBefore v2 n
-ended_before v v2 top n h e = subst (λ (w : MasterSet). IsBefore w n) (sym e) (released_older v top n h)
+ended_before v v2 top n h e = subst (λ (w : MasterSet). IsBefore w n) (sym e) (released_older v n (is_under (lessor_of v.masters) top) h)
+
+pub ended_below_before : (v v2 : MasterSet) (top n : ℕ) → IsBefore v n → v2 ≡ swept (masters_calls.released_below top v) → IsBefore v2 n
+ended_below_before v v2 top n h e = subst (λ (w : MasterSet). IsBefore w n) (sym e) (released_older v n (is_below v.masters top) h)
+
+module _ (l : LeaseSet) (n : ℕ) (p : ℕ → Bool) (h : IsNewLessee l n) where
+  thinned_lessees : (lendings : List Lending) → IsNewLessee (record l { tokens = filter (λ (row : LeaseToken). not (p row.master)) l.tokens; grants = filter (λ (g : Grant). not (p g.master)) l.grants; lendings = lendings }) n
+  thinned_lessees lendings = record {
+    tokens = all_filter (λ (row : LeaseToken). row.master < n) (λ (row : LeaseToken). not (p row.master)) l.tokens h.tokens;
+    grants = all_filter (λ (g : Grant). g.master < n) (λ (g : Grant). not (p g.master)) l.grants h.grants;
+  }
 
 pub ended_lessees : (l l2 : LeaseSet) (masters : List Master) (top n : ℕ) → IsNewLessee l n → l2 ≡ ended masters top l → IsNewLessee l2 n
-ended_lessees l l2 masters top n h e =
-    let under = is_under (lessor_of masters) top in
-    subst (λ (w : LeaseSet). IsNewLessee w n) (sym e)
-    (record {
-      tokens = all_filter (λ (row : LeaseToken). row.master < n) (λ (row : LeaseToken). not (under row.master)) l.tokens h.tokens;
-      grants = all_filter (λ (g : Grant). g.master < n) (λ (g : Grant). not (under g.master)) l.grants h.grants;
-    })
+ended_lessees l l2 masters top n h e = subst (λ (w : LeaseSet). IsNewLessee w n) (sym e) (thinned_lessees l n (is_under (lessor_of masters) top) h (ended masters top l).lendings)
+
+pub ended_below_lessees : (l l2 : LeaseSet) (masters : List Master) (top n : ℕ) → IsNewLessee l n → l2 ≡ ended_below masters top l → IsNewLessee l2 n
+ended_below_lessees l l2 masters top n h e = subst (λ (w : LeaseSet). IsNewLessee w n) (sym e) (thinned_lessees l n (is_below masters top) h (ended_below masters top l).lendings)
 
 pub spent_lessees : (l l2 : LeaseSet) (t n : ℕ) → IsNewLessee l n → l2 ≡ without_token t l → IsNewLessee l2 n
 spent_lessees l l2 t n h e =
@@ -105,6 +109,7 @@ entered_before v v2 c m h e =
       births = all_mapped (λ (x : Master). x.birth < c + 1) g v.masters (all_weaker (λ (x : Master). x.birth < c + 1) (λ x. (g x).birth < c + 1) older v.masters k.births);
       clients = all_append (λ (x : Member). x.client < c + 1) v.members (masters_calls.redeemer c m ∷ []) k.clients (omega arith, tt);
       few = k.few;
+      four = k.four;
     })
 
 pub same_before : (v v2 : MasterSet) (c : ℕ) → IsBefore v c → v2 ≡ v → IsBefore v2 (c + 1)
@@ -125,5 +130,5 @@ pub unredeemed : (v : MasterSet) → AreMasters v → (b : ℕ) (x : Master) →
 unredeemed v are b x at keyed kept lessee = ap (λ o. option_map_or (λ (y : Master). y.kept && is_some y.lessor) o false) (of_its_key v are b x at keyed) ∙ ap (λ k. k && is_some x.lessor) kept ∙ lessee
 
 -- the first client
-pub opened_before : (v : MasterSet) (key : ℕ) → v ≡ masters_calls.with_device (Some 1) (masters_calls.with_member (masters_calls.owner 1 1) (masters_calls.with_master (masters_calls.own_master key 1) (record { members = []; masters = []; device_master = None; last_magic = 4; last_lessee = 4 }))) → IsBefore v 2 × HasRoom v 1
-opened_before v key e = subst (λ (w : MasterSet). IsBefore w 2 × HasRoom w 1) (sym e) (record { births = (omega arith, tt); clients = (omega arith, tt); few = omega arith }, omega arith)
+pub opened_before : (v : MasterSet) (key : ℕ) → v ≡ masters_calls.with_device (Some 1) (masters_calls.with_member (masters_calls.owner 1 1) (masters_calls.with_master (masters_calls.own_master key 1) (record { members = []; masters = []; device_master = None; last_magic = 4; last_lessee = 4 }))) → IsBefore v 2
+opened_before v key e = subst (λ (w : MasterSet). IsBefore w 2) (sym e) (record { births = (omega arith, tt); clients = (omega arith, tt); few = omega arith; four = refl })

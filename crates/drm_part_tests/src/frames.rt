@@ -1,6 +1,7 @@
 //! Frames against their bytes as the table of calls and answers has them.
 
 ghost use Rattle.std.specs.Prelude.{◌≡◌, true};
+ghost use Rattle.drm_frames.specs.Hellos.{is_version};
 ghost use Rattle.drm_table.specs.Results.{IsFew};
 
 use crate::lists::{list_of, named, page_of, resources_of, row};
@@ -23,12 +24,31 @@ fn hello_in(bytes: &[u8]) -> Option<Hello> {
     hello_of(&frame_in(bytes)?)
 }
 
-fn call_in(bytes: &[u8]) -> Option<Call> {
-    Some(call_of(&frame_in(bytes)?))
+/// Whether the bytes are a frame of this call.
+fn asks(bytes: &[u8], call: &Call) -> bool {
+    match frame_in(bytes) {
+        Some(frame) => call_of(&frame) == *call,
+        None => false,
+    }
 }
 
-fn answer_in(bytes: &[u8]) -> Option<Result<Answer, Apart>> {
-    answer_of(&frame_in(bytes)?)
+/// Whether the bytes are a frame, and no answer's.
+fn is_no_answer(bytes: &[u8]) -> bool {
+    match frame_in(bytes) {
+        Some(frame) => answer_of(&frame).is_none(),
+        None => false,
+    }
+}
+
+/// Whether the bytes are a frame of this answer.
+fn answers(bytes: &[u8], outcome: &Result<Answer, Apart>) -> bool {
+    let Some(frame) = frame_in(bytes) else {
+        return false;
+    };
+    match answer_of(&frame) {
+        Some(read) => read == *outcome,
+        None => false,
+    }
 }
 
 /// The frame of a call that has a row.
@@ -87,22 +107,22 @@ const TWO_FRAMES: [u8; 13] = [3, 0, 0, 0, 9, 1, 7, 2, 0, 0, 0, 0, 0];
 #[test]
 fn lengths_of_frames(rt: HostRuntime) {
     for length in NO_LENGTHS {
-        assert!(&rt; matches!(decode(&length.to_le_bytes()), Decoded::TooLong));
+        assert!(rt; matches!(decode(&length.to_le_bytes()), Decoded::TooLong));
     }
     for front in FRONTS {
-        assert!(&rt; matches!(decode(front), Decoded::NeedMore));
+        assert!(rt; matches!(decode(front), Decoded::NeedMore));
     }
 }
 
 #[test]
 fn first_of_two_frames(rt: HostRuntime) {
-    match decode(&TWO_FRAMES) {
+    let is_first = match decode(&TWO_FRAMES) {
         Decoded::Whole(frame, used) => {
-            assert_eq!(&rt; (frame.number(), used), (0x0109, 7));
-            assert_eq!(&rt; frame.fields(), [7].as_slice());
+            used == 7 && frame.number() == 0x0109 && frame.fields() == [7].as_slice()
         }
-        _ => assert!(&rt; false, "no frame"),
-    }
+        _ => false,
+    };
+    assert!(rt; is_first);
 }
 
 /// Hellos with their bytes, by the lease token that they may have.
@@ -144,15 +164,20 @@ const NO_HELLOS: [&[u8]; 6] = [
     &[2, 0, 0, 0, 0, 0],
 ];
 
+/// Whether the bytes are the hello's, and are read as it.
+fn is_hello(bytes: &[u8], hello: Hello) -> bool
+    requires { is_version hello.version ≡ true }
+{
+    encode_hello(hello).as_slice() == bytes && hello_in(bytes) == Some(hello)
+}
+
 #[test]
 fn hellos_have_their_bytes(rt: HostRuntime) {
     for (bytes, version, lease) in HELLOS {
-        let hello = Hello { version, lease };
-        assert_eq!(rt; hello_in(bytes), Some(hello));
-        assert_eq!(rt; encode_hello(hello).as_slice(), bytes);
+        assert!(rt; is_hello(bytes, Hello { version, lease }), "{bytes:?}");
     }
     for bytes in NO_HELLOS {
-        assert_eq!(&rt; hello_in(bytes), None);
+        assert!(rt; hello_in(bytes).is_none(), "{bytes:?}");
     }
 }
 
@@ -315,12 +340,12 @@ const CALLS: [(&[u8], Call); 35] = [
     ),
 ];
 
-fn check_call(rt: &impl Abort, bytes: &[u8], call: &Call) {
+/// Whether the bytes are the call's, and are read as it.
+fn is_call(bytes: &[u8], call: &Call) -> bool {
     match call_bytes(call) {
-        Some(written) => assert_eq!(rt; written.as_slice(), bytes),
-        None => assert!(rt; false, "a call without a row"),
+        Some(written) => written.as_slice() == bytes && asks(bytes, call),
+        None => false,
     }
-    assert_eq!(rt; call_in(bytes).as_ref(), Some(call));
 }
 
 /// Leases of mode objects with their bytes.
@@ -350,11 +375,11 @@ const LEASES: [(&[u8], &[u32]); 3] = [
 
 #[test]
 fn calls_have_their_bytes(rt: HostRuntime) {
-    for (bytes, call) in &CALLS {
-        check_call(&rt, bytes, call);
+    for (place, (bytes, call)) in CALLS.iter().enumerate() {
+        assert!(rt; is_call(bytes, call), "call {place}");
     }
     for (bytes, ids) in LEASES {
-        check_call(&rt, bytes, &Call::CreateLease { ids: named(ids) });
+        assert!(rt; is_call(bytes, &Call::CreateLease { ids: named(ids) }));
     }
 }
 
@@ -406,13 +431,13 @@ const BAD_LAYOUTS: [(u16, &[u8]); 12] = [
     (0x45, &[11, 0, 0, 0, 0x45, 0, 1, 0, 0, 0, 0, 0, 0, 0, 0]),
 ];
 
-/// With fields of these sizes the call has another layout.
-fn check_sizes(rt: &impl Abort, number: u16, sizes: &[usize]) {
+/// Whether with fields of each of these sizes the call has another layout.
+fn have_another_layout(number: u16, sizes: &[usize]) -> bool {
     let zeros = [0; 21];
-    for size in sizes {
+    sizes.iter().all(|size| {
         let frame = Frame::new(number, &zeros[..(*size).min(21)]);
-        assert_eq!(rt; call_of(&frame), Call::BadLayout(number), "{size}");
-    }
+        call_of(&frame) == Call::BadLayout(number)
+    })
 }
 
 const TO_EIGHT: [usize; 8] = [1, 2, 3, 4, 5, 6, 7, 8];
@@ -420,30 +445,25 @@ const TO_EIGHT: [usize; 8] = [1, 2, 3, 4, 5, 6, 7, 8];
 #[test]
 fn other_sizes_have_another_layout(rt: HostRuntime) {
     for number in WITHOUT_FIELDS {
-        check_sizes(&rt, number, &TO_EIGHT);
+        assert!(rt; have_another_layout(number, &TO_EIGHT), "{number}");
     }
     for (number, sizes) in &OTHER_SIZES {
-        check_sizes(&rt, *number, sizes);
+        assert!(rt; have_another_layout(*number, sizes), "{number}");
     }
 }
 
+/// Lists and kinds, among them a lease of 33 ids; and a number that has no row.
 #[test]
 fn lists_and_kinds_have_another_layout(rt: HostRuntime) {
     for (number, bytes) in BAD_LAYOUTS {
-        assert_eq!(&rt; call_in(bytes), Some(Call::BadLayout(number)));
+        assert!(rt; asks(bytes, &Call::BadLayout(number)), "{bytes:?}");
     }
-}
-
-/// A lease of 33 ids, and a number that has no row.
-#[test]
-fn longer_lists_and_other_numbers(rt: HostRuntime) {
     let mut many = [0; 142];
     many[0] = 138;
     many[4] = 0xC6;
     many[6] = 33;
-    assert_eq!(&rt; call_in(&many), Some(Call::BadLayout(0xC6)));
-    let no_row = [6, 0, 0, 0, 8, 0, 255, 255, 255, 255];
-    assert_eq!(&rt; call_in(&no_row), Some(Call::Unknown(8)));
+    assert!(rt; asks(&many, &Call::BadLayout(0xC6)));
+    assert!(rt; asks(&[6, 0, 0, 0, 8, 0, 255, 255, 255, 255], &Call::Unknown(8)));
 }
 
 /// Answers with their bytes.
@@ -523,12 +543,12 @@ const ANSWERS: [(&[u8], Result<Answer, Apart>); 13] = [
     ),
 ];
 
-fn check_answer(rt: &impl Abort, bytes: &[u8], outcome: &Result<Answer, Apart>) {
+/// Whether the bytes are the answer's, and are read as it.
+fn is_answer(bytes: &[u8], outcome: &Result<Answer, Apart>) -> bool {
     match answer_bytes(outcome) {
-        Some(written) => assert_eq!(rt; written.as_slice(), bytes),
-        None => assert!(rt; false, "an answer of too many ids"),
+        Some(written) => written.as_slice() == bytes && answers(bytes, outcome),
+        None => false,
     }
-    assert_eq!(rt; answer_in(bytes).as_ref(), Some(outcome));
 }
 
 /// Lists with their bytes.
@@ -585,69 +605,55 @@ const PAGES: [(&[u8], &[AuditRow]); 2] = [
 
 #[test]
 fn answers_have_their_bytes(rt: HostRuntime) {
-    for (bytes, outcome) in &ANSWERS {
-        check_answer(&rt, bytes, outcome);
+    for (place, (bytes, outcome)) in ANSWERS.iter().enumerate() {
+        assert!(rt; is_answer(bytes, outcome), "answer {place}");
+    }
+    for (bytes, ids) in LISTS {
+        assert!(rt; is_answer(bytes, &list_of(ids)), "{ids:?}");
+    }
+    for (place, (bytes, ids)) in RESOURCES.iter().enumerate() {
+        assert!(rt; is_answer(bytes, &resources_of(*ids)), "resources {place}");
+    }
+    for (bytes, rows) in PAGES {
+        assert!(rt; is_answer(bytes, &page_of(rows)));
     }
 }
 
-#[test]
-fn answers_with_lists_have_their_bytes(rt: HostRuntime) {
-    for (bytes, ids) in LISTS {
-        check_answer(&rt, bytes, &list_of(ids));
+/// Whether the answer's frame has so many bytes, which begin and end so, and is read as it.
+fn is_long_answer(outcome: &Result<Answer, Apart>, size: usize, front: &[u8], last: u8) -> bool {
+    match answer_bytes(outcome) {
+        Some(written) => {
+            let bytes = written.as_slice();
+            bytes.len() == size
+                && bytes.starts_with(front)
+                && bytes.last() == Some(&last)
+                && answers(bytes, outcome)
+        }
+        None => false,
     }
-    for (bytes, ids) in RESOURCES {
-        check_answer(&rt, bytes, &resources_of(ids));
+}
+
+/// The ids from 1 to 64.
+fn ids_to_64() -> [u32; 64] {
+    let mut ids = [0; 64];
+    for number in 0..64u8 {
+        ids[usize::from(number)] = u32::from(number) + 1;
     }
-    for (bytes, rows) in PAGES {
-        check_answer(&rt, bytes, &page_of(rows));
-    }
+    ids
 }
 
 /// A list of 64 ids, resources of 251, and a page of 16 rows.
 #[test]
 fn longest_answers_have_their_bytes(rt: HostRuntime) {
-    let mut ids = [0; 64];
-    let mut rows = [row(0, 0, 0, 0); 16];
-    let mut list = [0; 266];
-    let mut resources = [0; 1026];
-    let mut page = [0; 522];
-    for number in 0..64u8 {
-        let place = usize::from(number);
-        ids[place] = u32::from(number) + 1;
-        list[10 + 4 * place] = number + 1;
-        resources[10 + 4 * place] = number + 1;
-        resources[270 + 4 * place] = number + 1;
-        resources[530 + 4 * place] = number + 1;
-        if number < 59 {
-            resources[790 + 4 * place] = number + 1;
-        }
-        if number < 16 {
-            rows[place].a = u64::from(number) + 1;
-            page[10 + 32 * place] = number + 1;
-        }
-    }
-    for (place, byte) in [(0, 6), (1, 1), (4, 7), (5, 16), (6, 64)] {
-        list[place] = byte;
-    }
-    for (place, byte) in [
-        (0, 254),
-        (1, 3),
-        (4, 6),
-        (5, 16),
-        (6, 64),
-        (266, 64),
-        (526, 64),
-        (786, 59),
-    ] {
-        resources[place] = byte;
-    }
-    for (place, byte) in [(0, 6), (1, 2), (4, 0x0B), (5, 0x10), (6, 16)] {
-        page[place] = byte;
-    }
-    check_answer(&rt, &list, &list_of(&ids));
-    let fours = resources_of([&ids, &ids, &ids, &ids[..59]]);
-    check_answer(&rt, &resources, &fours);
-    check_answer(&rt, &page, &page_of(&rows));
+    let ids = ids_to_64();
+    let rows = [row(1, 2, 3, 1 << 56); 16];
+    let list = [6, 1, 0, 0, 7, 16, 64, 0, 0, 0, 1, 0, 0, 0, 2, 0, 0, 0, 3];
+    assert!(rt; is_long_answer(&list_of(&ids), 266, &list, 0));
+    let resources = [254, 3, 0, 0, 6, 16, 64, 0, 0, 0, 1, 0, 0, 0, 2, 0, 0, 0, 3];
+    let most = resources_of([&ids, &ids, &ids, &ids[..59]]);
+    assert!(rt; is_long_answer(&most, 1026, &resources, 0));
+    let page = [6, 2, 0, 0, 11, 16, 16, 0, 0, 0, 1, 0, 0, 0, 0, 0, 0, 0, 2];
+    assert!(rt; is_long_answer(&page_of(&rows), 522, &page, 1));
 }
 
 /// Frames that are no answer: the errno of another rule, no rule, a rule that stands apart, more behind an answer, no answer's
@@ -696,39 +702,25 @@ const OTHER_ANSWER_SIZES: [(u16, [usize; 2]); 5] = [
     (0x100A, [7, 9]),
 ];
 
-/// These bytes are a frame, and it is no answer.
-fn check_no_answer(rt: &impl Abort, bytes: &[u8]) {
-    assert!(rt; frame_in(bytes).is_some());
-    assert_eq!(rt; answer_in(bytes), None);
+/// Whether with fields of this size the number is no answer's.
+fn is_no_answer_of(number: u16, size: usize) -> bool {
+    let zeros = [0; 21];
+    let frame = Frame::new(number, &zeros[..size.min(21)]);
+    answer_of(&frame).is_none()
 }
 
 #[test]
 fn other_frames_are_no_answer(rt: HostRuntime) {
     for bytes in NO_ANSWERS {
-        check_no_answer(&rt, bytes);
+        assert!(rt; is_no_answer(bytes), "{bytes:?}");
     }
-}
-
-#[test]
-fn longer_lists_are_no_answer(rt: HostRuntime) {
     for (front, size) in TOO_MANY {
         let mut bytes = [0; 554];
         bytes[..7].copy_from_slice(&front);
-        check_no_answer(&rt, &bytes[..size.min(554)]);
+        assert!(rt; is_no_answer(&bytes[..size.min(554)]), "{front:?}");
     }
-}
-
-/// With fields of this size the number is no answer's.
-fn check_no_answer_of(rt: &impl Abort, number: u16, size: usize) {
-    let zeros = [0; 21];
-    let frame = Frame::new(number, &zeros[..size.min(21)]);
-    assert_eq!(rt; answer_of(&frame), None);
-}
-
-#[test]
-fn other_sizes_are_no_answer(rt: HostRuntime) {
-    for (number, sizes) in OTHER_ANSWER_SIZES {
-        check_no_answer_of(&rt, number, sizes[0]);
-        check_no_answer_of(&rt, number, sizes[1]);
+    for (number, [less, more]) in OTHER_ANSWER_SIZES {
+        let is_none = is_no_answer_of(number, less) && is_no_answer_of(number, more);
+        assert!(rt; is_none, "{number}");
     }
 }

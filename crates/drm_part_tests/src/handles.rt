@@ -1,11 +1,16 @@
 //! Open clients and their handles, call by call.
 
+ghost use Rattle.std.specs.Prelude.{◌≡◌, ◌≤◌, false, true};
+ghost use Rattle.drm_files.specs.Files.{is_present};
+
+use crate::asking::{Call, Told, check};
 use drm_files::{FileClient, FileFault, FileFlags, FileHold, Files};
 use drm_gem::ObjectKey;
+use std::alloc::Global;
 use std::process::Abort;
 
-/// A call of the open clients, with the flags of an opening, a handle or an object, and a PRIME place. An object is named by the
-/// number of its key.
+/// What a client asks, or what is asked of it: with the flags of an opening, a handle or an object, and a PRIME place. An object is
+/// named by the number of its key.
 #[derive(Clone, Copy)]
 enum Ask {
     Open {
@@ -22,23 +27,17 @@ enum Ask {
     Prime(u32),
     Place(u32, u32),
     FirstFrom(u32),
-}
-
-/// What a call answers: nothing, a number, or a fault. `Closed` is for a client that isn't open, of which nothing is asked.
-#[derive(Clone, Copy, PartialEq, Eq, Debug)]
-enum Told {
-    Done,
-    Closed,
-    Nothing,
-    Number(u32),
-    Fault(FileFault),
-}
-
-fn told_of(number: Option<u32>) -> Told {
-    match number {
-        Some(number) => Told::Number(number),
-        None => Told::Nothing,
-    }
+    /// Closes the client, which leaves these handles with their objects.
+    Close(&'static [(u32, u32)]),
+    HasFlags(FileFlags),
+    /// Whether the client of a place is this one, with these flags.
+    IsNth(usize, FileFlags),
+    /// Whether the handle of a place among all is this one of the client, with its object and its PRIME place.
+    IsNthHold(usize, u32, u32, Option<u32>),
+    HasNth(usize),
+    HasNthHold(usize),
+    Len,
+    IsFull,
 }
 
 fn told_object(object: Option<ObjectKey>) -> Told {
@@ -48,30 +47,71 @@ fn told_object(object: Option<ObjectKey>) -> Told {
     }
 }
 
-/// Opens a client that isn't open. Anything else is not asked of it.
-fn asked_first(files: &mut Files, client: u32, ask: Ask) -> Told {
-    let Ask::Open {
-        render,
-        root,
-        universal,
-    } = ask
-    else {
-        return Told::Closed;
-    };
-    if let Some(_flags) = files.flags_of(client) {
-        return Told::Nothing;
+fn told_fault(fault: FileFault) -> Told {
+    match fault {
+        FileFault::Full => Told::Full,
+        FileFault::NoMemory => Told::NoMemory,
     }
+}
+
+/// Whether the handle of a place among all is this one.
+fn is_nth_hold(
+    files: &Files,
+    nth: usize,
+    client: u32,
+    handle: u32,
+    object: u32,
+    place: Option<u32>,
+) -> bool {
+    let hold = FileHold {
+        client,
+        handle,
+        object: ObjectKey::from_number(object),
+        place,
+    };
+    files.nth_hold(nth) == Some(hold)
+}
+
+/// What is asked of all.
+fn asked_of_all(files: &Files, client: u32, ask: Ask) -> Told {
+    match ask {
+        Ask::IsNth(nth, flags) => {
+            Told::Whether(files.nth_client(nth) == Some(FileClient { client, flags }))
+        }
+        Ask::IsNthHold(nth, handle, object, place) => {
+            Told::Whether(is_nth_hold(files, nth, client, handle, object, place))
+        }
+        Ask::HasNth(nth) => Told::Whether(files.nth_client(nth).is_some()),
+        Ask::HasNthHold(nth) => Told::Whether(files.nth_hold(nth).is_some()),
+        Ask::Len => Told::Length(files.len()),
+        Ask::IsFull => Told::Whether(files.is_full()),
+        _ => Told::Unasked,
+    }
+}
+
+/// Opens a client that isn't open.
+fn open(files: &mut Files, client: u32, render: bool, root: bool, universal: bool) -> Told
+    requires { is_present files.old client ≡ false }
+{
     match files.open(client, render, root, universal) {
         Ok(()) => Told::Done,
-        Err(fault) => Told::Fault(fault),
+        Err(fault) => told_fault(fault),
+    }
+}
+
+fn add(files: &mut Files, client: u32, object: u32, place: Option<u32>) -> Told
+    requires { is_present files.old client ≡ true }
+{
+    match files.add_handle(client, ObjectKey::from_number(object), place) {
+        Ok(handle) => Told::Number(handle),
+        Err(fault) => told_fault(fault),
     }
 }
 
 /// Gives a handle its place, if the client has it.
-fn placed(files: &mut Files, client: u32, handle: u32, place: u32) -> Told {
-    let Some(_flags) = files.flags_of(client) else {
-        return Told::Closed;
-    };
+fn placed(files: &mut Files, client: u32, handle: u32, place: u32) -> Told
+    requires { is_present files.old client ≡ true }
+{
     let Some(_object) = files.object_of(client, handle) else {
         return Told::Nothing;
     };
@@ -79,12 +119,24 @@ fn placed(files: &mut Files, client: u32, handle: u32, place: u32) -> Told {
     Told::Done
 }
 
-fn asked(files: &mut Files, client: u32, ask: Ask) -> Told {
-    let Some(_flags) = files.flags_of(client) else {
-        return asked_first(files, client, ask);
-    };
+/// Closes a client, and tells whether it leaves these handles with their objects.
+fn closed(files: &mut Files, client: u32, pairs: &[(u32, u32)]) -> Told
+    requires { is_present files.old client ≡ true }
+{
+    let mut rest = files.close(client);
+    let mut are_left = true;
+    for (handle, object) in pairs {
+        let pair = (*handle, ObjectKey::from_number(*object));
+        are_left = rest.take_next() == Some(pair) && are_left;
+    }
+    Told::Whether(are_left && rest.take_next().is_none())
+}
+
+/// What an open client asks, or what is asked of it.
+fn asked(files: &mut Files, client: u32, flags: FileFlags, ask: Ask) -> Told
+    requires { is_present files.old client ≡ true }
+{
     match ask {
-        Ask::Open { .. } => Told::Nothing,
         Ask::Authenticate => {
             files.set_authenticated(client);
             Told::Done
@@ -93,27 +145,44 @@ fn asked(files: &mut Files, client: u32, ask: Ask) -> Told {
             files.set_universal(client, on);
             Told::Done
         }
-        Ask::HasRoom => Told::Number(files.has_room(client) as u32),
-        Ask::Add(object, place) => {
-            match files.add_handle(client, ObjectKey::from_number(object), place) {
-                Ok(handle) => Told::Number(handle),
-                Err(fault) => Told::Fault(fault),
-            }
-        }
+        Ask::HasRoom => Told::Whether(files.has_room(client)),
+        Ask::Add(object, place) => add(files, client, object, place),
         Ask::Drop(handle) => told_object(files.drop_handle(client, handle)),
         Ask::Object(handle) => told_object(files.object_of(client, handle)),
         Ask::Prime(object) => {
-            told_of(files.prime_handle(client, ObjectKey::from_number(object)))
+            Told::of(files.prime_handle(client, ObjectKey::from_number(object)))
         }
         Ask::Place(handle, place) => placed(files, client, handle, place),
         Ask::FirstFrom(handle) => {
-            told_of(files.handles_of(client, handle).ids().first().copied())
+            Told::of(files.handles_of(client, handle).ids().first().copied())
+        }
+        Ask::Close(pairs) => closed(files, client, pairs),
+        Ask::HasFlags(these) => Told::Whether(flags == these),
+        _ => asked_of_all(files, client, ask),
+    }
+}
+
+/// A client, and what it asks.
+impl Call<Files> for (u32, Ask) {
+    fn ask(self, files: &mut Files) -> Told {
+        let (client, ask) = self;
+        match (files.flags_of(client), ask) {
+            (Some(flags), _) => asked(files, client, flags, ask),
+            (
+                None,
+                Ask::Open {
+                    render,
+                    root,
+                    universal,
+                },
+            ) => open(files, client, render, root, universal),
+            (None, _) => asked_of_all(files, client, ask),
         }
     }
 }
 
-/// The client that is asked, the call, and its answer.
-type Case = (u32, Ask, Told);
+/// A client, what it asks, and the answer.
+type Case = ((u32, Ask), Told);
 
 const CARD: Ask = Ask::Open {
     render: false,
@@ -121,181 +190,137 @@ const CARD: Ask = Ask::Open {
     universal: true,
 };
 
-/// Asks each, and once more where memory was refused, as it is where a test's requests for memory are refused in turn: nothing has changed
-/// then, as what is asked behind it shows.
-fn check(rt: &impl Abort, files: &mut Files, cases: &[Case]) {
-    for (place, (client, ask, told)) in cases.iter().enumerate() {
-        let mut came = asked(files, *client, *ask);
-        if came == Told::Fault(FileFault::NoMemory) {
-            came = asked(files, *client, *ask);
-        }
-        assert_eq!(rt; came, *told, "case {place}");
-    }
-}
-
-/// The handles of all clients, each with its object and its place.
-fn check_holds(rt: &impl Abort, files: &Files, holds: &[(u32, u32, u32, Option<u32>)]) {
-    for (at, (client, handle, object, place)) in holds.iter().enumerate() {
-        let hold = FileHold {
-            client: *client,
-            handle: *handle,
-            object: ObjectKey::from_number(*object),
-            place: *place,
-        };
-        assert_eq!(rt; files.nth_hold(at), Some(hold));
-    }
-    assert_eq!(rt; files.nth_hold(holds.len()), None);
-}
-
-/// One client with two handles, of which the first is given again.
-const GIVEN_AGAIN: [Case; 13] = [
-    (1, CARD, Told::Done),
-    (2, CARD, Told::Fault(FileFault::Full)),
-    (2, Ask::HasRoom, Told::Closed),
-    (1, Ask::HasRoom, Told::Number(1)),
-    (1, Ask::Add(7, None), Told::Number(1)),
-    (1, Ask::Add(8, None), Told::Number(2)),
-    (1, Ask::HasRoom, Told::Number(0)),
-    (1, Ask::Add(9, None), Told::Fault(FileFault::Full)),
-    (1, Ask::Drop(1), Told::Number(7)),
-    (1, Ask::Drop(1), Told::Nothing),
-    (1, Ask::Add(9, None), Told::Number(1)),
-    (1, Ask::FirstFrom(2), Told::Number(2)),
-    (1, Ask::FirstFrom(3), Told::Nothing),
+/// One client with two handles, of which the first is given again. Its closing leaves both.
+const GIVEN_AGAIN: [Case; 21] = [
+    ((1, CARD), Told::Done),
+    ((2, CARD), Told::Full),
+    ((2, Ask::HasRoom), Told::Unasked),
+    ((1, Ask::HasRoom), Told::Whether(true)),
+    ((1, Ask::Add(7, None)), Told::Number(1)),
+    ((1, Ask::Add(8, None)), Told::Number(2)),
+    ((1, Ask::HasRoom), Told::Whether(false)),
+    ((1, Ask::Add(9, None)), Told::Full),
+    ((1, Ask::Drop(1)), Told::Number(7)),
+    ((1, Ask::Drop(1)), Told::Nothing),
+    ((1, Ask::Add(9, None)), Told::Number(1)),
+    ((1, Ask::FirstFrom(2)), Told::Number(2)),
+    ((1, Ask::FirstFrom(3)), Told::Nothing),
+    ((1, Ask::IsNthHold(0, 1, 9, None)), Told::Whether(true)),
+    ((1, Ask::IsNthHold(1, 2, 8, None)), Told::Whether(true)),
+    ((1, Ask::HasNthHold(2)), Told::Whether(false)),
+    ((1, Ask::IsFull), Told::Whether(true)),
+    ((1, Ask::Close(&[(1, 9), (2, 8)])), Told::Whether(true)),
+    ((1, Ask::Len), Told::Length(0)),
+    ((1, Ask::HasNth(0)), Told::Whether(false)),
+    ((1, Ask::HasNthHold(0)), Told::Whether(false)),
 ];
 
-/// What a closing gives back: the handles of the objects 9 and 8.
-fn check_closing(rt: &impl Abort, files: &mut Files) {
-    let Some(_flags) = files.flags_of(1) else {
-        assert!(rt; false, "no client");
-        return;
-    };
-    let mut rest = files.close(1);
-    let told = [rest.take_next(), rest.take_next(), rest.take_next()];
-    let [first, second] = [9, 8].map(ObjectKey::from_number);
-    assert_eq!(rt; told, [Some((1, first)), Some((2, second)), None]);
-}
+const RENDER: Ask = Ask::Open {
+    render: true,
+    root: false,
+    universal: true,
+};
 
-#[test]
-fn handles_are_given_again(rt: HostRuntime) {
-    let mut files = Files::new(rt.alloc(), 1, 2);
-    check(&rt, &mut files, &GIVEN_AGAIN);
-    check_holds(&rt, &files, &[(1, 1, 9, None), (1, 2, 8, None)]);
-    assert!(&rt; files.is_full());
-    check_closing(&rt, &mut files);
-    assert_eq!(&rt; files.len(), 0);
-    check_holds(&rt, &files, &[]);
-}
+const ROOT: Ask = Ask::Open {
+    render: false,
+    root: true,
+    universal: false,
+};
+
+const OF_RENDER: FileFlags = FileFlags {
+    render: true,
+    root: false,
+    authenticated: true,
+    universal: false,
+};
+
+const OF_ROOT: FileFlags = FileFlags {
+    render: false,
+    root: true,
+    authenticated: true,
+    universal: false,
+};
 
 /// A render client, which is authenticated and turns universal planes off, and a root client, which is authenticated from its
 /// opening.
-const TWO_CLIENTS: [Case; 9] = [
-    (
-        4,
-        Ask::Open {
-            render: true,
-            root: false,
-            universal: true,
-        },
-        Told::Done,
-    ),
-    (
-        2,
-        Ask::Open {
-            render: false,
-            root: true,
-            universal: false,
-        },
-        Told::Done,
-    ),
-    (3, Ask::Authenticate, Told::Closed),
-    (3, Ask::Universal(true), Told::Closed),
-    (4, Ask::Universal(false), Told::Done),
-    (4, Ask::Authenticate, Told::Done),
-    (4, Ask::Add(5, Some(6)), Told::Number(1)),
-    (4, Ask::Object(1), Told::Number(5)),
-    (2, Ask::Object(1), Told::Nothing),
+const TWO_CLIENTS: [Case; 19] = [
+    ((4, RENDER), Told::Done),
+    ((2, ROOT), Told::Done),
+    ((3, Ask::Authenticate), Told::Unasked),
+    ((3, Ask::Universal(true)), Told::Unasked),
+    ((4, Ask::Universal(false)), Told::Done),
+    ((4, Ask::Authenticate), Told::Done),
+    ((4, Ask::Add(5, Some(6))), Told::Number(1)),
+    ((4, Ask::Object(1)), Told::Number(5)),
+    ((2, Ask::Object(1)), Told::Nothing),
+    ((4, Ask::IsNthHold(0, 1, 5, Some(6))), Told::Whether(true)),
+    ((4, Ask::HasNthHold(1)), Told::Whether(false)),
+    ((4, Ask::Len), Told::Length(2)),
+    ((4, Ask::IsFull), Told::Whether(false)),
+    ((2, Ask::IsNth(0, OF_ROOT)), Told::Whether(true)),
+    ((2, Ask::HasFlags(OF_ROOT)), Told::Whether(true)),
+    ((4, Ask::IsNth(1, OF_RENDER)), Told::Whether(true)),
+    ((4, Ask::HasFlags(OF_RENDER)), Told::Whether(true)),
+    ((2, Ask::HasNth(2)), Told::Whether(false)),
+    ((3, Ask::HasFlags(OF_ROOT)), Told::Unasked),
 ];
-
-/// The clients with their flags.
-const FLAGS: [FileClient; 2] = [
-    FileClient {
-        client: 2,
-        flags: FileFlags {
-            render: false,
-            root: true,
-            authenticated: true,
-            universal: false,
-        },
-    },
-    FileClient {
-        client: 4,
-        flags: FileFlags {
-            render: true,
-            root: false,
-            authenticated: true,
-            universal: false,
-        },
-    },
-];
-
-fn check_flags(rt: &impl Abort, files: &Files) {
-    for (place, told) in FLAGS.iter().enumerate() {
-        assert_eq!(rt; files.nth_client(place), Some(*told));
-        assert_eq!(rt; files.flags_of(told.client), Some(told.flags));
-    }
-    assert_eq!(rt; files.nth_client(2), None);
-    assert_eq!(rt; files.flags_of(3), None);
-}
-
-#[test]
-fn clients_have_their_flags(rt: HostRuntime) {
-    let mut files = Files::new(rt.alloc(), 3, 3);
-    check(&rt, &mut files, &TWO_CLIENTS);
-    check_holds(&rt, &files, &[(4, 1, 5, Some(6))]);
-    assert!(&rt; files.len() == 2 && !files.is_full());
-    check_flags(&rt, &files);
-}
 
 /// The handle of an object with the least place, and at a tie the least handle. Handles of other objects and of other clients
 /// count for those alone.
 const PRIME_HANDLES: [Case; 18] = [
-    (1, CARD, Told::Done),
-    (2, CARD, Told::Done),
-    (1, Ask::Add(5, None), Told::Number(1)),
-    (1, Ask::Prime(5), Told::Nothing),
-    (1, Ask::Add(5, Some(7)), Told::Number(2)),
-    (1, Ask::Prime(5), Told::Number(2)),
-    (1, Ask::Add(5, Some(4)), Told::Number(3)),
-    (1, Ask::Add(5, Some(4)), Told::Number(4)),
-    (1, Ask::Add(5, Some(5)), Told::Number(5)),
-    (1, Ask::Prime(5), Told::Number(3)),
-    (1, Ask::Add(6, Some(1)), Told::Number(6)),
-    (2, Ask::Add(5, Some(2)), Told::Number(1)),
-    (1, Ask::Prime(6), Told::Number(6)),
-    (2, Ask::Prime(5), Told::Number(1)),
-    (2, Ask::Prime(6), Told::Nothing),
-    (1, Ask::Drop(3), Told::Number(5)),
-    (1, Ask::Drop(4), Told::Number(5)),
-    (1, Ask::Prime(5), Told::Number(5)),
+    ((1, CARD), Told::Done),
+    ((2, CARD), Told::Done),
+    ((1, Ask::Add(5, None)), Told::Number(1)),
+    ((1, Ask::Prime(5)), Told::Nothing),
+    ((1, Ask::Add(5, Some(7))), Told::Number(2)),
+    ((1, Ask::Prime(5)), Told::Number(2)),
+    ((1, Ask::Add(5, Some(4))), Told::Number(3)),
+    ((1, Ask::Add(5, Some(4))), Told::Number(4)),
+    ((1, Ask::Add(5, Some(5))), Told::Number(5)),
+    ((1, Ask::Prime(5)), Told::Number(3)),
+    ((1, Ask::Add(6, Some(1))), Told::Number(6)),
+    ((2, Ask::Add(5, Some(2))), Told::Number(1)),
+    ((1, Ask::Prime(6)), Told::Number(6)),
+    ((2, Ask::Prime(5)), Told::Number(1)),
+    ((2, Ask::Prime(6)), Told::Nothing),
+    ((1, Ask::Drop(3)), Told::Number(5)),
+    ((1, Ask::Drop(4)), Told::Number(5)),
+    ((1, Ask::Prime(5)), Told::Number(5)),
 ];
 
 /// A handle that has a place keeps it.
-const PLACES_STAY: [Case; 7] = [
-    (1, CARD, Told::Done),
-    (1, Ask::Add(5, None), Told::Number(1)),
-    (1, Ask::Add(5, Some(3)), Told::Number(2)),
-    (1, Ask::Place(1, 4), Told::Done),
-    (1, Ask::Place(2, 5), Told::Done),
-    (1, Ask::Place(3, 6), Told::Nothing),
-    (1, Ask::Prime(5), Told::Number(2)),
+const PLACES_STAY: [Case; 10] = [
+    ((1, CARD), Told::Done),
+    ((1, Ask::Add(5, None)), Told::Number(1)),
+    ((1, Ask::Add(5, Some(3))), Told::Number(2)),
+    ((1, Ask::Place(1, 4)), Told::Done),
+    ((1, Ask::Place(2, 5)), Told::Done),
+    ((1, Ask::Place(3, 6)), Told::Nothing),
+    ((1, Ask::Prime(5)), Told::Number(2)),
+    ((1, Ask::IsNthHold(0, 1, 5, Some(4))), Told::Whether(true)),
+    ((1, Ask::IsNthHold(1, 2, 5, Some(3))), Told::Whether(true)),
+    ((1, Ask::HasNthHold(2)), Told::Whether(false)),
 ];
+
+/// So many clients, of so many handles each, may be there.
+fn check_files(rt: &impl Abort, alloc: Global, clients: u32, handles: u32, cases: &[Case])
+    requires { 1 ≤ handles }
+{
+    check(rt, &mut Files::new(alloc, clients, handles), cases);
+}
+
+#[test]
+fn handles_are_given_again(rt: HostRuntime) {
+    check_files(&rt, rt.alloc(), 1, 2, &GIVEN_AGAIN);
+}
+
+#[test]
+fn clients_have_their_flags(rt: HostRuntime) {
+    check_files(&rt, rt.alloc(), 3, 3, &TWO_CLIENTS);
+}
 
 #[test]
 fn least_place_is_prime(rt: HostRuntime) {
-    let mut files = Files::new(rt.alloc(), 2, 9);
-    check(&rt, &mut files, &PRIME_HANDLES);
-    let mut files = Files::new(rt.alloc(), 1, 2);
-    check(&rt, &mut files, &PLACES_STAY);
-    check_holds(&rt, &files, &[(1, 1, 5, Some(4)), (1, 2, 5, Some(3))]);
+    check_files(&rt, rt.alloc(), 2, 9, &PRIME_HANDLES);
+    check_files(&rt, rt.alloc(), 1, 2, &PLACES_STAY);
 }

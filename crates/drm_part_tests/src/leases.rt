@@ -1,34 +1,53 @@
 //! Leases and their tokens, call by call.
 
-mod endings;
-
-ghost use Rattle.std.specs.Prelude.{ℕ, ◌+◌, IfOk};
+ghost use Rattle.std.specs.Prelude.{◌+◌, ◌<◌, ◌≤◌, IfOk};
 ghost use Rattle.drm_leases.specs.Leases.{LeaseSet};
 ghost use Rattle.drm_leases.specs.Calls.{IsNewLessee};
 ghost use Rattle.drm_leases.specs.Agreed.{AreAgreed};
 ghost use Rattle.drm_masters.specs.Masters.{MasterSet};
-ghost use Rattle.drm_part_tests.specs.Older.{IsBefore, HasRoom};
+ghost use Rattle.drm_part_tests.specs.Older.{IsBefore};
 
+use crate::asking::Told;
+use crate::modes::test_topology;
 use drm_leases::{LeaseFault, Leased, Leases};
 use drm_masters::Masters;
-use drm_modes::{Modes, PlaneKind, Topology};
+use drm_modes::Modes;
 use drm_table::Rule;
+use std::alloc::Global;
 use std::process::Abort;
 use std::test::Fail;
 
-/// CRTCs 1 and 2, planes 3, the first CRTC's primary, and 4, encoders 5 and 6, connectors 7 and 8.
-fn test_modes(rt: &HostRuntime) -> Result<Modes, Fail> {
-    let kinds = [PlaneKind::Primary(1), PlaneKind::Overlay];
-    let topology = Topology::with_kinds(2, &[1, 2], &kinds, &[3, 2], &[5, 6]).ok_or("no topology")?;
-    Ok(Modes::new(rt.alloc(), topology, 4))
+/// What is asked of leases and masters. A lease and a client that opens are made by steps that are numbered from 2 on: client 1 is a
+/// master by step 1. A lessee is named by the number of its step.
+#[derive(Clone, Copy)]
+enum Ask {
+    /// A client leases, with universal planes on.
+    Lease(u32, &'static [u32]),
+    /// The same with universal planes off.
+    LeaseUnseen(u32, &'static [u32]),
+    /// A client opens by a lessee that nobody redeemed.
+    Enter(u32),
+    Redeem(u32),
+    Revoke(u32),
+    RevokeBelow(u32),
+    /// Whether the lease of a lessee has these mode objects.
+    Has(u32, &'static [u32]),
+    /// Whether the direct lessees of a master have these.
+    Lends(u32, &'static [u32]),
+    /// Whether these are the ids of a master's lessees.
+    AreLessees(u32, &'static [u32]),
+    LastGiven,
+    OfToken(u32),
+    TokenOf(u32),
+    IsThere(u32),
+    NthGrant(usize),
 }
 
 /// Client 1, which is a master by step 1.
-fn test_masters(rt: &HostRuntime) -> Result<Masters, Fail>
-    ensures before { IfOk result (λ masters. IsBefore masters 2) }
-    ensures room { IfOk result (λ masters. HasRoom masters 1) }
+fn test_masters(alloc: Global) -> Result<Masters, Fail>
+    ensures { IfOk result (λ masters. IsBefore masters 2) }
 {
-    let mut masters = Masters::new(rt.alloc(), 4, 4);
+    let mut masters = Masters::new(alloc, 4, 4);
     match masters.on_open(1, 1) {
         Ok(_made) => Ok(masters),
         Err(_fault) => Err("no master".into()),
@@ -51,12 +70,43 @@ fn lease(
     ensures before { IsBefore masters.new (birth + 1) }
     ensures lessees { IsNewLessee leases.new (birth + 1) }
     ensures agreed { AreAgreed leases.new masters.new }
-    ensures room { (n : ℕ) → HasRoom masters.old n → HasRoom masters.new n }
 {
     if masters.member(client).is_none() {
         return None;
     }
     Some(leases.create(masters, modes, client, universal, ids, birth))
+}
+
+/// What came of a lease by the step of this number: its id and its token, if its lessee is the one that the step made.
+fn told_lease(masters: &Masters, birth: u32, made: Option<Result<Leased, LeaseFault>>) -> Told {
+    match made {
+        Some(Ok(made)) => match masters.master(birth) {
+            Some(row) if row.key == made.master => Told::Two(made.id, made.token),
+            _ => Told::Unasked,
+        },
+        Some(Err(LeaseFault::Denied(rule))) => Told::Denied(rule),
+        Some(Err(LeaseFault::NoMemory)) => Told::NoMemory,
+        None => Told::Unasked,
+    }
+}
+
+/// Opens a client of a lessee that nobody redeemed, where there are three at most.
+fn enter(masters: &mut Masters, lessee: u32, client: u32) -> Told
+    requires { IsBefore masters.old client }
+    ensures before { IsBefore masters.new (client + 1) }
+    ensures agreed { (l : LeaseSet) → AreAgreed l masters.old → AreAgreed l masters.new }
+{
+    masters.laws();
+    let Some(row) = masters.master(lessee) else {
+        return Told::Unasked;
+    };
+    if !row.kept || row.lessor.is_none() || masters.nth_member(3).is_some() {
+        return Told::Unasked;
+    }
+    match masters.on_redeem(client, row.key) {
+        Ok(()) => Told::Done,
+        Err(_fault) => Told::NoMemory,
+    }
 }
 
 /// Spends a token before the step of this number.
@@ -66,26 +116,6 @@ fn redeem(leases: &mut Leases, token: u32, birth: u32) -> Option<u32>
     ensures agreed { (v : MasterSet) → AreAgreed leases.old v → AreAgreed leases.new v }
 {
     leases.redeem(token)
-}
-
-/// Opens a client of a lessee that nobody redeemed.
-fn enter(masters: &mut Masters, lessee: u32, client: u32) -> bool
-    requires before { IsBefore masters.old client }
-    requires room { HasRoom masters.old 1 }
-    ensures before { IsBefore masters.new (client + 1) }
-    ensures agreed { (l : LeaseSet) → AreAgreed l masters.old → AreAgreed l masters.new }
-{
-    masters.laws();
-    let Some(row) = masters.master(lessee) else {
-        return false;
-    };
-    if !row.kept || row.lessor.is_none() {
-        return false;
-    }
-    match masters.on_redeem(client, row.key) {
-        Ok(()) => true,
-        Err(_fault) => false,
-    }
 }
 
 /// Revokes before the step of this number.
@@ -100,317 +130,271 @@ fn revoke(leases: &mut Leases, masters: &mut Masters, master: u32, birth: u32)
     leases.revoke(masters, master);
 }
 
-/// Who leases what, with universal planes on or off.
-#[derive(Clone, Copy)]
-struct Asked {
-    client: u32,
-    universal: bool,
-    ids: &'static [u32],
+/// The same of all below a master.
+fn revoke_below(leases: &mut Leases, masters: &mut Masters, master: u32, birth: u32)
+    requires before { IsBefore masters.old birth }
+    requires lessees { IsNewLessee leases.old birth }
+    requires agreed { AreAgreed leases.old masters.old }
+    ensures before { IsBefore masters.new birth }
+    ensures lessees { IsNewLessee leases.new birth }
+    ensures agreed { AreAgreed leases.new masters.new }
+{
+    leases.revoke_below(masters, master);
 }
 
-/// Client 1 leases these with universal planes on.
-fn of(ids: &'static [u32]) -> Asked {
-    Asked {
-        client: 1,
-        universal: true,
-        ids,
+fn has(leases: &Leases, lessee: u32, ids: &[u32]) -> bool {
+    let mut is_so = leases.objects_of(lessee).ids() == ids;
+    for object in 0..10u32 {
+        is_so = is_so && leases.holds(lessee, object) == ids.contains(&object);
+    }
+    is_so
+}
+
+fn lends(leases: &Leases, masters: &Masters, master: u32, ids: &[u32]) -> bool
+    requires { AreAgreed leases.now masters.now }
+{
+    let mut is_so = true;
+    for object in 0..10u32 {
+        is_so = is_so && leases.leased_out(masters, master, object) == ids.contains(&object);
+    }
+    is_so
+}
+
+fn told_grant(leases: &Leases, place: usize) -> Told {
+    match leases.nth_grant(place) {
+        Some(grant) => Told::Two(grant.master, grant.mode_object),
+        None => Told::Nothing,
     }
 }
 
-/// Client 1 leases these with universal planes off.
-fn unseen(ids: &'static [u32]) -> Asked {
-    Asked {
-        client: 1,
-        universal: false,
-        ids,
+/// Asks what changes nothing.
+fn told_of(leases: &Leases, masters: &Masters, ask: Ask) -> Told
+    requires few { masters.now.last_lessee ≤ 64 }
+    requires agreed { AreAgreed leases.now masters.now }
+{
+    match ask {
+        Ask::Has(lessee, ids) => Told::Whether(has(leases, lessee, ids)),
+        Ask::Lends(master, ids) => Told::Whether(lends(leases, masters, master, ids)),
+        Ask::AreLessees(master, ids) => Told::Whether(leases.list(masters, master).ids() == ids),
+        Ask::LastGiven => Told::of(leases.last_given()),
+        Ask::OfToken(token) => Told::of(leases.token_master(token)),
+        Ask::TokenOf(lessee) => Told::of(leases.token_of(lessee)),
+        Ask::IsThere(master) => Told::Whether(masters.master(master).is_some()),
+        Ask::NthGrant(place) => told_grant(leases, place),
+        _ => Told::Unasked,
     }
 }
 
-/// What came of a lease. `Another` is a lessee that isn't the one that the step made.
-#[derive(Clone, Copy, PartialEq, Eq, Debug)]
-enum Told {
-    Unasked,
-    Lessee(u32, u32),
-    Another,
-    Denied(Rule),
-    NoMemory,
-}
-
-fn told_of(masters: &Masters, birth: u32, made: Option<Result<Leased, LeaseFault>>) -> Told {
-    match made {
-        Some(Ok(made)) => match masters.master(birth) {
-            Some(row) if row.key == made.master => Told::Lessee(made.id, made.token),
-            _ => Told::Another,
-        },
-        Some(Err(LeaseFault::Denied(rule))) => Told::Denied(rule),
-        Some(Err(LeaseFault::NoMemory)) => Told::NoMemory,
-        None => Told::Unasked,
+/// Asks before the step of this number.
+fn asked(leases: &mut Leases, masters: &mut Masters, ask: Ask, birth: u32) -> Told
+    requires before { IsBefore masters.old birth }
+    requires lessees { IsNewLessee leases.old birth }
+    requires agreed { AreAgreed leases.old masters.old }
+    ensures before { IsBefore masters.new birth }
+    ensures lessees { IsNewLessee leases.new birth }
+    ensures agreed { AreAgreed leases.new masters.new }
+{
+    match ask {
+        Ask::Redeem(token) => Told::of(redeem(leases, token, birth)),
+        Ask::Revoke(master) => {
+            revoke(leases, masters, master, birth);
+            Told::Done
+        }
+        Ask::RevokeBelow(master) => {
+            revoke_below(leases, masters, master, birth);
+            Told::Done
+        }
+        _ => told_of(leases, masters, ask),
     }
 }
 
-/// Leases by the step of this number, and compares what came of it.
-fn check_lease(
-    rt: &impl Abort,
-    leases: &mut Leases,
-    masters: &mut Masters,
-    modes: &Modes,
-    asked: Asked,
-    birth: u32,
-    told: Told,
-)
+/// Makes a lease or opens a client by the step of this number.
+#[tactic(auto, using(crate::proofs::Older::later, crate::proofs::Older::later_lessees))]
+fn made(leases: &mut Leases, masters: &mut Masters, modes: &Modes, ask: Ask, birth: u32) -> Told
     requires before { IsBefore masters.old birth }
     requires lessees { IsNewLessee leases.old birth }
     requires agreed { AreAgreed leases.old masters.old }
     ensures before { IsBefore masters.new (birth + 1) }
     ensures lessees { IsNewLessee leases.new (birth + 1) }
     ensures agreed { AreAgreed leases.new masters.new }
-    ensures room { (n : ℕ) → HasRoom masters.old n → HasRoom masters.new n }
 {
-    let Asked {
-        client,
-        universal,
-        ids,
-    } = asked;
+    let (client, universal, ids) = match ask {
+        Ask::Lease(client, ids) => (client, true, ids),
+        Ask::LeaseUnseen(client, ids) => (client, false, ids),
+        Ask::Enter(lessee) => return enter(masters, lessee, birth),
+        _ => return Told::Unasked,
+    };
     let made = lease(leases, masters, modes, client, universal, ids, birth);
-    assert_eq!(rt; told_of(masters, birth, made), told);
+    told_lease(masters, birth, made)
 }
 
-/// Which of the mode objects 1 to 8 the lease of a lessee has, and which those of the direct lessees of a master have.
-fn check_objects(
+fn is_step(ask: Ask) -> bool {
+    matches!(ask, Ask::Lease(..) | Ask::LeaseUnseen(..) | Ask::Enter(_))
+}
+
+/// Asks each, and compares its answer.
+fn check(
     rt: &impl Abort,
-    leases: &Leases,
-    masters: &Masters,
-    master: u32,
-    held: &[u32],
-    leased_out: &[u32],
+    leases: &mut Leases,
+    masters: &mut Masters,
+    modes: &Modes,
+    cases: &[(Ask, Told)],
 )
-    requires { AreAgreed leases.now masters.now }
-{
-    assert_eq!(rt; leases.objects_of(master).ids(), held);
-    for object in 0..10 {
-        let is_held = leases.holds(master, object);
-        let is_leased_out = leases.leased_out(masters, master, object);
-        assert_eq!(rt;
-            [is_held, is_leased_out],
-            [held.contains(&object), leased_out.contains(&object)]
-        );
-    }
-}
-
-/// What is told of the leases of a device.
-fn check_told(
-    rt: &impl Abort,
-    leases: &Leases,
-    last_given: Option<u32>,
-    of_token: [Option<u32>; 2],
-    of_master: [Option<u32>; 2],
-) {
-    assert_eq!(rt; leases.last_given(), last_given);
-    assert_eq!(rt; [1, 2].map(|token| leases.token_master(token)), of_token);
-    assert_eq!(rt; [1, 2].map(|master| leases.token_of(master)), of_master);
-}
-
-fn check_grants(rt: &impl Abort, leases: &Leases, grants: &[(u32, u32)]) {
-    for (place, grant) in grants.iter().enumerate() {
-        let found = leases.nth_grant(place);
-        let told = found.map(|found| (found.master, found.mode_object));
-        assert_eq!(rt; told, Some(*grant));
-    }
-    assert!(rt; leases.nth_grant(grants.len()).is_none());
-}
-
-/// A lease is told.
-fn check_one(rt: &impl Abort, leases: &mut Leases, masters: &mut Masters, modes: &Modes)
     requires before { IsBefore masters.old 2 }
     requires lessees { IsNewLessee leases.old 2 }
     requires agreed { AreAgreed leases.old masters.old }
 {
-    check_told(rt, leases, None, [None; 2], [None; 2]);
-    let lessee = Told::Lessee(1, 1);
-    check_lease(rt, leases, masters, modes, of(&[8, 2, 4]), 2, lessee);
-    check_told(rt, leases, Some(1), [Some(2), None], [None, Some(1)]);
-    assert_eq!(rt; leases.list(masters, 1).ids(), [1].as_slice());
-    check_objects(rt, leases, masters, 2, &[2, 4, 8], &[]);
-    check_objects(rt, leases, masters, 1, &[], &[2, 4, 8]);
-    check_grants(rt, leases, &[(2, 2), (2, 4), (2, 8)]);
+    let mut birth = 2_u32;
+    for (ask, told) in cases {
+        if !is_step(*ask) {
+            assert_eq!(rt;
+                asked(leases, masters, *ask, birth),
+                *told,
+                "before step {birth}"
+            );
+        } else if let Some(next) = birth.checked_add(1) {
+            assert_eq!(rt;
+                made(leases, masters, modes, *ask, birth),
+                *told,
+                "step {birth}"
+            );
+            birth = next;
+        }
+    }
 }
+
+/// The same of new leases, of which so many may be there.
+fn check_new(rt: &impl Abort, alloc: Global, last: u32, cases: &[(Ask, Told)]) -> Result<(), Fail> {
+    let topology = test_topology().ok_or("no topology")?;
+    let mut masters = test_masters(alloc)?;
+    let modes = Modes::new(alloc, topology, 4);
+    check(
+        rt,
+        &mut Leases::new(alloc, last),
+        &mut masters,
+        &modes,
+        cases,
+    );
+    Ok(())
+}
+
+const YES: Told = Told::Whether(true);
+
+/// A lease of three mode objects.
+const OUTPUT: &[u32] = &[2, 4, 8];
+
+/// A lease is told.
+const ONE_LEASE: [(Ask, Told); 19] = [
+    (Ask::LastGiven, Told::Nothing),
+    (Ask::OfToken(1), Told::Nothing),
+    (Ask::TokenOf(2), Told::Nothing),
+    (Ask::Lease(1, &[8, 2, 4]), Told::Two(1, 1)),
+    (Ask::LastGiven, Told::Number(1)),
+    (Ask::OfToken(1), Told::Number(2)),
+    (Ask::OfToken(2), Told::Nothing),
+    (Ask::TokenOf(1), Told::Nothing),
+    (Ask::TokenOf(2), Told::Number(1)),
+    (Ask::AreLessees(1, &[1]), YES),
+    (Ask::Has(2, OUTPUT), YES),
+    (Ask::Lends(2, &[]), YES),
+    (Ask::Has(1, &[]), YES),
+    (Ask::Lends(1, OUTPUT), YES),
+    (Ask::NthGrant(0), Told::Two(2, 2)),
+    (Ask::NthGrant(1), Told::Two(2, 4)),
+    (Ask::NthGrant(2), Told::Two(2, 8)),
+    (Ask::NthGrant(3), Told::Nothing),
+    (Ask::Redeem(2), Told::Nothing),
+];
+
+/// A lessee stays past its lease, and keeps its id.
+const PAST_ITS_LEASE: [(Ask, Told); 9] = [
+    (Ask::Lease(1, OUTPUT), Told::Two(1, 1)),
+    (Ask::Redeem(1), Told::Number(2)),
+    (Ask::Redeem(1), Told::Nothing),
+    (Ask::Enter(2), Told::Done),
+    (Ask::Lease(3, OUTPUT), Told::Two(2, 2)),
+    (Ask::Revoke(2), Told::Done),
+    (Ask::AreLessees(1, &[]), YES),
+    (Ask::Has(2, &[]), YES),
+    (Ask::Lease(1, OUTPUT), Told::Two(2, 3)),
+];
+
+/// What ends below a lessee leaves its own lease.
+const OWN_LEASE_STAYS: [(Ask, Told); 10] = [
+    (Ask::Lease(1, OUTPUT), Told::Two(1, 1)),
+    (Ask::Redeem(1), Told::Number(2)),
+    (Ask::Enter(2), Told::Done),
+    (Ask::Lease(3, OUTPUT), Told::Two(2, 2)),
+    (Ask::RevokeBelow(2), Told::Done),
+    (Ask::Has(2, OUTPUT), YES),
+    (Ask::Has(4, &[]), YES),
+    (Ask::OfToken(2), Told::Nothing),
+    (Ask::IsThere(2), YES),
+    (Ask::IsThere(4), Told::Whether(false)),
+];
+
+/// And its own token, and goes with its owner's.
+const OWN_TOKEN_STAYS: [(Ask, Told); 9] = [
+    (Ask::Lease(1, OUTPUT), Told::Two(1, 1)),
+    (Ask::RevokeBelow(2), Told::Done),
+    (Ask::Has(2, OUTPUT), YES),
+    (Ask::TokenOf(2), Told::Number(1)),
+    (Ask::RevokeBelow(1), Told::Done),
+    (Ask::Has(2, &[]), YES),
+    (Ask::TokenOf(2), Told::Nothing),
+    (Ask::IsThere(2), Told::Whether(false)),
+    (Ask::IsThere(1), YES),
+];
 
 #[test]
 fn a_lease_is_told(rt: HostRuntime) -> Result<(), Fail> {
-    let modes = test_modes(&rt)?;
-    let mut masters = test_masters(&rt)?;
-    let mut leases = Leases::new(rt.alloc(), 4);
-    leases.laws();
-    check_one(&rt, &mut leases, &mut masters, &modes);
-    Ok(())
+    check_new(&rt, rt.alloc(), 4, &ONE_LEASE)
 }
 
 #[test]
-fn a_lessee_stays_past_its_lease(rt: HostRuntime) -> Result<(), Fail> {
-    let modes = test_modes(&rt)?;
-    let mut masters = test_masters(&rt)?;
-    let mut leases = Leases::new(rt.alloc(), 4);
-    check_lease(
-        &rt,
-        &mut leases,
-        &mut masters,
-        &modes,
-        of(&[2, 4, 8]),
-        2,
-        Told::Lessee(1, 1),
-    );
-    assert_eq!(rt; redeem(&mut leases, 1, 3), Some(2));
-    assert_eq!(rt; redeem(&mut leases, 1, 3), None);
-    assert!(rt; enter(&mut masters, 2, 3));
-    let below = Asked {
-        client: 3,
-        ..of(&[2, 4, 8])
-    };
-    check_lease(
-        &rt,
-        &mut leases,
-        &mut masters,
-        &modes,
-        below,
-        4,
-        Told::Lessee(2, 2),
-    );
-    revoke(&mut leases, &mut masters, 2, 5);
-    assert_eq!(rt; leases.list(&masters, 1).ids(), [].as_slice());
-    assert_eq!(rt; leases.objects_of(2).ids(), [].as_slice());
-    check_lease(
-        &rt,
-        &mut leases,
-        &mut masters,
-        &modes,
-        of(&[2, 4, 8]),
-        5,
-        Told::Lessee(2, 3),
-    );
-    Ok(())
+fn leases_end(rt: HostRuntime) -> Result<(), Fail> {
+    check_new(&rt, rt.alloc(), 4, &PAST_ITS_LEASE)?;
+    check_new(&rt, rt.alloc(), 4, &OWN_LEASE_STAYS)?;
+    check_new(&rt, rt.alloc(), 4, &OWN_TOKEN_STAYS)
 }
 
-/// The rules of leases, of which one may be there.
-fn check_rules(rt: &impl Abort, leases: &mut Leases, masters: &mut Masters, modes: &Modes)
-    requires before { IsBefore masters.old 2 }
-    requires lessees { IsNewLessee leases.old 2 }
-    requires agreed { AreAgreed leases.old masters.old }
-{
-    let shape = Told::Denied(Rule::LeaseShape);
-    let repeated = Told::Denied(Rule::Repeated);
-    let not_leasable = Told::Denied(Rule::NotLeasable);
-    let no_object = Told::Denied(Rule::NoModeObject);
-    let leased_out = Told::Denied(Rule::LeasedOut);
-    let full = Told::Denied(Rule::Full);
-    check_lease(rt, leases, masters, modes, of(&[]), 2, shape);
-    check_lease(rt, leases, masters, modes, of(&[2, 2, 4, 8]), 3, repeated);
-    check_lease(rt, leases, masters, modes, of(&[2, 8]), 4, shape);
-    check_lease(rt, leases, masters, modes, of(&[5, 5]), 5, not_leasable);
-    check_lease(rt, leases, masters, modes, of(&[5, 99]), 6, no_object);
-    check_lease(
-        rt,
-        leases,
-        masters,
-        modes,
-        of(&[2, 4, 8]),
-        7,
-        Told::Lessee(1, 1),
-    );
-    check_lease(rt, leases, masters, modes, of(&[2, 4, 8]), 8, leased_out);
-    check_lease(rt, leases, masters, modes, of(&[1, 3, 8]), 9, leased_out);
-    check_lease(rt, leases, masters, modes, of(&[1, 3, 7]), 10, full);
-}
-
-#[test]
-fn rules_in_their_order(rt: HostRuntime) -> Result<(), Fail> {
-    let modes = test_modes(&rt)?;
-    let mut masters = test_masters(&rt)?;
-    let mut leases = Leases::new(rt.alloc(), 1);
-    check_rules(&rt, &mut leases, &mut masters, &modes);
-    Ok(())
-}
+/// The rules of leases in their order, where one lease may be there.
+const RULES: [(Ask, Told); 9] = [
+    (Ask::Lease(1, &[]), Told::Denied(Rule::LeaseShape)),
+    (Ask::Lease(1, &[2, 2, 4, 8]), Told::Denied(Rule::Repeated)),
+    (Ask::Lease(1, &[2, 8]), Told::Denied(Rule::LeaseShape)),
+    (Ask::Lease(1, &[5, 5]), Told::Denied(Rule::NotLeasable)),
+    (Ask::Lease(1, &[5, 99]), Told::Denied(Rule::NoModeObject)),
+    (Ask::Lease(1, OUTPUT), Told::Two(1, 1)),
+    (Ask::Lease(1, OUTPUT), Told::Denied(Rule::LeasedOut)),
+    (Ask::Lease(1, &[1, 3, 8]), Told::Denied(Rule::LeasedOut)),
+    (Ask::Lease(1, &[1, 3, 7]), Told::Denied(Rule::Full)),
+];
 
 /// Two leases, of which one goes, and its token and its id are given again.
-fn check_tokens(rt: &impl Abort, leases: &mut Leases, masters: &mut Masters, modes: &Modes)
-    requires before { IsBefore masters.old 2 }
-    requires lessees { IsNewLessee leases.old 2 }
-    requires agreed { AreAgreed leases.old masters.old }
-{
-    check_lease(
-        rt,
-        leases,
-        masters,
-        modes,
-        of(&[1, 3, 7]),
-        2,
-        Told::Lessee(1, 1),
-    );
-    check_lease(
-        rt,
-        leases,
-        masters,
-        modes,
-        of(&[2, 4, 8]),
-        3,
-        Told::Lessee(2, 2),
-    );
-    revoke(leases, masters, 2, 4);
-    check_lease(
-        rt,
-        leases,
-        masters,
-        modes,
-        of(&[7, 3, 1]),
-        4,
-        Told::Lessee(1, 1),
-    );
-    assert_eq!(rt; leases.objects_of(4).ids(), [1, 3, 7].as_slice());
-}
+const GIVEN_AGAIN: [(Ask, Told); 5] = [
+    (Ask::Lease(1, &[1, 3, 7]), Told::Two(1, 1)),
+    (Ask::Lease(1, OUTPUT), Told::Two(2, 2)),
+    (Ask::Revoke(2), Told::Done),
+    (Ask::Lease(1, &[7, 3, 1]), Told::Two(1, 1)),
+    (Ask::Has(4, &[1, 3, 7]), YES),
+];
 
 /// With universal planes off a primary plane is not seen, and comes along with its CRTC.
-fn check_planes(rt: &impl Abort, leases: &mut Leases, masters: &mut Masters, modes: &Modes)
-    requires before { IsBefore masters.old 2 }
-    requires lessees { IsNewLessee leases.old 2 }
-    requires agreed { AreAgreed leases.old masters.old }
-{
-    let no_object = Told::Denied(Rule::NoModeObject);
-    check_lease(rt, leases, masters, modes, unseen(&[1, 3, 7]), 2, no_object);
-    check_lease(
-        rt,
-        leases,
-        masters,
-        modes,
-        unseen(&[1, 7]),
-        3,
-        Told::Lessee(1, 1),
-    );
-    assert_eq!(rt; leases.objects_of(3).ids(), [1, 3, 7].as_slice());
-    check_lease(
-        rt,
-        leases,
-        masters,
-        modes,
-        unseen(&[2, 8]),
-        4,
-        Told::Lessee(2, 2),
-    );
-    assert_eq!(rt; leases.objects_of(4).ids(), [2, 8].as_slice());
-}
+const PLANE_COMES_ALONG: [(Ask, Told); 5] = [
+    (
+        Ask::LeaseUnseen(1, &[1, 3, 7]),
+        Told::Denied(Rule::NoModeObject),
+    ),
+    (Ask::LeaseUnseen(1, &[1, 7]), Told::Two(1, 1)),
+    (Ask::Has(3, &[1, 3, 7]), YES),
+    (Ask::LeaseUnseen(1, &[2, 8]), Told::Two(2, 2)),
+    (Ask::Has(4, &[2, 8]), YES),
+];
 
 #[test]
-fn tokens_in_turn(rt: HostRuntime) -> Result<(), Fail> {
-    let modes = test_modes(&rt)?;
-    let mut masters = test_masters(&rt)?;
-    let mut leases = Leases::new(rt.alloc(), 2);
-    check_tokens(&rt, &mut leases, &mut masters, &modes);
-    Ok(())
-}
-
-#[test]
-fn a_primary_plane_comes_along(rt: HostRuntime) -> Result<(), Fail> {
-    let modes = test_modes(&rt)?;
-    let mut masters = test_masters(&rt)?;
-    let mut leases = Leases::new(rt.alloc(), 2);
-    check_planes(&rt, &mut leases, &mut masters, &modes);
-    Ok(())
+fn leases_are_made(rt: HostRuntime) -> Result<(), Fail> {
+    check_new(&rt, rt.alloc(), 1, &RULES)?;
+    check_new(&rt, rt.alloc(), 2, &GIVEN_AGAIN)?;
+    check_new(&rt, rt.alloc(), 2, &PLANE_COMES_ALONG)
 }

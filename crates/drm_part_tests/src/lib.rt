@@ -5,6 +5,8 @@
 #[cfg(test)]
 mod arrays;
 #[cfg(test)]
+mod asking;
+#[cfg(test)]
 mod frames;
 #[cfg(test)]
 mod handles;

@@ -1,5 +1,6 @@
 //! The lines of scripts: what each says, why one can't be used, and the lines of answers and rows.
 
+use crate::asking::same;
 use crate::lists::{list_of, named, page_of, resources_of, row};
 use arrayvec::ArrayString;
 use drm_script::{
@@ -8,12 +9,7 @@ use drm_script::{
 };
 use drm_table::{Answer, Apart, AuditKind, AuditRow, Call, Limits, Opening, Rule};
 use std::alloc::Global;
-use std::process::Abort;
 use std::test::Fail;
-
-fn check_command(rt: &impl Abort, line: &[u8], command: Command) {
-    assert_eq!(rt; read_line(line), Ok(Reading::Says(command)));
-}
 
 /// Lines by which the client of label a asks.
 const ASKS: [(&[u8], Call); 38] = [
@@ -128,42 +124,91 @@ const ASKS: [(&[u8], Call); 38] = [
     (b"a revoke_lease 1", Call::RevokeLease { lessee: 1 }),
 ];
 
-/// Numbers of calls that have a row, and of some that have none.
-const NUMBERS: [u16; 28] = [
-    0, 2, 10, 11, 17, 30, 31, 45, 46, 64, 67, 69, 160, 161, 162, 166, 167, 173, 174, 175, 178, 181,
-    182, 183, 198, 199, 200, 201,
+/// Numbers of calls that have a row, by their lines without fields, and of some that have none.
+static NUMBERS: [(u16, &[u8]); 28] = [
+    (0, b"a raw 0"),
+    (2, b"a raw 2"),
+    (10, b"a raw 10"),
+    (11, b"a raw 11"),
+    (17, b"a raw 17"),
+    (30, b"a raw 30"),
+    (31, b"a raw 31"),
+    (45, b"a raw 45"),
+    (46, b"a raw 46"),
+    (64, b"a raw 64"),
+    (67, b"a raw 67"),
+    (69, b"a raw 69"),
+    (160, b"a raw 160"),
+    (161, b"a raw 161"),
+    (162, b"a raw 162"),
+    (166, b"a raw 166"),
+    (167, b"a raw 167"),
+    (173, b"a raw 173"),
+    (174, b"a raw 174"),
+    (175, b"a raw 175"),
+    (178, b"a raw 178"),
+    (181, b"a raw 181"),
+    (182, b"a raw 182"),
+    (183, b"a raw 183"),
+    (198, b"a raw 198"),
+    (199, b"a raw 199"),
+    (200, b"a raw 200"),
+    (201, b"a raw 201"),
 ];
 
-const OTHER_NUMBERS: [u16; 11] = [1, 3, 29, 32, 47, 159, 163, 184, 197, 202, 65535];
+static OTHER_NUMBERS: [(u16, &[u8]); 11] = [
+    (1, b"a raw 1"),
+    (3, b"a raw 3"),
+    (29, b"a raw 29"),
+    (32, b"a raw 32"),
+    (47, b"a raw 47"),
+    (159, b"a raw 159"),
+    (163, b"a raw 163"),
+    (184, b"a raw 184"),
+    (197, b"a raw 197"),
+    (202, b"a raw 202"),
+    (65535, b"a raw 65535"),
+];
 
-fn check_call(rt: &impl Abort, line: &[u8], label: Label, call: Call) {
-    check_command(rt, line, Command::Ask { label, call });
+/// What a line says, if it says something.
+fn command_in(line: &[u8]) -> Option<Command> {
+    match read_line(line) {
+        Ok(Reading::Says(command)) => Some(command),
+        _ => None,
+    }
 }
 
-/// A call by its bare number, which has no fields.
-fn check_number(
-    rt: &impl Abort,
-    alloc: Global,
-    label: Label,
-    number: u16,
-    call: Call,
-) -> Result<(), Fail> {
-    let line = format!(in alloc; "a raw {number}")?;
-    check_call(rt, line.as_bytes(), label, call);
-    Ok(())
+/// Whether the client of this label asks this.
+fn asks(line: &[u8], label: Label, call: &Call) -> bool {
+    let Some(command) = command_in(line) else {
+        return false;
+    };
+    match command {
+        Command::Ask {
+            label: who,
+            call: asked,
+        } => who == label && asked == *call,
+        _ => false,
+    }
 }
 
 #[test]
 fn calls_are_read(rt: HostRuntime) -> Result<(), Fail> {
     let a = Label::from_letter(b'a').ok_or("a letter")?;
-    for (line, call) in &ASKS {
-        check_call(&rt, line, a, call.clone()?);
+    for (place, (line, call)) in ASKS.iter().enumerate() {
+        assert!(rt; asks(line, a, call), "line {place}");
     }
-    for number in NUMBERS {
-        check_number(&rt, rt.alloc(), a, number, Call::BadLayout(number))?;
+    Ok(())
+}
+
+#[test]
+fn numbers_are_read(rt: HostRuntime) -> Result<(), Fail> {
+    let a = Label::from_letter(b'a').ok_or("a letter")?;
+    for (number, line) in NUMBERS.iter() {
+        assert!(rt; asks(line, a, &Call::BadLayout(*number)), "{number}");
     }
-    for number in OTHER_NUMBERS {
-        check_number(&rt, rt.alloc(), a, number, Call::Unknown(number))?;
+    for (number, line) in OTHER_NUMBERS.iter() {
+        assert!(rt; asks(line, a, &Call::Unknown(*number)), "{number}");
     }
     Ok(())
 }
@@ -171,85 +216,130 @@ fn calls_are_read(rt: HostRuntime) -> Result<(), Fail> {
 #[test]
 fn leases_are_read(rt: HostRuntime) -> Result<(), Fail> {
     let a = Label::from_letter(b'a').ok_or("a letter")?;
-    let many =
-        b"a create_lease 1 2 3 4 5 6 7 8 9 10 11 12 13 14 15 16 17 18 19 20 21 22 23 24 25 26 27 28 29 30 31 32 33";
-    let mut ids = [0; 32];
-    for place in 0..32u32 {
-        ids[place as usize] = place + 1;
-    }
-    let rows: [(&[u8], &[u32]); 4] = [
-        (b"a create_lease 2 4  008 ", &[2, 4, 8]),
-        (b"a create_lease 4294967295", &[u32::MAX]),
-        (b"a create_lease", &[]),
-        (many.split_at(101).0, &ids),
-    ];
-    for (line, ids) in rows {
-        check_call(&rt, line, a, Call::CreateLease { ids: named(ids) });
+    for (line, ids) in LEASES.iter() {
+        assert!(rt;
+            asks(line, a, &Call::CreateLease { ids: named(ids) }),
+            "{ids:?}"
+        );
     }
     Ok(())
 }
 
-/// Openings and closings, by the letter of their label.
-const fn opening_by(token: Option<u32>, root: bool, universal: bool) -> Opening {
-    match token {
-        Some(token) => Opening::Lease {
-            token,
-            root,
-            universal,
-        },
-        None => Opening::Primary { root, universal },
-    }
-}
-
-/// This line opens, or closes where there is no opening.
-fn check_label(
-    rt: &impl Abort,
-    line: &[u8],
-    letter: u8,
-    opening: Option<Opening>,
-) -> Result<(), Fail> {
-    let label = Label::from_letter(letter).ok_or("no letter")?;
-    assert_eq!(rt; label.place(), if letter == b'z' { 25 } else { 0 });
-    let command = match opening {
-        Some(opening) => Command::Open { label, opening },
-        None => Command::Close { label },
-    };
-    check_command(rt, line, command);
-    Ok(())
-}
-
-/// Openings by the label `a`, with the lease token that they may have, whether they are root's, and whether universal planes are on.
-const OPENINGS: [(&[u8], u8, Option<u32>, bool, bool); 8] = [
-    (b"open2 a card", b'a', None, false, false),
-    (b" open2  z  root", b'z', None, true, false),
-    (b"open2 a lease 2", b'a', Some(2), false, false),
-    (b"open2 z rootlease 3", b'z', Some(3), true, false),
-    (b"open a card", b'a', None, false, true),
-    (b"open z root", b'z', None, true, true),
-    (b"open a lease 1", b'a', Some(1), false, true),
+/// Lines that ask for leases of these mode objects.
+static LEASES: [(&[u8], &[u32]); 4] = [
+    (b"a create_lease 2 4  008 ", &[2, 4, 8]),
+    (b"a create_lease 4294967295", &[u32::MAX]),
+    (b"a create_lease", &[]),
     (
-        b"open a rootlease 4294967295",
-        b'a',
-        Some(u32::MAX),
-        true,
-        true,
+        b"a create_lease 1 2 3 4 5 6 7 8 9 10 11 12 13 14 15 16 17 18 19 20 21 22 23 24 25 26 27 28 29 30 31 32",
+        &[
+            1, 2, 3, 4, 5, 6, 7, 8, 9, 10, 11, 12, 13, 14, 15, 16, 17, 18, 19, 20, 21, 22, 23, 24,
+            25, 26, 27, 28, 29, 30, 31, 32,
+        ],
     ),
 ];
 
-#[test]
-fn openings_are_read(rt: HostRuntime) -> Result<(), Fail> {
-    for (line, letter, token, root, universal) in OPENINGS {
-        let opening = opening_by(token, root, universal);
-        check_label(&rt, line, letter, Some(opening))?;
+/// Openings by a label's letter.
+const OPENINGS: [(&[u8], u8, Opening); 10] = [
+    (
+        b"open2 a card",
+        b'a',
+        Opening::Primary {
+            root: false,
+            universal: false,
+        },
+    ),
+    (
+        b" open2  z  root",
+        b'z',
+        Opening::Primary {
+            root: true,
+            universal: false,
+        },
+    ),
+    (
+        b"open2 a lease 2",
+        b'a',
+        Opening::Lease {
+            token: 2,
+            root: false,
+            universal: false,
+        },
+    ),
+    (
+        b"open2 z rootlease 3",
+        b'z',
+        Opening::Lease {
+            token: 3,
+            root: true,
+            universal: false,
+        },
+    ),
+    (
+        b"open a card",
+        b'a',
+        Opening::Primary {
+            root: false,
+            universal: true,
+        },
+    ),
+    (
+        b"open z root",
+        b'z',
+        Opening::Primary {
+            root: true,
+            universal: true,
+        },
+    ),
+    (
+        b"open a lease 1",
+        b'a',
+        Opening::Lease {
+            token: 1,
+            root: false,
+            universal: true,
+        },
+    ),
+    (
+        b"open a rootlease 4294967295",
+        b'a',
+        Opening::Lease {
+            token: u32::MAX,
+            root: true,
+            universal: true,
+        },
+    ),
+    (b"open a render", b'a', Opening::Render),
+    (b"open2 a render", b'a', Opening::Render),
+];
+
+/// Closings by a label's letter, with its place among all.
+const CLOSINGS: [(&[u8], u8, usize); 2] = [(b"close a", b'a', 0), (b"  close   z  ", b'z', 25)];
+
+/// Whether a line says this.
+fn says(line: &[u8], command: &Command) -> bool {
+    match command_in(line) {
+        Some(said) => said == *command,
+        None => false,
     }
-    check_label(&rt, b"open a render", b'a', Some(Opening::Render))?;
-    check_label(&rt, b"open2 a render", b'a', Some(Opening::Render))
+}
+
+fn opens(line: &[u8], label: Label, opening: Opening) -> bool {
+    says(line, &Command::Open { label, opening })
 }
 
 #[test]
-fn closings_are_read(rt: HostRuntime) -> Result<(), Fail> {
-    check_label(&rt, b"close a", b'a', None)?;
-    check_label(&rt, b"  close   z  ", b'z', None)
+fn openings_and_closings_are_read(rt: HostRuntime) -> Result<(), Fail> {
+    for (place, (line, letter, opening)) in OPENINGS.iter().enumerate() {
+        let label = Label::from_letter(*letter).ok_or("no letter")?;
+        assert!(rt; opens(line, label, *opening), "line {place}");
+    }
+    for (line, letter, place) in CLOSINGS {
+        let label = Label::from_letter(letter).ok_or("no letter")?;
+        let closes = says(line, &Command::Close { label });
+        assert!(rt; closes && label.place() == place, "{line:?}");
+    }
+    Ok(())
 }
 
 const LIMITS: [(&[u8], Limits); 2] = [
@@ -275,19 +365,23 @@ const LIMITS: [(&[u8], Limits); 2] = [
     ),
 ];
 
-#[test]
-fn limits_are_read(rt: HostRuntime) {
-    for (line, limits) in LIMITS {
-        assert_eq!(rt; read_line(line), Ok(Reading::Limits(limits)));
-    }
-}
-
 const BLANK: [&[u8]; 5] = [b"", b" ", b"# any text", b"#\ttab", &[b' '; 255]];
 
+fn is_blank(line: &[u8]) -> bool {
+    read_line(line) == Ok(Reading::Skipped)
+}
+
+fn sets(line: &[u8], limits: Limits) -> bool {
+    read_line(line) == Ok(Reading::Limits(limits))
+}
+
 #[test]
-fn blank_lines_are_read(rt: HostRuntime) {
+fn other_lines_are_read(rt: HostRuntime) {
     for line in BLANK {
-        assert_eq!(rt; read_line(line), Ok(Reading::Skipped));
+        assert!(rt; is_blank(line), "{line:?}");
+    }
+    for (line, limits) in LIMITS {
+        assert!(rt; sets(line, limits), "{line:?}");
     }
 }
 
@@ -631,29 +725,35 @@ fn malformed(column: usize, word: &str, cause: Malformation) -> Malformed {
     }
 }
 
-/// A line can't be used, for this word at this column and for this cause.
-fn check_reason(rt: &impl Abort, line: &[u8], column: usize, word: &[u8], cause: Malformation) {
+/// Whether a line can't be used, for this word at this column and for this cause.
+fn is_malformed(line: &[u8], column: usize, word: &[u8], cause: Malformation) -> bool {
     match read_line(line) {
-        Ok(_reading) => assert!(rt; false, "it is read"),
+        Ok(_reading) => false,
         Err(told) => {
-            assert_eq!(rt; (told.column, told.cause), (column, cause));
-            assert_eq!(rt; told.word.as_str().as_bytes(), word);
+            told.column == column && told.cause == cause && told.word.as_str().as_bytes() == word
         }
     }
 }
 
 #[test]
 fn other_lines_are_malformed(rt: HostRuntime) {
-    for (line, column, word, cause) in REASONS {
-        check_reason(&rt, line, column, word, cause);
+    for (place, (line, column, word, cause)) in REASONS.iter().enumerate() {
+        assert!(rt; is_malformed(line, *column, word, *cause), "line {place}");
     }
-    let late = malformed(2, "limits", Malformation::LateLimits);
-    assert_eq!(rt; Malformed::late_limits(b" limits 4 8 8 8 8 4 4 50"), late);
-    let long = malformed(256, "", Malformation::TooLong);
-    assert_eq!(rt; Malformed::too_long(), long);
     for line in MALFORMED.lines() {
         assert!(rt; read_line(line.as_bytes()).is_err(), "{line}");
     }
+}
+
+#[test]
+fn late_and_long_lines(rt: HostRuntime) {
+    let late = malformed(2, "limits", Malformation::LateLimits);
+    let long = malformed(256, "", Malformation::TooLong);
+    let told = [
+        Malformed::late_limits(b" limits 4 8 8 8 8 4 4 50") == late,
+        Malformed::too_long() == long,
+    ];
+    same(&rt, &told, &[true, true], 0);
 }
 
 /// The texts of the reasons.
@@ -755,21 +855,30 @@ fn texts_of_reasons(rt: HostRuntime) -> Result<(), Fail> {
     let alloc: Global = rt.alloc();
     for (column, word, cause, text) in TEXTS {
         let told = format!(in alloc; "{}", malformed(column, word, cause))?;
-        assert_eq!(rt; told.as_str(), text);
+        same(&rt, &told.as_str(), &text, column);
     }
     Ok(())
 }
 
+/// Texts with their first lines and what stands behind.
+const FIRST_LINES: [(&[u8], &[u8], &[u8]); 5] = [
+    (b"", b"", b""),
+    (b"a", b"a", b""),
+    (b"a\n", b"a", b""),
+    (b"\na\n", b"", b"a\n"),
+    (b"a\nb\nc", b"a", b"b\nc"),
+];
+
+fn begins_with(text: &[u8], line: &[u8], rest: &[u8]) -> bool {
+    let (first, behind) = first_line(text);
+    first == line && behind == rest
+}
+
 #[test]
 fn first_lines(rt: HostRuntime) {
-    assert_eq!(rt; first_line(b""), (b"".as_slice(), b"".as_slice()));
-    assert_eq!(rt; first_line(b"a"), (b"a".as_slice(), b"".as_slice()));
-    assert_eq!(rt; first_line(b"a\n"), (b"a".as_slice(), b"".as_slice()));
-    assert_eq!(rt; first_line(b"\na\n"), (b"".as_slice(), b"a\n".as_slice()));
-    assert_eq!(rt;
-        first_line(b"a\nb\nc"),
-        (b"a".as_slice(), b"b\nc".as_slice())
-    );
+    for (text, line, rest) in FIRST_LINES {
+        assert!(rt; begins_with(text, line, rest), "{text:?}");
+    }
 }
 
 /// Answers with their lines.
@@ -855,80 +964,145 @@ const ANSWERS: [(Result<Answer, Apart>, &[u8]); 20] = [
     ),
 ];
 
-/// The line of an answer, and its length at most.
-fn check_line(rt: &impl Abort, outcome: &Result<Answer, Apart>, text: &[u8]) {
+/// Whether an answer has this line, whose length is bounded.
+fn has_line(outcome: &Result<Answer, Apart>, text: &[u8]) -> bool {
     let line = line_of(outcome);
-    assert_eq!(rt; line.as_bytes(), text);
-    assert!(rt; line.as_bytes().len() <= LINE);
+    line.as_bytes() == text && text.len() <= LINE
 }
+
+/// Lists, resources and pages with their lines.
+const LISTS: [(&[u32], &[u8]); 3] = [
+    (&[], b"list -\n"),
+    (&[7], b"list 7\n"),
+    (&[1, 3], b"list 1,3\n"),
+];
+
+const RESOURCES: [([&[u32]; 4], &[u8]); 3] = [
+    (
+        [&[], &[], &[], &[]],
+        b"crtcs - connectors - encoders - framebuffers -\n",
+    ),
+    (
+        [&[1, 2], &[7, 8], &[5, 6], &[]],
+        b"crtcs 1,2 connectors 7,8 encoders 5,6 framebuffers -\n",
+    ),
+    (
+        [&[], &[8], &[], &[9, 4_294_967_295]],
+        b"crtcs - connectors 8 encoders - framebuffers 9,4294967295\n",
+    ),
+];
+
+const PAGES: [(&[AuditRow], &[u8]); 3] = [
+    (&[], b"rows 0\n"),
+    (
+        &[AuditRow {
+            a: 1,
+            b: 0,
+            c: 0,
+            d: 0,
+        }],
+        b"rows 1 | 1 0 0 0\n",
+    ),
+    (
+        &[
+            AuditRow {
+                a: 1,
+                b: 28,
+                c: 1,
+                d: 0,
+            },
+            AuditRow {
+                a: 2,
+                b: 0,
+                c: 1,
+                d: 0,
+            },
+            AuditRow {
+                a: 7,
+                b: 6,
+                c: 1,
+                d: 0,
+            },
+        ],
+        b"rows 3 | 1 28 1 0 | 2 0 1 0 | 7 6 1 0\n",
+    ),
+];
 
 #[test]
 fn answers_have_their_lines(rt: HostRuntime) {
-    for (outcome, text) in &ANSWERS {
-        check_line(&rt, outcome, text);
+    for (place, (outcome, text)) in ANSWERS.iter().enumerate() {
+        assert!(rt; has_line(outcome, text), "answer {place}");
+    }
+    for (ids, text) in LISTS {
+        assert!(rt; has_line(&list_of(ids), text), "{ids:?}");
+    }
+    for (place, (ids, text)) in RESOURCES.iter().enumerate() {
+        assert!(rt; has_line(&resources_of(*ids), text), "resources {place}");
+    }
+    for (rows, text) in PAGES {
+        assert!(rt; has_line(&page_of(rows), text), "{rows:?}");
     }
 }
 
-#[test]
-fn lists_have_their_lines(rt: HostRuntime) {
-    check_line(&rt, &list_of(&[]), b"list -\n");
-    check_line(&rt, &list_of(&[7]), b"list 7\n");
-    check_line(&rt, &list_of(&[1, 3]), b"list 1,3\n");
-    check_line(
-        &rt,
-        &resources_of([&[], &[], &[], &[]]),
-        b"crtcs - connectors - encoders - framebuffers -\n",
-    );
-    check_line(
-        &rt,
-        &resources_of([&[1, 2], &[7, 8], &[5, 6], &[]]),
-        b"crtcs 1,2 connectors 7,8 encoders 5,6 framebuffers -\n",
-    );
-    check_line(
-        &rt,
-        &resources_of([&[], &[8], &[], &[9, 4_294_967_295]]),
-        b"crtcs - connectors 8 encoders - framebuffers 9,4294967295\n",
-    );
-}
-
-#[test]
-fn pages_have_their_lines(rt: HostRuntime) {
-    check_line(&rt, &page_of(&[]), b"rows 0\n");
-    check_line(&rt, &page_of(&[row(1, 0, 0, 0)]), b"rows 1 | 1 0 0 0\n");
-    check_line(
-        &rt,
-        &page_of(&[row(1, 28, 1, 0), row(2, 0, 1, 0), row(7, 6, 1, 0)]),
-        b"rows 3 | 1 28 1 0 | 2 0 1 0 | 7 6 1 0\n",
-    );
+fn length_of(outcome: &Result<Answer, Apart>) -> usize {
+    line_of(outcome).as_bytes().len()
 }
 
 #[test]
 fn longest_answers_have_lines_of_their_lengths(rt: HostRuntime) {
     let ids = [u32::MAX; 64];
-    assert_eq!(rt; line_of(&list_of(&ids)).as_bytes().len(), 709);
-    let resources = resources_of([&ids, &ids, &ids, &ids]);
-    assert_eq!(rt; line_of(&resources).as_bytes().len(), 2855);
-    let page = page_of(&[row(u64::MAX, u64::MAX, u64::MAX, u64::MAX); 16]);
-    assert_eq!(rt; line_of(&page).as_bytes().len(), 1_384);
+    let rows = [row(u64::MAX, u64::MAX, u64::MAX, u64::MAX); 16];
+    let lengths = [
+        length_of(&list_of(&ids)),
+        length_of(&resources_of([&ids, &ids, &ids, &ids])),
+        length_of(&page_of(&rows)),
+    ];
+    same(&rt, &lengths, &[709, 2855, 1_384], 0);
 }
+
+/// Rows of an audit with their lines.
+const ROWS: [(AuditKind, AuditRow, &[u8]); 3] = [
+    (
+        AuditKind::Client,
+        AuditRow {
+            a: 1,
+            b: 28,
+            c: 1,
+            d: 0,
+        },
+        b"client 1 28 1 0\n",
+    ),
+    (
+        AuditKind::Framebuffer,
+        AuditRow {
+            a: 1,
+            b: 2,
+            c: 3,
+            d: u64::MAX,
+        },
+        b"framebuffer 1 2 3 18446744073709551615\n",
+    ),
+    (
+        AuditKind::Device,
+        AuditRow {
+            a: 0,
+            b: 10,
+            c: 2,
+            d: 7,
+        },
+        b"device 0 10 2 7\n",
+    ),
+];
 
 #[test]
 fn rows_and_numbers_have_their_texts(rt: HostRuntime) {
-    let rows: [(AuditKind, AuditRow, &[u8]); 3] = [
-        (AuditKind::Client, row(1, 28, 1, 0), b"client 1 28 1 0\n"),
-        (
-            AuditKind::Framebuffer,
-            row(1, 2, 3, u64::MAX),
-            b"framebuffer 1 2 3 18446744073709551615\n",
-        ),
-        (AuditKind::Device, row(0, 10, 2, 7), b"device 0 10 2 7\n"),
-    ];
-    for (kind, row, text) in rows {
-        assert_eq!(rt; audit_line(kind, &row).as_bytes(), text);
+    for (kind, row, text) in ROWS {
+        let is_line = audit_line(kind, &row).as_bytes() == text;
+        assert!(rt; is_line, "{text:?}");
     }
     let mut text = ArrayString::<64>::new();
     text.push_str("turns ");
     push_number(&mut text, 0);
     push_number(&mut text, u64::MAX);
-    assert_eq!(rt; text.as_str(), "turns 018446744073709551615");
+    same(&rt, &text.as_str(), &"turns 018446744073709551615", 0);
 }

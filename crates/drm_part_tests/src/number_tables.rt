@@ -2,6 +2,7 @@
 
 ghost use Rattle.std.specs.Prelude.{◌+◌, ◌<◌, ◌^◌};
 
+use crate::asking::{Call, Told, check, compare};
 use crate::numbers::Numbers;
 use crate::plain_table::{Plain, SIZE};
 use drm_id_alloc::{AddFault, IdTable};
@@ -10,7 +11,7 @@ use std::process::Abort;
 
 /// A call of a table.
 #[derive(Clone, Copy)]
-enum Ask {
+pub(crate) enum Ask {
     Add(u32),
     AddCyclic(u32),
     Replace(u32, u32),
@@ -24,23 +25,6 @@ enum Ask {
     IsFull,
 }
 
-/// What a call answers: nothing, a number, a length, or the value that comes back where no number is free.
-#[derive(Clone, Copy, PartialEq, Eq, Debug)]
-enum Told {
-    Nothing,
-    Number(u32),
-    Length(usize),
-    Back(u32),
-    NoMemory,
-}
-
-fn told_of(number: Option<u32>) -> Told {
-    match number {
-        Some(number) => Told::Number(number),
-        None => Told::Nothing,
-    }
-}
-
 fn told_by(added: Result<u32, AddFault<u32>>) -> Told {
     match added {
         Ok(number) => Told::Number(number),
@@ -49,22 +33,28 @@ fn told_by(added: Result<u32, AddFault<u32>>) -> Told {
     }
 }
 
-fn asked(table: &mut IdTable<u32>, ask: Ask) -> Told {
-    match ask {
-        Ask::Add(value) => told_by(table.add(value)),
-        Ask::AddCyclic(value) => told_by(table.add_cyclic(value)),
-        Ask::Replace(id, value) => match table.replace(id, value) {
-            Ok(was) => Told::Number(was),
-            Err(value) => Told::Back(value),
-        },
-        Ask::Remove(id) => told_of(table.remove(id)),
-        Ask::Get(id) => told_of(table.get(id).copied()),
-        Ask::Next(from) => told_of(table.next(from)),
-        Ask::Nth(place) => told_of(table.nth(place)),
-        Ask::NextInTurn => told_of(table.next_in_turn()),
-        Ask::Len => Told::Length(table.len()),
-        Ask::LastGiven => told_of(table.last_given()),
-        Ask::IsFull => Told::Number(table.is_full() as u32),
+fn replace(table: &mut IdTable<u32>, id: u32, value: u32) -> Told {
+    match table.replace(id, value) {
+        Ok(was) => Told::Number(was),
+        Err(value) => Told::Back(value),
+    }
+}
+
+impl Call<IdTable<u32>> for Ask {
+    fn ask(self, table: &mut IdTable<u32>) -> Told {
+        match self {
+            Ask::Add(value) => told_by(table.add(value)),
+            Ask::AddCyclic(value) => told_by(table.add_cyclic(value)),
+            Ask::Replace(id, value) => replace(table, id, value),
+            Ask::Remove(id) => Told::of(table.remove(id)),
+            Ask::Get(id) => Told::of(table.get(id).copied()),
+            Ask::Next(from) => Told::of(table.next(from)),
+            Ask::Nth(place) => Told::of(table.nth(place)),
+            Ask::NextInTurn => Told::of(table.next_in_turn()),
+            Ask::Len => Told::Length(table.len()),
+            Ask::LastGiven => Told::of(table.last_given()),
+            Ask::IsFull => Told::Whether(table.is_full()),
+        }
     }
 }
 
@@ -77,9 +67,9 @@ const CALLS: [(Ask, Told); 27] = [
     (Ask::NextInTurn, Told::Number(6)),
     (Ask::AddCyclic(3), Told::Number(6)),
     (Ask::LastGiven, Told::Number(6)),
-    (Ask::IsFull, Told::Number(0)),
+    (Ask::IsFull, Told::Whether(false)),
     (Ask::AddCyclic(4), Told::Number(4)),
-    (Ask::IsFull, Told::Number(1)),
+    (Ask::IsFull, Told::Whether(true)),
     (Ask::NextInTurn, Told::Nothing),
     (Ask::AddCyclic(5), Told::Back(5)),
     (Ask::Remove(5), Told::Number(2)),
@@ -112,63 +102,34 @@ const FROM_ONE: [(Ask, Told); 9] = [
     (Ask::Add(16), Told::Back(16)),
 ];
 
-/// Asks each, and once more where memory was refused, as it is where a test's requests for memory are refused in turn: nothing has changed
-/// then, as what is asked behind it shows.
-fn check(rt: &impl Abort, table: &mut IdTable<u32>, cases: &[(Ask, Told)]) {
-    for (place, (ask, told)) in cases.iter().enumerate() {
-        let mut came = asked(table, *ask);
-        if came == Told::NoMemory {
-            came = asked(table, *ask);
-        }
-        assert_eq!(rt; came, *told, "case {place}");
-    }
-}
-
 #[test]
 fn calls_of_a_table(rt: HostRuntime) {
     check(&rt, &mut IdTable::new(rt.alloc(), 4, 6), &CALLS);
     check(&rt, &mut IdTable::new(rt.alloc(), 1, 3), &FROM_ONE);
 }
 
-/// Carries out a random edit on both, and compares what each answers. Of `kinds` kinds of edit the last are removals.
-fn edit(
-    rt: &impl Abort,
-    table: &mut IdTable<u32>,
-    plain: &mut Plain,
-    numbers: &mut Numbers,
-    kinds: usize,
-    value: u32,
-)
+/// A random edit. Of `kinds` kinds of edit the last are removals.
+fn edit(numbers: &mut Numbers, id: u32, kinds: usize, value: u32) -> Ask
     requires { 0 < kinds }
 {
-    let id = plain.any_id(numbers);
     match numbers.below(kinds) {
-        0 | 1 => assert_eq!(rt; table.add(value), plain.add(value)),
-        2 | 3 => assert_eq!(rt; table.add_cyclic(value), plain.add_cyclic(value)),
-        4 => assert_eq!(rt; table.replace(id, value), plain.replace(id, value)),
-        _ => assert_eq!(rt; table.remove(id), plain.remove(id)),
+        0 | 1 => Ask::Add(value),
+        2 | 3 => Ask::AddCyclic(value),
+        4 => Ask::Replace(id, value),
+        _ => Ask::Remove(id),
     }
 }
 
-/// Compares what both tell.
-fn compare(rt: &impl Abort, table: &IdTable<u32>, plain: &Plain, numbers: &mut Numbers) {
-    let id = plain.any_id(numbers);
-    let place = numbers.below(SIZE);
-    let told = [
-        table.get(id).copied(),
-        table.next(id),
-        table.nth(place),
-        table.last_given(),
-    ];
-    let plain_told = [
-        plain.get(id),
-        plain.next(id),
-        plain.nth(place),
-        plain.last_given,
-    ];
-    assert_eq!(rt; told, plain_told);
-    let is_full = plain.least_free().is_none();
-    assert_eq!(rt; (table.len(), table.is_full()), (plain.len(), is_full));
+/// What is asked of a number, and of the whole table.
+fn questions(id: u32, place: usize) -> [Ask; 6] {
+    [
+        Ask::Get(id),
+        Ask::Next(id),
+        Ask::Nth(place),
+        Ask::LastGiven,
+        Ask::Len,
+        Ask::IsFull,
+    ]
 }
 
 fn compare_random_calls(alloc: Global, rt: &impl Abort, first: u32)
@@ -180,8 +141,11 @@ fn compare_random_calls(alloc: Global, rt: &impl Abort, first: u32)
     for value in 0..10_000u32 {
         // The table is mostly full, and then for a while about half full.
         let kinds = if value / 500 % 2 == 0 { 8 } else { 14 };
-        edit(rt, &mut table, &mut plain, &mut numbers, kinds, value);
-        compare(rt, &table, &plain, &mut numbers);
+        let id = plain.any_id(&mut numbers);
+        let edit = edit(&mut numbers, id, kinds, value);
+        compare(rt, &mut table, &mut plain, &[edit]);
+        let questions = questions(plain.any_id(&mut numbers), numbers.below(SIZE));
+        compare(rt, &mut table, &mut plain, &questions);
     }
 }
 

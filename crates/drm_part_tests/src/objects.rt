@@ -1,11 +1,22 @@
 //! Objects and what refers to them, call by call.
 
 ghost use Rattle.std.specs.Prelude.{◌≡◌, ◌<◌, true, IfSome};
-ghost use Rattle.drm_gem.specs.Objects.{IsNewBirth};
+ghost use Rattle.drm_gem.specs.Objects.{IsNewBirth, is_there};
 
+use crate::asking::{Call, Told, check};
 use drm_gem::{CreateFault, Dead, Object, ObjectKey, Objects};
 use std::alloc::Global;
 use std::process::Abort;
+
+/// What is told of an object.
+#[derive(Clone, Copy, PartialEq, Eq)]
+struct Counts {
+    birth: u32,
+    size: u64,
+    stamp: u64,
+    holds: u32,
+    refs: u32,
+}
 
 /// A call. An object is named by the number of its key.
 #[derive(Clone, Copy)]
@@ -17,29 +28,13 @@ enum Ask {
     Refer(u32),
     Unrefer(u32),
     Stamp(u32, u64),
-    Get(u32),
+    /// Whether this is told of an object.
+    Get(u32, Counts),
     /// The same, value by value.
-    Read(u32),
-    Nth(usize),
-}
-
-/// What a call answers: nothing, a key's number, an object, or one that is gone. `Unasked` is for a call that may not be made.
-#[derive(Clone, Copy, PartialEq, Eq, Debug)]
-enum Told {
-    Unasked,
-    Nothing,
-    Done,
-    Key(u32),
-    Object {
-        birth: u32,
-        size: u64,
-        stamp: u64,
-        holds: u32,
-        refs: u32,
-    },
-    Gone(Dead),
-    Full,
-    NoMemory,
+    Read(u32, Counts),
+    Nth(usize, Counts),
+    IsThere(u32),
+    HasNth(usize),
 }
 
 fn is_older(object: Option<Object>, birth: u32) -> bool
@@ -67,29 +62,44 @@ fn created(objects: &mut Objects, birth: u32, size: u64) -> Told {
         return Told::Unasked;
     }
     match objects.create(birth, size) {
-        Ok(key) => Told::Key(key.number()),
+        Ok(key) => Told::Number(key.number()),
         Err(CreateFault::Full) => Told::Full,
         Err(CreateFault::NoMemory) => Told::NoMemory,
     }
 }
 
-fn told_object(object: Option<Object>) -> Told {
-    match object {
-        Some(object) => Told::Object {
-            birth: object.birth,
-            size: object.size,
-            stamp: object.stamp,
-            holds: object.holds,
-            refs: object.refs,
-        },
-        None => Told::Nothing,
-    }
+/// Whether this is told of an object.
+fn is_told(object: Option<Object>, counts: Counts) -> Told {
+    let Some(object) = object else {
+        return Told::Nothing;
+    };
+    let told = Counts {
+        birth: object.birth,
+        size: object.size,
+        stamp: object.stamp,
+        holds: object.holds,
+        refs: object.refs,
+    };
+    Told::Whether(told == counts)
 }
 
 fn told_gone(gone: Option<Dead>) -> Told {
     match gone {
         Some(dead) => Told::Gone(dead),
         None => Told::Nothing,
+    }
+}
+
+/// What is told of an object that is there, value by value.
+fn read(objects: &Objects, key: ObjectKey) -> Counts
+    requires { is_there objects.now key ≡ true }
+{
+    Counts {
+        birth: objects.birth(key),
+        size: objects.size(key),
+        stamp: objects.stamp(key),
+        holds: objects.holds(key),
+        refs: objects.refs(key),
     }
 }
 
@@ -114,49 +124,38 @@ fn asked_of(objects: &mut Objects, number: u32, ask: Ask) -> Told {
             objects.set_stamp(key, stamp);
             Told::Done
         }
-        Ask::Read(_) => Told::Object {
-            birth: objects.birth(key),
-            size: objects.size(key),
-            stamp: objects.stamp(key),
-            holds: objects.holds(key),
-            refs: objects.refs(key),
-        },
+        Ask::Read(_, counts) => Told::Whether(read(objects, key) == counts),
         _ => Told::Unasked,
     }
 }
 
-fn asked(objects: &mut Objects, ask: Ask) -> Told {
-    match ask {
-        Ask::Create(birth, size) => created(objects, birth, size),
-        Ask::Get(number) => told_object(objects.get(ObjectKey::from_number(number))),
-        Ask::Nth(place) => told_object(objects.nth(place)),
-        Ask::Hold(number) => asked_of(objects, number, ask),
-        Ask::Unhold(number) => asked_of(objects, number, ask),
-        Ask::Refer(number) => asked_of(objects, number, ask),
-        Ask::Unrefer(number) => asked_of(objects, number, ask),
-        Ask::Stamp(number, _) => asked_of(objects, number, ask),
-        Ask::Read(number) => asked_of(objects, number, ask),
+impl Call<Objects> for Ask {
+    fn ask(self, objects: &mut Objects) -> Told {
+        match self {
+            Ask::Create(birth, size) => created(objects, birth, size),
+            Ask::Get(number, counts) => {
+                is_told(objects.get(ObjectKey::from_number(number)), counts)
+            }
+            Ask::Nth(place, counts) => is_told(objects.nth(place), counts),
+            Ask::IsThere(number) => {
+                Told::Whether(objects.get(ObjectKey::from_number(number)).is_some())
+            }
+            Ask::HasNth(place) => Told::Whether(objects.nth(place).is_some()),
+            Ask::Hold(number) => asked_of(objects, number, self),
+            Ask::Unhold(number) => asked_of(objects, number, self),
+            Ask::Refer(number) => asked_of(objects, number, self),
+            Ask::Unrefer(number) => asked_of(objects, number, self),
+            Ask::Stamp(number, _) => asked_of(objects, number, self),
+            Ask::Read(number, _) => asked_of(objects, number, self),
+        }
     }
 }
 
 /// A call and its answer.
 type Case = (Ask, Told);
 
-/// Makes these calls of objects, of which so many may be there, and compares each answer. One that was refused memory, as where a test's
-/// requests for memory are refused in turn, is made once more: nothing has changed then, as what is asked behind it shows.
-fn check(rt: &impl Abort, alloc: Global, limit: u32, cases: &[Case]) {
-    let mut objects = Objects::new(alloc, limit);
-    for (place, (ask, told)) in cases.iter().enumerate() {
-        let mut came = asked(&mut objects, *ask);
-        if came == Told::NoMemory {
-            came = asked(&mut objects, *ask);
-        }
-        assert_eq!(rt; came, *told, "case {place}");
-    }
-}
-
 /// An object that two handles and three tokens refer to.
-const REFERRED: Told = Told::Object {
+const REFERRED: Counts = Counts {
     birth: 3,
     size: 4096,
     stamp: 0,
@@ -164,7 +163,7 @@ const REFERRED: Told = Told::Object {
     refs: 3,
 };
 
-const STAMPED: Told = Told::Object {
+const STAMPED: Counts = Counts {
     birth: 3,
     size: 4096,
     stamp: 1 << 40,
@@ -174,18 +173,18 @@ const STAMPED: Told = Told::Object {
 
 /// Two handles and three tokens refer to the only object that may be there.
 const REFERENCES: [Case; 12] = [
-    (Ask::Create(3, 4096), Told::Key(0)),
+    (Ask::Create(3, 4096), Told::Number(0)),
     (Ask::Create(4, 4096), Told::Full),
     (Ask::Hold(0), Told::Done),
     (Ask::Refer(0), Told::Done),
     (Ask::Refer(0), Told::Done),
     (Ask::Refer(0), Told::Done),
-    (Ask::Read(0), REFERRED),
+    (Ask::Read(0, REFERRED), Told::Whether(true)),
     (Ask::Stamp(0, 1 << 40), Told::Done),
-    (Ask::Read(0), STAMPED),
-    (Ask::Get(0), STAMPED),
-    (Ask::Nth(0), STAMPED),
-    (Ask::Nth(1), Told::Nothing),
+    (Ask::Read(0, STAMPED), Told::Whether(true)),
+    (Ask::Get(0, STAMPED), Told::Whether(true)),
+    (Ask::Nth(0, STAMPED), Told::Whether(true)),
+    (Ask::HasNth(1), Told::Whether(false)),
 ];
 
 const FIRST: Told = Told::Gone(Dead {
@@ -195,29 +194,29 @@ const FIRST: Told = Told::Gone(Dead {
 
 /// An object goes with its last handle, and its key is given again.
 const LAST_HANDLE: [Case; 8] = [
-    (Ask::Create(1, 4096), Told::Key(0)),
+    (Ask::Create(1, 4096), Told::Number(0)),
     (Ask::Hold(0), Told::Done),
     (Ask::Refer(0), Told::Done),
     (Ask::Unhold(0), Told::Nothing),
     (Ask::Unrefer(0), Told::Nothing),
     (Ask::Unhold(0), FIRST),
-    (Ask::Get(0), Told::Nothing),
-    (Ask::Create(2, 8192), Told::Key(0)),
+    (Ask::IsThere(0), Told::Whether(false)),
+    (Ask::Create(2, 8192), Told::Number(0)),
 ];
 
 /// An object goes with its last token.
 const LAST_TOKEN: [Case; 8] = [
-    (Ask::Create(1, 4096), Told::Key(0)),
+    (Ask::Create(1, 4096), Told::Number(0)),
     (Ask::Refer(0), Told::Done),
     (Ask::Refer(0), Told::Done),
     (Ask::Unhold(0), Told::Nothing),
     (Ask::Unrefer(0), Told::Nothing),
     (Ask::Unrefer(0), FIRST),
-    (Ask::Get(0), Told::Nothing),
-    (Ask::Create(2, 8192), Told::Key(0)),
+    (Ask::IsThere(0), Told::Whether(false)),
+    (Ask::Create(2, 8192), Told::Number(0)),
 ];
 
-const SMALL: Told = Told::Object {
+const SMALL: Counts = Counts {
     birth: 1,
     size: 4096,
     stamp: 0,
@@ -225,7 +224,7 @@ const SMALL: Told = Told::Object {
     refs: 0,
 };
 
-const LARGE: Told = Told::Object {
+const LARGE: Counts = Counts {
     birth: 9,
     size: 12288,
     stamp: 0,
@@ -235,9 +234,9 @@ const LARGE: Told = Told::Object {
 
 /// The middle one of three objects goes.
 const MIDDLE: [Case; 10] = [
-    (Ask::Create(1, 4096), Told::Key(0)),
-    (Ask::Create(5, 8192), Told::Key(1)),
-    (Ask::Create(9, 12288), Told::Key(2)),
+    (Ask::Create(1, 4096), Told::Number(0)),
+    (Ask::Create(5, 8192), Told::Number(1)),
+    (Ask::Create(9, 12288), Told::Number(2)),
     (
         Ask::Unhold(1),
         Told::Gone(Dead {
@@ -245,18 +244,23 @@ const MIDDLE: [Case; 10] = [
             size: 8192,
         }),
     ),
-    (Ask::Get(1), Told::Nothing),
-    (Ask::Read(0), SMALL),
-    (Ask::Read(2), LARGE),
-    (Ask::Nth(0), SMALL),
-    (Ask::Nth(1), LARGE),
-    (Ask::Nth(2), Told::Nothing),
+    (Ask::IsThere(1), Told::Whether(false)),
+    (Ask::Read(0, SMALL), Told::Whether(true)),
+    (Ask::Read(2, LARGE), Told::Whether(true)),
+    (Ask::Nth(0, SMALL), Told::Whether(true)),
+    (Ask::Nth(1, LARGE), Told::Whether(true)),
+    (Ask::HasNth(2), Told::Whether(false)),
 ];
+
+/// So many objects may be there.
+fn check_objects(rt: &impl Abort, alloc: Global, limit: u32, cases: &[Case]) {
+    check(rt, &mut Objects::new(alloc, limit), cases);
+}
 
 #[test]
 fn references_of_objects(rt: HostRuntime) {
-    check(&rt, rt.alloc(), 1, &REFERENCES);
-    check(&rt, rt.alloc(), 1, &LAST_HANDLE);
-    check(&rt, rt.alloc(), 1, &LAST_TOKEN);
-    check(&rt, rt.alloc(), 3, &MIDDLE);
+    check_objects(&rt, rt.alloc(), 1, &REFERENCES);
+    check_objects(&rt, rt.alloc(), 1, &LAST_HANDLE);
+    check_objects(&rt, rt.alloc(), 1, &LAST_TOKEN);
+    check_objects(&rt, rt.alloc(), 3, &MIDDLE);
 }

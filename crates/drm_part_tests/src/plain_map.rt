@@ -1,8 +1,10 @@
-//! A plain map for random calls to be compared with: arrays of values and marks, and scans.
+//! A plain map for random calls to be compared with: cells in the order of their indices, and scans.
 
-ghost use Rattle.std.specs.Prelude.{◌<◌};
+ghost use Rattle.std.specs.Prelude.{◌<◌, IfSome};
 
-use drm_index_array::{InsertFault, Mark};
+use crate::arrays::Ask;
+use crate::asking::{Call, Told};
+use drm_index_array::Mark;
 
 /// How many indices the plain map can have: 0 to 40, those where a level of the tree begins or ends, and the five
 /// greatest.
@@ -39,67 +41,106 @@ pub(crate) fn index_of(slot: usize) -> u32
     u32::MAX - (SLOTS - 1 - slot) as u32
 }
 
+/// The slot of an index that the map can have.
+fn slot_of(index: u32) -> Option<usize>
+    ensures { IfSome result (λ slot. slot < SLOTS) }
+{
+    for slot in 0..SLOTS {
+        if index_of(slot) == index {
+            return Some(slot);
+        }
+    }
+    None
+}
+
+/// A value with its marks.
+#[derive(Clone, Copy)]
+struct Cell {
+    value: u32,
+    marks: [bool; 3],
+}
+
 #[derive(Drop)]
 pub(crate) struct Plain {
-    pub(crate) values: [Option<u32>; SLOTS],
-    pub(crate) marked: [[bool; SLOTS]; 3],
+    cells: [Option<Cell>; SLOTS],
+}
+
+fn place_of(mark: Mark) -> usize
+    ensures { result < 3 }
+{
+    match mark {
+        Mark::M0 => 0,
+        Mark::M1 => 1,
+        Mark::M2 => 2,
+    }
 }
 
 impl Plain {
     pub(crate) fn new() -> Self {
         Plain {
-            values: [None; SLOTS],
-            marked: [[false; SLOTS]; 3],
+            cells: [None; SLOTS],
         }
     }
 
-    pub(crate) fn insert(&mut self, slot: usize, value: u32) -> Result<(), InsertFault<u32>>
-        requires { slot < SLOTS }
-    {
-        if self.values[slot].is_some() {
-            return Err(InsertFault::Taken(value));
-        }
-        self.values[slot] = Some(value);
-        Ok(())
+    fn cell(&self, index: u32) -> Option<Cell> {
+        self.cells[slot_of(index)?]
     }
 
-    pub(crate) fn remove(&mut self, slot: usize) -> Option<u32>
-        requires { slot < SLOTS }
-    {
-        for mark in 0..3usize {
-            self.marked[mark][slot] = false;
-        }
-        self.values[slot].take()
+    /// Puts a cell in the place of an index, or leaves that empty, and gives what was there.
+    fn put(&mut self, index: u32, cell: Option<Cell>) -> Option<Cell> {
+        let slot = slot_of(index)?;
+        std::mem::replace(&mut self.cells[slot], cell)
     }
 
-    pub(crate) fn write_mark(&mut self, slot: usize, mark: usize, on: bool) -> bool
-        requires slot { slot < SLOTS }
-        requires mark { mark < 3 }
-    {
-        if self.values[slot].is_none() {
+    fn insert(&mut self, index: u32, value: u32) -> Told {
+        if self.cell(index).is_some() {
+            return Told::Back(value);
+        }
+        let marks = [false; 3];
+        self.put(index, Some(Cell { value, marks }));
+        Told::Done
+    }
+
+    /// Replaces what is there.
+    fn replace(&mut self, index: u32, value: u32) -> Option<u32> {
+        let cell = self.cell(index)?;
+        self.put(index, Some(Cell { value, ..cell }));
+        Some(cell.value)
+    }
+
+    fn write_mark(&mut self, index: u32, mark: Mark, on: bool) -> bool {
+        let Some(mut cell) = self.cell(index) else {
             return false;
-        }
-        self.marked[mark][slot] = on;
+        };
+        cell.marks[place_of(mark)] = on;
+        self.put(index, Some(cell));
         true
     }
 
-    pub(crate) fn len(&self) -> usize {
-        self.values.iter().filter(|value| value.is_some()).count()
+    fn is_marked(&self, index: u32, mark: Mark) -> bool {
+        match self.cell(index) {
+            Some(cell) => cell.marks[place_of(mark)],
+            None => false,
+        }
     }
 
-    pub(crate) fn next(&self, from: u32) -> Option<u32> {
+    fn len(&self) -> usize {
+        self.cells.iter().filter(|cell| cell.is_some()).count()
+    }
+
+    fn next(&self, from: u32) -> Option<u32> {
         for slot in 0..SLOTS {
-            if index_of(slot) >= from && self.values[slot].is_some() {
+            if index_of(slot) >= from && self.cells[slot].is_some() {
                 return Some(index_of(slot));
             }
         }
         None
     }
 
-    pub(crate) fn nth(&self, place: usize) -> Option<u32> {
+    fn nth(&self, place: usize) -> Option<u32> {
         let mut left = place;
         for slot in 0..SLOTS {
-            if self.values[slot].is_some() {
+            if self.cells[slot].is_some() {
                 if left == 0 {
                     return Some(index_of(slot));
                 }
@@ -109,34 +150,43 @@ impl Plain {
         None
     }
 
-    pub(crate) fn next_marked(&self, from: u32, mark: usize) -> Option<u32>
-        requires { mark < 3 }
-    {
+    fn next_marked(&self, from: u32, mark: Mark) -> Option<u32> {
         for slot in 0..SLOTS {
-            if index_of(slot) >= from && self.marked[mark][slot] {
-                return Some(index_of(slot));
+            let index = index_of(slot);
+            if index >= from && self.is_marked(index, mark) {
+                return Some(index);
             }
         }
         None
     }
 
-    fn has(&self, index: u32) -> bool {
-        for slot in 0..SLOTS {
-            if index_of(slot) == index {
-                return self.values[slot].is_some();
-            }
-        }
-        false
-    }
-
-    pub(crate) fn next_vacant(&self, from: u32) -> Option<u32> {
+    fn next_vacant(&self, from: u32) -> Option<u32> {
         let mut index = from;
         for _turn in 0..SLOTS {
-            if !self.has(index) {
+            if self.cell(index).is_none() {
                 return Some(index);
             }
             index = index.checked_add(1)?;
         }
         Some(index)
+    }
+}
+
+impl Call<Plain> for Ask {
+    fn ask(self, plain: &mut Plain) -> Told {
+        match self {
+            Ask::Insert(index, value) => plain.insert(index, value),
+            Ask::Remove(index) => Told::of(plain.put(index, None).map(|cell| cell.value)),
+            Ask::Replace(index, value) => Told::of(plain.replace(index, value)),
+            Ask::Get(index) => Told::of(plain.cell(index).map(|cell| cell.value)),
+            Ask::SetMark(index, mark) => Told::Whether(plain.write_mark(index, mark, true)),
+            Ask::ClearMark(index, mark) => Told::Whether(plain.write_mark(index, mark, false)),
+            Ask::Marked(index, mark) => Told::Whether(plain.is_marked(index, mark)),
+            Ask::Next(from) => Told::of(plain.next(from)),
+            Ask::NextMarked(from, mark) => Told::of(plain.next_marked(from, mark)),
+            Ask::NextVacant(from) => Told::of(plain.next_vacant(from)),
+            Ask::Nth(place) => Told::of(plain.nth(place)),
+            Ask::Len => Told::Length(plain.len()),
+        }
     }
 }

@@ -2,8 +2,9 @@
 
 ghost use Rattle.std.specs.Prelude.{◌<◌};
 
+use crate::asking::{Call, Told};
+use crate::number_tables::Ask;
 use crate::numbers::Numbers;
-use drm_id_alloc::AddFault;
 
 /// How many numbers the range has.
 pub(crate) const SIZE: usize = 24;
@@ -12,7 +13,7 @@ pub(crate) const SIZE: usize = 24;
 pub(crate) struct Plain {
     first: u32,
     values: [Option<u32>; SIZE],
-    pub(crate) last_given: Option<u32>,
+    last_given: Option<u32>,
 }
 
 impl Plain {
@@ -44,7 +45,7 @@ impl Plain {
         std::mem::replace(&mut self.values[slot], value)
     }
 
-    pub(crate) fn least_free(&self) -> Option<u32> {
+    fn least_free(&self) -> Option<u32> {
         for slot in 0..SIZE {
             if self.values[slot].is_none() {
                 return Some(self.id(slot));
@@ -69,40 +70,34 @@ impl Plain {
         self.least_free_above(given).or(self.least_free())
     }
 
-    pub(crate) fn add(&mut self, value: u32) -> Result<u32, AddFault<u32>> {
-        let Some(id) = self.least_free() else {
-            return Err(AddFault::Full(value));
+    /// Puts a value at this number, or gives it back where there is none.
+    fn add_at(&mut self, id: Option<u32>, value: u32) -> Told {
+        let Some(id) = id else {
+            return Told::Back(value);
         };
         self.put(id, Some(value));
-        Ok(id)
+        Told::Number(id)
     }
 
-    pub(crate) fn add_cyclic(&mut self, value: u32) -> Result<u32, AddFault<u32>> {
-        let Some(id) = self.next_cyclic() else {
-            return Err(AddFault::Full(value));
-        };
-        self.put(id, Some(value));
-        self.last_given = Some(id);
-        Ok(id)
+    fn add_cyclic(&mut self, value: u32) -> Told {
+        let id = self.next_cyclic();
+        self.last_given = id.or(self.last_given);
+        self.add_at(id, value)
     }
 
-    pub(crate) fn get(&self, id: u32) -> Option<u32> {
+    fn get(&self, id: u32) -> Option<u32> {
         let slot = id.wrapping_sub(self.first) as usize;
         if slot < SIZE { self.values[slot] } else { None }
     }
 
-    pub(crate) fn replace(&mut self, id: u32, value: u32) -> Result<u32, u32> {
+    fn replace(&mut self, id: u32, value: u32) -> Told {
         if self.get(id).is_none() {
-            return Err(value);
+            return Told::Back(value);
         }
-        self.put(id, Some(value)).ok_or(value)
+        Told::of(self.put(id, Some(value)))
     }
 
-    pub(crate) fn remove(&mut self, id: u32) -> Option<u32> {
-        self.put(id, None)
-    }
-
-    pub(crate) fn next(&self, from: u32) -> Option<u32> {
+    fn next(&self, from: u32) -> Option<u32> {
         for slot in 0..SIZE {
             if self.id(slot) >= from && self.values[slot].is_some() {
                 return Some(self.id(slot));
@@ -111,7 +106,7 @@ impl Plain {
         None
     }
 
-    pub(crate) fn nth(&self, place: usize) -> Option<u32> {
+    fn nth(&self, place: usize) -> Option<u32> {
         let mut left = place;
         for slot in 0..SIZE {
             if self.values[slot].is_some() {
@@ -124,7 +119,25 @@ impl Plain {
         None
     }
 
-    pub(crate) fn len(&self) -> usize {
+    fn len(&self) -> usize {
         self.values.iter().filter(|value| value.is_some()).count()
+    }
+}
+
+impl Call<Plain> for Ask {
+    fn ask(self, plain: &mut Plain) -> Told {
+        match self {
+            Ask::Add(value) => plain.add_at(plain.least_free(), value),
+            Ask::AddCyclic(value) => plain.add_cyclic(value),
+            Ask::Replace(id, value) => plain.replace(id, value),
+            Ask::Remove(id) => Told::of(plain.put(id, None)),
+            Ask::Get(id) => Told::of(plain.get(id)),
+            Ask::Next(from) => Told::of(plain.next(from)),
+            Ask::Nth(place) => Told::of(plain.nth(place)),
+            Ask::NextInTurn => Told::of(plain.next_cyclic()),
+            Ask::Len => Told::Length(plain.len()),
+            Ask::LastGiven => Told::of(plain.last_given),
+            Ask::IsFull => Told::Whether(plain.least_free().is_none()),
+        }
     }
 }

@@ -22,7 +22,7 @@ const READINGS: [(&[u8], [Taken; 3], [u8; 3]); 2] = [
     ),
 ];
 
-fn check_reading(rt: &impl Abort, text: &[u8], takes: [Taken; 3], left: [u8; 3]) {
+fn is_reading(text: &[u8], takes: [Taken; 3], left: [u8; 3]) -> bool {
     let mut source = FromRead::new(text);
     let mut buffer = [0; 3];
     let came = [
@@ -30,15 +30,13 @@ fn check_reading(rt: &impl Abort, text: &[u8], takes: [Taken; 3], left: [u8; 3])
         source.take(&mut buffer),
         source.take(&mut buffer),
     ];
-    assert_eq!(rt; came, takes);
-    assert_eq!(rt; buffer, left);
-    assert_eq!(rt; source.calls(), 3);
+    came == takes && buffer == left && source.calls() == 3
 }
 
 #[test]
 fn sources_read_to_the_end(rt: HostRuntime) {
     for (text, takes, left) in READINGS {
-        check_reading(&rt, text, takes, left);
+        assert!(rt; is_reading(text, takes, left), "{text:?}");
     }
 }
 
@@ -46,20 +44,18 @@ fn sources_read_to_the_end(rt: HostRuntime) {
 fn source_hands_its_reader_back(rt: HostRuntime) {
     let mut source = FromRead::new(b"frame".as_slice());
     let mut buffer = [0; 3];
-    assert_eq!(rt; source.take(&mut buffer), Taken::Got(3));
-    assert_eq!(rt; buffer.as_slice(), b"fra".as_slice());
+    let taken = source.take(&mut buffer);
     let rest = source.into_inner();
-    assert_eq!(rt; rest, b"me".as_slice());
+    assert!(rt; taken == Taken::Got(3) && buffer == *b"fra" && rest == b"me".as_slice());
 }
 
 #[test]
 fn sink_writes_behind_what_is_there(rt: HostRuntime) {
     let mut sink = ToWrite::new(Vec::new(rt.alloc()));
     let came = [sink.put(b"fra"), sink.put(b""), sink.put(b"me")];
-    assert_eq!(rt; came, [Put::Took(3), Put::Took(0), Put::Took(2)]);
-    assert_eq!(rt; sink.calls(), 3);
+    let are_put = came == [Put::Took(3), Put::Took(0), Put::Took(2)] && sink.calls() == 3;
     let written = sink.into_inner();
-    assert_eq!(rt; written.as_slice(), b"frame".as_slice());
+    assert!(rt; are_put && written.as_slice() == b"frame".as_slice());
 }
 
 /// A text that is read by four bytes at most, so many turns, and what each take comes to, with the turns that are left.
@@ -86,7 +82,7 @@ fn check_refills(rt: &impl Abort, refills: &Refills) {
     let mut buffer = [0; 4];
     for take in *takes {
         let filled = take_some(&mut source, &mut buffer, &mut turns);
-        assert_eq!(rt; (filled, turns), *take);
+        assert!(rt; (filled, turns) == *take);
     }
 }
 
@@ -122,9 +118,9 @@ fn check_puts(rt: &impl Abort, alloc: Global, puts: &Puts) {
     let mut sink = ToWrite::new(Vec::new(alloc));
     for (text, put, left) in *texts {
         let came = put_all(&mut sink, text, &mut turns);
-        assert_eq!(rt; (came, turns), (*put, *left));
+        assert!(rt; (came, turns) == (*put, *left));
     }
-    assert_eq!(rt; sink.into_inner().as_slice(), *written);
+    assert!(rt; sink.into_inner().as_slice() == *written);
 }
 
 #[test]
@@ -139,8 +135,8 @@ fn texts_are_put_as_far_as_there_is_room(rt: HostRuntime) {
     let mut room = [0; 2];
     let mut sink = ToWrite::new(room.as_mut_slice());
     let mut turns = 9;
-    assert_eq!(rt; put_all(&mut sink, b"frame", &mut turns), Written::Fault);
-    assert_eq!(rt; turns, 7);
+    let put = put_all(&mut sink, b"frame", &mut turns);
+    assert!(rt; put == Written::Fault && turns == 7);
 }
 
 /// A reader and writer whose every call fails.
@@ -208,24 +204,30 @@ const FAILURES: [ErrorKind; 41] = [
     ErrorKind::Uncategorized,
 ];
 
-/// So many calls are made of a source and of a sink whose errors are all of this kind.
-fn check_kind(rt: &impl Abort, kind: ErrorKind, calls: u64) {
+/// Whether so many calls are made of a source whose errors are all of this kind.
+fn is_read_so_often(kind: ErrorKind, calls: u64) -> bool {
     let mut turns = 2000;
     let mut source = FromRead::new(Failing(kind));
-    assert_eq!(rt;
-        take_some(&mut source, &mut [0; 4], &mut turns),
-        Refill::Fault
-    );
-    assert_eq!(rt; source.calls(), calls);
+    let came = take_some(&mut source, &mut [0; 4], &mut turns);
+    came == Refill::Fault && source.calls() == calls
+}
+
+/// The same of a sink.
+fn is_written_so_often(kind: ErrorKind, calls: u64) -> bool {
+    let mut turns = 2000;
     let mut sink = ToWrite::new(Failing(kind));
-    assert_eq!(rt; put_all(&mut sink, b"frame", &mut turns), Written::Fault);
-    assert_eq!(rt; sink.calls(), calls);
+    let came = put_all(&mut sink, b"frame", &mut turns);
+    came == Written::Fault && sink.calls() == calls
+}
+
+fn is_tried_so_often(kind: ErrorKind, calls: u64) -> bool {
+    is_read_so_often(kind, calls) && is_written_so_often(kind, calls)
 }
 
 #[test]
 fn only_interruptions_are_tried_again(rt: HostRuntime) {
-    check_kind(&rt, ErrorKind::Interrupted, 1000);
+    assert!(rt; is_tried_so_often(ErrorKind::Interrupted, 1000));
     for kind in &FAILURES {
-        check_kind(&rt, *kind, 1);
+        assert!(rt; is_tried_so_often(*kind, 1), "{kind:?}");
     }
 }

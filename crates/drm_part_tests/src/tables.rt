@@ -1,11 +1,13 @@
 //! The tables, against their published values.
 
+use crate::asking::same;
 use crate::lists::{named, row as audit_row};
 use bitflags::Flags;
 use drm_table::{
     Apart, AuditKind, AuditPage, Call, CallKind, Event, Field, IdList, Limits, RowFlags, Rule,
     ShownList, Standing, are_in_range, permit, row,
 };
+use std::alloc::AllocError;
 use std::process::Abort;
 use std::test::Fail;
 
@@ -81,17 +83,19 @@ fn refusal(flags: u8, bits: u8) -> u32 {
     }
 }
 
+/// What is refused to each standing by a set of flags.
+fn refusals(flags: u8) -> [u32; 16] {
+    let mut numbers = [0; 16];
+    for bits in 0..16u8 {
+        numbers[usize::from(bits)] = refusal(flags, bits);
+    }
+    numbers
+}
+
 #[test]
 fn permit_of_all_flags_and_standings(rt: HostRuntime) {
-    for flags in 0..16u8 {
-        for bits in 0..16u8 {
-            let expected = REFUSALS[flags as usize][bits as usize];
-            assert_eq!(&rt;
-                refusal(flags, bits),
-                expected,
-                "flags {flags}, standing {bits}"
-            );
-        }
+    for (flags, expected) in REFUSALS.iter().enumerate() {
+        same(&rt, &refusals(flags as u8), expected, flags);
     }
 }
 
@@ -102,27 +106,27 @@ const APARTS: [(Apart, u32, u32, &str); 3] = [
     (Apart::Worn, 52, 28, "Worn"),
 ];
 
-fn check_rule(rt: &impl Abort, rule: Rule, number: u32, errno: u32, name: &str) {
-    assert_eq!(rt; (rule.number(), rule.errno()), (number, errno));
-    assert_eq!(rt; rule.name(), name);
-    assert!(rt; Rule::of_number(number) == Some(rule));
+fn is_rule(rule: Rule, number: u32, errno: u32, name: &str) -> bool {
+    (rule.number(), rule.errno()) == (number, errno)
+        && rule.name() == name
+        && Rule::of_number(number) == Some(rule)
 }
 
-fn check_apart(rt: &impl Abort, apart: Apart, number: u32, errno: u32, name: &str) {
-    assert_eq!(rt; (apart.number(), apart.errno()), (number, errno));
-    assert_eq!(rt; apart.name(), name);
-    assert!(rt; Apart::of_number(number) == Some(apart));
+fn is_apart(apart: Apart, number: u32, errno: u32, name: &str) -> bool {
+    (apart.number(), apart.errno()) == (number, errno)
+        && apart.name() == name
+        && Apart::of_number(number) == Some(apart)
 }
 
 #[test]
 fn rules_and_aparts_have_their_numbers_and_names(rt: HostRuntime) {
     for (rule, number, errno, name) in &RULES {
-        check_rule(&rt, *rule, *number, *errno, name);
+        assert!(rt; is_rule(*rule, *number, *errno, name), "{name}");
     }
     for (apart, number, errno, name) in &APARTS {
-        check_apart(&rt, *apart, *number, *errno, name);
+        assert!(rt; is_apart(*apart, *number, *errno, name), "{name}");
     }
-    assert!(&rt; Rule::of_number(4).is_none());
+    assert!(rt; Rule::of_number(4).is_none());
 }
 
 /// A call's number and name.
@@ -178,25 +182,27 @@ const OF_MASTERS: [Named; 7] = [
 /// Calls of root.
 const OF_ROOT: [Named; 1] = [(0x45, "AUDIT")];
 
-fn check_rows(rt: &impl Abort, calls: &[Named], flags: RowFlags) -> Result<(), Fail> {
-    for (number, name) in calls {
-        let row = row(*number).ok_or("a number has no row")?;
-        assert_eq!(rt; row.name, *name);
-        assert_eq!(rt; row.flags, flags);
+fn is_row(number: u16, name: &str, flags: RowFlags) -> bool {
+    match row(number) {
+        Some(row) => row.name == name && row.flags == flags,
+        None => false,
     }
-    Ok(())
+}
+
+fn check_rows(rt: &impl Abort, calls: &[Named], flags: RowFlags) {
+    for (number, name) in calls {
+        assert!(rt; is_row(*number, name, flags), "{name}");
+    }
 }
 
 #[test]
-fn rows_of_the_table(rt: HostRuntime) -> Result<(), Fail> {
-    check_rows(&rt, &RENDER_ALLOW, RowFlags::RENDER_ALLOW)?;
-    check_rows(&rt, &UNFLAGGED, RowFlags::empty())?;
-    check_rows(&rt, &OF_AUTHENTICATED, RowFlags::AUTH)?;
-    check_rows(&rt, &OF_MASTERS, RowFlags::MASTER)?;
-    check_rows(&rt, &OF_ROOT, RowFlags::ROOT_ONLY)?;
-    assert!(&rt; row(0x01).is_none());
-    assert!(&rt; row(0xFFFF).is_none());
-    Ok(())
+fn rows_of_the_table(rt: HostRuntime) {
+    check_rows(&rt, &RENDER_ALLOW, RowFlags::RENDER_ALLOW);
+    check_rows(&rt, &UNFLAGGED, RowFlags::empty());
+    check_rows(&rt, &OF_AUTHENTICATED, RowFlags::AUTH);
+    check_rows(&rt, &OF_MASTERS, RowFlags::MASTER);
+    check_rows(&rt, &OF_ROOT, RowFlags::ROOT_ONLY);
+    assert!(rt; row(0x01).is_none() && row(0xFFFF).is_none());
 }
 
 /// Calls with their numbers.
@@ -277,21 +283,18 @@ const CALLS: [(Call, u16); 35] = [
 #[test]
 fn numbers_of_calls(rt: HostRuntime) {
     for (call, number) in &CALLS {
-        assert_eq!(&rt; call.number(), *number);
+        assert!(rt; call.number() == *number, "{number}");
     }
-}
-
-fn check_flags(rt: &impl Abort, call: &Call, flags: RowFlags) {
-    assert_eq!(rt; call.flags(), flags);
 }
 
 #[test]
 fn flags_of_calls(rt: HostRuntime) {
     let lease = Call::CreateLease { ids: IdList::new() };
-    assert_eq!(&rt; lease.number(), 0xC6);
-    check_flags(&rt, &lease, RowFlags::MASTER);
-    check_flags(&rt, &Call::Version, RowFlags::RENDER_ALLOW);
-    check_flags(&rt, &Call::Unknown(7), RowFlags::empty());
+    let are_so = lease.number() == 0xC6
+        && lease.flags() == RowFlags::MASTER
+        && Call::Version.flags() == RowFlags::RENDER_ALLOW
+        && Call::Unknown(7).flags() == RowFlags::empty();
+    assert!(rt; are_so);
 }
 
 const KINDS: [(u32, &str); 10] = [
@@ -307,19 +310,21 @@ const KINDS: [(u32, &str); 10] = [
     (10, "device"),
 ];
 
-fn check_kind(rt: &impl Abort, kind: AuditKind, number: u32, name: &str) {
-    assert_eq!(rt; kind.number(), number);
-    assert_eq!(rt; kind.name(), name);
-    assert_eq!(rt; AuditKind::of_number(number), Some(kind));
+fn is_kind(kind: AuditKind, number: u32, name: &str) -> bool {
+    kind.number() == number && kind.name() == name && AuditKind::of_number(number) == Some(kind)
 }
 
 #[test]
 fn kinds_of_an_audit(rt: HostRuntime) {
     for (kind, (number, name)) in AuditKind::ALL.iter().zip(&KINDS) {
-        check_kind(&rt, *kind, *number, name);
+        assert!(rt; is_kind(*kind, *number, name), "{name}");
     }
-    assert!(&rt; AuditKind::of_number(0).is_none());
-    assert!(&rt; AuditKind::of_number(11).is_none());
+    assert!(rt; AuditKind::of_number(0).is_none() && AuditKind::of_number(11).is_none());
+}
+
+/// Whether a copy of the event is the same.
+fn is_copied(event: &Event) -> Result<bool, AllocError> {
+    Ok(event.clone()? == *event)
 }
 
 #[test]
@@ -327,26 +332,17 @@ fn pages_and_copies(rt: HostRuntime) -> Result<(), Fail> {
     let row = audit_row(1, 28, 1, 0);
     let mut page = AuditPage::new();
     page.push(row);
-    assert_eq!(&rt; page.rows(), [row].as_slice());
     let mut list = ShownList::new();
     list.push(3);
     list.push(9);
-    assert_eq!(&rt; list.ids(), [3, 9].as_slice());
-    let call = Call::Audit {
-        kind: AuditKind::Hold,
-        from: 16,
-    };
-    let event = Event::Ask(7, call);
-    assert_eq!(&rt; event.clone()?, event);
-    Ok(())
-}
-
-#[test]
-fn ids_of_a_lease(rt: HostRuntime) -> Result<(), Fail> {
+    let kind = AuditKind::Hold;
+    let audit = Event::Ask(7, Call::Audit { kind, from: 16 });
     let ids = named(&[2, 4, u32::MAX]);
-    assert_eq!(&rt; ids.ids(), [2, 4, u32::MAX].as_slice());
-    let call = Call::CreateLease { ids };
-    assert_eq!(&rt; call.clone()?, call);
+    let are_so = page.rows() == [row].as_slice()
+        && list.ids() == [3, 9].as_slice()
+        && ids.ids() == [2, 4, u32::MAX].as_slice();
+    let lease = Event::Ask(7, Call::CreateLease { ids });
+    assert!(rt; are_so && is_copied(&audit)? && is_copied(&lease)?);
     Ok(())
 }
 
@@ -356,10 +352,10 @@ fn fields_of_a_lease(rt: HostRuntime) -> Result<(), Fail> {
         ids: named(&[2, 4, u32::MAX]),
     };
     let (kind, fields) = call.row().ok_or("a call has no row")?;
-    assert_eq!(&rt; kind, CallKind::CreateLease);
     let ids = [Field::U32(2), Field::U32(4), Field::U32(u32::MAX)];
-    assert_eq!(&rt; fields.as_slice(), ids.as_slice());
-    assert_eq!(&rt; kind.call(&[Field::U32(2), Field::U64(4)]), None);
+    let is_row = kind == CallKind::CreateLease && fields.as_slice() == ids.as_slice();
+    let is_call = kind.call(&[Field::U32(2), Field::U64(4)]).is_some();
+    assert!(rt; is_row && !is_call);
     Ok(())
 }
 
@@ -377,8 +373,11 @@ const NO_LIMITS: [Limits; 2] = [
 
 #[test]
 fn ranges_of_the_limits(rt: HostRuntime) {
-    assert!(&rt; are_in_range(Limits::PROGRAM));
-    for limits in NO_LIMITS {
-        assert!(&rt; !are_in_range(limits));
-    }
+    let [clients, journal] = NO_LIMITS;
+    let are = [
+        are_in_range(Limits::PROGRAM),
+        are_in_range(clients),
+        are_in_range(journal),
+    ];
+    same(&rt, &are, &[true, false, false], 0);
 }

@@ -1,0 +1,7 @@
+use Rattle.drm_leases.specs.Calls.{IsNewLessee}
+use Rattle.drm_leases.specs.Agreed.{AreAgreed}
+use Rattle.drm_part_tests.specs.Older.{IsBefore}
+use Rattle.drm_part_tests.proofs.leases.check.Given as goal
+
+abbrev pub invariant-loop-ask : goal.invariant-loop-ask
+invariant-loop-ask g l = IsBefore l.masters l.birth × IsNewLessee l.leases l.birth × AreAgreed l.leases l.masters
