@@ -47,7 +47,7 @@ use Rattle.drm_leases.specs.Leases.{LeaseSet, AreLeases, no_leases}
 use Rattle.drm_leases.specs.Calls.{IsNewLessee}
 use Rattle.drm_state.specs.declared.state.State.{State}
 use Rattle.drm_device.specs.Device.{history_of, IsDevice}
-use Rattle.drm_state.specs.Parts.{client_row_of, master_row_of, magic_row_of, object_row_of, hold_row_of, holds_of, name_row_of, token_row_of, tokens_of, grant_row_of, grants_of, framebuffer_row_of, framebuffers_of, shown_row_of, keys_of, token_keys, framebuffer_keys, referring, referring_keys}
+use Rattle.drm_state.specs.Parts.{client_row_of, master_row_of, magic_row_of, object_row_of, hold_row_of, holds_of, name_row_of, token_row_of, tokens_of, grant_row_of, grants_of, framebuffer_row_of, framebuffers_of, shown_row_of, keys_of, framebuffer_keys, referring, referring_keys}
 use Rattle.drm_leases.specs.Agreed.{AreAgreed}
 use Rattle.drm_state.specs.Ties.{Tie, MembersOpen, ClientsHave, MastersAre, MagicsSuffice, LesseesFew, LeasesAre, TokensOfLessees, KeptHaveTokens, LeasesAgree, ModesAre, HasMaster, HoldsRise, ObjectsCounted, NamesHeld, is_tied, IsTied, IsLater, IsReady, AreTied, AreNamed, AreOfLessees, AreKeptBy}
 use Rattle.drm_model.specs.Parts.{Part, Bounds, Masters, Magics, Holds, Clients, Objects, Names, Tokens, Grants, Framebuffers, Shown, DeviceMaster, LastToken, LastLeaseToken, count_in}

@@ -1,16 +1,10 @@
-use Rattle.std.proofs.Common.{◌≡◌, ℕ, [], ◌∷◌, None, Some, Option, List, refl, sym, ◌∙◌, ap}
+use Rattle.std.proofs.Common.{◌≡◌, ℕ, [], ◌∷◌, None, Some, Option, List, sym, ◌∙◌, ap}
 use Rattle.std.specs.Prelude.{slice_get}
-use Rattle.drm_lists.specs.Orders.{sorted_by}
-use Rattle.drm_table.specs.declared.audits.AuditKind.{AuditKind}
-use Rattle.drm_table.specs.declared.audits.AuditKind.TheVariants as kinds
-use Rattle.drm_model.specs.Rows.{Rows}
-use Rattle.drm_model.specs.Audit.{audit_row, or_zero, client_audit, master_audit, audit_rows, rising_rows}
-use Rattle.drm_state.specs.declared.state.State.{State}
+use Rattle.drm_model.specs.Audit.{audit_row, or_zero, client_audit, master_audit}
 use Rattle.drm_state.specs.Parts.{client_row_by, client_row_of, master_row_of, magic_row_of}
 use Rattle.drm_masters.specs.declared.rows.Master.{Master}
 use Rattle.std.specs.Option.{option_and_then}
 use Rattle.drm_state.proofs.Magics.{magic_is}
-use Rattle.drm_state.specs.Refinement.{Represents}
 use Rattle.drm_device.specs.Audits.{IsRowAt}
 use Rattle.drm_device.proofs.AuditRows.{object_row_at, client_rows, master_rows, hold_rows, name_rows, token_rows, grant_rows, framebuffer_rows, shown_audits, device_rows, row_of_item}
 use Rattle.drm_device.proofs.audits.row_at.Goals as goal

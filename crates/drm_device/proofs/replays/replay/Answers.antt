@@ -3,8 +3,6 @@ use Rattle.drm_table.specs.declared.events.Event.{Event}
 use Rattle.drm_table.specs.declared.limits.Limits.{Limits}
 use Rattle.drm_modes.specs.Topology.{Topology}
 use Rattle.drm_table.specs.declared.apart.Apart.{Apart}
-use Rattle.drm_table.specs.declared.events.Event.TheVariants.{Open}
-use Rattle.drm_table.specs.declared.events.Opening.TheVariants.{Primary}
 use Rattle.std.proofs.Common.{get_or}
 use Rattle.std.proofs.lemmas.Option.{slice_get-get_or}
 use Rattle.std.proofs.lemmas.List.{take_all, length-take-le}
