@@ -63,6 +63,15 @@ impl Places {
         }
     }
 
+    /// Takes in a socket at a place of its own, and gives that. Where there is no room it isn't taken in: no memory is asked for.
+    fn take_in(&mut self, attending: Attending) -> usize {
+        let place = self.places.len();
+        if place < self.places.capacity() {
+            self.places.push_reserved(Some(attending));
+        }
+        place
+    }
+
     fn put(&mut self, place: usize, attending: Option<Attending>) {
         if let Some(slot) = self.places.get_mut(place) {
             *slot = attending;
@@ -135,12 +144,11 @@ impl OpenConnections {
             is_admitted: false,
         };
         let mut places = self.places.lock(rt);
-        let place = places.places.len();
         if places.has_ended {
             shutdown(socket, SHUT_RDWR);
         }
         // there is room; without it a connection would be served, and not be ended
-        let _ = places.places.push(Some(attending));
+        let place = places.take_in(attending);
         Attendance {
             rt,
             open: self,
