@@ -1,5 +1,6 @@
 //! Files with right and wrong expectations, whole and cut.
 
+use crate::comparing::same;
 use crate::cuts::{Cut, sink_of, source_of};
 use drm_checks::{Report, Totals, check_script, write_malformed, write_totals};
 use drm_runs::ScriptEnd;
@@ -129,8 +130,8 @@ fn check_file(
         passed: file.passed,
         failed: file.failed,
     };
-    assert_eq!(rt; report, expected);
-    assert_eq!(rt; sink.written(), file.told);
+    same(rt, &report, &expected, piece);
+    same(rt, &sink.written(), &file.told, piece);
 }
 
 #[test]
@@ -192,13 +193,14 @@ fn totals_of_files(rt: HostRuntime) {
         failed: 3,
         malformed: 1,
     };
-    assert_eq!(rt; totals, sums);
+    same(&rt, &totals, &sums, "sums");
     let mut turns = 9;
     let mut sink: CutSink<512> = CutSink::new(512);
-    let written = write_totals(&totals, &mut sink, &mut turns);
-    assert_eq!(rt; written, Written::Whole);
-    let written = write_malformed("f", 12, &mut sink, &mut turns);
-    assert_eq!(rt; written, Written::Whole);
+    let written = [
+        write_totals(&totals, &mut sink, &mut turns),
+        write_malformed("f", 12, &mut sink, &mut turns),
+    ];
+    same(&rt, &written, &[Written::Whole, Written::Whole], "ends");
     let text = b"8 passed, 3 failed\nf:12: malformed\n";
-    assert_eq!(rt; sink.written(), text.as_slice());
+    same(&rt, &sink.written(), &text.as_slice(), "text");
 }

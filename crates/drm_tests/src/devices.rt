@@ -1,14 +1,15 @@
 //! Devices by their public calls: what makes one, what it notes and tells, and what is replayed. Scripts show the rest.
 //!
-//! A function that owns a device takes long to prove, so two own one, and lend it to what is tried.
+//! A function that lets a device go takes long to prove, so one does, and lends it to what is tried.
 
+use crate::comparing::same;
 use crate::journals::CASES;
 use crate::lists::row;
 use crate::rows::{Place, Row};
 use crate::steps::{ask_line, ask_lines, limits_of};
 use drm_device::{Device, NewFault, PlaneKind, ReplayFault, Topology, replay};
 use drm_script::Label;
-use drm_table::{Apart, AuditKind, Event, Limits, Opening};
+use drm_table::{Apart, AuditKind, AuditRow, Event, Limits, Opening};
 use std::alloc::Global;
 use std::process::Abort;
 use std::test::Fail;
@@ -29,35 +30,18 @@ pub(crate) fn new_device(alloc: Global, limits: Limits) -> Result<Device, Fail> 
     Ok(Device::new(alloc, test_topology()?, limits)?)
 }
 
-/// Tries this on a new device within these limits, and gives the fault where there is none.
-fn try_on_made<T: Trial>(
+/// Tries this on a device that is made, and gives the fault where there is none.
+pub(crate) fn lend<F: Drop, T: Trial>(
     rt: &impl Abort,
     alloc: Global,
-    limits: Limits,
+    made: Result<Device, F>,
     trial: &T,
-) -> Result<Option<NewFault>, Fail> {
-    match Device::new(alloc, test_topology()?, limits) {
-        Ok(mut device) => {
-            trial.run(rt, alloc, &mut device)?;
-            Ok(None)
-        }
-        Err(fault) => Ok(Some(fault)),
-    }
-}
-
-/// Tries this on the device that these events give within these limits, and gives the fault where there is none.
-fn try_on_replayed<T: Trial>(
-    rt: &impl Abort,
-    alloc: Global,
-    limits: Limits,
-    events: &[Event],
-    trial: &T,
-) -> Result<Option<ReplayFault>, Fail> {
-    match replay(alloc, test_topology()?, limits, events) {
-        Ok(mut device) => {
-            trial.run(rt, alloc, &mut device)?;
-            Ok(None)
-        }
+) -> Result<Option<F>, Fail> {
+    match made {
+        Ok(mut device) => match trial.run(rt, alloc, &mut device) {
+            Ok(()) => Ok(None),
+            Err(fail) => Err(fail),
+        },
         Err(fault) => Ok(Some(fault)),
     }
 }
@@ -69,7 +53,8 @@ pub(crate) fn try_on_new<T: Trial>(
     limits: Limits,
     trial: &T,
 ) -> Result<(), Fail> {
-    match try_on_made(rt, alloc, limits, trial)? {
+    let made = Device::new(alloc, test_topology()?, limits);
+    match lend(rt, alloc, made, trial)? {
         Some(fault) => Err(fault.into()),
         None => Ok(()),
     }
@@ -81,7 +66,7 @@ struct HasJournal<'a>(&'a [Event]);
 
 impl Trial for HasJournal<'_> {
     fn run(&self, rt: &impl Abort, alloc: Global, device: &mut Device) -> Result<(), Fail> {
-        assert_eq!(rt; device.journal(), self.0);
+        same(rt, &device.journal(), &self.0, "journal");
         Ok(())
     }
 }
@@ -98,23 +83,31 @@ fn are_bad(rt: &impl Abort, alloc: Global, limits: [u32; 8]) -> Result<bool, Fai
         lessees: limits[6],
         journal: limits[7],
     };
-    let fault = try_on_made(rt, alloc, limits, &HasJournal(&[]))?;
-    Ok(matches!(fault, Some(NewFault::BadLimits)))
+    let made = Device::new(alloc, test_topology()?, limits);
+    Ok(lend(rt, alloc, made, &HasJournal(&[]))? == Some(NewFault::BadLimits))
 }
+
+/// The least and the greatest limits, in the order of the fields.
+const LEAST: [u32; 8] = [1, 1, 1, 1, 1, 1, 1, 2];
+
+const GREATEST: [u32; 8] = [1024, 65_535, 65_535, 65_535, 65_535, 64, 64, 100_000];
 
 #[test]
 fn limits_out_of_range(rt: HostRuntime) -> Result<(), Fail> {
-    let least = [1, 1, 1, 1, 1, 1, 1, 2];
-    let greatest = [1024, 65_535, 65_535, 65_535, 65_535, 64, 64, 100_000];
-    assert!(&rt; !are_bad(&rt, rt.alloc(), least)?);
-    assert!(&rt; !are_bad(&rt, rt.alloc(), greatest)?);
+    same(&rt, &are_bad(&rt, rt.alloc(), LEAST)?, &false, "least");
+    same(
+        &rt,
+        &are_bad(&rt, rt.alloc(), GREATEST)?,
+        &false,
+        "greatest",
+    );
     for place in 0..8 {
-        let mut below = least;
+        let mut below = LEAST;
         below[place] = below[place].saturating_sub(1);
-        assert!(&rt; are_bad(&rt, rt.alloc(), below)?, "{below:?}");
-        let mut above = greatest;
+        same(&rt, &are_bad(&rt, rt.alloc(), below)?, &true, place);
+        let mut above = GREATEST;
         above[place] = above[place].saturating_add(1);
-        assert!(&rt; are_bad(&rt, rt.alloc(), above)?, "{above:?}");
+        same(&rt, &are_bad(&rt, rt.alloc(), above)?, &true, place);
     }
     Ok(())
 }
@@ -133,28 +126,36 @@ pub(crate) struct Case {
     pub(crate) further_pages: &'static [Page],
 }
 
+/// Whether these are the rows of a page.
+fn are_rows(found: &[AuditRow], rows: &[[u64; 4]]) -> bool {
+    found.len() == rows.len()
+        && found
+            .iter()
+            .zip(rows)
+            .all(|(found, [a, b, c, d])| *found == row(*a, *b, *c, *d))
+}
+
 fn check_pages(rt: &impl Abort, device: &Device, pages: &[Page], name: &str) {
     for (kind, from, rows) in pages {
-        let page = device.audit(*kind, *from);
-        assert_eq!(rt; page.rows().len(), rows.len(), "{name}");
-        for (found, [a, b, c, d]) in page.rows().iter().zip(*rows) {
-            assert_eq!(rt; *found, row(*a, *b, *c, *d), "{name}");
-        }
+        let is_so = are_rows(device.audit(*kind, *from).rows(), rows);
+        assert!(rt; is_so, "{name}: {kind:?} {from}");
     }
 }
 
-/// Both hold the same rows of a kind, on all pages.
-fn check_rows(rt: &impl Abort, device: &Device, again: &Device, kind: AuditKind) {
+/// Whether both hold the same rows of a kind, on all pages.
+fn have_same_rows(device: &Device, again: &Device, kind: AuditKind) -> bool {
     let mut from = 0_u32;
     for _ in 0..10_000 {
         let page = device.audit(kind, from);
-        assert_eq!(rt; again.audit(kind, from), page);
+        if again.audit(kind, from) != page {
+            return false;
+        }
         if page.rows().is_empty() {
-            return;
+            return true;
         }
         from = from.saturating_add(page.rows().len() as u32);
     }
-    assert!(rt; false, "there is no last page");
+    false
 }
 
 /// The labels of a script's clients.
@@ -162,28 +163,28 @@ type Labels = [u32; Label::COUNT];
 
 impl Case {
     /// Asks further, and compares what the device then holds.
-    fn go_on(&self, rt: &impl Abort, device: &mut Device, labels: Labels) -> Result<(), Fail> {
+    fn go_on(&self, rt: &impl Abort, device: &mut Device, labels: Labels) {
         let mut labels = labels;
         for (index, line) in self.further.lines().enumerate() {
             let place = Place {
                 row: self.row.name,
                 line: index.saturating_add(1),
             };
-            ask_line(rt, device, &mut labels, line, place)?;
+            ask_line(rt, device, &mut labels, line, place);
         }
         check_pages(rt, device, self.further_pages, self.row.name);
-        Ok(())
     }
 }
 
 impl Trial for Case {
     fn run(&self, rt: &impl Abort, alloc: Global, device: &mut Device) -> Result<(), Fail> {
         let mut labels = [0; Label::COUNT];
-        ask_lines(rt, alloc, device, &mut labels, &self.row)?;
-        assert_eq!(rt; device.journal_left(), self.left, "{}", self.row.name);
+        ask_lines(rt, device, &mut labels, &self.row);
+        same(rt, &device.journal_left(), &self.left, self.row.name);
         check_pages(rt, device, self.pages, self.row.name);
         self.check_again(rt, alloc, device, labels)?;
-        self.go_on(rt, device, labels)
+        self.go_on(rt, device, labels);
+        Ok(())
     }
 }
 
@@ -197,11 +198,16 @@ struct Again<'a> {
 
 impl Trial for Again<'_> {
     fn run(&self, rt: &impl Abort, alloc: Global, device: &mut Device) -> Result<(), Fail> {
-        assert_eq!(rt; device.journal(), self.first.journal());
+        let first = self.first;
+        let case = self.case;
+        let name = case.row.name;
+        same(rt, &device.journal(), &first.journal(), name);
         for kind in AuditKind::ALL {
-            check_rows(rt, self.first, device, kind);
+            let are_same = have_same_rows(first, device, kind);
+            same(rt, &are_same, &true, name);
         }
-        self.case.go_on(rt, device, self.labels)
+        case.go_on(rt, device, self.labels);
+        Ok(())
     }
 }
 
@@ -220,7 +226,8 @@ impl Case {
             labels,
         };
         let limits = limits_of(self.row.script);
-        match try_on_replayed(rt, alloc, limits, device.journal(), &again)? {
+        let replayed = replay(alloc, test_topology()?, limits, device.journal());
+        match lend(rt, alloc, replayed, &again)? {
             Some(fault) => Err(fault.into()),
             None => Ok(()),
         }
@@ -253,14 +260,15 @@ fn check_replay(
     events: &[Event],
     fault: Option<ReplayFault>,
 ) -> Result<(), Fail> {
-    match try_on_replayed(rt, alloc, limits, events, &HasJournal(events))? {
+    let replayed = replay(alloc, test_topology()?, limits, events);
+    match lend(rt, alloc, replayed, &HasJournal(events))? {
         Some(
             ReplayFault::Stopped {
                 at,
                 apart: Apart::NoMemory,
             },
-        ) => assert!(rt; 1 <= at && at <= events.len()),
-        found => assert_eq!(rt; found, fault),
+        ) => same(rt, &(1 <= at && at <= events.len()), &true, at),
+        found => same(rt, &found, &fault, "fault"),
     }
     Ok(())
 }

@@ -1,5 +1,6 @@
 //! Serves sessions of frames, and compares what is written byte for byte and reads it back.
 
+use crate::comparing::same;
 use crate::devices::{Trial, try_on_new};
 use crate::lease_frames::{late, lessee, lessee_is_told, owner, owner_is_told};
 use crate::lists::named;
@@ -83,10 +84,11 @@ fn serves(
         client: dialogue.client,
         steps: dialogue.steps,
     };
-    assert_eq!(rt; session, ended);
-    assert_eq!(rt; gate.requests.wrapping_add(1), dialogue.exchanges.len());
+    same(rt, &session, &ended, "session");
+    let requests = gate.requests.wrapping_add(1);
+    same(rt, &requests, &dialogue.exchanges.len(), "requests");
     let written = sink.into_inner();
-    assert_eq!(rt; written.as_slice(), wanted.as_slice());
+    same(rt, &written.as_slice(), &wanted.as_slice(), "written");
     reads_back(rt, written.as_slice(), dialogue.says)
 }
 
@@ -100,11 +102,11 @@ fn reads_back(rt: &impl Abort, written: &[u8], says: &[Answer]) -> Result<(), Fa
         let Some(Ok(read)) = answer_of(&frame) else {
             return Err("no answer".into());
         };
-        assert_eq!(rt; &read, answer);
+        same(rt, &read, answer, "answer");
         let (_, behind) = rest.split_at(used);
         rest = behind;
     }
-    assert_eq!(rt; rest.len(), 0);
+    same(rt, &rest.len(), &0, "bytes that are left");
     Ok(())
 }
 
@@ -114,10 +116,10 @@ fn lend(rt: &impl Abort, device: &mut Device) {
         root: false,
         universal: true,
     }));
-    assert_eq!(rt; opened, Ok(Answer::Opened { client: 1 }));
+    same(rt, &opened, &Ok(Answer::Opened { client: 1 }), "opening");
     let ids = named(&[2, 4, 8]);
     let leased = device.step(Event::Ask(1, Call::CreateLease { ids }));
-    assert_eq!(rt; leased, Ok(Answer::Lease { id: 1, token: 1 }));
+    same(rt, &leased, &Ok(Answer::Lease { id: 1, token: 1 }), "lease");
 }
 
 /// Dialogues one after the other on a new device, which may have a lease.

@@ -1,5 +1,6 @@
 //! What the program tells of the ends of runs and listings, and of faults.
 
+use crate::comparing::same;
 use drm_checks::Totals;
 use drm_server::{
     Fault, ListEnd, ScriptEnd, ServeFault, outcome_of, outcome_of_checks, outcome_of_fault,
@@ -29,13 +30,21 @@ const LISTINGS: [(ListEnd, u8, &str); 3] = [
 fn ends_of_scripts_and_listings(rt: HostRuntime) {
     for (end, status, line) in ENDS {
         let outcome = outcome_of(&end);
-        assert_eq!(&rt; outcome.status, status);
-        assert_eq!(&rt; outcome.line.as_str(), line);
+        same(
+            &rt,
+            &(outcome.status, outcome.line.as_str()),
+            &(status, line),
+            line,
+        );
     }
     for (end, status, line) in LISTINGS {
         let outcome = outcome_of_listing(&end);
-        assert_eq!(&rt; outcome.status, status);
-        assert_eq!(&rt; outcome.line.as_str(), line);
+        same(
+            &rt,
+            &(outcome.status, outcome.line.as_str()),
+            &(status, line),
+            line,
+        );
     }
 }
 
@@ -56,8 +65,12 @@ fn ends_of_checks(rt: HostRuntime) {
             malformed,
         };
         let outcome = outcome_of_checks(&totals);
-        assert_eq!(&rt; outcome.status, status);
-        assert_eq!(&rt; outcome.line.as_str(), "");
+        same(
+            &rt,
+            &(outcome.status, outcome.line.as_str()),
+            &(status, ""),
+            passed,
+        );
     }
 }
 
@@ -89,8 +102,12 @@ fn faults_in_words(rt: HostRuntime) {
     ];
     for (fault, status, line) in rows {
         let outcome = outcome_of_fault(fault);
-        assert_eq!(&rt; outcome.status, status);
-        assert_eq!(&rt; outcome.line.as_str(), line);
+        same(
+            &rt,
+            &(outcome.status, outcome.line.as_str()),
+            &(status, line),
+            line,
+        );
     }
 }
 
@@ -113,7 +130,7 @@ fn texts_that_are_logged(rt: HostRuntime) -> Result<(), Fail> {
     let alloc: Global = rt.alloc();
     for (fault, text) in TEXTS {
         let shown = format!(in alloc; "{fault}")?;
-        assert_eq!(rt; shown.as_str(), text);
+        same(&rt, &shown.as_str(), &text, text);
     }
     Ok(())
 }

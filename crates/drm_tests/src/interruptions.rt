@@ -1,16 +1,28 @@
 //! What taking and putting over interruptions come to at each cut.
 ghost use Rattle.std.specs.Prelude.{◌+◌, ◌<◌, ◌^◌};
 
+use crate::comparing::same;
+use crate::cuts::{Cut, sink_of, source_of};
 use arrayvec::ArrayVec;
 use drm_streams::{Refill, Sink, Written, put_all, take_some};
-use drm_test_streams::{CutSink, CutSource};
+use drm_test_streams::CutSource;
 use std::process::Abort;
 
 const TEXT: &[u8] = b"one frame and one more";
 
-/// Takes all that the source gives, which are the first `count` bytes of the text, and says what
-/// came after them.
-fn drained(rt: &impl Abort, mut source: CutSource<'_>, mut turns: u64, count: usize) -> Refill
+/// What takes of pieces of so many bytes, or puts, come to over a source or a sink that is cut, with so many turns: how they end,
+/// and how many bytes are taken or written.
+#[derive(Clone, Copy)]
+struct Piece<E> {
+    size: usize,
+    cut: Cut,
+    turns: u64,
+    end: E,
+    bytes: usize,
+}
+
+/// Takes all that the source gives, and says how many bytes of the text these are, and what came after them.
+fn drained(mut source: CutSource<'_>, mut turns: u64) -> (Refill, usize)
     requires { source.counts.calls + turns < 2 ^ 48 }
 {
     let mut bytes = ArrayVec::<u8, 64>::new();
@@ -18,111 +30,155 @@ fn drained(rt: &impl Abort, mut source: CutSource<'_>, mut turns: u64, count: us
     'pieces: for _ in 0..=TEXT.len() {
         match take_some(&mut source, &mut buffer, &mut turns) {
             Refill::Got(got) => {
-                assert!(rt; bytes.try_extend_from_slice(&buffer[..got]).is_ok());
+                if bytes.try_extend_from_slice(&buffer[..got]).is_err() {
+                    return (Refill::Got(got), 0);
+                }
             }
-            last => {
-                assert_eq!(rt; bytes.as_slice(), &TEXT[..count.min(TEXT.len())]);
-                return last;
-            }
+            last => return (last, front_of(&bytes)),
         }
     }
-    Refill::Got(0)
+    (Refill::Got(0), 0)
 }
+
+/// How many bytes these are, if they are the first ones of the text.
+fn front_of(bytes: &[u8]) -> usize {
+    if TEXT.starts_with(bytes) {
+        bytes.len()
+    } else {
+        usize::MAX
+    }
+}
+
+fn check_taking(rt: &impl Abort, piece: Piece<Refill>) {
+    let source = source_of(TEXT, piece.size, piece.cut);
+    let taken = drained(source, piece.turns.min(100_000));
+    same(rt, &taken, &(piece.end, piece.bytes), piece.size);
+}
+
+/// Puts the text, and gives how many calls of the sink are made.
+fn check_putting(rt: &impl Abort, piece: Piece<Written>) -> u64 {
+    let mut sink = sink_of(piece.size, piece.cut);
+    let mut turns = piece.turns.min(100_000);
+    let put = put_all(&mut sink, TEXT, &mut turns);
+    let put = (put, front_of(sink.written()));
+    same(rt, &put, &(piece.end, piece.bytes), piece.size);
+    sink.calls()
+}
+
+/// All is taken, and all is put.
+const TAKEN: Piece<Refill> = Piece {
+    size: 3,
+    cut: Cut::Never,
+    turns: 100,
+    end: Refill::End,
+    bytes: 22,
+};
+
+const PUT: Piece<Written> = Piece {
+    size: 3,
+    cut: Cut::Never,
+    turns: 100,
+    end: Written::Whole,
+    bytes: 22,
+};
 
 #[test]
 fn pieces_join_to_the_whole(rt: HostRuntime) {
-    for (piece, calls) in [(1, 22), (2, 11), (3, 8), (7, 4), (64, 1)] {
-        let source = CutSource::new(TEXT, piece);
-        assert_eq!(rt; drained(&rt, source, 100, 22), Refill::End, "in {piece}s");
-        let mut sink = CutSink::<64>::new(piece);
-        assert_eq!(rt;
-            put_all(&mut sink, TEXT, &mut 100),
-            Written::Whole,
-            "in {piece}s"
-        );
-        assert_eq!(rt; sink.written(), TEXT, "in {piece}s");
-        assert_eq!(rt; sink.calls(), calls, "in {piece}s");
+    for (size, calls) in [(1, 22), (2, 11), (3, 8), (7, 4), (64, 1)] {
+        check_taking(&rt, Piece { size, ..TAKEN });
+        let made = check_putting(&rt, Piece { size, ..PUT });
+        same(&rt, &made, &calls, size);
     }
 }
 
-#[test]
-fn interruptions_are_passed_over_until_the_last(rt: HostRuntime) {
-    for at in [0, 5, 21] {
-        let source = CutSource::new(TEXT, 3);
-        let source = source.interrupted(999, at);
-        assert_eq!(rt; drained(&rt, source, 10_000, 22), Refill::End, "at {at}");
-        let source = CutSource::new(TEXT, 3).interrupted(1000, at);
-        assert_eq!(rt; drained(&rt, source, 10_000, at), Refill::Fault, "at {at}");
-        let mut sink = CutSink::<64>::new(3).interrupted(999, at);
-        assert_eq!(rt;
-            put_all(&mut sink, TEXT, &mut 10_000),
-            Written::Whole,
-            "at {at}"
-        );
-        assert_eq!(rt; sink.written(), TEXT, "at {at}");
-        let mut sink = CutSink::<64>::new(3).interrupted(1000, at);
-        assert_eq!(rt;
-            put_all(&mut sink, TEXT, &mut 10_000),
-            Written::Fault,
-            "at {at}"
-        );
-        assert_eq!(rt; sink.written(), &TEXT[..at], "at {at}");
-    }
-}
-
-#[test]
-fn interruptions_are_counted_anew_after_each_piece(rt: HostRuntime) {
-    let source = CutSource::new(TEXT, 7).interrupted_every(999, 2);
-    assert_eq!(rt; drained(&rt, source, 12_000, 22), Refill::End);
-    let source = CutSource::new(TEXT, 7).interrupted_every(999, 2);
-    assert_eq!(rt; drained(&rt, source, 11_999, 22), Refill::TurnsUsed);
-    let mut sink = CutSink::<64>::new(7).interrupted_every(999, 2);
-    assert_eq!(rt; put_all(&mut sink, TEXT, &mut 100_000), Written::Whole);
-    assert_eq!(rt; sink.written(), TEXT);
-    assert_eq!(rt; sink.calls(), 11_000);
-}
-
+/// A text that is cut at each byte ends with the bytes before it. Interruptions are passed over until the last, and counted anew
+/// after each piece.
 #[test]
 fn each_cut_ends_with_the_bytes_before_it(rt: HostRuntime) {
-    for at in 0..22 {
-        let source = CutSource::new(TEXT, 3);
-        assert_eq!(rt;
-            drained(&rt, source.ending_at(at), 100, at),
-            Refill::End,
-            "at {at}"
-        );
-        let source = CutSource::new(TEXT, 3);
-        assert_eq!(rt;
-            drained(&rt, source.faulting_at(at), 100, at),
-            Refill::Fault,
-            "at {at}"
-        );
-        let mut sink = CutSink::<64>::new(3).faulting_at(at);
-        assert_eq!(rt;
-            put_all(&mut sink, TEXT, &mut 100),
-            Written::Fault,
-            "at {at}"
-        );
-        assert_eq!(rt; sink.written(), &TEXT[..at], "at {at}");
-        let mut sink = CutSink::<64>::new(3).refusing_at(at);
-        assert_eq!(rt;
-            put_all(&mut sink, TEXT, &mut 100),
-            Written::Fault,
-            "at {at}"
-        );
-        assert_eq!(rt; sink.written(), &TEXT[..at], "at {at}");
+    for bytes in 0..22usize {
+        let takings = [
+            (Cut::End(bytes), Refill::End, bytes),
+            (Cut::Fault(bytes), Refill::Fault, bytes),
+            (Cut::Interrupted(999, bytes), Refill::End, 22),
+            (Cut::Interrupted(1_000, bytes), Refill::Fault, bytes),
+        ];
+        for (cut, end, bytes) in takings {
+            let turns = 10_000;
+            check_taking(
+                &rt,
+                Piece {
+                    cut,
+                    turns,
+                    end,
+                    bytes,
+                    ..TAKEN
+                },
+            );
+        }
+        let puttings = [
+            (Cut::End(bytes), Written::Fault, bytes),
+            (Cut::Fault(bytes), Written::Fault, bytes),
+            (Cut::Interrupted(999, bytes), Written::Whole, 22),
+            (Cut::Interrupted(1_000, bytes), Written::Fault, bytes),
+        ];
+        for (cut, end, bytes) in puttings {
+            let turns = 10_000;
+            check_putting(
+                &rt,
+                Piece {
+                    cut,
+                    turns,
+                    end,
+                    bytes,
+                    ..PUT
+                },
+            );
+        }
     }
 }
 
+/// Pieces of seven bytes: how they are cut, how many turns there are, and what comes of it.
+const TAKINGS: [(Cut, u64, Refill, usize); 4] = [
+    (Cut::Never, 4, Refill::TurnsUsed, 22),
+    (Cut::Never, 5, Refill::End, 22),
+    (Cut::Interruptions(999), 23_000, Refill::End, 22),
+    (Cut::Interruptions(999), 22_999, Refill::TurnsUsed, 22),
+];
+
+/// The same of puts, with the calls that are made.
+const PUTTINGS: [(Cut, u64, Written, usize, u64); 3] = [
+    (Cut::Never, 3, Written::TurnsUsed, 21, 3),
+    (Cut::Never, 4, Written::Whole, 22, 4),
+    (Cut::Interruptions(999), 100_000, Written::Whole, 22, 22_000),
+];
+
+/// Turns are used up only where one is wanted.
 #[test]
-fn turns_are_used_up_only_where_one_is_wanted(rt: HostRuntime) {
-    let source = CutSource::new(TEXT, 7);
-    assert_eq!(rt; drained(&rt, source, 4, 22), Refill::TurnsUsed);
-    let source = CutSource::new(TEXT, 7);
-    assert_eq!(rt; drained(&rt, source, 5, 22), Refill::End);
-    let mut sink = CutSink::<64>::new(7);
-    assert_eq!(rt; put_all(&mut sink, TEXT, &mut 3), Written::TurnsUsed);
-    assert_eq!(rt; sink.written(), &TEXT[..21]);
-    let mut sink = CutSink::<64>::new(7);
-    assert_eq!(rt; put_all(&mut sink, TEXT, &mut 4), Written::Whole);
+fn turns_of_pieces(rt: HostRuntime) {
+    let size = 7;
+    for (cut, turns, end, bytes) in TAKINGS {
+        check_taking(
+            &rt,
+            Piece {
+                size,
+                cut,
+                turns,
+                end,
+                bytes,
+            },
+        );
+    }
+    for (cut, turns, end, bytes, calls) in PUTTINGS {
+        let made = check_putting(
+            &rt,
+            Piece {
+                size,
+                cut,
+                turns,
+                end,
+                bytes,
+            },
+        );
+        same(&rt, &made, &calls, turns);
+    }
 }

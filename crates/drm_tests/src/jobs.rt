@@ -3,12 +3,14 @@
 ghost use Rattle.std.specs.Prelude.{◌≡◌};
 ghost use Rattle.drm_streams.specs.Streams.{no_calls};
 
-use crate::devices::new_device;
+use crate::comparing::same;
+use crate::devices::{Trial, new_device};
+use crate::turns::{lend_back, shared};
+use drm_device::Device;
 use drm_sessions::{Class, Finished, Gate, Job, SessionEnd, serve_many};
 use drm_streams::{FromRead, ToWrite};
 use drm_table::{Event, Limits};
-use drm_turns::SharedDevice;
-use std::alloc::Global;
+use std::alloc::{AllocError, Global};
 use std::process::Abort;
 use std::sync::atomic::{AtomicBool, Ordering};
 use std::test::Fail;
@@ -80,24 +82,40 @@ fn job<'a, G>(
     }
 }
 
-/// Compares how a session ended, and how many steps it made.
-fn ended<S, K>(rt: &impl Abort, finished: Option<&Finished<S, K>>, steps: u64) {
+/// How a session ended, and how many steps it made.
+fn ended<S, K>(finished: Option<&Finished<S, K>>) -> Option<(SessionEnd, u64)> {
     match finished {
-        Some(finished) => {
-            assert_eq!(rt; finished.session.end, SessionEnd::Ended);
-            assert_eq!(rt; finished.session.steps, steps);
-        }
-        None => assert!(rt; false, "a session is missing"),
+        Some(finished) => Some((finished.session.end, finished.session.steps)),
+        None => None,
     }
 }
+
+/// Both sessions stand in the journal.
+struct Journal;
+
+impl Trial for Journal {
+    fn run(&self, rt: &impl Abort, _alloc: Global, device: &mut Device) -> Result<(), Fail> {
+        let openings = device
+            .journal()
+            .iter()
+            .filter(|event| matches!(event, Event::Open(_)))
+            .count();
+        same(
+            rt,
+            &(openings, device.journal().len()),
+            &(2, 7),
+            "openings and events",
+        );
+        Ok(())
+    }
+}
+
+/// The ends of two jobs whose gates wait for each other.
+type Ends = (usize, Option<(SessionEnd, u64)>, Option<(SessionEnd, u64)>);
 
 #[test]
 fn jobs_wait_for_each_other(rt: HostRuntime) -> Result<(), Fail> {
     let alloc: Global = rt.alloc();
-    let device = new_device(alloc, Limits::PROGRAM)?;
-    let Ok((shared, mut seat)) = SharedDevice::new(alloc, device) else {
-        return Err("no memory".into());
-    };
     let first = AtomicBool::new(false);
     let second = AtomicBool::new(false);
     let failed = AtomicBool::new(false);
@@ -111,19 +129,33 @@ fn jobs_wait_for_each_other(rt: HostRuntime) -> Result<(), Fail> {
     let mut jobs = Vec::new(alloc);
     jobs.push(job(alloc, gate(&first, &second, 1), &HELLO_VERSION_TWICE[..24]))?;
     jobs.push(job(alloc, gate(&second, &first, 2), &HELLO_VERSION_TWICE))?;
-    let sessions = serve_many(&rt, alloc, &shared, &mut seat, jobs).map_err(
-        |_| "the jobs were not served",
-    )?;
-    assert_eq!(rt; sessions.len(), 2);
-    ended(&rt, sessions.first(), 3);
-    ended(&rt, sessions.get(1), 4);
-    assert!(rt; !failed.load(Ordering::SeqCst));
-    let device = shared.close(seat).map_err(|_| "the device is out")?;
-    let openings = device
-        .journal()
-        .iter()
-        .filter(|event| matches!(event, Event::Open(_)));
-    assert_eq!(rt; openings.count(), 2);
-    assert_eq!(rt; device.journal().len(), 7);
-    Ok(())
+    let device = new_device(alloc, Limits::PROGRAM)?;
+    let played = match shared(alloc, device) {
+        Ok((shared, mut seat)) => {
+            let served = serve_many(&rt, alloc, &shared, &mut seat, jobs);
+            let told: Ends = match served {
+                Ok(sessions) => (
+                    sessions.len(),
+                    ended(sessions.first()),
+                    ended(sessions.get(1)),
+                ),
+                Err(_fault) => (0, None, None),
+            };
+            let expected = (
+                2,
+                Some((SessionEnd::Ended, 3)),
+                Some((SessionEnd::Ended, 4)),
+            );
+            same(&rt, &told, &expected, "sessions");
+            (shared.close(seat), Ok(()))
+        }
+        Err(device) => (Ok(device), Err(AllocError)),
+    };
+    same(
+        &rt,
+        &failed.load(Ordering::SeqCst),
+        &false,
+        "a gate waited in vain",
+    );
+    lend_back(&rt, alloc, played, &Journal)
 }

@@ -5,6 +5,8 @@
 #[cfg(test)]
 mod checks;
 #[cfg(test)]
+mod comparing;
+#[cfg(test)]
 mod cuts;
 #[cfg(test)]
 mod devices;
@@ -12,8 +14,6 @@ mod devices;
 mod exchanges;
 #[cfg(test)]
 mod faults;
-#[cfg(test)]
-mod histories;
 #[cfg(test)]
 mod interruptions;
 #[cfg(test)]

@@ -1,5 +1,6 @@
 //! Listings of a small device, whole and cut.
 
+use crate::comparing::same;
 use crate::cuts::{Cut, sink_of};
 use crate::devices::{Trial, try_on_new};
 use drm_device::Device;
@@ -43,8 +44,8 @@ fn check_listing(rt: &impl Abort, device: &Device, piece: usize, listing: Listin
     let (cut, turns, end, written) = listing;
     let mut sink = sink_of(piece, cut);
     let listed = list_audit(device, &mut sink, turns.min(100_000));
-    assert_eq!(rt; listed, end);
-    assert_eq!(rt; sink.written(), &LINES[..written.min(LINES.len())]);
+    let lines = &LINES[..written.min(LINES.len())];
+    same(rt, &(listed, sink.written()), &(end, lines), piece);
 }
 
 /// A sink that takes pieces of so many bytes takes the whole listing, and where it fails, takes nothing more or is interrupted too often,
@@ -64,7 +65,7 @@ struct Listed;
 impl Trial for Listed {
     fn run(&self, rt: &impl Abort, alloc: Global, device: &mut Device) -> Result<(), Fail> {
         for event in EVENTS {
-            assert!(rt; device.step(event).is_ok());
+            same(rt, &device.step(event).is_ok(), &true, "step");
         }
         for listing in LISTINGS {
             check_listing(rt, device, 512, listing);

@@ -1,6 +1,7 @@
 //! A lessee that stays connected while owners come and go: its lease ended with the first of them, and stays empty whichever keys
 //! are given again.
 
+use crate::comparing::same;
 use crate::devices::{Trial, try_on_new};
 use crate::lists::{named, row};
 use drm_device::Device;
@@ -36,12 +37,12 @@ fn one_round(rt: &impl Abort, device: &mut Device, owner: u32, token: u32) {
     lease(rt, device, owner, token);
     close(rt, device, owner);
     let seen = device.step(Event::Ask(3, Call::GetCrtc { crtc: 2 }));
-    assert_eq!(rt; seen, Ok(Answer::Denied(Rule::NoModeObject)));
+    same(rt, &seen, &Ok(Answer::Denied(Rule::NoModeObject)), owner);
 }
 
 fn open(rt: &impl Abort, device: &mut Device, opening: Opening, client: u32) {
     let opened = device.step(Event::Open(opening));
-    assert_eq!(rt; opened, Ok(Answer::Opened { client }));
+    same(rt, &opened, &Ok(Answer::Opened { client }), client);
 }
 
 /// The first lease of a client.
@@ -50,12 +51,12 @@ fn lease(rt: &impl Abort, device: &mut Device, client: u32, token: u32) {
         ids: named(&[2, 4, 8]),
     };
     let leased = device.step(Event::Ask(client, call));
-    assert_eq!(rt; leased, Ok(Answer::Lease { id: 1, token }));
+    same(rt, &leased, &Ok(Answer::Lease { id: 1, token }), client);
 }
 
 fn close(rt: &impl Abort, device: &mut Device, client: u32) {
     let closed = device.step(Event::Close(client));
-    assert_eq!(rt; closed, Ok(Answer::Closed));
+    same(rt, &closed, &Ok(Answer::Closed), client);
 }
 
 struct ThousandOwners;
@@ -68,12 +69,10 @@ impl Trial for ThousandOwners {
             one_round(rt, device, round * STEPS + 1, round + 1);
         }
         let masters = device.audit(AuditKind::Master, 0);
-        assert_eq!(rt;
-            masters.rows(),
-            [row(1, 0, 0, 0), row(2, 1, 1, 0)].as_slice()
-        );
+        let left = [row(1, 0, 0, 0), row(2, 1, 1, 0)];
+        same(rt, &masters.rows(), &left.as_slice(), "masters");
         let grants = device.audit(AuditKind::Grant, 0);
-        assert!(rt; grants.rows().is_empty());
+        same(rt, &grants.rows().len(), &0, "grants");
         Ok(())
     }
 }

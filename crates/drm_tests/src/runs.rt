@@ -1,5 +1,6 @@
 //! Runs of scripts over sources and sinks that cut and fail, and why a line can't be used.
 
+use crate::comparing::same;
 use crate::cuts::{Cut, sink_of, source_of};
 use drm_runs::{ScriptEnd, run_script, run_with_cause};
 use drm_script::{Malformation, Wanted};
@@ -42,8 +43,12 @@ fn check_run(rt: &impl Abort, alloc: Global, run: &Run<'_>) {
     let mut source = source_of(run.script, run.piece, run.source);
     let mut sink = sink_of(run.piece, run.sink);
     let end = run_script(alloc, &mut source, &mut sink, run.turns.min(TURNS));
-    assert_eq!(rt; end, run.end);
-    assert_eq!(rt; sink.written(), run.written);
+    same(
+        rt,
+        &(end, sink.written()),
+        &(run.end, run.written),
+        run.piece,
+    );
 }
 
 /// Scripts in one piece, with their ends and what they write.
@@ -263,7 +268,7 @@ fn check_cause(rt: &impl Abort, alloc: Global, script: &[u8], cut: Cut, ended: T
         let mut sink = sink_of(256, Cut::Never);
         let (end, malformed) = run_with_cause(alloc, &mut source, &mut sink, TURNS);
         let cause = malformed.map(|told| (told.column, told.cause));
-        assert_eq!(rt; (end, cause), ended);
+        same(rt, &(end, cause), &ended, piece);
     }
 }
 

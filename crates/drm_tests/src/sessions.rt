@@ -1,7 +1,8 @@
 //! Whole sessions, byte for byte, over sources and sinks that end, fail and interrupt.
 
+use crate::comparing::same;
 use crate::cuts::{Cut, sink_of, source_of};
-use crate::devices::{Trial, new_device, try_on_new};
+use crate::devices::{Trial, try_on_new};
 use drm_device::Device;
 use drm_sessions::{Access, Class, Gate, NoGate, Session, SessionEnd, serve, serve_alone};
 use drm_streams::{FromRead, Source, ToWrite};
@@ -9,11 +10,12 @@ use drm_table::{Answer, Apart, Event, Limits, Rule};
 use std::alloc::{AllocError, Global};
 use std::cell::Cell;
 use std::io::{self, Read, Write};
-use std::net::Shutdown;
+use std::net::{Net, Shutdown};
 use std::os::unix::net::UnixStream;
 use std::process::Abort;
 use std::test::Fail;
 use std::thread;
+use std::thread::Threads;
 
 /// A hello for a node, and VERSION.
 const HELLO_VERSION: &[u8] = b"\x0e\0\0\0\0\x01\x01\0\0\0\0\0\0\0\0\0\0\0\x02\0\0\0\0\0";
@@ -324,7 +326,7 @@ impl Trial for Sessions<'_> {
         for case in self.0 {
             serves_one(rt, device, case);
             noted = noted.wrapping_add(case.steps as usize);
-            assert_eq!(rt; device.journal().len(), noted);
+            same(rt, &device.journal().len(), &noted, "events");
         }
         Ok(())
     }
@@ -343,11 +345,19 @@ fn serves_one(rt: &impl Abort, device: &mut Device, case: &Case<'_>) {
         &mut sink,
         turns,
     );
-    assert_eq!(rt; session.end, case.end);
-    assert_eq!(rt; session.steps, case.steps);
-    assert_eq!(rt; session.client, if case.steps < 2 { 0 } else { 1 });
-    assert_eq!(rt; sink.written(), case.written);
-    assert_eq!(rt; source.calls(), case.takes.unwrap_or(source.calls()));
+    let ended = Session {
+        end: case.end,
+        client: if case.steps < 2 { 0 } else { 1 },
+        steps: case.steps,
+    };
+    same(rt, &session, &ended, "session");
+    same(rt, &sink.written(), &case.written, "written");
+    same(
+        rt,
+        &source.calls(),
+        &case.takes.unwrap_or(source.calls()),
+        "takes",
+    );
 }
 
 /// Serves these on a new device within these limits.
@@ -368,12 +378,22 @@ fn serves_in_pieces(rt: &impl Abort, alloc: Global, case: Case<'_>) -> Result<()
     Ok(())
 }
 
+/// Serves each on a new device.
+fn serves_each(rt: &impl Abort, alloc: Global, cases: &[Case<'_>]) -> Result<(), Fail> {
+    for case in cases {
+        serves(rt, alloc, Limits::PROGRAM, &[*case])?;
+    }
+    Ok(())
+}
+
 #[test]
 fn sessions_and_their_ends(rt: HostRuntime) -> Result<(), Fail> {
-    for case in CASES {
-        serves(&rt, rt.alloc(), Limits::PROGRAM, &[case])?;
-    }
-    // an opening that a full journal refuses ends its session, and the device goes on
+    serves_each(&rt, rt.alloc(), &CASES)
+}
+
+/// An opening that a full journal refuses ends its session, and the device goes on.
+#[test]
+fn sessions_of_a_full_journal(rt: HostRuntime) -> Result<(), Fail> {
     let limits = Limits {
         journal: 2,
         ..Limits::PROGRAM
@@ -568,8 +588,7 @@ fn gates_and_closings(rt: HostRuntime) -> Result<(), Fail> {
             client: 1,
             steps,
         };
-        assert_eq!(rt; session, ended);
-        assert_eq!(rt; calls, 213_134);
+        same(&rt, &(session, calls), &(ended, 213_134), "calls");
     }
     Ok(())
 }
@@ -597,20 +616,34 @@ fn serves_stream(device: &mut Device, stream: UnixStream) -> Session {
     )
 }
 
+/// A client and its server, each in a thread of its own.
+#[derive(Drop)]
+struct Streamed<'a, R> {
+    rt: &'a R,
+}
+
+impl<R: Net + Threads> Trial for Streamed<'_, R> {
+    fn run(&self, rt: &impl Abort, alloc: Global, device: &mut Device) -> Result<(), Fail> {
+        let (ours, theirs) = UnixStream::pair(self.rt)?;
+        let (answers, session) = thread::join(
+            self.rt,
+            || client(alloc, theirs),
+            || serves_stream(device, ours),
+        );
+        same(
+            rt,
+            &(session.end, session.steps),
+            &(SessionEnd::Ended, 3),
+            "session",
+        );
+        same(rt, &answers?.as_slice(), &ANSWERS, "answers");
+        Ok(())
+    }
+}
+
 #[test]
 fn stream_is_served(rt: HostRuntime) -> Result<(), Fail> {
-    let alloc: Global = rt.alloc();
-    let mut device = new_device(alloc, Limits::PROGRAM)?;
-    let (ours, theirs) = UnixStream::pair(&rt)?;
-    let (answers, session) = thread::join(
-        &rt,
-        || client(alloc, theirs),
-        || serves_stream(&mut device, ours),
-    );
-    assert_eq!(rt; session.end, SessionEnd::Ended);
-    assert_eq!(rt; session.steps, 3);
-    assert_eq!(rt; answers?.as_slice(), ANSWERS);
-    Ok(())
+    try_on_new(&rt, rt.alloc(), Limits::PROGRAM, &Streamed { rt: &rt })
 }
 
 /// What is told of the ends of sessions.
@@ -643,7 +676,7 @@ fn ends_in_words(rt: HostRuntime) -> Result<(), Fail> {
     let alloc: Global = rt.alloc();
     for (end, text) in ENDS {
         let told = format!(in alloc; "{end}")?;
-        assert_eq!(rt; told.as_str(), text);
+        same(&rt, &told.as_str(), &text, text);
     }
     Ok(())
 }

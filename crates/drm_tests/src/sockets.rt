@@ -1,7 +1,7 @@
 //! Sessions over real Unix sockets, with the clients in a thread of this process.
 
-use crate::devices::new_device;
-use drm_device::Limits;
+use crate::comparing::same;
+use drm_device::{Device, Limits};
 use drm_runs::make_device;
 use drm_server::{Counts, ListEnd, ServeFault, list_audit, serve_all};
 use drm_sessions::{Class, Session, SessionEnd};
@@ -306,7 +306,19 @@ const SCENES: [Scene; 7] = [
 struct Outcome {
     sessions: Vec<Session>,
     steps: u64,
+    listed: ListEnd,
     listing: CutSink<64>,
+}
+
+fn outcome_of(device: &Device, sessions: Vec<Session>) -> Outcome {
+    let mut listing = CutSink::new(64);
+    let listed = list_audit(device, &mut listing, 1_000);
+    Outcome {
+        sessions,
+        steps: device.journal().len() as u64,
+        listed,
+        listing,
+    }
 }
 
 /// Serves the connections on a new device. The device stays in the thread that made it.
@@ -315,32 +327,18 @@ fn serve<R: Wait + Threads + Log + Sync>(
     alloc: Global,
     sockets: Sockets,
     counts: [u8; 3],
-) -> Option<Outcome> {
+) -> Option<Result<Outcome, ServeFault>> {
     let device = make_device(alloc, Limits::PROGRAM)?;
     let counts = Counts {
         cards: counts[0],
         renders: counts[1],
         roots: counts[2],
     };
-    let served = serve_all(
-        rt,
-        alloc,
-        device,
-        sockets.card,
-        sockets.render,
-        sockets.root,
-        counts,
-    );
-    let (device, sessions) = served.ok()?;
-    let mut listing = CutSink::new(64);
-    if list_audit(&device, &mut listing, 1_000) != ListEnd::Done {
-        return None;
+    let Sockets { card, render, root } = sockets;
+    match serve_all(rt, alloc, device, card, render, root, counts) {
+        Ok((device, sessions)) => Some(Ok(outcome_of(&device, sessions))),
+        Err(fault) => Some(Err(fault)),
     }
-    Some(Outcome {
-        sessions,
-        steps: device.journal().len() as u64,
-        listing,
-    })
 }
 
 /// Compares what a scene came to.
@@ -350,21 +348,37 @@ fn check_outcome(
     scene: &Scene,
     served: &Outcome,
 ) -> Result<(), Fail> {
-    assert_eq!(rt; served.sessions.len(), scene.sessions.len());
+    same(
+        rt,
+        &served.sessions.len(),
+        &scene.sessions.len(),
+        "sessions",
+    );
+    same(rt, &served.listed, &ListEnd::Done, "listing");
     let mut steps = 0u64;
     let mut place = 0usize;
     for (session, (client, made)) in served.sessions.iter().zip(scene.sessions) {
         // an answer finds the connection closed already, or is there when it is closed
         let is_broken = matches!(session.end, SessionEnd::WriteFault | SessionEnd::ReadFault);
-        assert_eq!(rt; is_broken, place < scene.broken);
-        assert!(rt; is_broken || session.end == SessionEnd::Ended);
-        assert_eq!(rt; (session.client, session.steps), (*client, *made));
+        let is_ended = session.end == SessionEnd::Ended;
+        same(
+            rt,
+            &(is_broken, is_ended),
+            &(place < scene.broken, !is_broken),
+            place,
+        );
+        same(
+            rt,
+            &(session.client, session.steps),
+            &(*client, *made),
+            place,
+        );
         place = place.wrapping_add(1);
         steps = steps.wrapping_add(*made);
     }
-    assert_eq!(rt; served.steps, steps);
     let listing = format!(in alloc; "device 0 0 0 {steps}\n")?;
-    assert_eq!(rt; served.listing.written(), listing.as_bytes());
+    let told = (served.steps, served.listing.written());
+    same(rt, &told, &(steps, listing.as_bytes()), "steps");
     Ok(())
 }
 
@@ -381,9 +395,11 @@ fn connections_are_served(rt: HostRuntime) -> Result<(), Fail> {
             || serve(&rt, alloc, sockets, scene.counts),
         );
         remove(&rt, &places)?;
-        assert_eq!(&rt; heard?.as_slice(), scene.heard);
-        let served = served.ok_or("no outcome")?;
-        check_outcome(&rt, alloc, scene, &served)?;
+        same(&rt, &heard?.as_slice(), &scene.heard, "heard");
+        match served {
+            Some(Ok(served)) => check_outcome(&rt, alloc, scene, &served)?,
+            _ => return Err("no outcome".into()),
+        }
     }
     Ok(())
 }
@@ -394,22 +410,13 @@ fn tells_of_a_connection_that_is_not_accepted(rt: HostRuntime) -> Result<(), Fai
     let places = choose_places(&rt, alloc)?;
     let sockets = bind(&rt, &places)?;
     sockets.render.set_nonblocking(true)?;
-    let device = new_device(alloc, Limits::PROGRAM)?;
-    let counts = Counts {
-        cards: 0,
-        renders: 1,
-        roots: 0,
-    };
-    let served = serve_all(
-        &rt,
-        alloc,
-        device,
-        sockets.card,
-        sockets.render,
-        sockets.root,
-        counts,
-    );
+    let served = serve(&rt, alloc, sockets, [0, 1, 0]);
     remove(&rt, &places)?;
-    assert_eq!(&rt; served.err(), Some(ServeFault::Accept(Class::Render)));
-    Ok(())
+    match served {
+        Some(Err(fault)) => {
+            same(&rt, &fault, &ServeFault::Accept(Class::Render), "fault");
+            Ok(())
+        }
+        _ => Err("no fault".into()),
+    }
 }

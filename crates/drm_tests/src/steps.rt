@@ -1,11 +1,8 @@
-//! Scripts as the events of a device, line by line: each gets its answer, what is refused for want of memory leaves nothing, and who
-//! has which handle follows from the answers.
-//!
-//! With ample memory nothing is refused. Where it is, as under `rt try --test --fail-alloc N`, it is for a step that may add a row, and
-//! the same step with memory is answered as if nothing had been. `tests/memory` refuses each request of the built program so.
+//! Scripts as the events of a device, line by line: each gets its answer. That what is refused for want of memory leaves nothing is
+//! shown on the built program (`tests/memory`), and so is who has which handle (`tests/explanations`).
 
+use crate::comparing::same;
 use crate::devices::{Trial, try_on_new};
-use crate::histories::{MOST_ROWS, PAGES, check_holds};
 use crate::rows::buffers::BUFFERS;
 use crate::rows::devices::DEVICES;
 use crate::rows::leases::LEASES;
@@ -17,8 +14,8 @@ use crate::rows::{Place, Row};
 use drm_checks::{is_met, parts_of};
 use drm_device::Device;
 use drm_script::{Command, Label, Reading, line_of, read_line};
-use drm_table::{Answer, Apart, AuditKind, AuditPage, Call, Event, Limits};
-use std::alloc::{AllocError, Global};
+use drm_table::{Answer, Apart, Event, Limits};
+use std::alloc::Global;
 use std::process::Abort;
 use std::str::from_utf8;
 use std::test::Fail;
@@ -32,61 +29,6 @@ pub(crate) fn limits_of(script: &str) -> Limits {
         },
         None => Limits::PROGRAM,
     }
-}
-
-/// Whether there are steps of this event that add a row.
-fn may_grow(event: &Event) -> bool {
-    match event {
-        Event::Open(_) => true,
-        Event::Ask(_, call) => matches!(
-            call,
-            Call::BufCreate { .. }
-                | Call::CreateDumb { .. }
-                | Call::GemFlink { .. }
-                | Call::GemOpen { .. }
-                | Call::PrimeHandleToFd { .. }
-                | Call::PrimeFdToHandle { .. }
-                | Call::SetMaster
-                | Call::AddFb { .. }
-                | Call::GetFb { .. }
-                | Call::CreateLease { .. }
-        ),
-        Event::Close(_) => false,
-    }
-}
-
-/// All pages of all audits.
-fn audits(device: &Device) -> [[AuditPage; PAGES.len()]; AuditKind::ALL.len()] {
-    AuditKind::ALL.map(|kind| PAGES.map(|from| device.audit(kind, from)))
-}
-
-/// Whether a device has more rows of a kind than the pages have.
-fn has_more(device: &Device) -> bool {
-    AuditKind::ALL
-        .iter()
-        .any(|kind| !device.audit(*kind, MOST_ROWS).rows().is_empty())
-}
-
-/// One step of the device. Where memory for it is refused, nothing has changed, and it is asked for again.
-fn step(
-    rt: &impl Abort,
-    device: &mut Device,
-    event: Event,
-    place: Place,
-) -> Result<Result<Answer, Apart>, AllocError> {
-    let again = event.clone()?;
-    assert!(rt; !has_more(device), "{place}: more rows than are compared");
-    let before = audits(device);
-    let answered = device.step(event);
-    if answered != Err(Apart::NoMemory) {
-        return Ok(answered);
-    }
-    assert!(rt; may_grow(&again), "{place}: wants memory");
-    assert!(rt; audits(device) == before, "{place}: a refusal changes rows");
-    let answered = device.step(again);
-    let is_denied = matches!(answered, Ok(Answer::Denied(_)));
-    assert!(rt; !is_denied, "{place}: denied with memory");
-    Ok(answered)
 }
 
 /// The event that a command asks for, and the label that its answer binds.
@@ -103,92 +45,84 @@ fn text_of(line: &[u8]) -> &str {
     from_utf8(line).unwrap_or("no text")
 }
 
-/// Compares what came of a line with what it expects, if it does.
+/// Compares what came of a line with what it expects.
 fn check_answer(
     rt: &impl Abort,
-    expected: Option<&[u8]>,
+    expected: &[u8],
     came: &Option<Result<Answer, Apart>>,
     place: Place,
 ) {
-    let Some(expected) = expected else {
+    if is_met(expected, came) {
         return;
-    };
+    }
     let wanted = text_of(expected);
     match came {
         Some(answer) => {
             let line = line_of(answer);
             let told = text_of(line.as_bytes()).trim_end();
-            assert!(rt;
-                is_met(expected, came),
-                "{place}: expected {wanted}, came {told}"
-            );
+            assert!(rt; false, "{place}: expected {wanted}, came {told}");
         }
         None => assert!(rt; false, "{place}: expected {wanted}, came nothing"),
     }
 }
 
-/// Asks what a line says, compares its answer, and gives the event and the answer where the device notes it.
+/// What comes of a part of a line that says something.
+fn asked(
+    device: &mut Device,
+    labels: &mut [u32; Label::COUNT],
+    part: &[u8],
+) -> Option<Result<Answer, Apart>> {
+    let Ok(Reading::Says(command)) = read_line(part) else {
+        return None;
+    };
+    let (label, event) = asked_by(labels, command);
+    let answered = device.step(event);
+    if let (Some(label), Ok(Answer::Opened { client })) = (label, &answered) {
+        labels[label.place()] = *client;
+    }
+    Some(answered)
+}
+
+/// Asks what a line says, and compares its answer. It gives how many answers were compared.
 pub(crate) fn ask_line(
     rt: &impl Abort,
     device: &mut Device,
     labels: &mut [u32; Label::COUNT],
     line: &str,
     place: Place,
-) -> Result<Option<(Event, Answer)>, AllocError> {
-    let (script, expected) = parts_of(line.as_bytes());
-    let Ok(Reading::Says(command)) = read_line(script) else {
-        check_answer(rt, expected, &None, place);
-        return Ok(None);
+) -> usize {
+    let (part, expected) = parts_of(line.as_bytes());
+    let came = asked(device, labels, part);
+    let Some(expected) = expected else {
+        return 0;
     };
-    let (label, event) = asked_by(labels, command);
-    let asked = event.clone()?;
-    let answered = step(rt, device, event, place)?;
-    let came = Some(answered);
     check_answer(rt, expected, &came, place);
-    let Some(Ok(answer)) = came else {
-        return Ok(None);
-    };
-    if let (Some(label), Answer::Opened { client }) = (label, &answer) {
-        labels[label.place()] = *client;
-    }
-    Ok(Some((asked, answer)))
+    1
 }
 
-/// How many lines of a script expect an answer.
-fn answer_count(script: &str) -> usize {
-    script
-        .lines()
-        .filter(|line| parts_of(line.as_bytes()).1.is_some())
-        .count()
-}
-
-/// Asks the lines of a row, and compares how many have an answer, the handles behind each line, and how many steps are noted.
+/// Asks the lines of a row, and compares how many have an answer.
 pub(crate) fn ask_lines(
     rt: &impl Abort,
-    alloc: Global,
     device: &mut Device,
     labels: &mut [u32; Label::COUNT],
     row: &Row,
-) -> Result<(), Fail> {
-    assert_eq!(rt; answer_count(row.script), row.answers, "{}", row.name);
-    let mut steps = Vec::new(alloc);
+) {
+    let mut answers = 0_usize;
     for (index, line) in row.script.lines().enumerate() {
         let place = Place {
             row: row.name,
             line: index.saturating_add(1),
         };
-        if let Some(step) = ask_line(rt, device, labels, line, place)? {
-            steps.push(step)?;
-        }
-        check_holds(rt, alloc, device, &steps, place)?;
+        let compared = ask_line(rt, device, labels, line, place);
+        answers = answers.saturating_add(compared);
     }
-    assert_eq!(rt; device.journal().len(), steps.len(), "{}", row.name);
-    Ok(())
+    same(rt, &answers, &row.answers, row.name);
 }
 
 impl Trial for Row {
-    fn run(&self, rt: &impl Abort, alloc: Global, device: &mut Device) -> Result<(), Fail> {
-        ask_lines(rt, alloc, device, &mut [0; Label::COUNT], self)
+    fn run(&self, rt: &impl Abort, _alloc: Global, device: &mut Device) -> Result<(), Fail> {
+        ask_lines(rt, device, &mut [0; Label::COUNT], self);
+        Ok(())
     }
 }
 

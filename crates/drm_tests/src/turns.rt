@@ -2,10 +2,11 @@
 
 ghost use Rattle.std.specs.Prelude.{◌≡◌, IfOk};
 
-use crate::devices::new_device;
+use crate::comparing::same;
+use crate::devices::{Trial, lend, new_device};
 use drm_device::Device;
 use drm_table::{Answer, Apart, Call, Event, Limits, Opening};
-use drm_turns::{Seat, SharedDevice, Sharing};
+use drm_turns::{NoMemory, Seat, SharedDevice, Sharing, TurnOut};
 use std::alloc::{AllocError, Global};
 use std::process::Abort;
 use std::sync::Wait;
@@ -13,14 +14,36 @@ use std::test::Fail;
 use std::thread;
 use std::thread::Threads;
 
-/// A new device within these limits, shared, and the first seat.
-fn shared(alloc: Global, limits: Limits) -> Result<(SharedDevice, Seat), Fail>
+/// Shares a device, and gives the first seat. Where memory is refused the device comes back, and is shared once more.
+pub(crate) fn shared(alloc: Global, device: Device) -> Result<(SharedDevice, Seat), Device>
     ensures { IfOk result (λ made. made.1.table ≡ made.0) }
 {
-    let device = new_device(alloc, limits)?;
+    let device = match SharedDevice::new(alloc, device) {
+        Ok(made) => return Ok(made),
+        Err((device, NoMemory)) => device,
+    };
     match SharedDevice::new(alloc, device) {
         Ok(made) => Ok(made),
-        Err(_) => Err("no memory".into()),
+        Err((device, NoMemory)) => Err(device),
+    }
+}
+
+/// A device that comes back from its seats, and how it was with these.
+pub(crate) type Played = (Result<Device, TurnOut>, Result<(), AllocError>);
+
+/// Lends the device that came back.
+pub(crate) fn lend_back<T: Trial>(
+    rt: &impl Abort,
+    alloc: Global,
+    played: Played,
+    trial: &T,
+) -> Result<(), Fail> {
+    let (device, played) = played;
+    let lent = lend(rt, alloc, device, trial)?;
+    played?;
+    match lent {
+        Some(TurnOut) => Err("the device is out".into()),
+        None => Ok(()),
     }
 }
 
@@ -119,24 +142,27 @@ const OPENED_ONCE: [Turn; 1] = [OPENING];
 
 const ONE_VERSION: [Turn; 1] = [VERSION];
 
-/// Compares what a seat is answered, and the count, which is the length of the history.
+/// Compares what a seat is answered, and the count, which is the length of the history. What is refused memory isn't counted, and is
+/// asked once more.
 fn call_by(
     rt: &(impl Wait + Abort),
     shared: &SharedDevice,
     seat: &mut Seat,
     turn: &Turn,
-    noted: &mut Vec<Event>,
+    noted: &mut u64,
 ) -> Result<(), AllocError>
     requires { seat.old.table ≡ shared.now }
     ensures { seat.new.table ≡ seat.old.table }
 {
     let (_, event, answer) = turn;
-    let given = shared.call(rt, seat, event.clone()?);
-    assert_eq!(rt; &given, answer);
-    if answer.is_ok() {
-        noted.push(event.clone()?)?;
+    let mut given = shared.call(rt, seat, event.clone()?);
+    if given == Err(Apart::NoMemory) {
+        same(rt, &shared.peek_count(), noted, "count of a refusal");
+        given = shared.call(rt, seat, event.clone()?);
     }
-    assert_eq!(rt; shared.peek_count(), noted.len() as u64);
+    same(rt, &given, answer, *noted);
+    *noted = noted.saturating_add(answer.is_ok() as u64);
+    same(rt, &shared.peek_count(), noted, "count");
     Ok(())
 }
 
@@ -146,7 +172,7 @@ fn call_alone(
     shared: &SharedDevice,
     seat: &mut Seat,
     turns: &[Turn],
-    noted: &mut Vec<Event>,
+    noted: &mut u64,
 ) -> Result<(), AllocError>
     requires { seat.old.table ≡ shared.now }
     ensures { seat.new.table ≡ seat.old.table }
@@ -164,7 +190,7 @@ fn call_in_turn(
     seat: &mut Seat,
     other: &mut Seat,
     turns: &[Turn],
-    noted: &mut Vec<Event>,
+    noted: &mut u64,
 ) -> Result<(), AllocError>
     requires seat { seat.old.table ≡ shared.now }
     requires other { other.old.table ≡ shared.now }
@@ -181,75 +207,134 @@ fn call_in_turn(
     Ok(())
 }
 
-/// Shares a device, and has two seats call. The device comes back with the events that were noted.
-fn share(
+/// What one seat calls alone, and what two seats call in turn.
+fn call_all(
+    rt: &(impl Wait + Abort),
+    shared: &SharedDevice,
+    seat: &mut Seat,
+    alone: &[Turn],
+    in_turn: &[Turn],
+    noted: &mut u64,
+) -> Result<(), AllocError>
+    requires { seat.old.table ≡ shared.now }
+    ensures { seat.new.table ≡ seat.old.table }
+{
+    same(rt, &shared.peek_count(), noted, "count of a device");
+    call_alone(rt, shared, seat, alone, noted)?;
+    let mut other = shared.split(seat);
+    call_in_turn(rt, shared, seat, &mut other, in_turn, noted)?;
+    let note = shared.note(&mut other);
+    shared.meet(seat, note);
+    shared.join(seat, other);
+    Ok(())
+}
+
+/// The same on a device that is shared and comes back. It has noted so many events.
+fn play(
     rt: &(impl Wait + Abort),
     alloc: Global,
     device: Device,
     alone: &[Turn],
     in_turn: &[Turn],
-    noted: &mut Vec<Event>,
-) -> Result<Device, Fail> {
-    let Ok((shared, mut seat)) = SharedDevice::new(alloc, device) else {
-        return Err("no memory".into());
-    };
-    assert_eq!(rt; shared.peek_count(), noted.len() as u64);
-    call_alone(rt, &shared, &mut seat, alone, noted)?;
-    let mut other = shared.split(&mut seat);
-    call_in_turn(rt, &shared, &mut seat, &mut other, in_turn, noted)?;
-    let note = shared.note(&mut other);
-    shared.meet(&mut seat, note);
-    shared.join(&mut seat, other);
-    Ok(shared.close(seat).map_err(|_| "the device is out")?)
+    noted: &mut u64,
+) -> Played {
+    match shared(alloc, device) {
+        Ok((shared, mut seat)) => {
+            let played = call_all(rt, &shared, &mut seat, alone, in_turn, noted);
+            (shared.close(seat), played)
+        }
+        Err(device) => (Ok(device), Err(AllocError)),
+    }
 }
 
-/// What one seat calls alone, what two seats call in turn, and what they call once the device is shared again. Each time the device
-/// comes back with the events that were noted.
-fn check_turns(
+/// Turns on a device, and those on the same device once it is shared again.
+#[derive(Clone, Copy)]
+struct Meeting<'a> {
+    limits: Limits,
+    alone: &'a [Turn],
+    in_turn: &'a [Turn],
+    again: &'a [Turn],
+}
+
+impl<'a> Meeting<'a> {
+    /// What one seat calls alone, what two then call in turn, and what they call once the device is shared again.
+    fn new(alone: &'a [Turn], in_turn: &'a [Turn], again: &'a [Turn]) -> Self {
+        Meeting {
+            limits: Limits::PROGRAM,
+            alone,
+            in_turn,
+            again,
+        }
+    }
+}
+
+/// What of this a device has noted, and the rest.
+fn rest_of<'a>(rt: &impl Abort, journal: &'a [Event], turns: &[Turn]) -> &'a [Event] {
+    let mut rest = journal;
+    for (_, event, answer) in turns {
+        if answer.is_ok() {
+            let Some((first, behind)) = rest.split_first() else {
+                assert!(rt; false, "an event is missing");
+                return rest;
+            };
+            same(rt, first, event, "event");
+            rest = behind;
+        }
+    }
+    rest
+}
+
+/// The device comes back with the events that were noted.
+impl Trial for Meeting<'_> {
+    fn run(&self, rt: &impl Abort, _alloc: Global, device: &mut Device) -> Result<(), Fail> {
+        let rest = rest_of(rt, device.journal(), self.alone);
+        let rest = rest_of(rt, rest, self.in_turn);
+        let rest = rest_of(rt, rest, self.again);
+        same(rt, &rest.len(), &0, "events that are left");
+        Ok(())
+    }
+}
+
+fn check_meeting(
     rt: &(impl Wait + Abort),
     alloc: Global,
-    limits: Limits,
-    alone: &[Turn],
-    in_turn: &[Turn],
-    again: &[Turn],
+    meeting: &Meeting<'_>,
 ) -> Result<(), Fail> {
-    let mut noted = Vec::new(alloc);
-    let device = new_device(alloc, limits)?;
-    let device = share(rt, alloc, device, alone, in_turn, &mut noted)?;
-    assert_eq!(rt; device.journal(), noted.as_slice());
-    let device = share(rt, alloc, device, &[], again, &mut noted)?;
-    assert_eq!(rt; device.journal(), noted.as_slice());
-    Ok(())
+    let mut noted = 0;
+    let device = new_device(alloc, meeting.limits)?;
+    let played = match play(
+        rt,
+        alloc,
+        device,
+        meeting.alone,
+        meeting.in_turn,
+        &mut noted,
+    ) {
+        (Ok(device), Ok(())) => play(rt, alloc, device, &[], meeting.again, &mut noted),
+        played => played,
+    };
+    lend_back(rt, alloc, played, meeting)
 }
 
+/// A seat that is split off behind a write reads it, and a device that is shared again goes on with its count.
 #[test]
 fn seats_share_one_device(rt: HostRuntime) -> Result<(), Fail> {
-    let short = Limits {
+    let limits = Limits {
         journal: 2,
         ..Limits::PROGRAM
     };
-    check_turns(&rt, rt.alloc(), Limits::PROGRAM, &[], &BUFFER, &[])?;
-    check_turns(&rt, rt.alloc(), Limits::PROGRAM, &[], &CLOSED_BUFFER, &[])?;
-    check_turns(&rt, rt.alloc(), short, &[], &FULL_JOURNAL, &[])
-}
-
-/// A seat that is split off behind a write reads it.
-#[test]
-fn a_seat_split_behind_a_write_reads_it(rt: HostRuntime) -> Result<(), Fail> {
-    check_turns(&rt, rt.alloc(), Limits::PROGRAM, &WRITTEN, &READ, &[])
-}
-
-/// A device that is shared again goes on with its count.
-#[test]
-fn a_device_shared_again_goes_on_with_its_count(rt: HostRuntime) -> Result<(), Fail> {
-    check_turns(
-        &rt,
-        rt.alloc(),
-        Limits::PROGRAM,
-        &OPENED_ONCE,
-        &[],
-        &ONE_VERSION,
-    )
+    let short = Meeting {
+        limits,
+        ..Meeting::new(&[], &FULL_JOURNAL, &[])
+    };
+    let buffer = Meeting::new(&[], &BUFFER, &[]);
+    let closed = Meeting::new(&[], &CLOSED_BUFFER, &[]);
+    let behind = Meeting::new(&WRITTEN, &READ, &[]);
+    let again = Meeting::new(&OPENED_ONCE, &[], &ONE_VERSION);
+    for meeting in [short, buffer, closed, behind, again] {
+        check_meeting(&rt, rt.alloc(), &meeting)?;
+    }
+    Ok(())
 }
 
 /// Opens a render client and asks 99 times.
@@ -262,11 +347,9 @@ fn hundred_events(rt: &(impl Wait + Abort), shared: &SharedDevice, mut seat: Sea
         assert!(rt; false, "the opening was not accepted");
         return seat;
     };
-    for _ in 0..99 {
-        assert_eq!(rt;
-            shared.call(rt, &mut seat, Event::Ask(client, Call::Version)),
-            VERSION.2
-        );
+    for asked in 0..99u32 {
+        let given = shared.call(rt, &mut seat, Event::Ask(client, Call::Version));
+        same(rt, &given, &VERSION.2, asked);
     }
     seat
 }
@@ -295,15 +378,37 @@ fn two_hundred_events<R: Wait + Threads + Abort + Sync, D: Sharing + Sync>(
     )
 }
 
+/// The device comes back with so many events, and so many more may be noted.
+#[derive(Clone, Copy)]
+struct Noted {
+    events: usize,
+    left: u32,
+}
+
+impl Trial for Noted {
+    fn run(&self, rt: &impl Abort, _alloc: Global, device: &mut Device) -> Result<(), Fail> {
+        same(rt, &device.journal().len(), &self.events, "events");
+        same(rt, &device.journal_left(), &self.left, "places left");
+        Ok(())
+    }
+}
+
 #[test]
 fn threads_at_once_leave_one_journal(rt: HostRuntime) -> Result<(), Fail> {
-    let (shared, mut seat) = shared(rt.alloc(), Limits::PROGRAM)?;
-    let other = shared.split(&mut seat);
-    let (mut seat, other) = two_hundred_events(&rt, &shared, seat, other);
-    assert_eq!(rt; shared.peek_count(), 200);
-    shared.join(&mut seat, other);
-    let device = shared.close(seat).map_err(|_| "the device is out")?;
-    assert_eq!(rt; device.journal().len(), 200);
-    assert_eq!(rt; device.journal_left(), 100_000 - 202);
-    Ok(())
+    let device = new_device(rt.alloc(), Limits::PROGRAM)?;
+    let played = match shared(rt.alloc(), device) {
+        Ok((shared, mut seat)) => {
+            let other = shared.split(&mut seat);
+            let (mut seat, other) = two_hundred_events(&rt, &shared, seat, other);
+            same(&rt, &shared.peek_count(), &200, "count");
+            shared.join(&mut seat, other);
+            (shared.close(seat), Ok(()))
+        }
+        Err(device) => (Ok(device), Err(AllocError)),
+    };
+    let noted = Noted {
+        events: 200,
+        left: 100_000 - 202,
+    };
+    lend_back(&rt, rt.alloc(), played, &noted)
 }

@@ -1,5 +1,5 @@
 use Rattle.std.proofs.Common.{◌≡◌}
 use Rattle.drm_tests.proofs.turns.hundred_events.Given as goal
 
-abbrev pub invariant-loop : goal.invariant-loop
-invariant-loop g l = l.seat.table ≡ l.initial.seat.table
+abbrev pub invariant-loop-asked : goal.invariant-loop-asked
+invariant-loop-asked g l = l.seat.table ≡ l.initial.seat.table
