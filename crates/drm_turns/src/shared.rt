@@ -37,9 +37,9 @@ const TICKET: usize = 1;
 /// The word of the ticket that is served.
 const SERVING: usize = 2;
 
-/// How often a call looks whether it is served, or whether the device is free, before it sleeps until it is woken (own): a look
-/// is a load, and all of them take about as long as a sleep and a wake, or as a few turns of others.
-const LOOKS: u32 = 5000;
+/// How often a call looks whether it is served, or whether the device is free, before it sleeps until it is woken (own): all
+/// looks take about as long as a sleep and a wake, or as a few turns of others.
+const LOOKS: u32 = 500;
 
 /// How many turns of others a call waits for at most, before it draws a ticket though the device isn't free (own).
 const PATIENCE: u32 = 64;
