@@ -27,8 +27,8 @@ enum Ask {
     Prime(u32),
     Place(u32, u32),
     FirstFrom(u32),
-    /// Closes the client, which leaves these handles with their objects.
-    Close(&'static [(u32, u32)]),
+    /// Closes the client, which leaves these two handles with their objects.
+    Close([(u32, u32); 2]),
     HasFlags(FileFlags),
     /// Whether the client of a place is this one, with these flags.
     IsNth(usize, FileFlags),
@@ -119,14 +119,14 @@ fn placed(files: &mut Files, client: u32, handle: u32, place: u32) -> Told
     Told::Done
 }
 
-/// Closes a client, and tells whether it leaves these handles with their objects.
-fn closed(files: &mut Files, client: u32, pairs: &[(u32, u32)]) -> Told
+/// Closes a client, and tells whether it leaves these two handles with their objects.
+fn closed(files: &mut Files, client: u32, pairs: [(u32, u32); 2]) -> Told
     requires { is_present files.old client ≡ true }
 {
     let mut rest = files.close(client);
     let mut are_left = true;
     for (handle, object) in pairs {
-        let pair = (*handle, ObjectKey::from_number(*object));
+        let pair = (handle, ObjectKey::from_number(object));
         are_left = rest.take_next() == Some(pair) && are_left;
     }
     Told::Whether(are_left && rest.take_next().is_none())
@@ -209,7 +209,7 @@ const GIVEN_AGAIN: [Case; 21] = [
     ((1, Ask::IsNthHold(1, 2, 8, None)), Told::Whether(true)),
     ((1, Ask::HasNthHold(2)), Told::Whether(false)),
     ((1, Ask::IsFull), Told::Whether(true)),
-    ((1, Ask::Close(&[(1, 9), (2, 8)])), Told::Whether(true)),
+    ((1, Ask::Close([(1, 9), (2, 8)])), Told::Whether(true)),
     ((1, Ask::Len), Told::Length(0)),
     ((1, Ask::HasNth(0)), Told::Whether(false)),
     ((1, Ask::HasNthHold(0)), Told::Whether(false)),

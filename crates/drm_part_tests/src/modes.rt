@@ -104,11 +104,12 @@ enum Ask {
     IsObject(u32, Option<Kind>, Option<u32>, u32),
     /// Whether an id is a plane of this kind, and of this CRTC alone.
     IsPlane(u32, Option<PlaneKind>, Option<u32>),
-    /// Whether these are the ids of a kind.
-    AreIds(Kind, &'static [u32]),
+    /// How many ids are of a kind, and the first two of them. The same of the primary and cursor planes of CRTCs, and of a client's
+    /// framebuffers.
+    Ids(Kind),
+    PlanesOf([u32; 2]),
+    FramebuffersOf(u32),
     IsOfKind(Kind, u32),
-    /// Whether these are the primary and cursor planes of CRTCs.
-    ArePlanesOf(&'static [u32], &'static [u32]),
     /// Whether a plane or an encoder drives a CRTC, and a connector reaches it.
     Drives(u32, u32),
     Reaches(u32, u32),
@@ -120,8 +121,6 @@ enum Ask {
     NthShown(usize),
     Framebuffer(u32),
     NthFramebuffer(usize),
-    /// Whether these are a client's framebuffers.
-    AreFramebuffersOf(u32, &'static [u32]),
     IsFull,
 }
 
@@ -138,16 +137,21 @@ fn asked_of_objects(modes: &Modes, ask: Ask) -> Told {
     let is_so = match ask {
         Ask::IsObject(id, kind, encoder, crtcs) => is_object(modes, id, kind, encoder, crtcs),
         Ask::IsPlane(id, kind, crtc) => is_plane(modes, id, kind, crtc),
-        Ask::AreIds(kind, ids) => modes.ids(kind).ids() == ids,
         Ask::IsOfKind(kind, id) => modes.is_of_kind(kind, id),
-        Ask::ArePlanesOf(crtcs, planes) => modes.planes_of(crtcs).ids() == planes,
         Ask::Drives(id, crtc) => modes.drives(id, crtc),
         Ask::Reaches(id, crtc) => modes.reaches(id, crtc),
-        Ask::AreFramebuffersOf(client, ids) => modes.framebuffers_of(client).ids() == ids,
         Ask::IsFull => modes.is_full(),
         _ => return Told::Unasked,
     };
     Told::Whether(is_so)
+}
+
+/// How many ids these are, and the first two of them, or 0.
+fn told_ids(ids: &[u32]) -> Told {
+    let first = ids.first().copied().unwrap_or(0);
+    let second = ids.get(1).copied().unwrap_or(0);
+    let count = u32::try_from(ids.len()).unwrap_or(u32::MAX);
+    Told::Three(count, first, second)
 }
 
 /// A framebuffer of the shape.
@@ -206,6 +210,9 @@ fn take_first(modes: &mut Modes, client: u32) -> Told {
 impl Call<Modes> for Ask {
     fn ask(self, modes: &mut Modes) -> Told {
         match self {
+            Ask::Ids(kind) => told_ids(modes.ids(kind).ids()),
+            Ask::PlanesOf(crtcs) => told_ids(modes.planes_of(&crtcs).ids()),
+            Ask::FramebuffersOf(client) => told_ids(modes.framebuffers_of(client).ids()),
             Ask::Add(client, object) => add(modes, client, object),
             Ask::Remove(client, framebuffer) => remove(modes, client, framebuffer),
             Ask::TakeFirst(client) => take_first(modes, client),
@@ -242,16 +249,16 @@ const OBJECTS: [Case; 34] = [
     (Ask::IsPlane(3, Some(PlaneKind::Primary(1)), Some(1)), YES),
     (Ask::IsPlane(4, Some(PlaneKind::Overlay), None), YES),
     (Ask::IsPlane(5, None, None), YES),
-    (Ask::AreIds(Kind::Crtc, &[1, 2]), YES),
-    (Ask::AreIds(Kind::Plane, &[3, 4]), YES),
-    (Ask::AreIds(Kind::Encoder, &[5, 6]), YES),
-    (Ask::AreIds(Kind::Connector, &[7, 8]), YES),
+    (Ask::Ids(Kind::Crtc), Told::Three(2, 1, 2)),
+    (Ask::Ids(Kind::Plane), Told::Three(2, 3, 4)),
+    (Ask::Ids(Kind::Encoder), Told::Three(2, 5, 6)),
+    (Ask::Ids(Kind::Connector), Told::Three(2, 7, 8)),
     (Ask::IsOfKind(Kind::Crtc, 1), YES),
     (Ask::IsOfKind(Kind::Crtc, 3), NO),
     (Ask::IsOfKind(Kind::Connector, 7), YES),
     (Ask::IsOfKind(Kind::Connector, 9), NO),
-    (Ask::ArePlanesOf(&[2, 1], &[3]), YES),
-    (Ask::ArePlanesOf(&[2], &[]), YES),
+    (Ask::PlanesOf([2, 1]), Told::Three(1, 3, 0)),
+    (Ask::PlanesOf([2, 2]), Told::Three(0, 0, 0)),
     (Ask::Drives(3, 1), YES),
     (Ask::Drives(3, 2), NO),
     (Ask::Drives(5, 1), YES),
@@ -272,8 +279,8 @@ const FRAMEBUFFERS: [(Ask, Told); 20] = [
     (Ask::Add(1, 4), Told::Number(11)),
     (Ask::IsFull, YES),
     (Ask::Add(1, 7), Told::Full),
-    (Ask::AreFramebuffersOf(1, &[9, 11]), YES),
-    (Ask::AreFramebuffersOf(3, &[]), YES),
+    (Ask::FramebuffersOf(1), Told::Three(2, 9, 11)),
+    (Ask::FramebuffersOf(3), Told::Three(0, 0, 0)),
     (Ask::Framebuffer(10), Told::Three(10, 2, 4)),
     (Ask::Framebuffer(8), Told::Nothing),
     (Ask::Remove(1, 10), Told::Nothing),
