@@ -7,9 +7,9 @@ use crate::journals::CASES;
 use crate::lists::row;
 use crate::rows::{Place, Row};
 use crate::steps::{ask_line, ask_lines, limits_of};
-use drm_device::{Device, NewFault, PlaneKind, ReplayFault, Topology, replay};
+use drm_device::{Device, NewFault, PlaneKind, Topology, replay};
 use drm_script::Label;
-use drm_table::{Apart, AuditKind, AuditRow, Event, Limits, Opening};
+use drm_table::{AuditKind, AuditRow, Event, Limits};
 use std::alloc::Global;
 use std::process::Abort;
 use std::test::Fail;
@@ -62,7 +62,7 @@ pub(crate) fn try_on_new<T: Trial>(
 
 /// The device has this journal.
 #[derive(Clone, Copy)]
-struct HasJournal<'a>(&'a [Event]);
+pub(crate) struct HasJournal<'a>(pub(crate) &'a [Event]);
 
 impl Trial for HasJournal<'_> {
     fn run(&self, rt: &impl Abort, alloc: Global, device: &mut Device) -> Result<(), Fail> {
@@ -238,67 +238,6 @@ impl Case {
 fn journals_are_replayed(rt: HostRuntime) -> Result<(), Fail> {
     for case in &CASES {
         try_on_new(&rt, rt.alloc(), limits_of(case.row.script), case)?;
-    }
-    Ok(())
-}
-
-const CARD: Event = Event::Open(Opening::Primary {
-    root: false,
-    universal: true,
-});
-
-const TWO_CARDS: [Event; 2] = [CARD, CARD];
-
-/// Replays these events within these limits, and compares the fault.
-///
-/// With ample memory nothing is refused. Where it is, as under `rt try --test --fail-alloc N` with an N from 2 on, it is behind
-/// the journal's, the first that a replay takes, and the replay tells the event.
-fn check_replay(
-    rt: &impl Abort,
-    alloc: Global,
-    limits: Limits,
-    events: &[Event],
-    fault: Option<ReplayFault>,
-) -> Result<(), Fail> {
-    let replayed = replay(alloc, test_topology()?, limits, events);
-    match lend(rt, alloc, replayed, &HasJournal(events))? {
-        Some(
-            ReplayFault::Stopped {
-                at,
-                apart: Apart::NoMemory,
-            },
-        ) => same(rt, &(1 <= at && at <= events.len()), &true, at),
-        found => same(rt, &found, &fault, "fault"),
-    }
-    Ok(())
-}
-
-/// Limits, and the fault of a replay of two openings.
-const REPLAYS: [(Limits, Option<ReplayFault>); 3] = [
-    (Limits::PROGRAM, None),
-    (
-        Limits {
-            journal: 2,
-            ..Limits::PROGRAM
-        },
-        Some(ReplayFault::Stopped {
-            at: 2,
-            apart: Apart::JournalFull,
-        }),
-    ),
-    (
-        Limits {
-            clients: 0,
-            ..Limits::PROGRAM
-        },
-        Some(ReplayFault::New(NewFault::BadLimits)),
-    ),
-];
-
-#[test]
-fn replays_stop_where_an_event_is_not_noted(rt: HostRuntime) -> Result<(), Fail> {
-    for (limits, fault) in REPLAYS {
-        check_replay(&rt, rt.alloc(), limits, &TWO_CARDS, fault)?;
     }
     Ok(())
 }

@@ -18,7 +18,7 @@ use std::thread;
 use std::time::{Clock, Duration};
 
 /// A hello for a node, VERSION, and VERSION again.
-const HELLO_VERSION_TWICE: [u8; 30] = [
+pub(crate) const HELLO_VERSION_TWICE: [u8; 30] = [
     0x0e, 0, 0, 0, 0, 1, 1, 0, 0, 0, 0, 0, 0, 0, 0, 0, 0, 0, 2, 0, 0, 0, 0, 0, 2, 0, 0, 0, 0, 0,
 ];
 
@@ -64,7 +64,7 @@ impl<R: Clock> Gate for FlagGate<'_, R> {
 }
 
 /// A card's session over these bytes.
-fn job<'a, G>(
+pub(crate) fn job<'a, G>(
     alloc: Global,
     gate: G,
     input: &'a [u8],
@@ -83,7 +83,7 @@ fn job<'a, G>(
 }
 
 /// How a session ended, and how many steps it made.
-fn ended<S, K>(finished: Option<&Finished<S, K>>) -> Option<(SessionEnd, u64)> {
+pub(crate) fn ended<S, K>(finished: Option<&Finished<S, K>>) -> Option<(SessionEnd, u64)> {
     match finished {
         Some(finished) => Some((finished.session.end, finished.session.steps)),
         None => None,
@@ -111,7 +111,7 @@ impl Trial for Journal {
 }
 
 /// The ends of two jobs whose gates wait for each other.
-type Ends = (usize, Option<(SessionEnd, u64)>, Option<(SessionEnd, u64)>);
+pub(crate) type Ends = (usize, Option<(SessionEnd, u64)>, Option<(SessionEnd, u64)>);
 
 #[test]
 fn jobs_wait_for_each_other(rt: HostRuntime) -> Result<(), Fail> {

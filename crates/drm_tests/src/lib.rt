@@ -27,7 +27,11 @@ mod listings;
 #[cfg(test)]
 mod lists;
 #[cfg(test)]
+mod many;
+#[cfg(test)]
 mod mode_frames;
+#[cfg(test)]
+mod replays;
 #[cfg(test)]
 mod rounds;
 #[cfg(test)]
