@@ -1,11 +1,13 @@
 //! Leases and their tokens, call by call.
 
-ghost use Rattle.std.specs.Prelude.{◌+◌, ◌<◌, ◌≤◌, IfOk};
+ghost use Rattle.std.specs.Prelude.{◌≡◌, ◌+◌, ◌<◌, ◌≤◌, IfOk, Some, Err};
+ghost use Rattle.drm_leases.specs.declared.faults.LeaseFault.{LeaseFault as AFault};
 ghost use Rattle.drm_leases.specs.Leases.{LeaseSet};
 ghost use Rattle.drm_leases.specs.Calls.{IsNewLessee};
 ghost use Rattle.drm_leases.specs.Agreed.{AreAgreed};
 ghost use Rattle.drm_masters.specs.Masters.{MasterSet};
 ghost use Rattle.drm_part_tests.specs.Older.{IsBefore};
+ghost use Rattle.drm_part_tests.specs.declared.asking.Told.TheVariants as told;
 
 use crate::asking::Told;
 use crate::modes::test_topology;
@@ -50,7 +52,7 @@ fn test_masters(alloc: Global) -> Result<Masters, Fail>
     let mut masters = Masters::new(alloc, 4, 4);
     match masters.on_open(1, 1) {
         Ok(_made) => Ok(masters),
-        Err(_fault) => Err("no master".into()),
+        Err(_fault) => Err("NoMemory for a master".into()),
     }
 }
 
@@ -70,11 +72,38 @@ fn lease(
     ensures before { IsBefore masters.new (birth + 1) }
     ensures lessees { IsNewLessee leases.new (birth + 1) }
     ensures agreed { AreAgreed leases.new masters.new }
+    ensures refused { (fault : AFault) → result ≡ Some (Err fault) → (leases.new ≡ leases.old) × (masters.new ≡ masters.old) }
 {
     if masters.member(client).is_none() {
         return None;
     }
     Some(leases.create(masters, modes, client, universal, ids, birth))
+}
+
+/// The same, and once more where memory was refused: nothing has changed then.
+fn lease_again(
+    leases: &mut Leases,
+    masters: &mut Masters,
+    modes: &Modes,
+    client: u32,
+    universal: bool,
+    ids: &[u32],
+    birth: u32,
+) -> Option<Result<Leased, LeaseFault>>
+    requires before { IsBefore masters.old birth }
+    requires lessees { IsNewLessee leases.old birth }
+    requires agreed { AreAgreed leases.old masters.old }
+    ensures before { IsBefore masters.new (birth + 1) }
+    ensures lessees { IsNewLessee leases.new (birth + 1) }
+    ensures agreed { AreAgreed leases.new masters.new }
+{
+    let first = lease(leases, masters, modes, client, universal, ids, birth);
+    match first {
+        Some(Err(LeaseFault::NoMemory)) => {
+            lease(leases, masters, modes, client, universal, ids, birth)
+        }
+        _ => first,
+    }
 }
 
 /// What came of a lease by the step of this number: its id and its token, if its lessee is the one that the step made.
@@ -95,6 +124,7 @@ fn enter(masters: &mut Masters, lessee: u32, client: u32) -> Told
     requires { IsBefore masters.old client }
     ensures before { IsBefore masters.new (client + 1) }
     ensures agreed { (l : LeaseSet) → AreAgreed l masters.old → AreAgreed l masters.new }
+    ensures refused { result ≡ told.NoMemory → masters.new ≡ masters.old }
 {
     masters.laws();
     let Some(row) = masters.master(lessee) else {
@@ -106,6 +136,19 @@ fn enter(masters: &mut Masters, lessee: u32, client: u32) -> Told
     match masters.on_redeem(client, row.key) {
         Ok(()) => Told::Done,
         Err(_fault) => Told::NoMemory,
+    }
+}
+
+/// The same, and once more where memory was refused: nothing has changed then.
+fn enter_again(masters: &mut Masters, lessee: u32, client: u32) -> Told
+    requires { IsBefore masters.old client }
+    ensures before { IsBefore masters.new (client + 1) }
+    ensures agreed { (l : LeaseSet) → AreAgreed l masters.old → AreAgreed l masters.new }
+{
+    let first = enter(masters, lessee, client);
+    match first {
+        Told::NoMemory => enter(masters, lessee, client),
+        _ => first,
     }
 }
 
@@ -221,10 +264,10 @@ fn made(leases: &mut Leases, masters: &mut Masters, modes: &Modes, ask: Ask, bir
     let (client, universal, ids) = match ask {
         Ask::Lease(client, ids) => (client, true, ids),
         Ask::LeaseUnseen(client, ids) => (client, false, ids),
-        Ask::Enter(lessee) => return enter(masters, lessee, birth),
+        Ask::Enter(lessee) => return enter_again(masters, lessee, birth),
         _ => return Told::Unasked,
     };
-    let made = lease(leases, masters, modes, client, universal, ids, birth);
+    let made = lease_again(leases, masters, modes, client, universal, ids, birth);
     told_lease(masters, birth, made)
 }
 
