@@ -3,7 +3,7 @@ use Rattle.std.specs.Prelude.{Bool, true, false}
 use Rattle.drm_table.specs.declared.calls.Call.{Call}
 use Rattle.drm_table.specs.declared.calls.Call.TheVariants.{Version, GetCap, SetClientCap, Audit, GetMagic, AuthMagic, SetMaster, DropMaster, GemClose, DestroyDumb, BufCreate, CreateDumb, StampWrite, StampRead, ListHandles, GemFlink, GemOpen, PrimeHandleToFd, PrimeFdToHandle, TokenClose, CreateLease, ListLessees, GetLease, RevokeLease, GetResources, GetPlaneResources, GetCrtc, GetEncoder, GetConnector, GetPlane, SetCrtc, SetPlane, GetFb, AddFb, RmFb}
 
--- the calls of the device itself and of what a client sees of it (drm-uapi)
+-- the calls of the device itself and of what a client sees of it (drm-uapi; AUDIT is own)
 abbrev pub is_device_call : Call → Bool
 is_device_call Version = true
 is_device_call (GetCap cap) = true
@@ -19,7 +19,7 @@ is_master_call SetMaster = true
 is_master_call DropMaster = true
 is_master_call _ = false
 
--- the calls of buffers (drm-uapi)
+-- the calls of buffers (drm-uapi; BUF_CREATE, the stamps and LIST_HANDLES are own)
 abbrev pub is_buffer_call : Call → Bool
 is_buffer_call (GemClose handle) = true
 is_buffer_call (DestroyDumb handle) = true
@@ -30,7 +30,7 @@ is_buffer_call (StampRead handle) = true
 is_buffer_call (ListHandles from) = true
 is_buffer_call _ = false
 
--- the calls that share objects (drm-uapi)
+-- the calls that share objects (drm-uapi; TOKEN_CLOSE is own)
 abbrev pub is_share_call : Call → Bool
 is_share_call (GemFlink handle) = true
 is_share_call (GemOpen name) = true
