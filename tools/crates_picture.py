@@ -2,20 +2,26 @@
 """The crates of crates.txt as a picture: each stands on those that arrows lead to, and on what these stand on.
 
     tools/crates_picture.py > docs/crates.svg
+    tools/crates_picture.py --layers
 
-An arrow that follows from others is left out, crates with the same arrows share a box, and so do arrows to a row further down a
-way through the rows between. Libraries of the toolchain aren't shown. Standard library only.
+The layers, which a comment line of crates.txt begins (`# parts: what they are`), are bands of the picture, the first at the bottom;
+--layers prints them as rows of a table, which docs/ARCHITECTURE.md opens with. An arrow that follows from others is left out, crates
+of a layer with the same arrows share a box, and so do arrows to a row further down a way through the rows between. Libraries of the
+toolchain aren't shown. Standard library only.
 """
 import pathlib
+import re
 import sys
 from typing import Dict, List, NamedTuple, Set, Tuple
 
 CRATES = pathlib.Path(__file__).resolve().parent.parent / "crates.txt"
 
-MARGIN, GAP_X, GAP_Y, PAD, LINE = 24.0, 26.0, 46.0, 10.0, 18.0
+MARGIN, GAP_X, GAP_Y, PAD, LINE = 24.0, 22.0, 40.0, 10.0, 18.0
 # how wide a letter is at most, on the average of a line
 LETTER = 7.0
 SWEEPS = 40
+# the boxes stand beside the names of the layers
+LEFT = 110.0
 
 Box = Tuple[str, ...]
 Arrow = Tuple[Box, Box]
@@ -43,6 +49,18 @@ def read_crates(text: str) -> Dict[str, List[str]]:
     return {name: [library for library in libraries if library in named] for name, libraries in named.items()}
 
 
+class Layer(NamedTuple):
+    name: str
+    what: str
+    crates: List[str]
+
+
+def read_layers(text: str) -> List[Layer]:
+    """The layers, from the lowest on."""
+    parts = re.split(r"^# (\w+): (.*)$", text, flags=re.M)
+    return [Layer(name, what, list(read_crates(lines))) for name, what, lines in zip(parts[1::3], parts[2::3], parts[3::3])]
+
+
 def reduced(crates: Dict[str, List[str]]) -> Dict[str, List[str]]:
     """Without the libraries that another library stands on."""
     below: Dict[str, Set[str]] = {}
@@ -56,39 +74,42 @@ def reduced(crates: Dict[str, List[str]]) -> Dict[str, List[str]]:
             for name, libraries in crates.items()}
 
 
-def boxes_of(crates: Dict[str, List[str]]) -> Tuple[List[Box], List[Arrow]]:
+def boxes_of(crates: Dict[str, List[str]], layers: List[Layer]) -> Tuple[List[Box], List[Arrow]]:
     """The crates in boxes, and the arrows between these."""
+    layer_of = {name: layer.name for layer in layers for name in layer.crates}
     above = {name: tuple(other for other in crates if name in crates[other]) for name in crates}
     groups: Dict[Tuple[object, ...], List[str]] = {}
     for name, libraries in crates.items():
         # at the top, with nothing above, each has a box of its own
-        key = (tuple(libraries), above[name]) if libraries and above[name] else (name,)
+        key = (tuple(libraries), above[name], layer_of[name]) if libraries and above[name] else (name,)
         groups.setdefault(key, []).append(name)
     box_of = {name: tuple(group) for group in groups.values() for name in group}
     arrows = {(box_of[name], box_of[library]): None for name, libraries in crates.items() for library in libraries}
     return list(dict.fromkeys(box_of.values())), list(arrows)
 
 
-def rows_of(boxes: List[Box], arrows: List[Arrow]) -> Dict[Box, int]:
-    """The row of each box, from the top: one below the lowest of those that stand on it. What no box of the longest ways down
-    stands on is no higher than one above its own libraries."""
-    highest: Dict[Box, int] = {}
-    lowest: Dict[Box, int] = {}
+def depths_of(boxes: List[Box], arrows: List[Arrow]) -> Dict[Box, int]:
+    """How many rows below the first of its layer each box stands: one below the lowest of the layer that stand on it."""
+    found: Dict[Box, int] = {}
 
-    def row(box: Box) -> int:
-        if box not in highest:
-            highest[box] = max([row(start) + 1 for start, end in arrows if end == box], default=0)
-        return highest[box]
+    def depth(box: Box) -> int:
+        if box not in found:
+            found[box] = max([depth(start) + 1 for start, end in arrows if end == box and start in boxes], default=0)
+        return found[box]
 
-    def low_row(box: Box) -> int:
-        if box not in lowest:
-            lowest[box] = min([low_row(end) - 1 for start, end in arrows if start == box], default=row(box))
-        return lowest[box]
+    return {box: depth(box) for box in boxes}
 
-    wanted = [box for box in boxes if low_row(box) == 0]
-    for box in wanted:
-        wanted += [end for start, end in arrows if start == box and end not in wanted]
-    return {box: row(box) if box in wanted else low_row(box) for box in boxes}
+
+def rows_of(boxes: List[Box], arrows: List[Arrow], layers: List[Layer]) -> Tuple[Dict[Box, int], List[int]]:
+    """The row of each box, from the top, and the first row of each layer, which stands below those that come after it."""
+    rows: Dict[Box, int] = {}
+    firsts: List[int] = []
+    for layer in reversed(layers):
+        first = max(rows.values(), default=-1) + 1
+        depths = depths_of([box for box in boxes if box[0] in layer.crates], arrows)
+        rows.update({box: first + depth for box, depth in depths.items()})
+        firsts.insert(0, first)
+    return rows, firsts
 
 
 def ways_of(arrows: List[Arrow], rows: Dict[Box, int]) -> List[List[Node]]:
@@ -129,7 +150,7 @@ def middles_of(ways: List[List[Node]]) -> Dict[Node, float]:
             wishes = {node: sum(middles[other] for other in near[node]) / len(near[node]) for node in row}
             middles.update(spread(row, wishes))
     left = min(middle - node.width() / 2 for node, middle in middles.items())
-    return {node: middle - left + MARGIN for node, middle in middles.items()}
+    return {node: middle - left + LEFT for node, middle in middles.items()}
 
 
 def tops_of(nodes: List[Node]) -> List[float]:
@@ -179,27 +200,48 @@ def drawn_box(node: Node, middle: float, top: float) -> List[str]:
 STYLE = """<style>
 text { font-family: sans-serif; font-size: 12px; fill: #1f2937; }
 .box { fill: #dbeafe; stroke: #3b6fb6; stroke-width: 1.5; }
+.layer { fill: #f3f4f6; }
+.head { font-weight: bold; }
 .arrow { fill: none; stroke: #4b5563; stroke-width: 1.2; marker-end: url(#head); }
 </style>
 <defs><marker id="head" viewBox="0 0 10 10" refX="10" refY="5" markerWidth="7" markerHeight="7" orient="auto">\
 <path d="M 0 0 L 10 5 L 0 10 z" fill="#4b5563"/></marker></defs>"""
 
 
+def drawn_layers(layers: List[Layer], firsts: List[int], tops: List[float], width: float) -> List[str]:
+    """A band for each layer, with its name."""
+    parts = []
+    for layer, first, end in zip(layers, firsts, [len(tops) - 1, *firsts]):
+        top, bottom = tops[first] - GAP_Y / 2 + 3, tops[end] - GAP_Y / 2 - 3
+        parts.append(f'<rect class="layer" x="0" y="{top:.1f}" width="{width:.0f}" height="{bottom - top:.1f}"/>')
+        parts.append(f'<text class="head" x="{PAD:.1f}" y="{top + 16:.1f}">{layer.name}</text>')
+    return parts
+
+
 def picture(text: str) -> str:
-    boxes, arrows = boxes_of(reduced(read_crates(text)))
-    ways = ways_of(arrows, rows_of(boxes, arrows))
+    layers = read_layers(text)
+    boxes, arrows = boxes_of(reduced(read_crates(text)), layers)
+    rows, firsts = rows_of(boxes, arrows, layers)
+    ways = ways_of(arrows, rows)
     middles = middles_of(ways)
     tops = tops_of(list(middles))
     width = max(middle + node.width() / 2 for node, middle in middles.items()) + MARGIN
     height = tops[-1] - GAP_Y + MARGIN
     lines = [f'<svg xmlns="http://www.w3.org/2000/svg" width="{width:.0f}" height="{height:.0f}">', STYLE,
              f'<rect width="{width:.0f}" height="{height:.0f}" fill="#ffffff"/>']
+    lines += drawn_layers(layers, firsts, tops, width)
     lines += [drawn_arrow(way, ways, middles, tops) for way in ways]
     for node, middle in middles.items():
         lines += drawn_box(node, middle, tops[node.row]) if node.is_box() else []
     return "\n".join([*lines, "</svg>"])
 
 
+def table(text: str) -> str:
+    """The layers as rows of a table, from the highest on."""
+    return "\n".join(f"| {layer.name} | {', '.join(f'`{crate}`' for crate in layer.crates)} | {layer.what} |"
+                     for layer in reversed(read_layers(text)))
+
+
 if __name__ == "__main__":
-    print(picture(CRATES.read_text()))
+    print((table if sys.argv[1:] == ["--layers"] else picture)(CRATES.read_text()))
     sys.exit(0)

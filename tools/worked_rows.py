@@ -49,6 +49,8 @@ OPENED = {
     "drm_table": [],
     "drm_model": [],
 }
+# what no verdict, change or answer asks
+UNASKED = {"family_of"}
 TOPOLOGY = "record { crtcs = 2; planes = 1 ∷ 2 ∷ []; kinds = PrimaryPlane 1 ∷ OverlayPlane ∷ []; encoders = 3 ∷ 2 ∷ []; connectors = 5 ∷ 6 ∷ [] }"
 
 
@@ -145,7 +147,7 @@ def read_opened(crate: str, files: List[str]) -> Dict[Tuple[str, str], List[str]
     """The definitions of each file of a crate's specs/ that a computation has to open."""
     found = {}
     for path in sorted((CRATES / crate / "specs").glob("*.antt")):
-        names = re.findall(r"^unfoldable pub ([a-z]\w*) :", path.read_text(), re.M)
+        names = [name for name in re.findall(r"^unfoldable pub ([a-z]\w*) :", path.read_text(), re.M) if name not in UNASKED]
         if names and (not files or path.stem in files):
             found[crate, path.stem] = names
     return found
@@ -240,7 +242,7 @@ def imports(known: Definitions) -> List[Tuple[str, List[str]]]:
     answers = "Done, Opened, Version as VersionIs, Number, Dumb, Buffer, Resources, Plane, Framebuffer, Lease as LeaseIs, \
 List as ListIs, Audit as AuditIs, Closed, Denied"
     return [
-        ("Rattle.std.proofs.Common", "◌≡◌, true, false, List, ◌∷◌, Result, Ok, Err, refl, []".split(", ")),
+        ("Rattle.std.proofs.Common", "◌≡◌, true, false, List, ◌∷◌, map, Result, Ok, Err, refl, []".split(", ")),
         (f"{table}.answers.Answer", ["Answer"]),
         (f"{table}.answers.Answer.TheVariants", answers.split(", ")),
         (f"{table}.apart.Apart", ["Apart"]),
@@ -270,42 +272,52 @@ def used_imports(known: Definitions, body: str) -> str:
     return "".join(f"use {module}.{{{', '.join(names)}}}\n" for module, names in used if names)
 
 
+def limits_term(row: Row) -> str:
+    """The limits that a row names, or those of the program."""
+    named = "; ".join(f"{field} = {value}" for field, value in zip(LIMITS, row.limits))
+    return f"(record {{ {named} }})" if row.limits else "program_limits"
+
+
 def lemma(row: Row, known: Definitions) -> str:
-    """The lemma that the definitions give a row's answers."""
-    limits = "; ".join(f"{field} = {value}" for field, value in zip(LIMITS, row.limits or PROGRAM))
-    events = "".join(f"    {event} ∷\n" for event in event_terms(row, known))
-    answers = "".join(f"    {bare(answer_term(line.answer, known))} ∷\n" for line in row.lines)
+    """The lemma that the definitions give a row's answers: each event with its answer."""
+    steps = (f"    ({event}, {bare(answer_term(line.answer, known))}) ∷\n" for event, line in zip(event_terms(row, known), row.lines))
     opened = " ".join(name for names in known.opened.values() for name in names)
-    body = f"""abbrev test_topology : Topology
-test_topology = {TOPOLOGY}
+    return f"""
+abbrev {row.name}-steps : List (Event × Result Answer Apart)
+{row.name}-steps =
+{"".join(steps)}    []
 
-abbrev limits : Limits
-limits = record {{ {limits} }}
-
-abbrev events : List Event
-events =
-{events}    []
-
-abbrev answers : List (Result Answer Apart)
-answers =
-{answers}    []
-
-pub {row.name} : results (empty_rows test_topology limits) events ≡ answers
+pub {row.name} : Gives {limits_term(row)} {row.name}-steps
 unfolding {opened}
 {row.name} = refl
 """
-    head = f"-- Made by tools/worked_rows.py: the worked row {row.name}, as the definitions compute it.\n"
+
+
+def lemmas(group: Group, known: Definitions) -> str:
+    """The file of a group's lemmas."""
+    limits = "; ".join(f"{field} = {value}" for field, value in zip(LIMITS, PROGRAM))
+    body = f"""abbrev test_topology : Topology
+test_topology = {TOPOLOGY}
+
+abbrev program_limits : Limits
+program_limits = record {{ {limits} }}
+
+-- on a new device of these limits each event gets its answer
+abbrev Gives : Limits → List (Event × Result Answer Apart) → Type 0
+Gives limits steps = results (empty_rows test_topology limits) (map (λ step. step.0) steps) ≡ map (λ step. step.1) steps
+{"".join(lemma(row, known) for row in group.rows)}"""
+    head = f"-- Made by tools/worked_rows.py: worked rows, as the definitions compute them. {group.about}\n"
     return f"{head}{used_imports(known, body)}\n{body}"
 
 
-def module_of(row: Row) -> str:
-    return "Worked" + "".join(word.capitalize() for word in row.name.split("_"))
+def module_of(group: Group) -> str:
+    return "Worked" + group.name.capitalize()
 
 
-def library(rows: List[Row], text: str) -> str:
+def library(groups: List[Group], text: str) -> str:
     """The list of drm_model's proofs, with the lemmas of these rows in place of those that it has."""
     kept = [line for line in text.splitlines() if not line.startswith("pub mod Worked")]
-    return "".join(f"{line}\n" for line in [*kept, *(f"pub mod {module_of(row)}" for row in rows)])
+    return "".join(f"{line}\n" for line in [*kept, *(f"pub mod {module_of(group)}" for group in groups)])
 
 
 # tables
@@ -352,11 +364,10 @@ pub(crate) const {group.name}: [Row; {len(group.rows)}] = [
 def made_files(groups: List[Group]) -> Dict[pathlib.Path, str]:
     """All files that are made of the rows, and what they have."""
     known = read_definitions()
-    rows = [row for group in groups for row in group.rows]
     library_path = PROOFS / "Lib.antt"
-    files = {library_path: library(rows, library_path.read_text())}
-    files.update((PROOFS / f"{module_of(row)}.antt", lemma(row, known)) for row in rows)
-    files.update((SCRIPTS / f"{row.name}.script", row.text()) for row in rows)
+    files = {library_path: library(groups, library_path.read_text())}
+    files.update((PROOFS / f"{module_of(group)}.antt", lemmas(group, known)) for group in groups)
+    files.update((SCRIPTS / f"{row.name}.script", row.text()) for group in groups for row in group.rows)
     files.update((TABLES / f"{group.name.lower()}.rt", table(group, known)) for group in groups)
     return files
 

@@ -15,38 +15,42 @@ use Rattle.drm_table.specs.declared.events.Event.TheVariants.{Open, Ask, Close}
 use Rattle.drm_table.specs.declared.events.Opening.TheVariants.{Primary, Render, Lease}
 use Rattle.drm_table.specs.declared.rules.Rule.{Rule}
 use Rattle.drm_modes.specs.Topology.{Topology, is_plane, is_encoder, plane_ids, is_primary_or_cursor}
-use Rattle.drm_model.specs.Rows.{Rows, ClientRow, birth, is_client, is_option, client_row, is_open}
+use Rattle.drm_lists.proofs.Edits.{either}
+use Rattle.drm_model.specs.Rows.{Rows, ClientRow, step_number, is_client, is_option, client_row, is_open}
 use Rattle.drm_model.specs.Sees.{controls, has_universal, sees, sees_plane, visible_planes}
-use Rattle.drm_model.specs.Magics.{own_master, magic_client, is_current, is_master}
+use Rattle.drm_model.specs.Magics.{caller_master, magic_client, is_current, is_master}
 use Rattle.drm_model.specs.Calls.{meaning}
 use Rattle.drm_model.specs.Verdict.{verdict}
-use Rattle.drm_model.specs.Change.{changed, swept, noted}
+use Rattle.drm_model.proofs.Changes.{primary_row, set_row}
+use Rattle.drm_model.specs.Change.{changed, swept, journaled}
 use Rattle.drm_model.specs.Reply.{reply, reply_by, answer_of}
 use Rattle.drm_model.proofs.Leased.{rules_hold}
-use Rattle.drm_history.specs.History.{Entry, next_number}
-use Rattle.drm_authority.specs.Deeds.{deed, is_accepted}
+use Rattle.drm_history.specs.History.{AnsweredEvent, next_number}
+use Rattle.drm_authority.specs.Effects.{effect, is_accepted}
 use Rattle.drm_authority.specs.Shown.{universal_by, is_universal_in, ShowsOverlays, KeepsToOverlays}
 use Rattle.drm_authority.proofs.Runs.{IsReached, replied, denied, carried}
 use Rattle.drm_authority.proofs.Rules.{caller_open}
-use Rattle.drm_authority.proofs.Deeds.{denied_nothing}
-use Rattle.drm_authority.proofs.Changes.{clients_after, primary_row, set_row}
+use Rattle.drm_authority.proofs.Effects.{denied_nothing}
+use Rattle.drm_authority.proofs.Changes.{clients_after}
 use Rattle.drm_authority.proofs.Apart.{plane_apart}
+use Rattle.drm_model.specs.Clients.{opened}
+use Rattle.drm_model.proofs.StepNumbers.{new_primary}
 
-abbrev pub CapableTold : List Entry → ClientRow → Type 0
+abbrev pub CapableTold : List AnsweredEvent → ClientRow → Type 0
 CapableTold past row = row.universal ≡ is_universal_in past row.client
 
-abbrev pub CapablesTold : List Entry → Rows → Type 0
+abbrev pub CapablesTold : List AnsweredEvent → Rows → Type 0
 CapablesTold past w = AllByRecursion (CapableTold past) w.clients
 
 -- ---- a step
 
-abbrev Aged : List Entry → Rows → ClientRow → Type 0
+abbrev Aged : List AnsweredEvent → Rows → ClientRow → Type 0
 Aged past w row = CapableTold past row × (row.client ≤ w.steps)
 
-aged : (past : List Entry) (w : Rows) → IsReached past w → CapablesTold past w → AllByRecursion (Aged past w) w.clients
-aged past w r a = all_both (CapableTold past) (λ (row : ClientRow). row.client ≤ w.steps) (Aged past w) (λ row h k. (h, k)) w.clients a r.births.0.1
+aged : (past : List AnsweredEvent) (w : Rows) → IsReached past w → CapablesTold past w → AllByRecursion (Aged past w) w.clients
+aged past w r a = all_both (CapableTold past) (λ (row : ClientRow). row.client ≤ w.steps) (Aged past w) (λ row h k. (h, k)) w.clients a r.step_numbers.0.1
 
-module _ (past : List Entry) (w : Rows) (r : IsReached past w) where
+module _ (past : List AnsweredEvent) (w : Rows) (r : IsReached past w) where
   -- an older client is as it was where another opens
   still : (universal : Bool) (row : ClientRow) → Aged past w row → row.universal ≡ (if next_number past == row.client then universal else is_universal_in past row.client)
   still universal row h =
@@ -55,7 +59,7 @@ module _ (past : List Entry) (w : Rows) (r : IsReached past w) where
       h.0 ∙ sym (ap (λ b. if b then universal else is_universal_in past row.client) (flipped row.client (next_number past) (less-differ row.client (next_number past) (omega (arith, older, steps)))))
 
   -- a new one is as its opening says
-  new : (universal : Bool) (n : ℕ) → n ≡ birth w → universal ≡ (if next_number past == n then universal else is_universal_in past n)
+  new : (universal : Bool) (n : ℕ) → n ≡ step_number w → universal ≡ (if next_number past == n then universal else is_universal_in past n)
   new universal n e =
       let steps = r.steps in
       let same : (next_number past == n) ≡ true = ap (λ m. next_number past == m) (e ∙ ap (λ m. m + 1) steps) ∙ itself (next_number past) in
@@ -68,28 +72,24 @@ module _ (past : List Entry) (w : Rows) (r : IsReached past w) where
   primary_universal root universal None = refl
   primary_universal root universal (Some m) = refl
 
-  primary_client : (root universal : Bool) (m : Option ℕ) → (primary_row w root universal m).client ≡ birth w
-  primary_client root universal None = refl
-  primary_client root universal (Some m) = refl
-
-  opened_primary : (root universal : Bool) → CapablesTold past w → CapablesTold (carried w (Open (Primary root universal)) ∷ past) (noted (swept (changed w (Open (Primary root universal)))))
-  unfolding is_universal_in deed answer_of
+  opened_primary : (root universal : Bool) → CapablesTold past w → CapablesTold (carried w (Open (Primary root universal)) ∷ past) (journaled (swept (changed w (Open (Primary root universal)))))
+  unfolding is_universal_in effect answer_of
   opened_primary root universal a =
       let row = primary_row w root universal w.device_master in
       clients_after w (CapableTold (carried w (Open (Primary root universal)) ∷ past)) (Open (Primary root universal)) (Aged past w) (still universal)
-      (primary_universal root universal w.device_master ∙ new universal row.client (primary_client root universal w.device_master)) (aged past w r a)
+      (primary_universal root universal w.device_master ∙ new universal row.client (new_primary w root universal w.device_master)) (aged past w r a)
 
-  opened_render : CapablesTold past w → CapablesTold (carried w (Open Render) ∷ past) (noted (swept (changed w (Open Render))))
-  unfolding is_universal_in deed answer_of
-  opened_render a = clients_after w (CapableTold (carried w (Open Render) ∷ past)) (Open Render) (Aged past w) (still true) (new true (birth w) refl) (aged past w r a)
+  opened_render : CapablesTold past w → CapablesTold (carried w (Open Render) ∷ past) (journaled (swept (changed w (Open Render))))
+  unfolding is_universal_in effect answer_of
+  opened_render a = clients_after w (CapableTold (carried w (Open Render) ∷ past)) (Open Render) (Aged past w) (still true) (new true (step_number w) refl) (aged past w r a)
 
-  opened_lease : (token : ℕ) (root universal : Bool) → CapablesTold past w → CapablesTold (carried w (Open (Lease token root universal)) ∷ past) (noted (swept (changed w (Open (Lease token root universal)))))
-  unfolding is_universal_in deed answer_of
+  opened_lease : (token : ℕ) (root universal : Bool) → CapablesTold past w → CapablesTold (carried w (Open (Lease token root universal)) ∷ past) (journaled (swept (changed w (Open (Lease token root universal)))))
+  unfolding is_universal_in effect answer_of
   opened_lease token root universal a =
-      clients_after w (CapableTold (carried w (Open (Lease token root universal)) ∷ past)) (Open (Lease token root universal)) (Aged past w) (still universal) (new universal (birth w) refl) (aged past w r a)
+      clients_after w (CapableTold (carried w (Open (Lease token root universal)) ∷ past)) (Open (Lease token root universal)) (Aged past w) (still universal) (new universal (step_number w) refl) (aged past w r a)
 
 -- SET_CLIENT_CAP
-capable : (past : List Entry) (c : ℕ) (on : Bool) (row : ClientRow) → CapableTold past row →
+capable : (past : List AnsweredEvent) (c : ℕ) (on : Bool) (row : ClientRow) → CapableTold past row →
     (if is_client c row then record row { universal = on } else row).universal ≡ (if c == (if is_client c row then record row { universal = on } else row).client then on else is_universal_in past (if is_client c row then record row { universal = on } else row).client)
 capable past c on row h =
     elim (is_client c row) as (λ b. is_client c row ≡ b → (if b then record row { universal = on } else row).universal ≡ (if c == (if b then record row { universal = on } else row).client then on else is_universal_in past (if b then record row { universal = on } else row).client)) [
@@ -100,42 +100,38 @@ capable past c on row h =
     turned : (m n : ℕ) → (m == n) ≡ true → (n == m) ≡ true
     turned m n e = grind (arith, nat_tests)
 
-authenticated : (past : List Entry) (b : Bool) (row : ClientRow) → CapableTold past row → CapableTold past (if b then record row { authenticated = true } else row)
-authenticated past true row h = h
-authenticated past false row h = h
-
-mastering : (past : List Entry) (w : Rows) (c : ℕ) (current master : Bool) (row : ClientRow) → CapableTold past row → CapableTold past (set_row w c current master row)
+mastering : (past : List AnsweredEvent) (w : Rows) (c : ℕ) (current master : Bool) (row : ClientRow) → CapableTold past row → CapableTold past (set_row w c current master row)
 mastering past w c true master row h = h
 mastering past w c false true row h = h
 mastering past w c false false row h =
-    elim (is_client c row) as (λ b. CapableTold past (if b then record row { authenticated = true; once_master = true; is_master = true; master = Some (birth w) } else row)) [ true ↦ h | false ↦ h ]
+    elim (is_client c row) as (λ b. CapableTold past (if b then record row { authenticated = true; once_master = true; is_master = true; master = Some (step_number w) } else row)) [ true ↦ h | false ↦ h ]
 
-asked : (past : List Entry) (w : Rows) (c : ℕ) (call : Call) → CapablesTold past w → CapablesTold (carried w (Ask c call) ∷ past) (noted (swept (changed w (Ask c call))))
-unfolding is_universal_in deed answer_of meaning
+asked : (past : List AnsweredEvent) (w : Rows) (c : ℕ) (call : Call) → CapablesTold past w → CapablesTold (carried w (Ask c call) ∷ past) (journaled (swept (changed w (Ask c call))))
+unfolding is_universal_in effect answer_of meaning
 asked past w c Version a = clients_after w (CapableTold past) (Ask c Version) (CapableTold past) (λ row h. h) tt a
 asked past w c (SetClientCap cap value) a = clients_after w (CapableTold (carried w (Ask c (SetClientCap cap value)) ∷ past)) (Ask c (SetClientCap cap value)) (CapableTold past) (λ row h. capable past c (value == 1) row h) tt a
-asked past w c (AuthMagic magic) a = clients_after w (CapableTold past) (Ask c (AuthMagic magic)) (CapableTold past) (λ row h. authenticated past (is_option row.client (magic_client w (own_master w c) magic)) row h) tt a
+asked past w c (AuthMagic magic) a = clients_after w (CapableTold past) (Ask c (AuthMagic magic)) (CapableTold past) (λ row h. either (CapableTold past) (is_option row.client (magic_client w (caller_master w c) magic)) (record row { authenticated = true }) row h h) tt a
 asked past w c SetMaster a = clients_after w (CapableTold past) (Ask c SetMaster) (CapableTold past) (λ row h. mastering past w c (is_current w c) (is_master w c) row h) tt a
 asked past w c call a = clients_after w (CapableTold past) (Ask c call) (CapableTold past) (λ row h. h) tt a
 
-closed : (past : List Entry) (w : Rows) (c : ℕ) → CapablesTold past w → CapablesTold (carried w (Close c) ∷ past) (noted (swept (changed w (Close c))))
-unfolding is_universal_in deed answer_of
+closed : (past : List AnsweredEvent) (w : Rows) (c : ℕ) → CapablesTold past w → CapablesTold (carried w (Close c) ∷ past) (journaled (swept (changed w (Close c))))
+unfolding is_universal_in effect answer_of
 closed past w c a = clients_after w (CapableTold past) (Close c) (CapableTold past) (λ row h. h) tt a
 
-pub capables_carried : (past : List Entry) (w : Rows) (event : Event) → IsReached past w → CapablesTold past w → CapablesTold (carried w event ∷ past) (noted (swept (changed w event)))
+pub capables_carried : (past : List AnsweredEvent) (w : Rows) (event : Event) → IsReached past w → CapablesTold past w → CapablesTold (carried w event ∷ past) (journaled (swept (changed w event)))
 capables_carried past w (Open (Primary root universal)) r a = opened_primary past w r root universal a
 capables_carried past w (Open Render) r a = opened_render past w r a
 capables_carried past w (Open (Lease token root universal)) r a = opened_lease past w r token root universal a
 capables_carried past w (Ask c call) r a = asked past w c call a
 capables_carried past w (Close c) r a = closed past w c a
 
-pub capables_denied : (past : List Entry) (w : Rows) (event : Event) (rule : Rule) → CapablesTold past w → CapablesTold (denied event rule ∷ past) (noted w)
+pub capables_denied : (past : List AnsweredEvent) (w : Rows) (event : Event) (rule : Rule) → CapablesTold past w → CapablesTold (denied event rule ∷ past) (journaled w)
 unfolding is_universal_in
 capables_denied past w event rule a =
     all_weaker (CapableTold past) (CapableTold (denied event rule ∷ past)) (λ row h. h ∙ sym (ap (λ d. universal_by d (next_number past) row.client (is_universal_in past row.client)) (denied_nothing event rule))) w.clients a
 
 -- what the history says of an open client
-pub capable_told : (past : List Entry) (w : Rows) → CapablesTold past w → (c : ℕ) → is_open w c ≡ true → has_universal w c ≡ is_universal_in past c
+pub capable_told : (past : List AnsweredEvent) (w : Rows) → CapablesTold past w → (c : ℕ) → is_open w c ≡ true → has_universal w c ≡ is_universal_in past c
 capable_told past w a c opened = by (client_row w c) refl opened
   where
     by : (o : Option ClientRow) → client_row w c ≡ o → is_some o ≡ true → option_map_or (λ (row : ClientRow). row.universal) o false ≡ is_universal_in past c
@@ -177,7 +173,7 @@ accepted : (t : Topology) (w : Rows) (c : ℕ) (call : Call) (v : Option Rule) �
 accepted t w c call (Some rule) e f h = absurd (let n : false ≡ true = h in cc)
 accepted t w c call None e f h = f e
 
-pub keeps_to_overlays : (past : List Entry) (w : Rows) (event : Event) → CapablesTold past w → KeepsToOverlays w.topology (replied w event) past
+pub keeps_to_overlays : (past : List AnsweredEvent) (w : Rows) (event : Event) → CapablesTold past w → KeepsToOverlays w.topology (replied w event) past
 unfolding reply
 keeps_to_overlays past w (Open opening) a = tt
 keeps_to_overlays past w (Ask c call) a = λ off h. accepted w.topology w c call (verdict w (Ask c call)) refl (λ v. shows w c (capable_told past w a c (caller_open w c call v) ∙ off) call v) h

@@ -1,17 +1,17 @@
 -- No two rows have the same lease token, the same id below one owner, or the same number of a master's magics: each is the one that the
 -- history tells of.
-use Rattle.std.proofs.Common.{◌≡◌, ℕ, ◌<◌, ◌==◌, Bool, true, false, ◌&&◌, List, [], ◌∷◌, Option, None, Some, refl, sym, ap, ◌∙◌, arith, eq-eqb}
+use Rattle.std.proofs.Common.{◌≡◌, ℕ, ◌<◌, ◌==◌, true, false, ◌&&◌, List, [], ◌∷◌, Option, None, Some, refl, sym, ap, ◌∙◌, arith, eq-eqb}
 use Rattle.std.specs.Prelude.{IfSome}
 use Rattle.std.specs.List.{AllByRecursion}
 use Rattle.std.specs.Option.{is_some}
-use Rattle.std.proofs.lemmas.Bool.{eqb-true, and_parts}
+use Rattle.std.proofs.lemmas.Bool.{eqb-true, and_parts, false_from_ne_true}
 use Rattle.drm_lists.specs.Orders.{InOrder}
 use Rattle.drm_lists.proofs.Lists.{all_both}
 use Rattle.drm_model.specs.Rows.{MasterRow, MagicRow, is_option}
 use Rattle.drm_model.specs.Masters.{owner_of}
 use Rattle.drm_model.specs.Leases.{is_lessee_of}
-use Rattle.drm_history.specs.History.{Entry}
-use Rattle.drm_authority.specs.Standing.{lease_in}
+use Rattle.drm_history.specs.History.{AnsweredEvent}
+use Rattle.drm_authority.specs.MasterState.{lease_in}
 use Rattle.drm_authority.specs.Lessees.{lessee_in, top_in}
 use Rattle.drm_authority.specs.Magics.{magic_in}
 use Rattle.drm_authority.specs.Laws.{HasOtherToken, HasOtherId, IsOtherMagic}
@@ -24,24 +24,20 @@ pub in_order_so : {X : Type 0} (P : X → Type 0) (R S : X → X → Type 0) →
 in_order_so P R S f [] p r = tt
 in_order_so P R S f (x ∷ xs) p r = (all_both P (R x) (S x) (λ y py ry. f x y p.0 py ry) xs p.1 r.0, in_order_so P R S f xs p.1 r.1)
 
-never : (b : Bool) → (b ≡ true → ⊥) → b ≡ false
-never true h = absurd (h refl)
-never false h = refl
-
 differ : (o : Option ℕ) (m n : ℕ) → o ≡ Some m → o ≡ Some n → m < n → ⊥
 differ o m n e k less = let same : m ≡ n = (let s : Some m ≡ Some n = sym e ∙ k in cc) in omega (arith, same, less)
 
 abbrev pub IsOlder : MasterRow → MasterRow → Type 0
 IsOlder x y = x.master < y.master
 
-module _ (past : List Entry) where
+module _ (past : List AnsweredEvent) where
   pub other_token : (x y : MasterRow) → TokenTold past x → TokenTold past y → IsOlder x y → HasOtherToken x y
   other_token x y h k less = by x.lease_token y.lease_token h k
     where
       by : (t u : Option ℕ) → IfSome t (λ t. lease_in past t ≡ Some x.master) → IfSome u (λ u. lease_in past u ≡ Some y.master) → IfSome t (λ t. is_option t u ≡ false)
       by None u h k = tt
       by (Some t) None h k = refl
-      by (Some t) (Some u) h k = never (u == t) (λ e. differ (lease_in past t) x.master y.master h (ap (lease_in past) (sym (eqb-true u t e)) ∙ k) less)
+      by (Some t) (Some u) h k = false_from_ne_true (u == t) (λ e. differ (lease_in past t) x.master y.master h (ap (lease_in past) (sym (eqb-true u t e)) ∙ k) less)
 
   abbrev pub IdOwned : List MasterRow → MasterRow → Type 0
   IdOwned masters row = IdTold past row × (owner_of masters row.master ≡ top_in past row.master)
@@ -64,11 +60,11 @@ module _ (past : List Entry) where
 
       by : (lessor : Option ℕ) → IfSome lessor (λ _. lessee_in past (top_in past x.master) x.lessee_id ≡ Some x.master) → IfSome lessor (λ _. is_lessee_of masters (owner_of masters x.master) x.lessee_id y ≡ false)
       by None told = tt
-      by (Some m) told = never (is_lessee_of masters (owner_of masters x.master) x.lessee_id y) (same told)
+      by (Some m) told = false_from_ne_true (is_lessee_of masters (owner_of masters x.master) x.lessee_id y) (same told)
 
   pub other_magic : (x y : MagicRow) → magic_in past x.master x.number ≡ Some x.client → magic_in past y.master y.number ≡ Some y.client → AreApart x y → IsOtherMagic x y
   other_magic x y h k apart =
-      never ((x.master == y.master) && (x.number == y.number))
+      false_from_ne_true ((x.master == y.master) && (x.number == y.number))
       (λ e.
       let parts = and_parts (x.master == y.master) (x.number == y.number) e in
       let same : x.client ≡ y.client = (let s : Some x.client ≡ Some y.client = sym h ∙ (λ i. magic_in past (eqb-true x.master y.master parts.0 i) (eqb-true x.number y.number parts.1 i)) ∙ k in cc) in

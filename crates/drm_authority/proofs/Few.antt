@@ -6,7 +6,6 @@ use Rattle.std.specs.Option.{is_some}
 use Rattle.std.specs.Cmp.{IsEquivalence}
 use Rattle.std.specs.Set.{is_member}
 use Rattle.std.proofs.lemmas.Bool.{eqb-true}
-use Rattle.std.proofs.lemmas.Bool.Decides.{nat_tests}
 use Rattle.std.proofs.lemmas.List.{length-map}
 use Rattle.std.proofs.lemmas.Map.Keys.{IsDistinct-cons}
 use Rattle.std.proofs.lemmas.Map.Made.{length-le_from_is_member}
@@ -15,18 +14,15 @@ use Rattle.drm_lists.specs.Numbers.{is_among}
 use Rattle.drm_lists.specs.Orders.{InOrder}
 use Rattle.drm_lists.proofs.Lists.{all_weaker, all_mapped, filter-shorter, some_passing, list_any-map, list_any_agree}
 use Rattle.drm_lists.proofs.Found.{is_some-find, none_found}
-use Rattle.drm_lists.proofs.Numbers.{flipped}
+use Rattle.drm_lists.proofs.Numbers.{flipped, same_either}
 use Rattle.drm_index_array.proofs.Least.{least_none}
 use Rattle.drm_model.specs.Rows.{Rows, ClientRow, MagicRow, is_client, is_open, magic_row}
 use Rattle.drm_model.specs.Magics.{magics_under, free_magic}
 
-turned : (a b : ℕ) → (a == b) ≡ (b == a)
-turned a b = grind (arith, nat_tests)
-
 numbers_equal : IsEquivalence ◌==◌
 numbers_equal = record {
   refl = λ x. eq-eqb x x refl;
-  symm = turned;
+  symm = same_either;
   congr = λ x y z e. ap (λ n. n == z) (eqb-true x y e);
 }
 
@@ -47,15 +43,12 @@ clients_distinct [] h = tt
 clients_distinct (row ∷ rows) h = IsDistinct-cons ◌==◌ row.client (map (λ (row : MagicRow). row.client) rows) (all_mapped (λ y. (row.client == y) ≡ false) (λ (row : MagicRow). row.client) rows h.0) (clients_distinct rows h.1)
 
 module _ (w : Rows) (fit : MagicsFit w) (c : ℕ) (opened : is_open w c ≡ true) (none : magic_row w c ≡ None) where
-  magic_clients : List ℕ
-  magic_clients = map (λ (row : MagicRow). row.client) w.magics
-
   other_clients : AllByRecursion (λ y. (c == y) ≡ false) (map (λ (row : MagicRow). row.client) w.magics)
   other_clients = all_mapped (λ y. (c == y) ≡ false) (λ (row : MagicRow). row.client) w.magics (all_weaker (λ (row : MagicRow). (row.client == c) ≡ false) (λ (row : MagicRow). (c == row.client) ≡ false) (λ row e. flipped row.client c e) w.magics (none_found (λ (row : MagicRow). row.client == c) w.magics none))
 
   -- a client that is open is among the clients
   client_among : (q d : ℕ) → (q == d) ≡ true → list_any (is_client d) w.clients ≡ true → is_member ◌==◌ (map (λ (row : ClientRow). row.client) w.clients) q ≡ true
-  client_among q d e h = list_any-map (λ y. q == y) (λ (row : ClientRow). row.client) w.clients ∙ list_any_agree (λ (row : ClientRow). q == row.client) (is_client d) (λ row. turned q row.client ∙ ap (λ n. row.client == n) (eqb-true q d e)) w.clients ∙ h
+  client_among q d e h = list_any-map (λ y. q == y) (λ (row : ClientRow). row.client) w.clients ∙ list_any_agree (λ (row : ClientRow). q == row.client) (is_client d) (λ row. same_either q row.client ∙ ap (λ n. row.client == n) (eqb-true q d e)) w.clients ∙ h
 
   each_among : (q : ℕ) → is_member ◌==◌ (c ∷ map (λ (row : MagicRow). row.client) w.magics) q ≡ true → is_member ◌==◌ (map (λ (row : ClientRow). row.client) w.clients) q ≡ true
   each_among q h =
@@ -102,7 +95,7 @@ module _ (w : Rows) (fit : MagicsFit w) (c : ℕ) (opened : is_open w c ≡ true
         where
           at : (q : ℕ) → q < w.limits.clients + 1 → (b : Bool) → (q == 0) ≡ b → ((k : ℕ) → 1 ≤ k → k ≤ w.limits.clients → not (is_among (magics_under w m) k) ≡ false) → (b || list_any (λ x. q == x) (magics_under w m)) ≡ true
           at q lt true e all = refl
-          at q lt false e all = list_any_agree (λ x. q == x) (λ x. x == q) (λ x. turned q x) (magics_under w m) ∙ taken q (all q (positive q e) (omega (arith, lt)))
+          at q lt false e all = list_any_agree (λ x. q == x) (λ x. x == q) (λ x. same_either q x) (magics_under w m) ∙ taken q (all q (positive q e) (omega (arith, lt)))
             where
               positive : (q : ℕ) → (q == 0) ≡ false → 1 ≤ q
               positive zero e = absurd (let n : true ≡ false = e in cc)

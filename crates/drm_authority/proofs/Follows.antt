@@ -11,24 +11,24 @@ use Rattle.drm_table.specs.declared.limits.Limits.{Limits}
 use Rattle.drm_modes.specs.Topology.{Topology}
 use Rattle.drm_model.specs.Rows.{Rows, ClientRow, MasterRow, MagicRow, client_row, is_client, empty_rows}
 use Rattle.drm_model.specs.Masters.{owner_of}
-use Rattle.drm_model.specs.Run.{Answers, History, noted_events, rows_of, start_of}
-use Rattle.drm_model.proofs.Births.{births_rise}
+use Rattle.drm_model.specs.Run.{Answers, DeviceValue, journaled_events, rows_of, start_of}
+use Rattle.drm_model.proofs.StepNumbers.{step_numbers_rise}
 use Rattle.drm_model.proofs.Runs.{answers-run}
-use Rattle.drm_history.specs.History.{Entry, history_of, with_noted}
+use Rattle.drm_history.specs.History.{AnsweredEvent, history_of, with_journaled}
 use Rattle.drm_history.proofs.Histories.{history_of_answers}
-use Rattle.drm_authority.specs.Standing.{standing}
+use Rattle.drm_authority.specs.MasterState.{master_state}
 use Rattle.drm_authority.specs.Lessees.{top_in, granted}
 use Rattle.drm_authority.specs.Magics.{magic_in, is_named_in, known}
 use Rattle.drm_authority.specs.Shown.{KeepsToOverlays}
-use Rattle.drm_authority.specs.Barren.{StaysBarren}
-use Rattle.drm_authority.specs.Laws.{AuthorityFollows, CapabilitiesFollow, OverlaysAlone, OwnerFollows, OwnersFollow, ClientsFollow, LeaseTokensFollow, LessorsFollow, LesseesFollow, GrantsFollow, EndedLesseesAreBarren, MagicsFollow, AuthenticationFollows, MastersDiffer, HasOtherToken, HasOtherId, IsOtherMagic}
+use Rattle.drm_authority.specs.SeesNothing.{KeepsSeeingNothing}
+use Rattle.drm_authority.specs.Laws.{AuthorityFollows, CapabilitiesFollow, OverlaysAlone, OwnerFollows, OwnersFollow, ClientsFollow, LeaseTokensFollow, LessorsFollow, LesseesFollow, GrantsFollow, EndedLesseesSeeNothing, MagicsFollow, AuthenticationFollows, MastersDiffer, HasOtherToken, HasOtherId, IsOtherMagic}
 use Rattle.drm_authority.proofs.Runs.{Keeps, replied, by_verdict, at_all_times, at_each_step}
 use Rattle.drm_authority.proofs.Capable.{capable_told, keeps_to_overlays}
 use Rattle.drm_authority.proofs.Stands.{open_stands}
 use Rattle.drm_authority.proofs.Held.{is_there, row_there}
 use Rattle.drm_authority.proofs.Lessors.{Descended, IdTold, owner_same}
 use Rattle.drm_authority.proofs.Grants.{Lending, lending_denied, lending_carried}
-use Rattle.drm_authority.proofs.Barren.{stays_barren}
+use Rattle.drm_authority.proofs.SeesNothing.{keeps_seeing_nothing}
 use Rattle.drm_authority.proofs.Named.{Magical, MagicTold, magical_denied, magical_carried}
 use Rattle.drm_authority.proofs.Closed.{closings_are_for_good}
 use Rattle.drm_authority.proofs.Mastership.{masters_become}
@@ -39,66 +39,66 @@ use Rattle.drm_authority.proofs.Known.{AuthTold, AuthsTold, auths_denied, auths_
 
 -- ---- of leases
 
-lending_start : (h : History) → Lending h.topology [] (start_of h)
-unfolding standing granted
+lending_start : (h : DeviceValue) → Lending h.topology [] (start_of h)
+unfolding master_state granted
 lending_start h = ((((tt, record { owner = refl; clients = tt }), (tt, tt, tt, tt)), tt, tt), (λ m x. refl), tt, refl)
 
 keeps_lending : (t : Topology) → Keeps (Lending t)
 keeps_lending t = by_verdict (Lending t) (lending_denied t) (lending_carried t)
 
-lending : (h : History) → Lending h.topology (history_of h) (rows_of h)
+lending : (h : DeviceValue) → Lending h.topology (history_of h) (rows_of h)
 lending h = at_all_times (Lending h.topology) (keeps_lending h.topology) h (lending_start h)
 
-descended : (h : History) → Descended (history_of h) (rows_of h)
+descended : (h : DeviceValue) → Descended (history_of h) (rows_of h)
 descended h = (lending h).0
 
-pub owner_follows : (h : History) → OwnerFollows (rows_of h) (history_of h)
+pub owner_follows : (h : DeviceValue) → OwnerFollows (rows_of h) (history_of h)
 owner_follows h = (descended h).0.0.1.owner
 
-pub clients_follow : (h : History) → ClientsFollow (rows_of h) (history_of h)
+pub clients_follow : (h : DeviceValue) → ClientsFollow (rows_of h) (history_of h)
 clients_follow h c opened = let it = open_stands (history_of h) (rows_of h) (descended h).0.0.1 c opened in record { is_master = it.0; master = it.1 }
 
-pub lease_tokens_follow : (h : History) → LeaseTokensFollow (rows_of h) (history_of h)
+pub lease_tokens_follow : (h : DeviceValue) → LeaseTokensFollow (rows_of h) (history_of h)
 lease_tokens_follow h = (descended h).0.0.0
 
-pub lessors_follow : (h : History) → LessorsFollow (rows_of h) (history_of h)
+pub lessors_follow : (h : DeviceValue) → LessorsFollow (rows_of h) (history_of h)
 lessors_follow h = (descended h).1
 
-pub owners_follow : (h : History) → OwnersFollow (rows_of h) (history_of h)
+pub owners_follow : (h : DeviceValue) → OwnersFollow (rows_of h) (history_of h)
 owners_follow h =
     let p = descended h in
     let w = rows_of h in
     all_weaker (λ (row : MasterRow). is_there w.masters row.master ≡ true) (λ (row : MasterRow). owner_of w.masters row.master ≡ top_in (history_of h) row.master) (λ row there. owner_same (history_of h) w p.1 p.0.1 row.master there) w.masters (row_there w.masters)
 
-pub lessees_follow : (h : History) → LesseesFollow (rows_of h) (history_of h)
+pub lessees_follow : (h : DeviceValue) → LesseesFollow (rows_of h) (history_of h)
 lessees_follow h = (descended h).2
 
-pub grants_follow : (h : History) → GrantsFollow h.topology (rows_of h) (history_of h)
+pub grants_follow : (h : DeviceValue) → GrantsFollow h.topology (rows_of h) (history_of h)
 grants_follow h = (lending h).1
 
-pub ended_lessees_are_barren : (h : History) → EndedLesseesAreBarren (history_of h)
-ended_lessees_are_barren h = at_each_step (Lending h.topology) (keeps_lending h.topology) StaysBarren (λ past w event r p. stays_barren h.topology past w event p) h (lending_start h)
+pub ended_lessees_see_nothing : (h : DeviceValue) → EndedLesseesSeeNothing (history_of h)
+ended_lessees_see_nothing h = at_each_step (Lending h.topology) (keeps_lending h.topology) KeepsSeeingNothing (λ past w event r p. keeps_seeing_nothing h.topology past w event p) h (lending_start h)
 
 -- ---- of capabilities
 
-pub capabilities_follow : (h : History) → CapabilitiesFollow (rows_of h) (history_of h)
+pub capabilities_follow : (h : DeviceValue) → CapabilitiesFollow (rows_of h) (history_of h)
 capabilities_follow h c opened = capable_told (history_of h) (rows_of h) (lending h).2 c opened
 
-pub overlays_alone : (h : History) → OverlaysAlone h.topology (history_of h)
+pub overlays_alone : (h : DeviceValue) → OverlaysAlone h.topology (history_of h)
 overlays_alone h =
     at_each_step (Lending h.topology) (keeps_lending h.topology) (KeepsToOverlays h.topology)
     (λ past w event r p. subst (λ t. KeepsToOverlays t (replied w event) past) p.3 (keeps_to_overlays past w event p.2)) h (lending_start h)
 
 -- ---- of magics
 
-abbrev Authentic : Topology → List Entry → Rows → Type 0
+abbrev Authentic : Topology → List AnsweredEvent → Rows → Type 0
 Authentic t past w = Lending t past w × Magical past w × AuthsTold past w
 
-authentic_start : (h : History) → Authentic h.topology [] (start_of h)
+authentic_start : (h : DeviceValue) → Authentic h.topology [] (start_of h)
 unfolding is_named_in
 authentic_start h = (lending_start h, ((tt, tt, omega arith), tt, λ d late. refl), tt)
 
-authentic : (h : History) → Authentic h.topology (history_of h) (rows_of h)
+authentic : (h : DeviceValue) → Authentic h.topology (history_of h) (rows_of h)
 authentic h =
     at_all_times (Authentic h.topology)
     (by_verdict (Authentic h.topology)
@@ -106,10 +106,10 @@ authentic h =
     (λ past w event r v p. let stands = p.0.0.0.0.1 in (lending_carried h.topology past w event r v p.0, magical_carried past w event r v stands p.1, auths_carried past w r stands p.1 event v p.2)))
     h (authentic_start h)
 
-pub magics_follow : (h : History) → MagicsFollow (rows_of h) (history_of h)
+pub magics_follow : (h : DeviceValue) → MagicsFollow (rows_of h) (history_of h)
 magics_follow h = all_weaker (MagicTold (history_of h)) (λ (row : MagicRow). magic_in (history_of h) row.master row.number ≡ Some row.client) (λ row told. told.0) (rows_of h).magics (authentic h).1.1
 
-pub authentication_follows : (h : History) → AuthenticationFollows (rows_of h) (history_of h)
+pub authentication_follows : (h : DeviceValue) → AuthenticationFollows (rows_of h) (history_of h)
 authentication_follows h c opened = by (client_row (rows_of h) c) refl opened
   where
     by : (o : Option ClientRow) → client_row (rows_of h) c ≡ o → is_some o ≡ true → option_map_or (λ (row : ClientRow). row.authenticated) o false ≡ known (history_of h) c
@@ -120,7 +120,7 @@ authentication_follows h c opened = by (client_row (rows_of h) c) refl opened
 
 -- ---- all of these
 
-authority_follows : (h : History) → AuthorityFollows h.topology (rows_of h) (history_of h)
+authority_follows : (h : DeviceValue) → AuthorityFollows h.topology (rows_of h) (history_of h)
 authority_follows h = record {
   owner = owner_follows h;
   clients = clients_follow h;
@@ -134,25 +134,25 @@ authority_follows h = record {
   magics = magics_follow h;
   authentication = authentication_follows h;
   closed = closings_are_for_good h;
-  barren = ended_lessees_are_barren h;
+  sees_nothing = ended_lessees_see_nothing h;
   overlays = overlays_alone h;
 }
 
 -- whatever was answered
-pub authority_of_answers : (topology : Topology) (limits : Limits) (events : List Event) (results : List (Result Answer Apart)) (v : Rows) → Answers (empty_rows topology limits) events results v → AuthorityFollows topology v (with_noted [] events results)
+pub authority_of_answers : (topology : Topology) (limits : Limits) (events : List Event) (results : List (Result Answer Apart)) (v : Rows) → Answers (empty_rows topology limits) events results v → AuthorityFollows topology v (with_journaled [] events results)
 unfolding rows_of
 authority_of_answers topology limits events results v k =
-    let h : History = record { topology = topology; limits = limits; journal = noted_events events results } in
+    let h : DeviceValue = record { topology = topology; limits = limits; journal = journaled_events events results } in
     let its_rows : rows_of h ≡ v = sym (answers-run (empty_rows topology limits) events results v k) in
-    subst (λ (x : Rows × List Entry). AuthorityFollows topology x.0 x.1) (λ i. (its_rows i, history_of_answers h events results v k refl i)) (authority_follows h)
+    subst (λ (x : Rows × List AnsweredEvent). AuthorityFollows topology x.0 x.1) (λ i. (its_rows i, history_of_answers h events results v k refl i)) (authority_follows h)
 
 -- ---- no two the same
 
-pub masters_differ : (h : History) → MastersDiffer (rows_of h)
+pub masters_differ : (h : DeviceValue) → MastersDiffer (rows_of h)
 masters_differ h =
     let past = history_of h in
     let w = rows_of h in
-    let rise = (births_rise h).1.0 in
+    let rise = (step_numbers_rise h).1.0 in
     record {
       tokens = in_order_so (TokenTold past) IsOlder HasOtherToken (other_token past) w.masters (lease_tokens_follow h) rise;
       ids = in_order_so (IdOwned past w.masters) IsOlder (HasOtherId w.masters) (other_id past w.masters) w.masters

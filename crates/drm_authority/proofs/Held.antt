@@ -4,32 +4,35 @@ use Rattle.std.proofs.Common.{◌≡◌, ℕ, ◌==◌, Bool, true, false, not, 
 use Rattle.std.specs.Prelude.{if◌then◌else◌, unwrap_or, IfSome}
 use Rattle.std.specs.List.{list_any, AllByRecursion}
 use Rattle.std.specs.Option.{is_some, option_map, option_map_or, option_and_then}
-use Rattle.std.proofs.lemmas.Bool.{eqb-true, and_parts, or_left, or_right}
+use Rattle.std.proofs.lemmas.Bool.{eqb-true, and_parts, or_left, or_right, false_from_ne_true}
 use Rattle.drm_lists.proofs.Lists.{all_weaker, all_each, list_any_left, list_any_right}
 use Rattle.drm_lists.proofs.Each.{each_any, any_filter, any_mapped}
 use Rattle.drm_lists.proofs.Rising.{found, any_found, any_more}
 use Rattle.drm_lists.proofs.Found.{is_some-find}
 use Rattle.drm_table.specs.declared.calls.Call.{Call}
-use Rattle.drm_table.specs.declared.calls.Call.TheVariants.{Version, SetClientCap, AuthMagic, SetMaster, DropMaster, CreateLease, RevokeLease}
+use Rattle.drm_table.specs.declared.calls.Call.TheVariants.{SetClientCap, AuthMagic, SetMaster, DropMaster, CreateLease}
 use Rattle.drm_table.specs.declared.events.Event.{Event}
 use Rattle.drm_table.specs.declared.events.Event.TheVariants.{Open, Ask, Close}
 use Rattle.drm_table.specs.declared.events.Opening.TheVariants.{Primary, Render, Lease}
-use Rattle.drm_model.specs.Rows.{Rows, ClientRow, MasterRow, GrantRow, birth, is_option, is_client, client_row, is_open}
+use Rattle.drm_model.specs.Rows.{Rows, ClientRow, MasterRow, GrantRow, step_number, is_option, is_client, client_row, is_open}
 use Rattle.drm_model.specs.Buffers.{with_object}
 use Rattle.drm_model.specs.Endings.{is_open_lease}
-use Rattle.drm_model.specs.Masters.{new_master, master_of, is_under}
-use Rattle.drm_model.specs.Leases.{ended, lease_master, lessee_master}
-use Rattle.drm_model.specs.Magics.{own_master, magic_client, is_current, is_master, mastered, with_authenticated, with_master}
+use Rattle.drm_model.specs.Masters.{new_master, master_of}
+use Rattle.drm_model.specs.Leases.{ended, lease_master}
+use Rattle.drm_model.specs.Magics.{caller_master, magic_client, is_current, is_master, mastered, with_authenticated, with_master}
 use Rattle.drm_model.specs.Capabilities.{with_universal}
 use Rattle.drm_model.specs.Clients.{opened, opened_primary, closed, ended_if, ended_own}
 use Rattle.drm_model.specs.Calls.{meaning}
 use Rattle.drm_model.specs.Verdict.{verdict}
+use Rattle.drm_model.proofs.StepNumbers.{master-same}
+use Rattle.drm_model.proofs.Changes.{primary_row, set_row, client_after, master_after, new_master_row, each_edits}
 use Rattle.drm_model.specs.Change.{changed}
-use Rattle.drm_history.specs.History.{Entry}
-use Rattle.drm_authority.specs.Standing.{standing}
+use Rattle.drm_history.specs.History.{AnsweredEvent}
+use Rattle.drm_authority.specs.MasterState.{master_state}
 use Rattle.drm_authority.proofs.Rules.{caller_open, closer_open, lessor_current}
-use Rattle.drm_authority.proofs.Changes.{masters_changed, changed-all, client_after, ForClient, ForMaster, set_row, primary_row}
+use Rattle.drm_authority.proofs.Changes.{masters_changed, changed-all, ForClient, ForMaster}
 use Rattle.drm_authority.proofs.Stands.{ClientStands, StandsBy, row_stands, current}
+use Rattle.drm_lists.proofs.Edits.{either, any_edited, listed}
 
 abbrev pub is_row_of : ℕ → MasterRow → Bool
 is_row_of m row = row.master == m
@@ -98,54 +101,11 @@ lease_there w h m e =
       | false ↦ λ is k. held_there w m h.1 k
     ]) refl e
 
--- ---- masters before the sweep: a row with its number stays
-
-module _ (w : Rows) (p : MasterRow → Bool) (same : (row : MasterRow) → p row ≡ true → p (record row { lease_token = None }) ≡ true) where
-  pub any_untokened : (test : MasterRow → Bool) → list_any p w.masters ≡ true → list_any p (map (λ (row : MasterRow). if test row then record row { lease_token = None } else row) w.masters) ≡ true
-  any_untokened test h = any_mapped (λ _. Unit {0}) p p _ (λ row _ e. by (test row) row e) w.masters (all_each (λ _. Unit {0}) (λ _. tt) w.masters) h
-    where
-      by : (b : Bool) (row : MasterRow) → p row ≡ true → p (if b then record row { lease_token = None } else row) ≡ true
-      by true row e = same row e
-      by false row e = e
-
-  any_ended_if : (b : Bool) (m : Option ℕ) → list_any p w.masters ≡ true → list_any p (ended_if w b m).masters ≡ true
-  unfolding ended
-  any_ended_if true (Some m) h = any_untokened (λ row. is_under w.masters m row.master) h
-  any_ended_if true None h = h
-  any_ended_if false m h = h
-
-  any_ended_own : (row : Option ClientRow) → list_any p w.masters ≡ true → list_any p (ended_own w row).masters ≡ true
-  any_ended_own None h = h
-  any_ended_own (Some row) h = any_ended_if row.is_master row.master h
-
-  pub any_primary : (root universal : Bool) (m : Option ℕ) → list_any p w.masters ≡ true → list_any p (opened_primary w root universal m).masters ≡ true
-  any_primary root universal None h = list_any_left p w.masters _ h
-  any_primary root universal (Some m) h = h
-
-  pub any_set : (c : ℕ) (current master : Bool) → list_any p w.masters ≡ true → list_any p (mastered w c current master).masters ≡ true
-  any_set c true master h = h
-  any_set c false true h = h
-  any_set c false false h = list_any_left p w.masters _ h
-
-  pub any_asked : (c : ℕ) (call : Call) → list_any p w.masters ≡ true → list_any p (meaning w c call).rows.masters ≡ true
-  unfolding meaning with_object ended
-  any_asked c Version h = h
-  any_asked c SetMaster h = any_set c (is_current w c) (is_master w c) h
-  any_asked c (CreateLease ids) h = list_any_left p w.masters _ h
-  any_asked c (RevokeLease id) h = any_untokened (λ row. is_under w.masters (lessee_master w (own_master w c) id) row.master) h
-  any_asked c _ h = h
-
-  any_changed : (event : Event) → list_any p w.masters ≡ true → list_any p (changed w event).masters ≡ true
-  unfolding changed opened closed
-  any_changed (Open (Primary root universal)) h = any_primary root universal w.device_master h
-  any_changed (Open Render) h = h
-  any_changed (Open (Lease token root universal)) h = any_untokened (λ row. is_option token row.lease_token) h
-  any_changed (Ask c call) h = any_asked c call h
-  any_changed (Close c) h = any_ended_own (client_row w c) h
-
 -- who is there stays there, before the sweep
 pub there_still : (w : Rows) (event : Event) (m : ℕ) → is_there w.masters m ≡ true → is_there (changed w event).masters m ≡ true
-there_still w event m h = any_changed w (is_row_of m) (λ row e. e) event h
+there_still w event m h =
+    ap (λ (v : Rows). list_any (is_row_of m) v.masters) (each_edits w event)
+    ∙ any_edited (λ row. true) (master_after w event) (listed (new_master_row w event)) w.masters (is_row_of m) (λ row e. (refl, ap (λ n. n == m) (master-same w event row) ∙ e)) h
 
 -- ---- lessors
 
@@ -165,11 +125,11 @@ master_there w c h = of_row (client_row w c) (found_has (MasterThere w.masters) 
     of_row None k = tt
     of_row (Some row) k = k
 
-pub own_there : (w : Rows) (c : ℕ) → Held w → is_current w c ≡ true → is_there w.masters (own_master w c) ≡ true
+pub own_there : (w : Rows) (c : ℕ) → Held w → is_current w c ≡ true → is_there w.masters (caller_master w c) ≡ true
 own_there w c h e = option_or_zero (master_of w c) (λ m. is_there w.masters m ≡ true) (current w c e).2 (master_there w c h.1)
 
 lessor_there : (w : Rows) (event : Event) → verdict w event ≡ None → Held w → ForMaster (LessorThere (changed w event).masters) w event
-lessor_there w (Ask c (CreateLease ids)) v h = there_still w (Ask c (CreateLease ids)) (own_master w c) (own_there w c h (lessor_current w c ids v))
+lessor_there w (Ask c (CreateLease ids)) v h = there_still w (Ask c (CreateLease ids)) (caller_master w c) (own_there w c h (lessor_current w c ids v))
 lessor_there w (Ask c SetMaster) v h = tt
 lessor_there w (Ask c call) v h = tt
 lessor_there w (Open (Primary root universal)) v h = tt
@@ -190,31 +150,20 @@ new_there rows row = list_any_right (is_row_of row.master) rows (row ∷ []) (or
 set_there : (w : Rows) (c : ℕ) (current master : Bool) (row : ClientRow) → MasterThere (mastered w c current master).masters row → MasterThere (mastered w c current master).masters (set_row w c current master row)
 set_there w c true master row h = h
 set_there w c false true row h = h
-set_there w c false false row h = by (is_client c row)
-  where
-    by : (b : Bool) → MasterThere (mastered w c false false).masters (if b then record row { authenticated = true; once_master = true; is_master = true; master = Some (birth w) } else row)
-    by true = new_there w.masters (new_master (birth w))
-    by false = h
-
-authenticated_there : (rows : List MasterRow) (b : Bool) (row : ClientRow) → MasterThere rows row → MasterThere rows (if b then record row { authenticated = true } else row)
-authenticated_there rows true row h = h
-authenticated_there rows false row h = h
-
-capable_there : (rows : List MasterRow) (b on : Bool) (row : ClientRow) → MasterThere rows row → MasterThere rows (if b then record row { universal = on } else row)
-capable_there rows true on row h = h
-capable_there rows false on row h = h
+set_there w c false false row h =
+    either (MasterThere (mastered w c false false).masters) (is_client c row) (record row { authenticated = true; once_master = true; is_master = true; master = Some (step_number w) }) row (new_there w.masters (new_master (step_number w))) h
 
 client_there : (w : Rows) (event : Event) (row : ClientRow) → MasterThere (changed w event).masters row → MasterThere (changed w event).masters (client_after w event row)
 unfolding changed meaning
-client_there w (Ask c (AuthMagic magic)) row h = authenticated_there w.masters (is_option row.client (magic_client w (own_master w c) magic)) row h
-client_there w (Ask c (SetClientCap cap value)) row h = capable_there w.masters (is_client c row) (value == 1) row h
+client_there w (Ask c (AuthMagic magic)) row h = either (MasterThere w.masters) (is_option row.client (magic_client w (caller_master w c) magic)) (record row { authenticated = true }) row h h
+client_there w (Ask c (SetClientCap cap value)) row h = either (MasterThere w.masters) (is_client c row) (record row { universal = value == 1 }) row h h
 client_there w (Ask c SetMaster) row h = set_there w c (is_current w c) (is_master w c) row h
 client_there w (Ask c call) row h = h
 client_there w (Open opening) row h = h
 client_there w (Close c) row h = h
 
 primary_there : (w : Rows) (root universal : Bool) (m : Option ℕ) → IfSome m (λ m. is_there w.masters m ≡ true) → MasterThere (opened_primary w root universal m).masters (primary_row w root universal m)
-primary_there w root universal None h = new_there w.masters (new_master (birth w))
+primary_there w root universal None h = new_there w.masters (new_master (step_number w))
 primary_there w root universal (Some m) h = h
 
 pub row_there : (rows : List MasterRow) → AllByRecursion (λ (row : MasterRow). is_there rows row.master ≡ true) rows
@@ -251,32 +200,28 @@ pub or_more : (a b x y : Bool) → (a ≡ true → x ≡ true) → (b ≡ true �
 or_more true b x y f g h = or_left x y (f refl)
 or_more false b x y f g h = or_right x y (g h)
 
-pub not_equal : (b : Bool) → (b ≡ true → ⊥) → b ≡ false
-not_equal true f = absurd (f refl)
-not_equal false f = refl
-
-pub no_holder : (past : List Entry) (c m : ℕ) → Type 0
-no_holder past c m = (standing past).is_master c ≡ true → (standing past).master c ≡ Some m → ⊥
+pub no_holder : (past : List AnsweredEvent) (c m : ℕ) → Type 0
+no_holder past c m = (master_state past).is_master c ≡ true → (master_state past).master c ≡ Some m → ⊥
 
 -- who holds m is no client that doesn't
-pub apart : (past : List Entry) (c m : ℕ) → no_holder past c m → (row : ClientRow) → ClientStands (standing past) row → holds m row ≡ true → is_client c row ≡ false
+pub apart : (past : List AnsweredEvent) (c m : ℕ) → no_holder past c m → (row : ClientRow) → ClientStands (master_state past) row → holds m row ≡ true → is_client c row ≡ false
 unfolding no_holder
 apart past c m none row stands h =
     let parts = and_parts row.is_master (is_option m row.master) h in
-    not_equal (is_client c row) (λ e.
+    false_from_ne_true (is_client c row) (λ e.
     let same = eqb-true row.client c e in
-    none (ap (standing past).is_master (sym same) ∙ sym stands.0 ∙ parts.0) (ap (standing past).master (sym same) ∙ sym stands.1 ∙ is_option-same m row.master parts.1))
+    none (ap (master_state past).is_master (sym same) ∙ sym stands.0 ∙ parts.0) (ap (master_state past).master (sym same) ∙ sym stands.1 ∙ is_option-same m row.master parts.1))
 
-module _ (past : List Entry) (w : Rows) (a : StandsBy past w) (c m : ℕ) (none : no_holder past c m) where
+module _ (past : List AnsweredEvent) (w : Rows) (a : StandsBy past w) (c m : ℕ) (none : no_holder past c m) where
   -- another client's closing leaves the holder
   pub held_without : is_client_held w.clients m ≡ true → is_client_held (filter (λ row. not (is_client c row)) w.clients) m ≡ true
-  held_without h = any_filter (ClientStands (standing past)) (holds m) (λ row. not (is_client c row)) (λ row stands e. ap not (apart past c m none row stands e)) w.clients a.clients h
+  held_without h = any_filter (ClientStands (master_state past)) (holds m) (λ row. not (is_client c row)) (λ row stands e. ap not (apart past c m none row stands e)) w.clients a.clients h
 
   -- so does its getting a master
   pub held_mastered : (n : ℕ) → is_client_held w.clients m ≡ true → is_client_held (with_master c n w.clients) m ≡ true
   unfolding with_master
   held_mastered n h =
-      any_mapped (ClientStands (standing past)) (holds m) (holds m) _
+      any_mapped (ClientStands (master_state past)) (holds m) (holds m) _
       (λ (row : ClientRow) stands e. ap (λ b. holds m (if b then record row { authenticated = true; once_master = true; is_master = true; master = Some n } else row)) (apart past c m none row stands e) ∙ e) w.clients a.clients h
 
 -- who gets a master holds it
@@ -288,18 +233,12 @@ held_new w c n h =
     w.clients (all_each (λ (row : ClientRow). Unit {0}) (λ _. tt) w.clients) (sym (is_some-find (is_client c) w.clients) ∙ h)
 
 pub held_authenticated : (test : ClientRow → Bool) (rows : List ClientRow) (m : ℕ) → is_client_held rows m ≡ true → is_client_held (map (λ (row : ClientRow). if test row then record row { authenticated = true } else row) rows) m ≡ true
-held_authenticated test rows m h = any_mapped (λ _. Unit {0}) (holds m) (holds m) _ (λ (row : ClientRow) _ e. by (test row) row e) rows (all_each (λ (row : ClientRow). Unit {0}) (λ _. tt) rows) h
-  where
-    by : (b : Bool) (row : ClientRow) → holds m row ≡ true → holds m (if b then record row { authenticated = true } else row) ≡ true
-    by true row e = e
-    by false row e = e
+held_authenticated test rows m h =
+    any_mapped (λ _. Unit {0}) (holds m) (holds m) _ (λ (row : ClientRow) _ e. either (λ (x : ClientRow). holds m x ≡ true) (test row) (record row { authenticated = true }) row e e) rows (all_each (λ (row : ClientRow). Unit {0}) (λ _. tt) rows) h
 
 pub held_capable : (test : ClientRow → Bool) (on : Bool) (rows : List ClientRow) (m : ℕ) → is_client_held rows m ≡ true → is_client_held (map (λ (row : ClientRow). if test row then record row { universal = on } else row) rows) m ≡ true
-held_capable test on rows m h = any_mapped (λ _. Unit {0}) (holds m) (holds m) _ (λ (row : ClientRow) _ e. by (test row) row e) rows (all_each (λ (row : ClientRow). Unit {0}) (λ _. tt) rows) h
-  where
-    by : (b : Bool) (row : ClientRow) → holds m row ≡ true → holds m (if b then record row { universal = on } else row) ≡ true
-    by true row e = e
-    by false row e = e
+held_capable test on rows m h =
+    any_mapped (λ _. Unit {0}) (holds m) (holds m) _ (λ (row : ClientRow) _ e. either (λ (x : ClientRow). holds m x ≡ true) (test row) (record row { universal = on }) row e e) rows (all_each (λ (row : ClientRow). Unit {0}) (λ _. tt) rows) h
 
 -- a client that is a master holds its own
 own_held : (w : Rows) (c : ℕ) → is_master w c ≡ true → IfSome (master_of w c) (λ m. is_client_held w.clients m ≡ true)
@@ -319,27 +258,27 @@ abbrev pub DeviceHeld : Rows → Type 0
 DeviceHeld v = IfSome v.device_master (λ m. is_client_held v.clients m ≡ true)
 
 primary_device : (w : Rows) (root universal : Bool) (m : Option ℕ) → Held w → DeviceHeld (opened_primary w root universal m)
-primary_device w root universal None h = list_any_right (holds (birth w)) w.clients _ (ap (λ b. b || false) (eq-eqb (birth w) (birth w) refl))
+primary_device w root universal None h = list_any_right (holds (step_number w)) w.clients _ (ap (λ b. b || false) (eq-eqb (step_number w) (step_number w) refl))
 primary_device w root universal (Some m) h = if_some (λ m. is_client_held w.clients m ≡ true) (λ k. is_client_held (opened_primary w root universal (Some m)).clients k ≡ true) (λ k e. list_any_left (holds k) w.clients _ e) w.device_master h.2
 
 set_device : (w : Rows) (c : ℕ) (current master : Bool) → is_master w c ≡ master → is_open w c ≡ true → Held w → DeviceHeld (mastered w c current master)
 set_device w c true master is opened h = h.2
 set_device w c false true is opened h = own_held w c is
-set_device w c false false is opened h = held_new w c (birth w) opened
+set_device w c false false is opened h = held_new w c (step_number w) opened
 
-pub own_apart : (past : List Entry) (w : Rows) (a : StandsBy past w) (c own m : ℕ) → (standing past).master c ≡ Some own → (m == own) ≡ false → no_holder past c m
+pub own_apart : (past : List AnsweredEvent) (w : Rows) (a : StandsBy past w) (c own m : ℕ) → (master_state past).master c ≡ Some own → (m == own) ≡ false → no_holder past c m
 unfolding no_holder
 own_apart past w a c own m e apart is k = let same : own ≡ m = (let s : Some own ≡ Some m = sym e ∙ k in cc) in let no_more : false ≡ true = sym apart ∙ eq-eqb m own (sym same) in cc
 
-pub guest_apart : (past : List Entry) (c m : ℕ) → (standing past).is_master c ≡ false → no_holder past c m
+pub non_master_apart : (past : List AnsweredEvent) (c m : ℕ) → (master_state past).is_master c ≡ false → no_holder past c m
 unfolding no_holder
-guest_apart past c m e is k = let n : false ≡ true = sym e ∙ is in cc
+non_master_apart past c m e is k = let n : false ≡ true = sym e ∙ is in cc
 
-pub lone_apart : (past : List Entry) (c m : ℕ) → (standing past).master c ≡ None → no_holder past c m
+pub lone_apart : (past : List AnsweredEvent) (c m : ℕ) → (master_state past).master c ≡ None → no_holder past c m
 unfolding no_holder
 lone_apart past c m e is k = let n : None ≡ Some m = sym e ∙ k in cc
 
-close_device : (past : List Entry) (w : Rows) (a : StandsBy past w) (c : ℕ) (is_master : Bool) (master : Option ℕ) → (standing past).is_master c ≡ is_master → (standing past).master c ≡ master → Held w →
+close_device : (past : List AnsweredEvent) (w : Rows) (a : StandsBy past w) (c : ℕ) (is_master : Bool) (master : Option ℕ) → (master_state past).is_master c ≡ is_master → (master_state past).master c ≡ master → Held w →
     IfSome (ended_if w is_master master).device_master (λ m. is_client_held (filter (λ row. not (is_client c row)) w.clients) m ≡ true)
 close_device past w a c true (Some own) is e h = by w.device_master h.2
   where
@@ -349,21 +288,21 @@ close_device past w a c true (Some own) is e h = by w.device_master h.2
         elim (d == own) as (λ b. (d == own) ≡ b → IfSome (if b then None else Some d) (λ m. is_client_held (filter (λ row. not (is_client c row)) w.clients) m ≡ true))
         [ true ↦ λ same. tt | false ↦ λ same. held_without past w a c d (own_apart past w a c own d e same) k ] refl
 close_device past w a c true None is e h = if_some (λ m. is_client_held w.clients m ≡ true) (λ m. is_client_held (filter (λ row. not (is_client c row)) w.clients) m ≡ true) (λ m k. held_without past w a c m (lone_apart past c m e) k) w.device_master h.2
-close_device past w a c false master is e h = if_some (λ m. is_client_held w.clients m ≡ true) (λ m. is_client_held (filter (λ row. not (is_client c row)) w.clients) m ≡ true) (λ m k. held_without past w a c m (guest_apart past c m is) k) w.device_master h.2
+close_device past w a c false master is e h = if_some (λ m. is_client_held w.clients m ≡ true) (λ m. is_client_held (filter (λ row. not (is_client c row)) w.clients) m ≡ true) (λ m k. held_without past w a c m (non_master_apart past c m is) k) w.device_master h.2
 
-closed_device : (past : List Entry) (w : Rows) (a : StandsBy past w) (c : ℕ) (o : Option ClientRow) → client_row w c ≡ o → is_some o ≡ true → Held w → IfSome (ended_own w o).device_master (λ m. is_client_held (filter (λ row. not (is_client c row)) w.clients) m ≡ true)
+closed_device : (past : List AnsweredEvent) (w : Rows) (a : StandsBy past w) (c : ℕ) (o : Option ClientRow) → client_row w c ≡ o → is_some o ≡ true → Held w → IfSome (ended_own w o).device_master (λ m. is_client_held (filter (λ row. not (is_client c row)) w.clients) m ≡ true)
 closed_device past w a c None e opened h = absurd (let n : false ≡ true = opened in cc)
-closed_device past w a c (Some row) e opened h = let told = row_stands (standing past) w c row a.clients e in close_device past w a c row.is_master row.master (sym told.0) (sym told.1) h
+closed_device past w a c (Some row) e opened h = let told = row_stands (master_state past) w c row a.clients e in close_device past w a c row.is_master row.master (sym told.0) (sym told.1) h
 
-asked_device : (past : List Entry) (w : Rows) (c : ℕ) (call : Call) → verdict w (Ask c call) ≡ None → Held w → DeviceHeld (changed w (Ask c call))
+asked_device : (past : List AnsweredEvent) (w : Rows) (c : ℕ) (call : Call) → verdict w (Ask c call) ≡ None → Held w → DeviceHeld (changed w (Ask c call))
 unfolding changed meaning with_object with_authenticated with_universal ended
 asked_device past w c SetMaster v h = set_device w c (is_current w c) (is_master w c) refl (caller_open w c SetMaster v) h
 asked_device past w c DropMaster v h = tt
-asked_device past w c (AuthMagic magic) v h = if_some (λ m. is_client_held w.clients m ≡ true) (λ m. is_client_held (changed w (Ask c (AuthMagic magic))).clients m ≡ true) (λ m e. held_authenticated (λ row. is_option row.client (magic_client w (own_master w c) magic)) w.clients m e) w.device_master h.2
+asked_device past w c (AuthMagic magic) v h = if_some (λ m. is_client_held w.clients m ≡ true) (λ m. is_client_held (changed w (Ask c (AuthMagic magic))).clients m ≡ true) (λ m e. held_authenticated (λ row. is_option row.client (magic_client w (caller_master w c) magic)) w.clients m e) w.device_master h.2
 asked_device past w c (SetClientCap cap value) v h = if_some (λ m. is_client_held w.clients m ≡ true) (λ m. is_client_held (changed w (Ask c (SetClientCap cap value))).clients m ≡ true) (λ m e. held_capable (is_client c) (value == 1) w.clients m e) w.device_master h.2
 asked_device past w c call v h = h.2
 
-pub device_held : (past : List Entry) (w : Rows) (event : Event) → verdict w event ≡ None → StandsBy past w → Held w → DeviceHeld (changed w event)
+pub device_held : (past : List AnsweredEvent) (w : Rows) (event : Event) → verdict w event ≡ None → StandsBy past w → Held w → DeviceHeld (changed w event)
 unfolding changed opened closed
 device_held past w (Open (Primary root universal)) v a h = primary_device w root universal w.device_master h
 device_held past w (Open Render) v a h = if_some (λ m. is_client_held w.clients m ≡ true) (λ m. is_client_held (changed w (Open Render)).clients m ≡ true) (λ m e. list_any_left (holds m) w.clients _ e) w.device_master h.2

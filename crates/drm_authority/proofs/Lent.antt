@@ -3,7 +3,7 @@ use Rattle.std.proofs.Common.{◌≡◌, ℕ, ◌==◌, Bool, true, false, not, 
 use Rattle.std.specs.Prelude.{if◌then◌else◌, IfSome}
 use Rattle.std.specs.List.{list_any, AllByRecursion}
 use Rattle.std.specs.Option.{is_some, option_map, option_and_then}
-use Rattle.std.proofs.lemmas.Bool.{eqb-true, and_parts, or_left, or_right}
+use Rattle.std.proofs.lemmas.Bool.{eqb-true, and_parts, or_left, or_right, false_from_ne_true}
 use Rattle.drm_lists.proofs.Lists.{all_both, all_weaker, all_each, all_append, all_filter, filter_true, list_any_left, list_any_right}
 use Rattle.drm_lists.proofs.Each.{each_any, any_filter, any_mapped}
 use Rattle.drm_lists.proofs.Found as found
@@ -15,28 +15,28 @@ use Rattle.drm_table.specs.declared.events.Event.{Event}
 use Rattle.drm_table.specs.declared.events.Event.TheVariants.{Open, Ask, Close}
 use Rattle.drm_table.specs.declared.events.Opening.TheVariants.{Primary, Render, Lease}
 use Rattle.drm_table.specs.declared.rules.Rule.{Rule}
-use Rattle.drm_model.specs.Rows.{Rows, ClientRow, MasterRow, GrantRow, birth, is_option, is_client, client_row, is_open}
-use Rattle.drm_model.specs.Births.{IsMadeMaster, MadeInTurn}
+use Rattle.drm_model.specs.Rows.{Rows, ClientRow, MasterRow, GrantRow, step_number, is_option, is_client, client_row, is_open}
+use Rattle.drm_model.specs.StepNumbers.{IsMadeMaster, MadeInTurn}
 use Rattle.drm_model.specs.Buffers.{with_object}
 use Rattle.drm_model.specs.Endings.{is_open_lease}
 use Rattle.drm_model.specs.Masters.{master_row, lessor_of, is_under}
 use Rattle.drm_model.specs.Leases.{ended, lease_master, lessee_master, new_lessee, grant, leased}
-use Rattle.drm_model.specs.Magics.{own_master, magic_client, is_current, is_master, mastered, with_authenticated}
+use Rattle.drm_model.specs.Magics.{caller_master, magic_client, is_current, is_master, mastered, with_authenticated}
 use Rattle.drm_model.specs.Capabilities.{with_universal}
 use Rattle.drm_model.specs.Clients.{opened, opened_primary, closed, ended_if, ended_own}
 use Rattle.drm_model.specs.Calls.{meaning}
 use Rattle.drm_model.specs.Verdict.{verdict}
-use Rattle.drm_model.specs.Change.{changed, swept, noted, is_held, is_living}
-use Rattle.drm_model.proofs.Births.{changed-births}
+use Rattle.drm_model.proofs.Changes.{opened_row}
+use Rattle.drm_model.specs.Change.{changed, swept, journaled, is_held, is_living}
+use Rattle.drm_model.proofs.StepNumbers.{changed-step_numbers}
 use Rattle.drm_model.proofs.Lessors.{changed-made, lessor_there}
-use Rattle.drm_history.specs.History.{Entry}
-use Rattle.drm_authority.specs.Standing.{standing, lease_in}
+use Rattle.drm_history.specs.History.{AnsweredEvent}
+use Rattle.drm_authority.specs.MasterState.{master_state, lease_in}
 use Rattle.drm_authority.proofs.Runs.{IsReached, denied, carried}
 use Rattle.drm_authority.proofs.Rules.{caller_open, closer_open}
-use Rattle.drm_authority.proofs.Changes.{lease_row}
 use Rattle.drm_authority.proofs.Tokens.{TokensTold, TokenTold}
 use Rattle.drm_authority.proofs.Stands.{StandsBy, Ranked, row_stands, open_stands, lease_told, ranks_denied, ranks_carried}
-use Rattle.drm_authority.proofs.Held.{is_row_of, is_there, holds, is_client_held, is_lease_held, LessorThere, MasterThere, LeaseHeld, Held, or_more, not_equal, held_without, held_mastered, held_authenticated, held_capable, own_apart, guest_apart, lone_apart, lessors_there, clients_there, device_held}
+use Rattle.drm_authority.proofs.Held.{is_row_of, is_there, holds, is_client_held, is_lease_held, LessorThere, MasterThere, LeaseHeld, Held, or_more, held_without, held_mastered, held_authenticated, held_capable, own_apart, non_master_apart, lone_apart, lessors_there, clients_there, device_held}
 
 -- ---- grants of what ends are gone, and the others' tokens stay
 
@@ -82,7 +82,7 @@ primary_leases w root universal None h = more_held w (opened_primary w root univ
 primary_leases w root universal (Some d) h = more_held w (opened_primary w root universal (Some d)) (λ m e. e) (λ m e. list_any_left (holds m) w.clients _ e) h.3
 
 -- a token that is spent leaves a client of its master
-module _ (past : List Entry) (w : Rows) (token : ℕ) (root universal : Bool) (told : TokensTold past w) (its : option_map (λ (row : MasterRow). row.master) (lease_master w token) ≡ lease_in past token) where
+module _ (past : List AnsweredEvent) (w : Rows) (token : ℕ) (root universal : Bool) (told : TokensTold past w) (its : option_map (λ (row : MasterRow). row.master) (lease_master w token) ≡ lease_in past token) where
   spent_held : (m : ℕ) → list_any (is_open_lease m) w.masters ≡ true → is_lease_held (changed w (Open (Lease token root universal))) m ≡ true
   unfolding changed opened
   spent_held m h = in_list w.masters told h
@@ -90,75 +90,72 @@ module _ (past : List Entry) (w : Rows) (token : ℕ) (root universal : Bool) (t
       untoken : MasterRow → MasterRow
       untoken row = if is_option token row.lease_token then record row { lease_token = None } else row
 
-      here : (row : MasterRow) (t : Option ℕ) → row.lease_token ≡ t → row.master ≡ m → is_some t ≡ true → IfSome t (λ t. lease_in past t ≡ Some row.master) → (is_open_lease m (untoken row) ≡ true) ⊎ (is_client_held (w.clients ++ lease_row w token root universal ∷ []) m ≡ true)
+      here : (row : MasterRow) (t : Option ℕ) → row.lease_token ≡ t → row.master ≡ m → is_some t ≡ true → IfSome t (λ t. lease_in past t ≡ Some row.master) → (is_open_lease m (untoken row) ≡ true) ⊎ (is_client_held (w.clients ++ opened_row w (Lease token root universal) ∷ []) m ≡ true)
       here row None e same some k = absurd (let n : false ≡ true = some in cc)
       here row (Some t) e same some k =
-          elim (t == token) as (λ b. (t == token) ≡ b → (is_open_lease m (untoken row) ≡ true) ⊎ (is_client_held (w.clients ++ lease_row w token root universal ∷ []) m ≡ true)) [
-            | true ↦ λ is. inr (list_any_right (holds m) w.clients (lease_row w token root universal ∷ []) (ap (λ (o : Option ℕ). is_option m o || false) (its ∙ ap (lease_in past) (sym (eqb-true t token is)) ∙ k ∙ ap Some same) ∙ ap (λ b. b || false) (eq-eqb m m refl)))
+          elim (t == token) as (λ b. (t == token) ≡ b → (is_open_lease m (untoken row) ≡ true) ⊎ (is_client_held (w.clients ++ opened_row w (Lease token root universal) ∷ []) m ≡ true)) [
+            | true ↦ λ is. inr (list_any_right (holds m) w.clients (opened_row w (Lease token root universal) ∷ []) (ap (λ (o : Option ℕ). is_option m o || false) (its ∙ ap (lease_in past) (sym (eqb-true t token is)) ∙ k ∙ ap Some same) ∙ ap (λ b. b || false) (eq-eqb m m refl)))
             | false ↦ λ is. inl (ap (λ b. is_open_lease m (if b then record row { lease_token = None } else row)) (ap (is_option token) e ∙ is) ∙ ap (λ b. b && is_some row.lease_token) (eq-eqb row.master m same) ∙ ap is_some e)
           ] refl
 
-      in_list : (rows : List MasterRow) → AllByRecursion (TokenTold past) rows → list_any (is_open_lease m) rows ≡ true → (list_any (is_open_lease m) (map untoken rows) || is_client_held (w.clients ++ lease_row w token root universal ∷ []) m) ≡ true
+      in_list : (rows : List MasterRow) → AllByRecursion (TokenTold past) rows → list_any (is_open_lease m) rows ≡ true → (list_any (is_open_lease m) (map untoken rows) || is_client_held (w.clients ++ opened_row w (Lease token root universal) ∷ []) m) ≡ true
       in_list [] k e = absurd (let n : false ≡ true = e in cc)
       in_list (row ∷ rows) k e =
-          (elim (is_open_lease m row) as (λ b. is_open_lease m row ≡ b → (b || list_any (is_open_lease m) rows) ≡ true → ((is_open_lease m (untoken row) || list_any (is_open_lease m) (map untoken rows)) || is_client_held (w.clients ++ lease_row w token root universal ∷ []) m) ≡ true) [
+          (elim (is_open_lease m row) as (λ b. is_open_lease m row ≡ b → (b || list_any (is_open_lease m) rows) ≡ true → ((is_open_lease m (untoken row) || list_any (is_open_lease m) (map untoken rows)) || is_client_held (w.clients ++ opened_row w (Lease token root universal) ∷ []) m) ≡ true) [
             | true ↦ λ is j. let parts = and_parts (row.master == m) (is_some row.lease_token) is in first (here row row.lease_token refl (eqb-true row.master m parts.0) parts.1 k.0)
-            | false ↦ λ is j. or_more (list_any (is_open_lease m) (map untoken rows)) (is_client_held (w.clients ++ lease_row w token root universal ∷ []) m) _ _ (λ q. or_right (is_open_lease m (untoken row)) (list_any (is_open_lease m) (map untoken rows)) q) (λ q. q) (in_list rows k.1 j)
+            | false ↦ λ is j. or_more (list_any (is_open_lease m) (map untoken rows)) (is_client_held (w.clients ++ opened_row w (Lease token root universal) ∷ []) m) _ _ (λ q. or_right (is_open_lease m (untoken row)) (list_any (is_open_lease m) (map untoken rows)) q) (λ q. q) (in_list rows k.1 j)
           ]) refl e
         where
-          first : (is_open_lease m (untoken row) ≡ true) ⊎ (is_client_held (w.clients ++ lease_row w token root universal ∷ []) m ≡ true) → ((is_open_lease m (untoken row) || list_any (is_open_lease m) (map untoken rows)) || is_client_held (w.clients ++ lease_row w token root universal ∷ []) m) ≡ true
-          first (inl q) = or_left (is_open_lease m (untoken row) || list_any (is_open_lease m) (map untoken rows)) (is_client_held (w.clients ++ lease_row w token root universal ∷ []) m) (or_left (is_open_lease m (untoken row)) (list_any (is_open_lease m) (map untoken rows)) q)
-          first (inr q) = or_right (is_open_lease m (untoken row) || list_any (is_open_lease m) (map untoken rows)) (is_client_held (w.clients ++ lease_row w token root universal ∷ []) m) q
+          first : (is_open_lease m (untoken row) ≡ true) ⊎ (is_client_held (w.clients ++ opened_row w (Lease token root universal) ∷ []) m ≡ true) → ((is_open_lease m (untoken row) || list_any (is_open_lease m) (map untoken rows)) || is_client_held (w.clients ++ opened_row w (Lease token root universal) ∷ []) m) ≡ true
+          first (inl q) = or_left (is_open_lease m (untoken row) || list_any (is_open_lease m) (map untoken rows)) (is_client_held (w.clients ++ opened_row w (Lease token root universal) ∷ []) m) (or_left (is_open_lease m (untoken row)) (list_any (is_open_lease m) (map untoken rows)) q)
+          first (inr q) = or_right (is_open_lease m (untoken row) || list_any (is_open_lease m) (map untoken rows)) (is_client_held (w.clients ++ opened_row w (Lease token root universal) ∷ []) m) q
 
-set_leases : (past : List Entry) (w : Rows) (a : StandsBy past w) (c : ℕ) (current master : Bool) → is_open w c ≡ true → is_master w c ≡ master → Held w → LeasesHeld (mastered w c current master)
+set_leases : (past : List AnsweredEvent) (w : Rows) (a : StandsBy past w) (c : ℕ) (current master : Bool) → is_open w c ≡ true → is_master w c ≡ master → Held w → LeasesHeld (mastered w c current master)
 unfolding LeasesHeld
 set_leases past w a c true master opened is h = h.3
 set_leases past w a c false true opened is h = h.3
 set_leases past w a c false false opened is h =
     more_held w (mastered w c false false) (λ m e. list_any_left (is_open_lease m) w.masters _ e)
-    (λ m e. held_mastered past w a c m (guest_apart past c m (sym (open_stands past w a c opened).0 ∙ is)) (birth w) e) h.3
+    (λ m e. held_mastered past w a c m (non_master_apart past c m (sym (open_stands past w a c opened).0 ∙ is)) (step_number w) e) h.3
 
-lent_held : (w : Rows) (c : ℕ) → (ids : List ℕ) → AllByRecursion (LeaseHeld (record w { masters = w.masters ++ new_lessee w (own_master w c) ∷ [] })) (map (grant (birth w)) ids)
+lent_held : (w : Rows) (c : ℕ) → (ids : List ℕ) → AllByRecursion (LeaseHeld (record w { masters = w.masters ++ new_lessee w (caller_master w c) ∷ [] })) (map (grant (step_number w)) ids)
 lent_held w c [] = tt
 lent_held w c (x ∷ xs) = (
-  or_left (list_any (is_open_lease (birth w)) (w.masters ++ new_lessee w (own_master w c) ∷ [])) (is_client_held w.clients (birth w))
-      (list_any_right (is_open_lease (birth w)) w.masters _ (ap (λ b. b && true || false) (eq-eqb (birth w) (birth w) refl))),
+  or_left (list_any (is_open_lease (step_number w)) (w.masters ++ new_lessee w (caller_master w c) ∷ [])) (is_client_held w.clients (step_number w))
+      (list_any_right (is_open_lease (step_number w)) w.masters _ (ap (λ b. b && true || false) (eq-eqb (step_number w) (step_number w) refl))),
   lent_held w c xs,
 )
 
-asked_leases : (past : List Entry) (w : Rows) (c : ℕ) (call : Call) → verdict w (Ask c call) ≡ None → StandsBy past w → Held w → LeasesHeld (changed w (Ask c call))
+asked_leases : (past : List AnsweredEvent) (w : Rows) (c : ℕ) (call : Call) → verdict w (Ask c call) ≡ None → StandsBy past w → Held w → LeasesHeld (changed w (Ask c call))
 unfolding LeasesHeld changed meaning with_object with_authenticated with_universal ended
 asked_leases past w c Version v a h = h.3
 asked_leases past w c SetMaster v a h = set_leases past w a c (is_current w c) (is_master w c) (caller_open w c SetMaster v) refl h
 asked_leases past w c (SetClientCap cap value) v a h = more_held w (changed w (Ask c (SetClientCap cap value))) (λ m e. e) (λ m e. held_capable (is_client c) (value == 1) w.clients m e) h.3
-asked_leases past w c (AuthMagic magic) v a h = more_held w (changed w (Ask c (AuthMagic magic))) (λ m e. e) (λ m e. held_authenticated (λ row. is_option row.client (magic_client w (own_master w c) magic)) w.clients m e) h.3
+asked_leases past w c (AuthMagic magic) v a h = more_held w (changed w (Ask c (AuthMagic magic))) (λ m e. e) (λ m e. held_authenticated (λ row. is_option row.client (magic_client w (caller_master w c) magic)) w.clients m e) h.3
 asked_leases past w c (CreateLease ids) v a h =
-    let more = record w { masters = w.masters ++ new_lessee w (own_master w c) ∷ [] } in
-    all_append (LeaseHeld more) w.grants (map (grant (birth w)) (leased w c ids)) (more_held w more (λ m e. list_any_left (is_open_lease m) w.masters _ e) (λ m e. e) h.3) (lent_held w c (leased w c ids))
-asked_leases past w c (RevokeLease id) v a h = ended_leases w (lessee_master w (own_master w c) id) w.clients (λ m out e. e) h.3
+    let more = record w { masters = w.masters ++ new_lessee w (caller_master w c) ∷ [] } in
+    all_append (LeaseHeld more) w.grants (map (grant (step_number w)) (leased w c ids)) (more_held w more (λ m e. list_any_left (is_open_lease m) w.masters _ e) (λ m e. e) h.3) (lent_held w c (leased w c ids))
+asked_leases past w c (RevokeLease id) v a h = ended_leases w (lessee_master w (caller_master w c) id) w.clients (λ m out e. e) h.3
 asked_leases past w c _ v a h = h.3
 
-module _ (past : List Entry) (w : Rows) (a : StandsBy past w) (c : ℕ) where
-  not_client : ClientRow → Bool
-  not_client row = not (is_client c row)
-
+module _ (past : List AnsweredEvent) (w : Rows) (a : StandsBy past w) (c : ℕ) where
   StillHeld : List MasterRow → GrantRow → Type 0
   StillHeld masters row = (list_any (is_open_lease row.master) masters || is_client_held (filter (λ row. not (is_client c row)) w.clients) row.master) ≡ true
 
-  close_leases : (is_master : Bool) (master : Option ℕ) → (standing past).is_master c ≡ is_master → (standing past).master c ≡ master → Held w → AllByRecursion (StillHeld (ended_if w is_master master).masters) (ended_if w is_master master).grants
+  close_leases : (is_master : Bool) (master : Option ℕ) → (master_state past).is_master c ≡ is_master → (master_state past).master c ≡ master → Held w → AllByRecursion (StillHeld (ended_if w is_master master).masters) (ended_if w is_master master).grants
   unfolding StillHeld
   close_leases true (Some own) is e h = ended_leases w own (filter (λ row. not (is_client c row)) w.clients) (λ m out k. held_without past w a c m (own_apart past w a c own m e (other own m out)) k) h.3
     where
       other : (own m : ℕ) → is_under w.masters own m ≡ false → (m == own) ≡ false
-      other own m out = not_equal (m == own) (λ same. let n : false ≡ true = sym out ∙ ap (λ t. is_under w.masters t m) (sym (eqb-true m own same)) ∙ under_itself w.masters m in cc)
+      other own m out = false_from_ne_true (m == own) (λ same. let n : false ≡ true = sym out ∙ ap (λ t. is_under w.masters t m) (sym (eqb-true m own same)) ∙ under_itself w.masters m in cc)
   close_leases true None is e h = all_weaker (LeaseHeld w) (StillHeld w.masters) (λ row k. or_more (list_any (is_open_lease row.master) w.masters) (is_client_held w.clients row.master) _ _ (λ j. j) (held_without past w a c row.master (lone_apart past c row.master e)) k) w.grants h.3
-  close_leases false master is e h = all_weaker (LeaseHeld w) (StillHeld w.masters) (λ row k. or_more (list_any (is_open_lease row.master) w.masters) (is_client_held w.clients row.master) _ _ (λ j. j) (held_without past w a c row.master (guest_apart past c row.master is)) k) w.grants h.3
+  close_leases false master is e h = all_weaker (LeaseHeld w) (StillHeld w.masters) (λ row k. or_more (list_any (is_open_lease row.master) w.masters) (is_client_held w.clients row.master) _ _ (λ j. j) (held_without past w a c row.master (non_master_apart past c row.master is)) k) w.grants h.3
 
   closed_leases : (o : Option ClientRow) → client_row w c ≡ o → is_some o ≡ true → Held w → AllByRecursion (StillHeld (ended_own w o).masters) (ended_own w o).grants
   closed_leases None e opened h = absurd (let n : false ≡ true = opened in cc)
-  closed_leases (Some row) e opened h = let told = row_stands (standing past) w c row a.clients e in close_leases row.is_master row.master (sym told.0) (sym told.1) h
+  closed_leases (Some row) e opened h = let told = row_stands (master_state past) w c row a.clients e in close_leases row.is_master row.master (sym told.0) (sym told.1) h
 
-leases_held : (past : List Entry) (w : Rows) (event : Event) → IsReached past w → verdict w event ≡ None → Ranked past w → Held w → LeasesHeld (changed w event)
+leases_held : (past : List AnsweredEvent) (w : Rows) (event : Event) → IsReached past w → verdict w event ≡ None → Ranked past w → Held w → LeasesHeld (changed w event)
 unfolding LeasesHeld changed opened closed StillHeld
 leases_held past w (Open (Primary root universal)) r v p h = primary_leases w root universal w.device_master h
 leases_held past w (Open Render) r v p h = more_held w (changed w (Open Render)) (λ m e. e) (λ m e. list_any_left (holds m) w.clients _ e) h.3
@@ -176,7 +173,7 @@ leases_held past w (Open (Lease token root universal)) r v p h =
 leases_held past w (Ask c call) r v p h = asked_leases past w c call v p.1 h
 leases_held past w (Close c) r v p h = closed_leases past w p.1 c (client_row w c) refl (closer_open w c v) h
 
-held_changed : (past : List Entry) (w : Rows) (event : Event) → IsReached past w → verdict w event ≡ None → Ranked past w → Held w → Held (changed w event)
+held_changed : (past : List AnsweredEvent) (w : Rows) (event : Event) → IsReached past w → verdict w event ≡ None → Ranked past w → Held w → Held (changed w event)
 unfolding LeasesHeld
 held_changed past w event r v p h = (lessors_there w event v h, clients_there w event h, device_held past w event v p.1 h, leases_held past w event r v p h)
 
@@ -263,18 +260,18 @@ lessor_told last rows h = all_weaker (λ (row : MasterRow). find (λ (other : Ma
 pub falling : (last : ℕ) (rows : List MasterRow) → AllByRecursion (IsMadeMaster last) rows → IsFalling (lessor_of rows)
 falling last rows made = λ n m e. lessor_there last n m (master_row rows n) (found.all_found (IsMadeMaster last) (λ row. row.master == n) rows made) (found.found_passes (λ row. row.master == n) rows) e
 
-held_carried : (past : List Entry) (w : Rows) (event : Event) → IsReached past w → verdict w event ≡ None → Ranked past w → Held w → Held (noted (swept (changed w event)))
+held_carried : (past : List AnsweredEvent) (w : Rows) (event : Event) → IsReached past w → verdict w event ≡ None → Ranked past w → Held w → Held (journaled (swept (changed w event)))
 held_carried past w event r v p h =
-    let births = changed-births w event r.births in
+    let step_numbers = changed-step_numbers w event r.step_numbers in
     let made = changed-made w event r.made in
-    held_swept (changed w event) (falling (birth w) (changed w event).masters made.1) (lessor_told (birth w) (changed w event).masters births.1) (held_changed past w event r v p h)
+    held_swept (changed w event) (falling (step_number w) (changed w event).masters made.1) (lessor_told (step_number w) (changed w event).masters step_numbers.1) (held_changed past w event r v p h)
 
 -- with the history's standing, and with masters that are there
-abbrev pub Rooted : List Entry → Rows → Type 0
+abbrev pub Rooted : List AnsweredEvent → Rows → Type 0
 Rooted past w = Ranked past w × Held w
 
-pub rooted_denied : (past : List Entry) (w : Rows) (event : Event) (rule : Rule) → Rooted past w → Rooted (denied event rule ∷ past) (noted w)
+pub rooted_denied : (past : List AnsweredEvent) (w : Rows) (event : Event) (rule : Rule) → Rooted past w → Rooted (denied event rule ∷ past) (journaled w)
 rooted_denied past w event rule p = (ranks_denied past w event rule p.0, p.1)
 
-pub rooted_carried : (past : List Entry) (w : Rows) (event : Event) → IsReached past w → verdict w event ≡ None → Rooted past w → Rooted (carried w event ∷ past) (noted (swept (changed w event)))
+pub rooted_carried : (past : List AnsweredEvent) (w : Rows) (event : Event) → IsReached past w → verdict w event ≡ None → Rooted past w → Rooted (carried w event ∷ past) (journaled (swept (changed w event)))
 rooted_carried past w event r v p = (ranks_carried past w event r v p.0, held_carried past w event r v p.0 p.1)

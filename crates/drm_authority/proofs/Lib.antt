@@ -1,6 +1,6 @@
 pub mod Runs
 pub mod Rules
-pub mod Deeds
+pub mod Effects
 pub mod Closed
 pub mod Changes
 pub mod Apart
@@ -13,7 +13,7 @@ pub mod Lent
 pub mod Falls
 pub mod Lessors
 pub mod Grants
-pub mod Barren
+pub mod SeesNothing
 pub mod Few
 pub mod Magics
 pub mod Named

@@ -12,15 +12,15 @@ use Rattle.drm_model.specs.Rows.{Rows, is_option}
 use Rattle.drm_model.specs.Calls.{meaning}
 use Rattle.drm_model.specs.Verdict.{verdict}
 use Rattle.drm_model.specs.Reply.{answer_of}
-use Rattle.drm_model.specs.Run.{History}
-use Rattle.drm_history.specs.History.{Entry, next_number, history_of}
-use Rattle.drm_authority.specs.Deeds.{Deed, Nothing, OpensPrimary, OpensRender, Redeems, Closes, SetsMaster, DropsMaster, deed}
-use Rattle.drm_authority.specs.Standing.{Standing, standing, stood, with_primary, with_set, owner_without, lease_in, owner_in, is_master_in, master_in}
+use Rattle.drm_model.specs.Run.{DeviceValue}
+use Rattle.drm_history.specs.History.{AnsweredEvent, next_number, history_of}
+use Rattle.drm_authority.specs.Effects.{Effect, Nothing, OpensPrimary, OpensRender, Redeems, Closes, SetsMaster, DropsMaster, effect}
+use Rattle.drm_authority.specs.MasterState.{MasterState, master_state, transition, with_primary, with_set, owner_without, lease_in, owner_in, is_master_in, master_in}
 use Rattle.drm_authority.specs.Mastership.{Opened, opened_apart, opened_primary, opened_by, opened_in, set_by, first_set, owner_after}
 use Rattle.drm_authority.specs.Laws.{MastersBecome}
 use Rattle.drm_authority.proofs.Runs.{IsReached, denied, carried, by_verdict, at_all_times}
 use Rattle.drm_authority.proofs.Rules.{caller_open}
-use Rattle.drm_authority.proofs.Deeds.{denied_nothing}
+use Rattle.drm_authority.proofs.Effects.{denied_nothing}
 use Rattle.drm_authority.proofs.Closed.{open_old}
 
 -- ---- options
@@ -96,37 +96,37 @@ set_again before set is master n e h = (e ∙ set_becomes before.is_master set n
 set_first : (before : Opened) (set : Option ℕ) (is : Bool) (master : Option ℕ) (n : ℕ) → is ≡ false → IsSo before set is master → IsSo before (option_or set (Some n)) true (Some n)
 set_first before set is master n e h = (set_becomes before.is_master set n, new_master before.is_master before.master set n (sym h.0 ∙ e))
 
--- ---- a step, by its deed
+-- ---- a step, by its effect
 
 -- who sets master was opened before
-abbrev SetsOld : Deed → ℕ → Type 0
+abbrev SetsOld : Effect → ℕ → Type 0
 SetsOld (SetsMaster caller) n = caller < n
 SetsOld _ n = ⊤
 
-abbrev stands_by : List Entry → Deed → Standing
-stands_by past d = stood d (next_number past) (lease_in past) (standing past)
+abbrev stands_by : List AnsweredEvent → Effect → MasterState
+stands_by past d = transition d (next_number past) (lease_in past) (master_state past)
 
-abbrev BecomeBy : List Entry → Deed → ℕ → Type 0
+abbrev BecomeBy : List AnsweredEvent → Effect → ℕ → Type 0
 BecomeBy past d c =
     IsSo (if c == next_number past then opened_by d past else opened_in past c) (option_or (first_set past c) (set_by d (next_number past) c)) ((stands_by past d).is_master c) ((stands_by past d).master c)
 
-abbrev NoneBy : List Entry → Deed → ℕ → Type 0
+abbrev NoneBy : List AnsweredEvent → Effect → ℕ → Type 0
 NoneBy past d c = IsNone (option_or (first_set past c) (set_by d (next_number past) c)) ((stands_by past d).is_master c) ((stands_by past d).master c)
 
-abbrev Becomes : List Entry → ℕ → Type 0
+abbrev Becomes : List AnsweredEvent → ℕ → Type 0
 Becomes past c = IsSo (opened_in past c) (first_set past c) (is_master_in past c) (master_in past c)
 
-abbrev IsUnborn : List Entry → ℕ → Type 0
+abbrev IsUnborn : List AnsweredEvent → ℕ → Type 0
 IsUnborn past c = IsNone (first_set past c) (is_master_in past c) (master_in past c)
 
-abbrev Mastered : List Entry → Rows → Type 0
+abbrev Mastered : List AnsweredEvent → Rows → Type 0
 Mastered past w = ((c : ℕ) → Becomes past c) × ((c : ℕ) → length past < c → IsUnborn past c)
 
-primary_is : (n c : ℕ) (owner : Option ℕ) (s : Standing) → ((with_primary n owner s).is_master c ≡ (if c == n then (opened_primary owner n).is_master else s.is_master c)) × ((with_primary n owner s).master c ≡ (if c == n then (opened_primary owner n).master else s.master c))
+primary_is : (n c : ℕ) (owner : Option ℕ) (s : MasterState) → ((with_primary n owner s).is_master c ≡ (if c == n then (opened_primary owner n).is_master else s.is_master c)) × ((with_primary n owner s).master c ≡ (if c == n then (opened_primary owner n).master else s.master c))
 primary_is n c None s = (refl, refl)
 primary_is n c (Some m) s = (refl, refl)
 
-module _ (past : List Entry) (c : ℕ) (told : Becomes past c) (newborn : (c == next_number past) ≡ true → IsUnborn past c) where
+module _ (past : List AnsweredEvent) (c : ℕ) (told : Becomes past c) (newborn : (c == next_number past) ≡ true → IsUnborn past c) where
   unset : (c == next_number past) ≡ true → first_set past c ≡ None
   unset e = (newborn e).2
 
@@ -144,7 +144,7 @@ module _ (past : List Entry) (c : ℕ) (told : Becomes past c) (newborn : (c == 
     at_old : (k : (c == caller) ≡ true) (set : Option ℕ) (is : Bool) (master : Option ℕ) → IsSo (opened_in past c) set is master → IsSo (if c == next_number past then opened_apart else opened_in past c) set is master
     at_old k set is master h = subst (λ b. IsSo (if b then opened_apart else opened_in past c) set is master) (sym (not_new k)) h
 
-    sets : (b : Bool) → is_master_in past caller ≡ b → IsSo (if c == next_number past then opened_apart else opened_in past c) (option_or (first_set past c) (if c == caller then Some (next_number past) else None)) ((with_set (next_number past) caller b (standing past)).is_master c) ((with_set (next_number past) caller b (standing past)).master c)
+    sets : (b : Bool) → is_master_in past caller ≡ b → IsSo (if c == next_number past then opened_apart else opened_in past c) (option_or (first_set past c) (if c == caller then Some (next_number past) else None)) ((with_set (next_number past) caller b (master_state past)).is_master c) ((with_set (next_number past) caller b (master_state past)).master c)
     sets true e =
         elim (c == caller) as (λ k. (c == caller) ≡ k → IsSo (if c == next_number past then opened_apart else opened_in past c) (option_or (first_set past c) (if k then Some (next_number past) else None)) (is_master_in past c) (master_in past c)) [
           | true ↦ λ k. at_old k (option_or (first_set past c) (Some (next_number past))) (is_master_in past c) (master_in past c) (set_again (opened_in past c) (first_set past c) (is_master_in past c) (master_in past c) (next_number past) (ap (is_master_in past) (eqb-true c caller k) ∙ e) told)
@@ -156,9 +156,9 @@ module _ (past : List Entry) (c : ℕ) (told : Becomes past c) (newborn : (c == 
           | false ↦ λ k. stays
         ] refl
 
-  become_by : (d : Deed) → SetsOld d (next_number past) → BecomeBy past d c
+  become_by : (d : Effect) → SetsOld d (next_number past) → BecomeBy past d c
   become_by (OpensPrimary root universal) old =
-      let is = primary_is (next_number past) c (owner_in past) (standing past) in
+      let is = primary_is (next_number past) c (owner_in past) (master_state past) in
       let so = opens (opened_primary (owner_in past) (next_number past)) in
       (is.0 ∙ so.0, is.1 ∙ so.1)
   become_by (Redeems token root universal) old = opens (record { is_master = true; master = lease_in past token })
@@ -168,7 +168,7 @@ module _ (past : List Entry) (c : ℕ) (told : Becomes past c) (newborn : (c == 
   become_by _ old = stays
 
 -- a client of a step to come
-module _ (past : List Entry) (c : ℕ) (late : next_number past < c) (none : IsUnborn past c) where
+module _ (past : List AnsweredEvent) (c : ℕ) (late : next_number past < c) (none : IsUnborn past c) where
   not_this : (c == next_number past) ≡ false
   not_this = flipped (next_number past) c (less-differ (next_number past) c late)
 
@@ -185,13 +185,13 @@ module _ (past : List Entry) (c : ℕ) (late : next_number past < c) (none : IsU
     none_set : option_or (first_set past c) (if c == caller then Some (next_number past) else None) ≡ None
     none_set = ap (λ b. option_or (first_set past c) (if b then Some (next_number past) else None)) not_caller ∙ none_stays.2
 
-    none_sets : (b : Bool) → IsNone (option_or (first_set past c) (if c == caller then Some (next_number past) else None)) ((with_set (next_number past) caller b (standing past)).is_master c) ((with_set (next_number past) caller b (standing past)).master c)
+    none_sets : (b : Bool) → IsNone (option_or (first_set past c) (if c == caller then Some (next_number past) else None)) ((with_set (next_number past) caller b (master_state past)).is_master c) ((with_set (next_number past) caller b (master_state past)).master c)
     none_sets true = (none.0, none.1, none_set)
     none_sets false = (ap (λ b. if b then true else is_master_in past c) not_caller ∙ none.0, ap (λ b. if b then Some (next_number past) else master_in past c) not_caller ∙ none.1, none_set)
 
-  none_by : (d : Deed) → SetsOld d (next_number past) → NoneBy past d c
+  none_by : (d : Effect) → SetsOld d (next_number past) → NoneBy past d c
   none_by (OpensPrimary root universal) old =
-      let is = primary_is (next_number past) c (owner_in past) (standing past) in
+      let is = primary_is (next_number past) c (owner_in past) (master_state past) in
       let so = none_opens (opened_primary (owner_in past) (next_number past)) in
       (is.0 ∙ so.0, is.1 ∙ so.1, so.2)
   none_by (Redeems token root universal) old = none_opens (record { is_master = true; master = lease_in past token })
@@ -202,25 +202,25 @@ module _ (past : List Entry) (c : ℕ) (late : next_number past < c) (none : IsU
 
 -- ---- along a history
 
-mastered_more : (past : List Entry) (step : Entry) (w v : Rows) → SetsOld (deed step) (next_number past) → Mastered past w → Mastered (step ∷ past) v
-unfolding standing first_set opened_in
+mastered_more : (past : List AnsweredEvent) (step : AnsweredEvent) (w v : Rows) → SetsOld (effect step) (next_number past) → Mastered past w → Mastered (step ∷ past) v
+unfolding master_state first_set opened_in
 mastered_more past step w v old m = (
-  λ c. become_by past c (m.0 c) (λ e. m.1 c (let same = eqb-true c (next_number past) e in omega (arith, same))) (deed step) old,
-  λ c late. none_by past c (omega (arith, late)) (m.1 c (omega (arith, late))) (deed step) old,
+  λ c. become_by past c (m.0 c) (λ e. m.1 c (let same = eqb-true c (next_number past) e in omega (arith, same))) (effect step) old,
+  λ c late. none_by past c (omega (arith, late)) (m.1 c (omega (arith, late))) (effect step) old,
 )
 
-caller_old : (past : List Entry) (w : Rows) (event : Event) → IsReached past w → verdict w event ≡ None → SetsOld (deed (carried w event)) (next_number past)
-unfolding deed answer_of meaning
+caller_old : (past : List AnsweredEvent) (w : Rows) (event : Event) → IsReached past w → verdict w event ≡ None → SetsOld (effect (carried w event)) (next_number past)
+unfolding effect answer_of meaning
 caller_old past w (Open (Primary root universal)) r v = tt
 caller_old past w (Open Render) r v = tt
 caller_old past w (Open (Lease token root universal)) r v = tt
-caller_old past w (Ask c SetMaster) r v = let old = open_old w c r.births.0.1 (caller_open w c SetMaster v) in let steps = r.steps in omega (arith, old, steps)
+caller_old past w (Ask c SetMaster) r v = let old = open_old w c r.step_numbers.0.1 (caller_open w c SetMaster v) in let steps = r.steps in omega (arith, old, steps)
 caller_old past w (Ask c Version) r v = tt
 caller_old past w (Ask c call) r v = tt
 caller_old past w (Close c) r v = tt
 
-mastered : (h : History) (c : ℕ) → Becomes (history_of h) c
-unfolding standing first_set opened_in
+mastered : (h : DeviceValue) (c : ℕ) → Becomes (history_of h) c
+unfolding master_state first_set opened_in
 mastered h =
     (at_all_times Mastered
     (by_verdict Mastered
@@ -228,17 +228,17 @@ mastered h =
     (λ past w event r v m. mastered_more past (carried w event) w w (caller_old past w event r v) m))
     h ((λ c. (refl, refl)), (λ c late. (refl, refl, refl)))).0
 
-pub masters_become : (h : History) (c : ℕ) → MastersBecome (history_of h) c
+pub masters_become : (h : DeviceValue) (c : ℕ) → MastersBecome (history_of h) c
 masters_become h c = let so = mastered h c in record { is_master = so.0; master = so.1 }
 
 -- ---- the device's master
 
-module _ (past : List Entry) where
-  opened_owner : (s : Standing) (n : ℕ) (owner : Option ℕ) → s.owner ≡ owner → (with_primary n owner s).owner ≡ option_or owner ((with_primary n owner s).master n)
+module _ (past : List AnsweredEvent) where
+  opened_owner : (s : MasterState) (n : ℕ) (owner : Option ℕ) → s.owner ≡ owner → (with_primary n owner s).owner ≡ option_or owner ((with_primary n owner s).master n)
   opened_owner s n None e = sym (ap (λ b. if b then Some n else s.master n) (eq-eqb n n refl))
   opened_owner s n (Some m) e = e
 
-  set_owner : (s : Standing) (n c : ℕ) (b : Bool) → (with_set n c b s).owner ≡ option_or s.owner ((with_set n c b s).master c)
+  set_owner : (s : MasterState) (n c : ℕ) (b : Bool) → (with_set n c b s).owner ≡ option_or s.owner ((with_set n c b s).master c)
   set_owner s n c true = refl
   set_owner s n c false = sym (ap (λ b. option_or s.owner (if b then Some n else s.master c)) (eq-eqb c c refl))
 
@@ -247,15 +247,15 @@ module _ (past : List Entry) where
   closed_owner true None owner = refl
   closed_owner false master owner = refl
 
-pub owner_is_left : (step : Entry) (past : List Entry) → owner_in (step ∷ past) ≡ owner_after (deed step) step past
-unfolding standing
-owner_is_left step past = by (deed step) refl
+pub owner_is_left : (step : AnsweredEvent) (past : List AnsweredEvent) → owner_in (step ∷ past) ≡ owner_after (effect step) step past
+unfolding master_state
+owner_is_left step past = by (effect step) refl
   where
-    by : (d : Deed) → deed step ≡ d → (stands_by past d).owner ≡ owner_after d step past
+    by : (d : Effect) → effect step ≡ d → (stands_by past d).owner ≡ owner_after d step past
     by (OpensPrimary root universal) e =
-        opened_owner past (standing past) (next_number past) (owner_in past) refl
+        opened_owner past (master_state past) (next_number past) (owner_in past) refl
         ∙ sym (ap (λ d. option_or (owner_in past) ((stands_by past d).master (next_number past))) e)
-    by (SetsMaster c) e = set_owner past (standing past) (next_number past) c (is_master_in past c) ∙ sym (ap (λ d. option_or (owner_in past) ((stands_by past d).master c)) e)
+    by (SetsMaster c) e = set_owner past (master_state past) (next_number past) c (is_master_in past c) ∙ sym (ap (λ d. option_or (owner_in past) ((stands_by past d).master c)) e)
     by DropsMaster e = refl
     by (Closes c) e = closed_owner past (is_master_in past c) (master_in past c) (owner_in past)
     by Nothing e = refl

@@ -1,5 +1,5 @@
 -- Numbers that are free, as a new lessee or magic gets them.
-use Rattle.std.proofs.Common.{◌≡◌, ℕ, ◌+◌, Bool, true, false, not, Option, None, Some, refl}
+use Rattle.std.proofs.Common.{◌≡◌, ℕ, ◌+◌, Bool, true, false, Option, None, Some, refl}
 use Rattle.std.specs.Prelude.{unwrap_or}
 use Rattle.std.specs.Option.{is_some, option_or}
 use Rattle.drm_index_array.specs.Least.{least}
@@ -21,7 +21,3 @@ next_passes p given last h = by (least p (given + 1) last) refl h
     by : (o : Option ℕ) → least p (given + 1) last ≡ o → is_some (option_or o (least p 1 last)) ≡ true → p (unwrap_or (option_or o (least p 1 last)) 0) ≡ true
     by None e k = least_passes p 1 last k
     by (Some n) e k = (least_some p (given + 1) last n e).passes
-
-pub not_true : (b : Bool) → not b ≡ true → b ≡ false
-not_true true h = absurd (let e : false ≡ true = h in cc)
-not_true false h = refl

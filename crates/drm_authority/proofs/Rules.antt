@@ -1,7 +1,7 @@
 -- What an event that is carried out was tested for.
 use Rattle.std.proofs.Common.{◌≡◌, ℕ, Bool, true, false, not, ◌||◌, List, None, refl}
 use Rattle.std.specs.List.{AllByRecursion}
-use Rattle.drm_table.specs.Permit.{Check, has_flag}
+use Rattle.drm_table.specs.Permit.{Check, has_flag, master}
 use Rattle.drm_table.specs.Table.{flags_of, row_of, call_row, call_number, call_kind_of, kind_row}
 use Rattle.drm_table.specs.declared.calls.Call.{Call}
 use Rattle.drm_table.specs.declared.calls.Call.TheVariants.{CreateLease, RevokeLease}
@@ -27,11 +27,11 @@ unfolding checks
 closer_open w c h = (each_holds w (Close c) h).0
 
 -- who makes or revokes a lease is current
-create_lease_flags : (ids : List ℕ) → has_flag (flags_of (CreateLease ids)) 4 ≡ true
+create_lease_flags : (ids : List ℕ) → has_flag (flags_of (CreateLease ids)) master ≡ true
 unfolding flags_of row_of call_row call_number call_kind_of kind_row
 create_lease_flags ids = refl
 
-revoke_lease_flags : (lessee : ℕ) → has_flag (flags_of (RevokeLease lessee)) 4 ≡ true
+revoke_lease_flags : (lessee : ℕ) → has_flag (flags_of (RevokeLease lessee)) master ≡ true
 unfolding flags_of row_of call_row call_number call_kind_of kind_row
 revoke_lease_flags lessee = refl
 
@@ -39,9 +39,9 @@ wanted : (flag current : Bool) → flag ≡ true → (not flag || current) ≡ t
 wanted true current e h = h
 wanted false current e h = absurd (let n : false ≡ true = e in cc)
 
-caller_current : (w : Rows) (c : ℕ) (call : Call) → has_flag (flags_of call) 4 ≡ true → verdict w (Ask c call) ≡ None → is_current w c ≡ true
+caller_current : (w : Rows) (c : ℕ) (call : Call) → has_flag (flags_of call) master ≡ true → verdict w (Ask c call) ≡ None → is_current w c ≡ true
 unfolding checks admission_checks
-caller_current w c call flag h = wanted (has_flag (flags_of call) 4) (is_current w c) flag (each_holds w (Ask c call) h).1.1.1.1.1.0
+caller_current w c call flag h = wanted (has_flag (flags_of call) master) (is_current w c) flag (each_holds w (Ask c call) h).1.1.1.1.1.0
 
 pub lessor_current : (w : Rows) (c : ℕ) (ids : List ℕ) → verdict w (Ask c (CreateLease ids)) ≡ None → is_current w c ≡ true
 lessor_current w c ids h = caller_current w c (CreateLease ids) (create_lease_flags ids) h

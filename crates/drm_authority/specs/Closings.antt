@@ -2,17 +2,17 @@
 use Rattle.std.specs.Prelude.{◌≡◌, ℕ, ◌==◌, Bool, true, false, ◌||◌, List, [], ◌∷◌}
 use Rattle.drm_table.specs.declared.events.Event.{Event}
 use Rattle.drm_table.specs.declared.events.Event.TheVariants.{Open, Ask, Close}
-use Rattle.drm_history.specs.History.{Entry}
-use Rattle.drm_authority.specs.Deeds.{Deed, Closes, deed, is_accepted}
+use Rattle.drm_history.specs.History.{AnsweredEvent}
+use Rattle.drm_authority.specs.Effects.{Effect, Closes, effect, is_accepted}
 
-abbrev pub closes : Deed → ℕ → Bool
+abbrev pub closes : Effect → ℕ → Bool
 closes (Closes client) c = client == c
 closes _ c = false
 
 -- whether the client's closing was carried out
-unfoldable pub has_closed : List Entry → ℕ → Bool
+unfoldable pub has_closed : List AnsweredEvent → ℕ → Bool
 has_closed [] c = false
-has_closed (step ∷ past) c = closes (deed step) c || has_closed past c
+has_closed (step ∷ past) c = closes (effect step) c || has_closed past c
 
 -- whether the event is of the client
 abbrev pub is_of : ℕ → Event → Bool
@@ -21,5 +21,5 @@ is_of c (Ask client call) = client == c
 is_of c (Close client) = client == c
 
 -- no step of a client that closed before is carried out
-abbrev pub StaysClosed : Entry → List Entry → Type 0
+abbrev pub StaysClosed : AnsweredEvent → List AnsweredEvent → Type 0
 StaysClosed step past = (c : ℕ) → has_closed past c ≡ true → is_of c step.event ≡ true → is_accepted step.answer ≡ false

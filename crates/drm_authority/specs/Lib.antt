@@ -1,9 +1,9 @@
-pub mod Deeds
-pub mod Standing
+pub mod Effects
+pub mod MasterState
 pub mod Mastership
 pub mod Shown
 pub mod Lessees
 pub mod Magics
 pub mod Closings
-pub mod Barren
+pub mod SeesNothing
 pub mod Laws

@@ -3,9 +3,9 @@
 use Rattle.std.specs.Prelude.{ℕ, ◌==◌, Bool, true, false, ◌&&◌, ◌||◌, List, [], ◌∷◌, Option, None, Some, if◌then◌else◌}
 use Rattle.std.specs.Option.{is_some, option_map_or, option_or}
 use Rattle.drm_model.specs.Rows.{is_option}
-use Rattle.drm_history.specs.History.{Entry, next_number}
-use Rattle.drm_authority.specs.Deeds.{Deed, OpensPrimary, Redeems, Closes, SetsMaster, DropsMaster, deed}
-use Rattle.drm_authority.specs.Standing.{lease_in, owner_in, is_master_in, master_in}
+use Rattle.drm_history.specs.History.{AnsweredEvent, next_number}
+use Rattle.drm_authority.specs.Effects.{Effect, OpensPrimary, Redeems, Closes, SetsMaster, DropsMaster, effect}
+use Rattle.drm_authority.specs.MasterState.{lease_in, owner_in, is_master_in, master_in}
 
 -- whether a client was opened as a master, and the master that it had then
 pub record Opened : Type 0 where
@@ -22,38 +22,38 @@ opened_primary None number = record { is_master = true; master = Some number }
 opened_primary (Some owner) number = record { is_master = false; master = Some owner }
 
 -- a client that redeems a lease token is a master: the lessee of the last MODE_CREATE_LEASE before that answered the token
-abbrev pub opened_by : Deed → List Entry → Opened
+abbrev pub opened_by : Effect → List AnsweredEvent → Opened
 opened_by (OpensPrimary root universal) past = opened_primary (owner_in past) (next_number past)
 opened_by (Redeems token root universal) past = record { is_master = true; master = lease_in past token }
 opened_by _ past = opened_apart
 
 -- how the client was opened, by the step of its number
-unfoldable pub opened_in : List Entry → ℕ → Opened
+unfoldable pub opened_in : List AnsweredEvent → ℕ → Opened
 opened_in [] c = opened_apart
-opened_in (step ∷ past) c = if c == next_number past then opened_by (deed step) past else opened_in past c
+opened_in (step ∷ past) c = if c == next_number past then opened_by (effect step) past else opened_in past c
 
 -- the step sets the client's master
-abbrev pub set_by : Deed → ℕ → ℕ → Option ℕ
+abbrev pub set_by : Effect → ℕ → ℕ → Option ℕ
 set_by (SetsMaster caller) number c = if c == caller then Some number else None
 set_by _ number c = None
 
 -- the first SET_MASTER of the client that was carried out
-unfoldable pub first_set : List Entry → ℕ → Option ℕ
+unfoldable pub first_set : List AnsweredEvent → ℕ → Option ℕ
 first_set [] c = None
-first_set (step ∷ past) c = option_or (first_set past c) (set_by (deed step) (next_number past) c)
+first_set (step ∷ past) c = option_or (first_set past c) (set_by (effect step) (next_number past) c)
 
 -- a client is a master where it was opened as one, or a SET_MASTER of it was carried out
-abbrev pub has_become_master : List Entry → ℕ → Bool
+abbrev pub has_become_master : List AnsweredEvent → ℕ → Bool
 has_become_master history c = (opened_in history c).is_master || is_some (first_set history c)
 
 -- its master is its own from its opening on, where it was opened as one; else that of its first SET_MASTER, or else the one that it joined
-abbrev pub master_since : List Entry → ℕ → Option ℕ
+abbrev pub master_since : List AnsweredEvent → ℕ → Option ℕ
 master_since history c =
     if (opened_in history c).is_master then (opened_in history c).master else option_or (first_set history c) (opened_in history c).master
 
 -- the device's master that the last step leaves: an opening of a primary node and SET_MASTER keep the one that there is, and where
 -- there is none the client's is; DROP_MASTER leaves none, as does the closing of a master whose own is the device's
-abbrev pub owner_after : Deed → Entry → List Entry → Option ℕ
+abbrev pub owner_after : Effect → AnsweredEvent → List AnsweredEvent → Option ℕ
 owner_after (OpensPrimary root universal) step past = option_or (owner_in past) (master_in (step ∷ past) (next_number past))
 owner_after (SetsMaster c) step past = option_or (owner_in past) (master_in (step ∷ past) c)
 owner_after DropsMaster step past = None

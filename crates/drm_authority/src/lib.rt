@@ -6,7 +6,7 @@ mod laws;
 
 pub use laws::{
     authentication_follows_from_history, authority_follows_from_answers,
-    capabilities_follow_from_history, closings_are_for_good, ended_lessees_are_barren,
+    capabilities_follow_from_history, closings_are_for_good, ended_lessees_see_nothing,
     grants_follow_from_history, lessees_follow_from_history, masters_become_so_by_their_steps,
     masters_differ, masters_follow_from_history,
 };

@@ -1,11 +1,11 @@
 //! Buffers and their handles.
 
 ghost use Rattle.std.specs.Prelude.{◌≡◌, ◌≤◌, ◌*◌, true};
-ghost use Rattle.drm_files.specs.Files.{is_present};
+ghost use Rattle.drm_files.specs.Files.{is_open_client};
 ghost use Rattle.drm_table.specs.declared.calls.Call.TheVariants.{GemClose, BufCreate, CreateDumb, DestroyDumb};
 ghost use Rattle.drm_model.specs.Buffers as model;
-ghost use Rattle.drm_state.specs.Ties.{IsTied, IsReady};
-ghost use Rattle.drm_state.specs.Refinement.{OwesCall, OwesReply, MakesBuffer};
+ghost use Rattle.drm_state.specs.Invariants.{MeetsInvariants, StepPrecondition};
+ghost use Rattle.drm_state.specs.Refinement.{RefinesCall, RefinesReply, MakesBuffer};
 
 use drm_gem::CreateFault;
 use drm_state::{State, bytes_per_pixel, is_dumb_shape, release};
@@ -26,21 +26,21 @@ pub struct Pixels {
 /// MODE_CREATE_DUMB: a new object, and a handle of it. Where memory is refused nothing changes.
 pub fn create_dumb(
     state: &mut State,
-    birth: u32,
+    step_number: u32,
     client: u32,
     pixels: Pixels,
 ) -> Result<Answer, AllocError>
-    requires ready { IsReady state.old birth }
-    requires present { is_present state.old.files client ≡ true }
-    ensures owes { OwesCall state.old birth client (CreateDumb pixels.width pixels.height pixels.bpp) result state.new }
-    ensures tied { IsTied state.new }
+    requires precondition { StepPrecondition state.old step_number }
+    requires open_client { is_open_client state.old.files client ≡ true }
+    ensures refines { RefinesCall state.old step_number client (CreateDumb pixels.width pixels.height pixels.bpp) result state.new }
+    ensures invariants { MeetsInvariants state.new }
 {
     if !is_dumb_shape(pixels.width, pixels.height, pixels.bpp) {
         return Ok(Answer::Denied(Rule::BadSize));
     }
     let pitch = dumb_pitch(pixels.width, pixels.bpp);
     let size = dumb_size(pitch, pixels.height);
-    let Some(handle) = new_buffer(state, birth, client, size)? else {
+    let Some(handle) = new_buffer(state, step_number, client, size)? else {
         return Ok(Answer::Denied(Rule::Full));
     };
     Ok(Answer::Dumb {
@@ -54,20 +54,20 @@ pub fn create_dumb(
 /// nothing changes.
 pub fn buf_create(
     state: &mut State,
-    birth: u32,
+    step_number: u32,
     client: u32,
     size: u64,
 ) -> Result<Answer, AllocError>
-    requires ready { IsReady state.old birth }
-    requires present { is_present state.old.files client ≡ true }
-    ensures owes { OwesCall state.old birth client (BufCreate size) result state.new }
-    ensures tied { IsTied state.new }
+    requires precondition { StepPrecondition state.old step_number }
+    requires open_client { is_open_client state.old.files client ≡ true }
+    ensures refines { RefinesCall state.old step_number client (BufCreate size) result state.new }
+    ensures invariants { MeetsInvariants state.new }
 {
     if !is_buffer_size(size) {
         return Ok(Answer::Denied(Rule::BadSize));
     }
     let size = buffer_size(size);
-    let Some(handle) = new_buffer(state, birth, client, size)? else {
+    let Some(handle) = new_buffer(state, step_number, client, size)? else {
         return Ok(Answer::Denied(Rule::Full));
     };
     Ok(Answer::Buffer { handle, size })
@@ -77,19 +77,19 @@ pub fn buf_create(
 /// as many objects are there as may be. Where memory is refused nothing changes.
 fn new_buffer(
     state: &mut State,
-    birth: u32,
+    step_number: u32,
     client: u32,
     size: u64,
 ) -> Result<Option<u32>, AllocError>
-    requires ready { IsReady state.old birth }
-    requires present { is_present state.old.files client ≡ true }
-    ensures makes { MakesBuffer state.old birth client size result state.new }
-    ensures tied { IsTied state.new }
+    requires precondition { StepPrecondition state.old step_number }
+    requires open_client { is_open_client state.old.files client ≡ true }
+    ensures makes { MakesBuffer state.old step_number client size result state.new }
+    ensures invariants { MeetsInvariants state.new }
 {
     if !state.files.has_room(client) {
         return Ok(None);
     }
-    let made = match state.objects.create(birth, size) {
+    let made = match state.objects.create(step_number, size) {
         Ok(made) => made,
         Err(CreateFault::Full) => return Ok(None),
         Err(CreateFault::NoMemory) => return Err(AllocError),
@@ -139,11 +139,11 @@ fn buffer_size(size: u64) -> u64
 /// GEM_CLOSE and MODE_DESTROY_DUMB: the handle goes, the object's name with its last handle, and the object with the last
 /// that refers to it. It takes no memory and asks for no limit.
 pub fn gem_close(state: &mut State, client: u32, handle: u32) -> Answer
-    requires tied { IsTied state.old }
-    requires present { is_present state.old.files client ≡ true }
-    ensures destroy { OwesReply state.old client (DestroyDumb handle) result state.new }
-    ensures close { OwesReply state.old client (GemClose handle) result state.new }
-    ensures tied { IsTied state.new }
+    requires invariants { MeetsInvariants state.old }
+    requires open_client { is_open_client state.old.files client ≡ true }
+    ensures destroy { RefinesReply state.old client (DestroyDumb handle) result state.new }
+    ensures close { RefinesReply state.old client (GemClose handle) result state.new }
+    ensures invariants { MeetsInvariants state.new }
 {
     let Some(object) = state.files.object_of(client, handle) else {
         return Answer::Denied(Rule::NoHandleToClose);

@@ -1,10 +1,10 @@
 //! LIST_HANDLES: what a client holds.
 
 ghost use Rattle.std.specs.Prelude.{◌≡◌, true};
-ghost use Rattle.drm_files.specs.Files.{is_present};
+ghost use Rattle.drm_files.specs.Files.{is_open_client};
 ghost use Rattle.drm_table.specs.declared.calls.Call.TheVariants.{ListHandles};
-ghost use Rattle.drm_state.specs.Ties.{IsTied};
-ghost use Rattle.drm_state.specs.Refinement.{OwesReply};
+ghost use Rattle.drm_state.specs.Invariants.{MeetsInvariants};
+ghost use Rattle.drm_state.specs.Refinement.{RefinesReply};
 
 use drm_state::State;
 use drm_table::Answer;
@@ -12,9 +12,9 @@ use drm_table::Answer;
 /// LIST_HANDLES: the caller's handles that are not below a number, rising, the first 64. It takes no memory and asks for no
 /// limit.
 pub fn list_handles(state: &State, client: u32, from: u32) -> Answer
-    requires tied { IsTied state.now }
-    requires present { is_present state.now.files client ≡ true }
-    ensures { OwesReply state.now client (ListHandles from) result state.now }
+    requires invariants { MeetsInvariants state.now }
+    requires open_client { is_open_client state.now.files client ≡ true }
+    ensures { RefinesReply state.now client (ListHandles from) result state.now }
 {
     Answer::List {
         list: state.files.handles_of(client, from),

@@ -4,9 +4,9 @@ use Rattle.std.proofs.lemmas.Grind.{flat_map-append}
 use Rattle.std.proofs.lemmas.List.{length_push}
 use Rattle.drm_table.specs.declared.answers.Answer.{Answer}
 use Rattle.drm_table.specs.declared.apart.Apart.{Apart}
-use Rattle.drm_streams.specs.Streams.{SourceAccount, SinkAccount}
-use Rattle.drm_streams.specs.Turns.{Took, Spends, Pays, PaysPart}
-use Rattle.drm_streams.proofs.Accounts.{Gave-none, Gave-then, Took-none, Took-then}
+use Rattle.drm_streams.specs.Streams.{SourceTrace, SinkTrace}
+use Rattle.drm_streams.specs.Turns.{Took, ReadCost, WriteCost, PartialWriteCost}
+use Rattle.drm_streams.proofs.Traces.{Gave-none, Gave-then, Took-none, Took-then}
 use Rattle.drm_runs.specs.Lines.{IsBare, joined}
 use Rattle.drm_runs.specs.Runs.{Covers, EndsLine}
 use Rattle.drm_runs.specs.Reader.{IsTooLong}
@@ -49,7 +49,7 @@ cut-last file n ds (Some expected) came sent unsent e more =
 
 -- ---- a check so far
 
-pub so_far_none : (setting : Setting) (file : File) (source : SourceAccount) (sink : SinkAccount) (turns : ℕ) → SoFar setting file source source sink sink turns turns 0 0 0 [] (Planned setting) unbound
+pub so_far_none : (setting : Setting) (file : File) (source : SourceTrace) (sink : SinkTrace) (turns : ℕ) → SoFar setting file source source sink sink turns turns 0 0 0 [] (Planned setting) unbound
 so_far_none setting file source sink turns = record {
   read = [];
   lines = [];
@@ -66,8 +66,8 @@ so_far_none setting file source sink turns = record {
 abbrev pub report_with : ScriptEnd → ℕ → ℕ → Report
 report_with end passed failed = record { end = end; passed = passed; failed = failed }
 
-module _ {setting : Setting} {file : File} {s0 s : SourceAccount} {k0 k : SinkAccount} {turns has n passed failed : ℕ} {rest : List ℕ} {device : Place} {labels : List ℕ} (so : SoFar setting file s0 s k0 k turns has n passed failed rest device labels) where
-  pub so_far_read : (s' : SourceAccount) (given : List ℕ) (has' : ℕ) (rest' : List ℕ) → Spends s s' given has has' → rest ++ given ≡ rest' → SoFar setting file s0 s' k0 k turns has' n passed failed rest' device labels
+module _ {setting : Setting} {file : File} {s0 s : SourceTrace} {k0 k : SinkTrace} {turns has n passed failed : ℕ} {rest : List ℕ} {device : Place} {labels : List ℕ} (so : SoFar setting file s0 s k0 k turns has n passed failed rest device labels) where
+  pub so_far_read : (s' : SourceTrace) (given : List ℕ) (has' : ℕ) (rest' : List ℕ) → ReadCost s s' given has has' → rest ++ given ≡ rest' → SoFar setting file s0 s' k0 k turns has' n passed failed rest' device labels
   so_far_read s' given has' rest' p e = record {
     read = so.read ++ given;
     lines = so.lines;
@@ -98,7 +98,7 @@ module _ {setting : Setting} {file : File} {s0 s : SourceAccount} {k0 k : SinkAc
     grown_number : length (so.lines ++ next ∷ []) ≡ n + 1
     grown_number = let a = so.number in let b = length_push so.lines next in omega (arith, a, b)
 
-    pub so_far_line : (more : List ℕ) (k' : SinkAccount) (has' : ℕ) → rest ≡ next ++ 10 ∷ more → Pays k k' (differences_text file (unmet (n + 1) (expected_part next) came)) has has'
+    pub so_far_line : (more : List ℕ) (k' : SinkTrace) (has' : ℕ) → rest ≡ next ++ 10 ∷ more → WriteCost k k' (differences_text file (unmet (n + 1) (expected_part next) came)) has has'
         → SoFar setting file s0 s k0 k' turns has' (n + 1) (passed + met (expected_part next) came) (failed + length (unmet (n + 1) (expected_part next) came)) more device' labels'
     unfolding found
     so_far_line more k' has' e p = record {
@@ -126,15 +126,15 @@ module _ {setting : Setting} {file : File} {s0 s : SourceAccount} {k0 k : SinkAc
         (behind, inl whole, (let long = ap (λ (l : List ℕ). length l) f in omega (arith, long, short)))
 
     -- a front of the difference was told
-    cut_front : (k' : SinkAccount) (has' : ℕ) (p : PaysPart k k' (differences_text file found) has has')
+    cut_front : (k' : SinkTrace) (has' : ℕ) (p : PartialWriteCost k k' (differences_text file found) has has')
         → IsCutInLast file (length (so.lines ++ next ∷ [])) (so.differences ++ found) (differences_text file so.differences ++ p.front)
     unfolding found
     cut_front k' has' p =
         subst (λ (m : ℕ). IsCutInLast file m (so.differences ++ found) (differences_text file so.differences ++ p.front)) (sym grown_number)
         (cut-last file (n + 1) so.differences (expected_part next) came p.front p.rest p.parts p.more)
 
-    pub cut_by_fault : (more : List ℕ) (k' : SinkAccount) (has' : ℕ) → rest ≡ next ++ more → length more ≤ 256 → EndsLine (s0.counts.ends < s.counts.ends) more
-        → PaysPart k k' (differences_text file (unmet (n + 1) (expected_part next) came)) has has' → k.counts.faults < k'.counts.faults
+    pub cut_by_fault : (more : List ℕ) (k' : SinkTrace) (has' : ℕ) → rest ≡ next ++ more → length more ≤ 256 → EndsLine (s0.counts.ends < s.counts.ends) more
+        → PartialWriteCost k k' (differences_text file (unmet (n + 1) (expected_part next) came)) has has' → k.counts.faults < k'.counts.faults
         → ChecksOn setting file s0 s k0 k' turns (report_with ends.WriteFault (passed + met (expected_part next) came) (failed + length (unmet (n + 1) (expected_part next) came)))
     unfolding found
     cut_by_fault more k' has' e short until p f =
@@ -155,8 +155,8 @@ module _ {setting : Setting} {file : File} {s0 s : SourceAccount} {k0 k : SinkAc
           ends = ((let a = so.took.counts.faults in omega (arith, a, f)), cut_front k' has' p, over.2);
         }
 
-    pub cut_by_turns : (more : List ℕ) (k' : SinkAccount) (has' : ℕ) → rest ≡ next ++ more → length more ≤ 256 → EndsLine (s0.counts.ends < s.counts.ends) more
-        → PaysPart k k' (differences_text file (unmet (n + 1) (expected_part next) came)) has has' → has' ≡ 0
+    pub cut_by_turns : (more : List ℕ) (k' : SinkTrace) (has' : ℕ) → rest ≡ next ++ more → length more ≤ 256 → EndsLine (s0.counts.ends < s.counts.ends) more
+        → PartialWriteCost k k' (differences_text file (unmet (n + 1) (expected_part next) came)) has has' → has' ≡ 0
         → ChecksOn setting file s0 s k0 k' turns (report_with ends.TurnsUsed (passed + met (expected_part next) came) (failed + length (unmet (n + 1) (expected_part next) came)))
     unfolding found
     cut_by_turns more k' has' e short until p none =
@@ -178,7 +178,7 @@ module _ {setting : Setting} {file : File} {s0 s : SourceAccount} {k0 k : SinkAc
         }
 
     -- the last line, behind which the input has ended
-    pub done_last : (k' : SinkAccount) (has' : ℕ) → rest ≡ next → s0.counts.ends < s.counts.ends → Pays k k' (differences_text file (unmet (n + 1) (expected_part next) came)) has has'
+    pub done_last : (k' : SinkTrace) (has' : ℕ) → rest ≡ next → s0.counts.ends < s.counts.ends → WriteCost k k' (differences_text file (unmet (n + 1) (expected_part next) came)) has has'
         → ChecksOn setting file s0 s k0 k' turns (report_with ends.Done (passed + met (expected_part next) came) (failed + length (unmet (n + 1) (expected_part next) came)))
     unfolding found
     done_last k' has' e f p = record {
@@ -231,11 +231,11 @@ module _ {setting : Setting} {file : File} {s0 s : SourceAccount} {k0 k : SinkAc
   unusable h = ended (ends.Malformed (n + 1)) (ap (λ m. m + 1) so.number, h, refl)
 
   pub too_long : (front more : List ℕ) → IsTooLong rest front more → ChecksOn setting file s0 s k0 k turns (report_with (ends.Malformed (n + 1)) passed failed)
-  too_long front more t = unusable (record { bad = front; behind = more; parts = t.whole; bare = t.bare; because = inr t.long; short = omega (arith, t.behind) })
+  too_long front more t = unusable (record { bad = front; behind = more; parts = t.whole; bare = t.bare; end_condition = inr t.long; short = omega (arith, t.behind) })
 
   pub malformed : (next more : List ℕ) → rest ≡ next ++ more → length more ≤ 256 → EndsLine (s0.counts.ends < s.counts.ends) more → IsBare next → IsMisplaced device (script_part next)
       → ChecksOn setting file s0 s k0 k turns (report_with (ends.Malformed (n + 1)) passed failed)
-  malformed next more e short until bare m = unusable (record { bad = next; behind = more; parts = e; bare = bare; because = inl (m, until); short = short })
+  malformed next more e short until bare m = unusable (record { bad = next; behind = more; parts = e; bare = bare; end_condition = inl (m, until); short = short })
 
   pub no_memory : (next more : List ℕ) → rest ≡ next ++ more → length more ≤ 256 → EndsLine (s0.counts.ends < s.counts.ends) more → IsBare next → IsNowhere device → WantsDevice (script_part next)
       → ChecksOn setting file s0 s k0 k turns (report_with ends.NoMemory passed failed)

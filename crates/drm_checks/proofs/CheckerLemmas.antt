@@ -2,10 +2,10 @@
 use Rattle.std.proofs.Common.{◌≡◌, ℕ, ◌+◌, ◌∙◌, List, length, sym, ap, subst, Option, Some, Result}
 use Rattle.drm_table.specs.declared.answers.Answer.{Answer}
 use Rattle.drm_table.specs.declared.apart.Apart.{Apart}
-use Rattle.drm_streams.specs.Streams.{SinkAccount}
+use Rattle.drm_streams.specs.Streams.{SinkTrace}
 use Rattle.drm_streams.specs.Texts.{WritesOut}
 use Rattle.drm_runs.specs.Script.{Uses, IsMisplaced, IsNowhere, WantsDevice}
-use Rattle.drm_runs.specs.Interpreter.{Standing}
+use Rattle.drm_runs.specs.Interpreter.{InterpreterState}
 use Rattle.drm_runs.specs.declared.stops.ScriptEnd.{ScriptEnd}
 use Rattle.drm_runs.specs.declared.stops.ScriptEnd.TheVariants as ends
 use Rattle.drm_checks.specs.Expectations.{script_part, expected_part}
@@ -15,16 +15,16 @@ use Rattle.drm_checks.specs.Checker.ChecksLine.{used, bad, unmade}
 use Rattle.drm_checks.specs.declared.checker.Checker.{Checker}
 
 -- the checker once a line was interpreted, and before what it expects is noted
-abbrev pub interpreted : Checker → Standing → Checker
+abbrev pub interpreted : Checker → InterpreterState → Checker
 interpreted old interpreter = record { interpreter = interpreter; number = old.number + 1; passed = old.passed; failed = old.failed; turns = old.turns }
 
-pub used_line : (old new : Checker) (after : Standing) (file : File) (line script : List ℕ) (expected : Option (List ℕ)) (came : Option (Result Answer Apart)) (sink sink' : SinkAccount) (end : Option ScriptEnd)
+pub used_line : (old new : Checker) (after : InterpreterState) (file : File) (line script : List ℕ) (expected : Option (List ℕ)) (came : Option (Result Answer Apart)) (sink sink' : SinkTrace) (end : Option ScriptEnd)
     → script ≡ script_part line → expected ≡ expected_part line → Uses old.interpreter.device old.interpreter.labels script (results_of came) after.device after.labels
     → Notes (interpreted old after) new file expected came sink sink' end → ChecksLine old new file line sink sink' end
 used_line old new after file line script expected came sink sink' end s e u n =
     used (record {
       came = came;
-      uses = subst (λ (i : Standing). Uses old.interpreter.device old.interpreter.labels (script_part line) (results_of came) i.device i.labels) (sym n.interpreter)
+      uses = subst (λ (i : InterpreterState). Uses old.interpreter.device old.interpreter.labels (script_part line) (results_of came) i.device i.labels) (sym n.interpreter)
           (subst (λ (l : List ℕ). Uses old.interpreter.device old.interpreter.labels l (results_of came) after.device after.labels) s u);
       written = n.written;
       writes = subst (λ (x : Option (List ℕ)). WritesOut n.written sink sink' (differences_text file (unmet (old.number + 1) x came)) old.turns new.turns) e n.writes;
@@ -35,10 +35,10 @@ used_line old new after file line script expected came sink sink' end s e u n =
     })
 
 -- a line that can't be used, and one that wants a device for which there was no memory
-pub bad_line : {old new : Checker} {file : File} {line : List ℕ} {sink sink' : SinkAccount} {end : ScriptEnd} → end ≡ ends.Malformed (old.number + 1) → IsMisplaced old.interpreter.device (script_part line)
+pub bad_line : {old new : Checker} {file : File} {line : List ℕ} {sink sink' : SinkTrace} {end : ScriptEnd} → end ≡ ends.Malformed (old.number + 1) → IsMisplaced old.interpreter.device (script_part line)
     → Stands old new sink sink' → ChecksLine old new file line sink sink' (Some end)
 bad_line {old} {new} {file} {line} {sink} {sink'} same m s = subst (λ (e : ScriptEnd). ChecksLine old new file line sink sink' (Some e)) (sym same) (bad m s)
 
-pub unmade_line : {old new : Checker} {file : File} {line : List ℕ} {sink sink' : SinkAccount} {end : ScriptEnd} → end ≡ ends.NoMemory → IsNowhere old.interpreter.device → WantsDevice (script_part line)
+pub unmade_line : {old new : Checker} {file : File} {line : List ℕ} {sink sink' : SinkTrace} {end : ScriptEnd} → end ≡ ends.NoMemory → IsNowhere old.interpreter.device → WantsDevice (script_part line)
     → Stands old new sink sink' → ChecksLine old new file line sink sink' (Some end)
 unmade_line {old} {new} {file} {line} {sink} {sink'} same none wants s = subst (λ (e : ScriptEnd). ChecksLine old new file line sink sink' (Some e)) (sym same) (unmade none wants s)

@@ -2,8 +2,8 @@
 use Rattle.std.proofs.Common.{◌≡◌, ℕ, ◌+◌, ◌<◌, ◌≤◌, List, [], ◌∷◌, ◌++◌, length, refl, sym, ap, subst, arith, Some, None, Option, Result, append-nil, inl, inr, unwrap_or}
 use Rattle.drm_table.specs.declared.answers.Answer.{Answer}
 use Rattle.drm_table.specs.declared.apart.Apart.{Apart}
-use Rattle.drm_streams.specs.Streams.{SourceAccount, SinkAccount}
-use Rattle.drm_streams.specs.Turns.{Pays}
+use Rattle.drm_streams.specs.Streams.{SourceTrace, SinkTrace}
+use Rattle.drm_streams.specs.Turns.{WriteCost}
 use Rattle.drm_streams.specs.Texts.{WritesOut}
 use Rattle.drm_streams.specs.declared.turns.Written.{Written}
 use Rattle.drm_streams.specs.declared.turns.Written.TheVariants as written
@@ -28,13 +28,13 @@ use Rattle.drm_checks.proofs.CheckLemmas.{report_with, one_at_most, so_far_none,
 abbrev pub with_turns : Checker → ℕ → Checker
 with_turns old has = record { interpreter = old.interpreter; number = old.number; passed = old.passed; failed = old.failed; turns = has }
 
-pub first_so_far : (setting : Setting) (file : File) (check : Check) (source : SourceAccount) (sink : SinkAccount) (turns : ℕ) → check ≡ first_check setting turns → StandsSoFar setting file source source sink sink turns check
+pub first_so_far : (setting : Setting) (file : File) (check : Check) (source : SourceTrace) (sink : SinkTrace) (turns : ℕ) → check ≡ first_check setting turns → StandsSoFar setting file source source sink sink turns check
 first_so_far setting file check source sink turns e = subst (StandsSoFar setting file source source sink sink turns) (sym e) (so_far_none setting file source sink turns)
 
 some_end : (a b : ScriptEnd) → Some a ≡ Some b → a ≡ b
 some_end a b e = cc
 
-module _ {setting : Setting} {file : File} {s0 s : SourceAccount} {k0 k : SinkAccount} {turns : ℕ} where
+module _ {setting : Setting} {file : File} {s0 s : SourceTrace} {k0 k : SinkTrace} {turns : ℕ} where
   -- the same counts by other names
   counted : (end : ScriptEnd) (p q f g : ℕ) → p ≡ q → f ≡ g → ChecksOn setting file s0 s k0 k turns (report_with end q g) → ChecksOn setting file s0 s k0 k turns (report_with end p f)
   counted end p q f g e d c =
@@ -46,12 +46,12 @@ module _ {setting : Setting} {file : File} {s0 s : SourceAccount} {k0 k : SinkAc
       subst (λ x. SoFar setting file s0 s k0 k turns has x q g rest device labels) (sym e)
       (subst (λ x. SoFar setting file s0 s k0 k turns has n x g rest device labels) (sym d) (subst (λ x. SoFar setting file s0 s k0 k turns has n p x rest device labels) (sym h) so))
 
-abbrev StandsBefore : Setting → File → SourceAccount → SourceAccount → SinkAccount → SinkAccount → ℕ → Checker → List ℕ → Type 0
+abbrev StandsBefore : Setting → File → SourceTrace → SourceTrace → SinkTrace → SinkTrace → ℕ → Checker → List ℕ → Type 0
 StandsBefore setting file s0 s k0 k turns old rest = SoFar setting file s0 s k0 k turns old.turns old.number old.passed old.failed rest old.interpreter.device old.interpreter.labels
 
 -- ---- a line that ends the check
 
-module _ {setting : Setting} {file : File} {s0 s : SourceAccount} {k0 k : SinkAccount} {turns : ℕ} {rest : List ℕ} (old new : Checker) (next more : List ℕ) (k' : SinkAccount) (end : ScriptEnd) (so : StandsBefore setting file s0 s k0 k turns old rest) (e : rest ≡ next ++ more)
+module _ {setting : Setting} {file : File} {s0 s : SourceTrace} {k0 k : SinkTrace} {turns : ℕ} {rest : List ℕ} (old new : Checker) (next more : List ℕ) (k' : SinkTrace) (end : ScriptEnd) (so : StandsBefore setting file s0 s k0 k turns old rest) (e : rest ≡ next ++ more)
     (short : length more ≤ 256) (until : EndsLine (s0.counts.ends < s.counts.ends) more) (bare : IsBare next) where
   stopped_used : (came : Option (Result Answer Apart)) → Uses old.interpreter.device old.interpreter.labels (script_part next) (results_of came) new.interpreter.device new.interpreter.labels
       → new.passed ≡ old.passed + met (expected_part next) came → new.failed ≡ old.failed + length (unmet (old.number + 1) (expected_part next) came)
@@ -65,12 +65,12 @@ module _ {setting : Setting} {file : File} {s0 s : SourceAccount} {k0 k : SinkAc
       let cut = cut_by_turns so next came new.interpreter.device new.interpreter.labels bare u more k' new.turns e short until w.0 w.1 in
       subst (λ (x : ScriptEnd). ChecksOn setting file s0 s k0 k' turns (report_with x new.passed new.failed)) (sym (some_end end ends.TurnsUsed h)) (counted ends.TurnsUsed _ _ _ _ p f cut)
 
-unwritten : {setting : Setting} {file : File} {s0 s : SourceAccount} {k0 : SinkAccount} {turns : ℕ} (old new : Checker) (k k' : SinkAccount) (end : ScriptEnd) → Stands old new k k'
+unwritten : {setting : Setting} {file : File} {s0 s : SourceTrace} {k0 : SinkTrace} {turns : ℕ} (old new : Checker) (k k' : SinkTrace) (end : ScriptEnd) → Stands old new k k'
     → ChecksOn setting file s0 s k0 k turns (report_with end old.passed old.failed) → ChecksOn setting file s0 s k0 k' turns (report_with end new.passed new.failed)
 unwritten {setting} {file} {s0} {s} {k0} {turns} old new k k' end st c =
-    subst (λ (x : SinkAccount). ChecksOn setting file s0 s k0 x turns (report_with end new.passed new.failed)) (sym st.unwritten) (counted end _ _ _ _ st.passed st.failed c)
+    subst (λ (x : SinkTrace). ChecksOn setting file s0 s k0 x turns (report_with end new.passed new.failed)) (sym st.unwritten) (counted end _ _ _ _ st.passed st.failed c)
 
-pub stopped : {setting : Setting} {file : File} {s0 s : SourceAccount} {k0 k : SinkAccount} {turns : ℕ} {rest : List ℕ} (old new : Checker) (next more : List ℕ) (k' : SinkAccount) (end : ScriptEnd) → StandsBefore setting file s0 s k0 k turns old rest
+pub stopped : {setting : Setting} {file : File} {s0 s : SourceTrace} {k0 k : SinkTrace} {turns : ℕ} {rest : List ℕ} (old new : Checker) (next more : List ℕ) (k' : SinkTrace) (end : ScriptEnd) → StandsBefore setting file s0 s k0 k turns old rest
     → rest ≡ next ++ more → length more ≤ 256 → EndsLine (s0.counts.ends < s.counts.ends) more → IsBare next → ChecksLine old new file next k k' (Some end) → ChecksOn setting file s0 s k0 k' turns (report_with end new.passed new.failed)
 stopped old new next more k' end so e short until bare (used u) = stopped_used old new next more k' end so e short until bare u.came u.uses u.passed u.failed u.written u.writes u.end_is
 stopped {k} old new next more k' end so e short until bare (bad m st) = unwritten old new k k' end st (malformed so next more e short until bare m)
@@ -78,17 +78,17 @@ stopped {k} old new next more k' end so e short until bare (unmade none wants st
 
 -- ---- a line that lets the check go on
 
-pays_of : (w : Written) (k k' : SinkAccount) (text : List ℕ) (had has : ℕ) → WritesOut w k k' text had has → None ≡ end_of_writing w → Pays k k' text had has
+pays_of : (w : Written) (k k' : SinkTrace) (text : List ℕ) (had has : ℕ) → WritesOut w k k' text had has → None ≡ end_of_writing w → WriteCost k k' text had has
 pays_of written.Whole k k' text had has w h = w
 pays_of written.Fault k k' text had has w h = absurd (cc)
 pays_of written.TurnsUsed k k' text had has w h = absurd (cc)
 
-pub wholly : (old new : Checker) (file : File) (line : List ℕ) (k k' : SinkAccount) → ChecksLine old new file line k k' None
-    → (u : UsedLine old new file line k k' None) × Pays k k' (differences_text file (unmet (old.number + 1) (expected_part line) u.came)) old.turns new.turns
+pub wholly : (old new : Checker) (file : File) (line : List ℕ) (k k' : SinkTrace) → ChecksLine old new file line k k' None
+    → (u : UsedLine old new file line k k' None) × WriteCost k k' (differences_text file (unmet (old.number + 1) (expected_part line) u.came)) old.turns new.turns
 wholly old new file line k k' (used u) = (u, pays_of u.written k k' _ _ _ u.writes u.end_is)
 
-module _ (file : File) (old : Check) (reader : Buffered) (has : ℕ) (source source' : SourceAccount) (sink : SinkAccount) (given : List ℕ) where
-  module _ (new : Checker) (sink' : SinkAccount) where
+module _ (file : File) (old : Check) (reader : Buffered) (has : ℕ) (source source' : SourceTrace) (sink : SinkTrace) (given : List ℕ) where
+  module _ (new : Checker) (sink' : SinkTrace) where
     goes_on : Reads old.reader reader source source' old.checker.turns has next_line.Line given → ChecksLine (with_turns old.checker has) new file reader.held sink sink' None
         → GoesOn file old (record { reader = reader; checker = new }) source source' sink sink'
     goes_on r c =
@@ -97,7 +97,7 @@ module _ (file : File) (old : Check) (reader : Buffered) (has : ℕ) (source sou
         let pays = w.1 in
         let one = one_at_most (old.checker.number + 1) (expected_part reader.held) u.came in
         let fuel = r.fuel refl in record {
-          so_far = λ (setting : Setting) (start : SourceAccount) (first : SinkAccount) (turns : ℕ) (so : StandsSoFar setting file start source first sink turns old).
+          so_far = λ (setting : Setting) (start : SourceTrace) (first : SinkTrace) (turns : ℕ) (so : StandsSoFar setting file start source first sink turns old).
               let read = so_far_read so source' given has (reader.held ++ 10 ∷ reader.pending) r.spent r.splits.0 in
               called u.number u.passed u.failed
               (so_far_line read reader.held u.came new.interpreter.device new.interpreter.labels r.splits.1 u.uses reader.pending sink' new.turns refl pays);
@@ -112,11 +112,11 @@ module _ (file : File) (old : Check) (reader : Buffered) (has : ℕ) (source sou
     pub advances_line : (end : Option ScriptEnd) → Reads old.reader reader source source' old.checker.turns has next_line.Line given → ChecksLine (with_turns old.checker has) new file reader.held sink sink' end
         → Advances old (record { reader = reader; checker = new }) file source source' sink sink' end
     advances_line None r c = goes_on r c
-    advances_line (Some end) r c = λ (setting : Setting) (start : SourceAccount) (first : SinkAccount) (turns : ℕ) (so : StandsSoFar setting file start source first sink turns old).
+    advances_line (Some end) r c = λ (setting : Setting) (start : SourceTrace) (first : SinkTrace) (turns : ℕ) (so : StandsSoFar setting file start source first sink turns old).
         let read = so_far_read so source' given has (reader.held ++ 10 ∷ reader.pending) r.spent r.splits.0 in
         stopped (with_turns old.checker has) new reader.held (10 ∷ reader.pending) sink' end read refl (let few = r.splits.3 in omega (arith, few)) (inr (reader.pending, refl)) r.splits.1 c
 
-  module _ (new : Check) (sink' : SinkAccount) where
+  module _ (new : Check) (sink' : SinkTrace) where
     last_line : (end : ScriptEnd) (line_end : Option ScriptEnd) → Reads old.reader reader source source' old.checker.turns has next_line.End given
         → ChecksLine (with_turns old.checker has) new.checker file reader.held sink sink' line_end → end ≡ unwrap_or line_end ends.Done → Advances old new file source source' sink sink' (Some end)
     last_line end None r c e setting start first turns so =
@@ -139,11 +139,11 @@ module _ (file : File) (old : Check) (reader : Buffered) (has : ℕ) (source sou
         let behind : start.counts.ends < source'.counts.ends = omega (arith, so.gave.counts.ends, r.splits.4) in
         let done = done_empty read u.0 behind in
         let told = counted ends.Done _ _ _ _ (ap (λ (x : Checker). x.passed) u.2) (ap (λ (x : Checker). x.failed) u.2) done in
-        subst (λ (x : ScriptEnd). ChecksOn setting file start source' first sink' turns (report_of new x)) (sym u.3) (subst (λ (x : SinkAccount). ChecksOn setting file start source' first x turns (report_of new ends.Done)) (sym u.1) told)
+        subst (λ (x : ScriptEnd). ChecksOn setting file start source' first sink' turns (report_of new x)) (sym u.3) (subst (λ (x : SinkTrace). ChecksOn setting file start source' first x turns (report_of new ends.Done)) (sym u.1) told)
     advances_last end r (inr u) setting start first turns so = last_line end u.0 r u.1 u.2 setting start first turns so
 
   -- how the check is told to have ended is how it ended
-  told_as : {setting : Setting} {start : SourceAccount} {first : SinkAccount} {turns : ℕ} (check : Check) (told end : ScriptEnd) → told ≡ end
+  told_as : {setting : Setting} {start : SourceTrace} {first : SinkTrace} {turns : ℕ} (check : Check) (told end : ScriptEnd) → told ≡ end
       → ChecksOn setting file start source' first sink turns (report_of check end) → ChecksOn setting file start source' first sink turns (report_of check told)
   told_as {setting} {start} {first} {turns} check told end same c = subst (λ (x : ScriptEnd). ChecksOn setting file start source' first sink turns (report_of check x)) (sym same) c
 
@@ -165,7 +165,7 @@ module _ (file : File) (old : Check) (reader : Buffered) (has : ℕ) (source sou
       (turns_used (so_far_read so source' given has reader.held r.spent r.splits.0) (r.splits.2, r.splits.3) r.splits.4)
 
 -- a check of the file by another name that is told to have ended as it did
-pub ends_as : {setting : Setting} {file named : File} {s0 s : SourceAccount} {k0 k : SinkAccount} {turns passed failed : ℕ} {told end : ScriptEnd} → told ≡ end → named ≡ file
+pub ends_as : {setting : Setting} {file named : File} {s0 s : SourceTrace} {k0 k : SinkTrace} {turns passed failed : ℕ} {told end : ScriptEnd} → told ≡ end → named ≡ file
     → ChecksOn setting named s0 s k0 k turns (report_with end passed failed) → ChecksOn setting file s0 s k0 k turns (report_with told passed failed)
 ends_as {setting} {file} {named} {s0} {s} {k0} {k} {turns} {passed} {failed} {told} {end} same files c =
     subst (λ (x : ScriptEnd). ChecksOn setting file s0 s k0 k turns (report_with x passed failed)) (sym same)

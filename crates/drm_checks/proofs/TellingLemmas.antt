@@ -1,21 +1,21 @@
 -- A difference that is told in two parts.
 use Rattle.std.proofs.Common.{◌≡◌, ℕ, List, [], ◌++◌, refl, sym, ap, append-nil}
-use Rattle.drm_streams.specs.Streams.{SinkAccount}
-use Rattle.drm_streams.specs.Turns.{Pays}
+use Rattle.drm_streams.specs.Streams.{SinkTrace}
+use Rattle.drm_streams.specs.Turns.{WriteCost}
 use Rattle.drm_streams.specs.Texts.{WritesOut}
 use Rattle.drm_streams.specs.declared.turns.Written.{Written}
 use Rattle.drm_streams.specs.declared.turns.Written.TheVariants as written
-use Rattle.drm_streams.proofs.Accounts.{Pays-none, Pays-then}
+use Rattle.drm_streams.proofs.Traces.{WriteCost-none, WriteCost-then}
 use Rattle.drm_streams.proofs.TextLemmas.{stops}
 
 -- the first part was told, and this came of the second
-pub told_then : (end : Written) (a b c : SinkAccount) (xs ys : List ℕ) (s t u : ℕ) → Pays a b xs s t → WritesOut end b c ys t u → WritesOut end a c (xs ++ ys) s u
-told_then written.Whole a b c xs ys s t u p w = Pays-then p w
+pub told_then : (end : Written) (a b c : SinkTrace) (xs ys : List ℕ) (s t u : ℕ) → WriteCost a b xs s t → WritesOut end b c ys t u → WritesOut end a c (xs ++ ys) s u
+told_then written.Whole a b c xs ys s t u p w = WriteCost-then p w
 told_then written.Fault a b c xs ys s t u p w =
     stops written.Fault (λ e. absurd (cc)) a b c xs ys [] (xs ++ ys) s t u (ap (λ z. xs ++ z) (sym (append-nil ys))) p w
 told_then written.TurnsUsed a b c xs ys s t u p w =
     stops written.TurnsUsed (λ e. absurd (cc)) a b c xs ys [] (xs ++ ys) s t u (ap (λ z. xs ++ z) (sym (append-nil ys))) p w
 
 -- the first part was not told whole
-pub told_part : (end : Written) (a c : SinkAccount) (xs ys : List ℕ) (s u : ℕ) → (end ≡ written.Whole → ⊥) → WritesOut end a c xs s u → WritesOut end a c (xs ++ ys) s u
-told_part end a c xs ys s u other w = stops end other a a c [] xs ys (xs ++ ys) s s u refl (Pays-none a s) w
+pub told_part : (end : Written) (a c : SinkTrace) (xs ys : List ℕ) (s u : ℕ) → (end ≡ written.Whole → ⊥) → WritesOut end a c xs s u → WritesOut end a c (xs ++ ys) s u
+told_part end a c xs ys s u other w = stops end other a a c [] xs ys (xs ++ ys) s s u refl (WriteCost-none a s) w

@@ -2,7 +2,7 @@
 use Rattle.std.specs.Prelude.{◌≡◌, ℕ, ◌+◌, List, [], ◌∷◌, length, Option, None, Some, Result}
 use Rattle.drm_table.specs.declared.answers.Answer.{Answer}
 use Rattle.drm_table.specs.declared.apart.Apart.{Apart}
-use Rattle.drm_streams.specs.Streams.{SinkAccount}
+use Rattle.drm_streams.specs.Streams.{SinkTrace}
 use Rattle.drm_streams.specs.Texts.{WritesOut}
 use Rattle.drm_streams.specs.declared.turns.Written.{Written}
 use Rattle.drm_runs.specs.Script.{Setting, Uses, IsMisplaced, IsNowhere, WantsDevice}
@@ -22,7 +22,7 @@ results_of None = []
 results_of (Some answer) = answer ∷ []
 
 -- what a line expects was counted, and a difference told
-pub record Notes (old new : Checker) (file : File) (expected : Option (List ℕ)) (came : Option (Result Answer Apart)) (sink sink' : SinkAccount) (end : Option ScriptEnd) : Type 0 where
+pub record Notes (old new : Checker) (file : File) (expected : Option (List ℕ)) (came : Option (Result Answer Apart)) (sink sink' : SinkTrace) (end : Option ScriptEnd) : Type 0 where
   pub written : Written
   pub writes : WritesOut written sink sink' (differences_text file (unmet old.number expected came)) old.turns new.turns
   pub end_is : end ≡ end_of_writing written
@@ -32,7 +32,7 @@ pub record Notes (old new : Checker) (file : File) (expected : Option (List ℕ)
   pub interpreter : new.interpreter ≡ old.interpreter
 
 -- A line was used, what it expects counted, and a difference told.
-pub record UsedLine (old new : Checker) (file : File) (line : List ℕ) (sink sink' : SinkAccount) (end : Option ScriptEnd) : Type 0 where
+pub record UsedLine (old new : Checker) (file : File) (line : List ℕ) (sink sink' : SinkTrace) (end : Option ScriptEnd) : Type 0 where
   pub came : Option (Result Answer Apart)
   pub uses : Uses old.interpreter.device old.interpreter.labels (script_part line) (results_of came) new.interpreter.device new.interpreter.labels
   pub written : Written
@@ -43,14 +43,14 @@ pub record UsedLine (old new : Checker) (file : File) (line : List ℕ) (sink si
   pub number : new.number ≡ old.number + 1
 
 -- A line could not be used: nothing was counted or written.
-pub record Stands (old new : Checker) (sink sink' : SinkAccount) : Type 0 where
+pub record Stands (old new : Checker) (sink sink' : SinkTrace) : Type 0 where
   pub unwritten : sink' ≡ sink
   pub turns : new.turns ≡ old.turns
   pub passed : new.passed ≡ old.passed
   pub failed : new.failed ≡ old.failed
 
 -- what came of a line
-pub data ChecksLine (old new : Checker) (file : File) (line : List ℕ) (sink sink' : SinkAccount) : Option ScriptEnd → Type 0 where
+pub data ChecksLine (old new : Checker) (file : File) (line : List ℕ) (sink sink' : SinkTrace) : Option ScriptEnd → Type 0 where
   used : {end : Option ScriptEnd} → UsedLine old new file line sink sink' end → ChecksLine old new file line sink sink' end
   bad : IsMisplaced old.interpreter.device (script_part line) → Stands old new sink sink' → ChecksLine old new file line sink sink' (Some (ends.Malformed (old.number + 1)))
   unmade : IsNowhere old.interpreter.device → WantsDevice (script_part line) → Stands old new sink sink' → ChecksLine old new file line sink sink' (Some ends.NoMemory)

@@ -2,7 +2,7 @@
 use Rattle.std.specs.Prelude.{◌≡◌, ℕ, ◌+◌, ◌<◌, ◌≤◌, List, [], ◌∷◌, ◌++◌, ◌⊎◌, Option, Result, length, map}
 use Rattle.drm_table.specs.declared.answers.Answer.{Answer}
 use Rattle.drm_table.specs.declared.apart.Apart.{Apart}
-use Rattle.drm_streams.specs.Streams.{SourceAccount, SinkAccount}
+use Rattle.drm_streams.specs.Streams.{SourceTrace, SinkTrace}
 use Rattle.drm_streams.specs.Turns.{Gave, Took}
 use Rattle.drm_runs.specs.Lines.{IsBare}
 use Rattle.drm_runs.specs.Script.{Setting, Place, Script, Uses, IsMisplaced, IsNowhere, WantsDevice, unbound, usual}
@@ -30,7 +30,7 @@ pub record IsUnusable (ended : Type 0) (device : Place) (rest : List ℕ) : Type
   pub behind : List ℕ
   pub parts : rest ≡ bad ++ behind
   pub bare : IsBare bad
-  pub because : (IsMisplaced device (script_part bad) × EndsLine ended behind) ⊎ (length bad ≡ 256)
+  pub end_condition : (IsMisplaced device (script_part bad) × EndsLine ended behind) ⊎ (length bad ≡ 256)
   pub short : length behind ≤ 256
 
 -- A line that wants a device, for which there was no memory.
@@ -62,7 +62,7 @@ abbrev pub IsPart : List ℕ → Type 0
 IsPart rest = IsBare rest × (length rest ≤ 255)
 
 -- Each end with its cause, where n lines were checked, this stands behind them in what was read, and these differences were found.
-abbrev pub Ends : ScriptEnd → Type 0 → SourceAccount → SourceAccount → SinkAccount → SinkAccount → ℕ → ℕ → Place → List ℕ → List ℕ → File → List Difference → Type 0
+abbrev pub Ends : ScriptEnd → Type 0 → SourceTrace → SourceTrace → SinkTrace → SinkTrace → ℕ → ℕ → Place → List ℕ → List ℕ → File → List Difference → Type 0
 Ends ends.Done ended source source' sink sink' turns n device rest written file differences = (rest ≡ []) × ended × (written ≡ differences_text file differences)
 Ends (ends.Malformed number) ended source source' sink sink' turns n device rest written file differences =
     (number ≡ n + 1) × IsUnusable ended device rest × (written ≡ differences_text file differences)
@@ -76,7 +76,7 @@ Ends ends.TurnsUsed ended source source' sink sink' turns n device rest written 
 Ends ends.NoMemory ended source source' sink sink' turns n device rest written file differences = IsUnmade ended device rest × (written ≡ differences_text file differences)
 
 -- A check on a device that begins so: what it read and wrote, at what cost, which lines it used, what they expect, and why it ended.
-pub record ChecksOn (setting : Setting) (file : File) (source source' : SourceAccount) (sink sink' : SinkAccount) (turns : ℕ) (report : Report) : Type 0 where
+pub record ChecksOn (setting : Setting) (file : File) (source source' : SourceTrace) (sink sink' : SinkTrace) (turns : ℕ) (report : Report) : Type 0 where
   pub read : List ℕ
   pub written : List ℕ
   pub lines : List (List ℕ)
@@ -93,7 +93,7 @@ pub record ChecksOn (setting : Setting) (file : File) (source source' : SourceAc
   pub ends : Ends report.end (source.counts.ends < source'.counts.ends) source source' sink sink' turns (length lines) device rest written file differences
 
 -- a check on a device of the test topology, with the program's limits where the file sets none, which names no command
-abbrev pub Checks : List ℕ → SourceAccount → SourceAccount → SinkAccount → SinkAccount → ℕ → Report → Type 0
+abbrev pub Checks : List ℕ → SourceTrace → SourceTrace → SinkTrace → SinkTrace → ℕ → Report → Type 0
 Checks name source source' sink sink' turns report = ChecksOn usual (record { name = name; command = [] }) source source' sink sink' turns report
 
 -- What the lines get as answers is what the script of their parts without expectations gets.

@@ -1,6 +1,6 @@
 -- A check that goes on, line by line.
 use Rattle.std.specs.Prelude.{◌≡◌, ℕ, ◌+◌, ◌*◌, ◌<◌, ◌≤◌, ◌^◌, List, [], ◌++◌, ◌⊎◌, Option, None, Some, unwrap_or, length}
-use Rattle.drm_streams.specs.Streams.{SourceAccount, SinkAccount}
+use Rattle.drm_streams.specs.Streams.{SourceTrace, SinkTrace}
 use Rattle.drm_streams.specs.Turns.{Gave, Took}
 use Rattle.drm_runs.specs.Lines.{joined}
 use Rattle.drm_runs.specs.Script.{Setting, Place}
@@ -16,7 +16,7 @@ abbrev pub first_check : Setting → ℕ → Check
 first_check setting turns = record { reader = record { held = []; pending = [] }; checker = first_checker setting turns }
 
 -- A check so far, with n lines used, and this behind them in what was read.
-pub record SoFar (setting : Setting) (file : File) (source source' : SourceAccount) (sink sink' : SinkAccount) (turns has n passed failed : ℕ) (rest : List ℕ) (device : Place) (labels : List ℕ) : Type 0 where
+pub record SoFar (setting : Setting) (file : File) (source source' : SourceTrace) (sink sink' : SinkTrace) (turns has n passed failed : ℕ) (rest : List ℕ) (device : Place) (labels : List ℕ) : Type 0 where
   pub read : List ℕ
   pub lines : List (List ℕ)
   pub differences : List Difference
@@ -29,7 +29,7 @@ pub record SoFar (setting : Setting) (file : File) (source source' : SourceAccou
   pub number : n ≡ length lines
 
 -- a check so far, as it stands
-abbrev pub StandsSoFar : Setting → File → SourceAccount → SourceAccount → SinkAccount → SinkAccount → ℕ → Check → Type 0
+abbrev pub StandsSoFar : Setting → File → SourceTrace → SourceTrace → SinkTrace → SinkTrace → ℕ → Check → Type 0
 StandsSoFar setting file source source' sink sink' turns check =
     SoFar setting file source source' sink sink' turns check.checker.turns check.checker.number check.checker.passed check.checker.failed check.reader.pending check.checker.interpreter.device check.checker.interpreter.labels
 
@@ -38,7 +38,7 @@ abbrev pub fuel_of : Check → ℕ
 fuel_of check = 256 * check.checker.turns + length check.reader.pending
 
 -- no count leaves its type
-pub record IsCountable (check : Check) (source : SourceAccount) (sink : SinkAccount) : Type 0 where
+pub record IsCountable (check : Check) (source : SourceTrace) (sink : SinkTrace) : Type 0 where
   pub number : check.checker.number + fuel_of check < 2 ^ 63
   pub passed : check.checker.passed ≤ check.checker.number
   pub failed : check.checker.failed ≤ check.checker.number
@@ -46,14 +46,14 @@ pub record IsCountable (check : Check) (source : SourceAccount) (sink : SinkAcco
   pub sink_calls : sink.counts.calls + check.checker.turns < 2 ^ 48
 
 -- what came of what stands behind the last line end: nothing does, or it was checked
-abbrev pub ChecksLast : Check → Check → File → SinkAccount → SinkAccount → ScriptEnd → Type 0
+abbrev pub ChecksLast : Check → Check → File → SinkTrace → SinkTrace → ScriptEnd → Type 0
 ChecksLast old new file sink sink' end =
     ((old.reader.held ≡ []) × (sink' ≡ sink) × (new.checker ≡ old.checker) × (end ≡ ends.Done))
     ⊎ ((line_end : Option ScriptEnd) × ChecksLine old.checker new.checker file old.reader.held sink sink' line_end × (end ≡ unwrap_or line_end ends.Done))
 
 -- One line more was checked.
-pub record GoesOn (file : File) (old new : Check) (source source' : SourceAccount) (sink sink' : SinkAccount) : Type 0 where
-  pub so_far : (setting : Setting) (start : SourceAccount) (first : SinkAccount) (turns : ℕ) → StandsSoFar setting file start source first sink turns old → StandsSoFar setting file start source' first sink' turns new
+pub record GoesOn (file : File) (old new : Check) (source source' : SourceTrace) (sink sink' : SinkTrace) : Type 0 where
+  pub so_far : (setting : Setting) (start : SourceTrace) (first : SinkTrace) (turns : ℕ) → StandsSoFar setting file start source first sink turns old → StandsSoFar setting file start source' first sink' turns new
   pub number : new.checker.number ≡ old.checker.number + 1
   pub passed : new.checker.passed ≤ old.checker.passed + 1
   pub failed : new.checker.failed ≤ old.checker.failed + 1
@@ -66,7 +66,7 @@ abbrev pub report_of : Check → ScriptEnd → Report
 report_of check end = record { end = end; passed = check.checker.passed; failed = check.checker.failed }
 
 -- Whichever check was under way goes on, or has ended.
-abbrev pub Advances : Check → Check → File → SourceAccount → SourceAccount → SinkAccount → SinkAccount → Option ScriptEnd → Type 0
+abbrev pub Advances : Check → Check → File → SourceTrace → SourceTrace → SinkTrace → SinkTrace → Option ScriptEnd → Type 0
 Advances old new file source source' sink sink' None = GoesOn file old new source source' sink sink'
 Advances old new file source source' sink sink' (Some end) =
-    (setting : Setting) (start : SourceAccount) (first : SinkAccount) (turns : ℕ) → StandsSoFar setting file start source first sink turns old → ChecksOn setting file start source' first sink' turns (report_of new end)
+    (setting : Setting) (start : SourceTrace) (first : SinkTrace) (turns : ℕ) → StandsSoFar setting file start source first sink turns old → ChecksOn setting file start source' first sink' turns (report_of new end)

@@ -54,8 +54,8 @@ impl Check {
         requires number { self.old.checker.number + 1 < 2 ^ 64 }
         requires passed { self.old.checker.passed + 1 < 2 ^ 64 }
         requires failed { self.old.checker.failed + 1 < 2 ^ 64 }
-        requires sink_calls { (K.account sink.old).counts.calls + self.old.checker.turns < 2 ^ 48 }
-        ensures { ChecksLast self.old self.new (file_of name.now command.now) (K.account sink.old) (K.account sink.new) result }
+        requires sink_calls { (K.trace sink.old).counts.calls + self.old.checker.turns < 2 ^ 48 }
+        ensures { ChecksLast self.old self.new (file_of name.now command.now) (K.trace sink.old) (K.trace sink.new) result }
     {
         let line = self.reader.line();
         if line.is_empty() {
@@ -74,8 +74,8 @@ impl Check {
         source: &mut S,
         sink: &mut K,
     ) -> Option<Stop>
-        requires countable { IsCountable self.old (S.account source.old) (K.account sink.old) }
-        ensures { Advances self.old self.new (file_of name.now command.now) (S.account source.old) (S.account source.new) (K.account sink.old) (K.account sink.new) result }
+        requires countable { IsCountable self.old (S.trace source.old) (K.trace sink.old) }
+        ensures { Advances self.old self.new (file_of name.now command.now) (S.trace source.old) (S.trace source.new) (K.trace sink.old) (K.trace sink.new) result }
     {
         match self.reader.next_line(source, &mut self.checker.turns) {
             NextLine::Line => {
@@ -105,9 +105,9 @@ pub fn check_script<S: Source, K: Sink>(
     sink: &mut K,
     turns: u64,
 ) -> Report
-    requires source_calls { (S.account source.old).counts.calls + turns < 2 ^ 48 }
-    requires sink_calls { (K.account sink.old).counts.calls + turns < 2 ^ 48 }
-    ensures { Checks name.now (S.account source.old) (S.account source.new) (K.account sink.old) (K.account sink.new) turns result }
+    requires source_calls { (S.trace source.old).counts.calls + turns < 2 ^ 48 }
+    requires sink_calls { (K.trace sink.old).counts.calls + turns < 2 ^ 48 }
+    ensures { Checks name.now (S.trace source.old) (S.trace source.new) (K.trace sink.old) (K.trace sink.new) turns result }
 {
     check_with_cause(alloc, name, source, sink, turns).0
 }
@@ -121,9 +121,9 @@ pub fn check_with_cause<S: Source, K: Sink>(
     sink: &mut K,
     turns: u64,
 ) -> (Report, Option<Malformed>)
-    requires source_calls { (S.account source.old).counts.calls + turns < 2 ^ 48 }
-    requires sink_calls { (K.account sink.old).counts.calls + turns < 2 ^ 48 }
-    ensures checks { Checks name.now (S.account source.old) (S.account source.new) (K.account sink.old) (K.account sink.new) turns result.0 }
+    requires source_calls { (S.trace source.old).counts.calls + turns < 2 ^ 48 }
+    requires sink_calls { (K.trace sink.old).counts.calls + turns < 2 ^ 48 }
+    ensures checks { Checks name.now (S.trace source.old) (S.trace source.new) (K.trace sink.old) (K.trace sink.new) turns result.0 }
     ensures told { is_some result.1 ≡ is_malformed result.0.end }
 {
     check_on(alloc, Setup::usual(), name, "", source, sink, turns)
@@ -142,9 +142,9 @@ pub fn check_on<S: Source, K: Sink>(
     sink: &mut K,
     turns: u64,
 ) -> (Report, Option<Malformed>)
-    requires source_calls { (S.account source.old).counts.calls + turns < 2 ^ 48 }
-    requires sink_calls { (K.account sink.old).counts.calls + turns < 2 ^ 48 }
-    ensures checks { ChecksOn setup (file_of name.now command.now) (S.account source.old) (S.account source.new) (K.account sink.old) (K.account sink.new) turns result.0 }
+    requires source_calls { (S.trace source.old).counts.calls + turns < 2 ^ 48 }
+    requires sink_calls { (K.trace sink.old).counts.calls + turns < 2 ^ 48 }
+    ensures checks { ChecksOn setup (file_of name.now command.now) (S.trace source.old) (S.trace source.new) (K.trace sink.old) (K.trace sink.new) turns result.0 }
     ensures told { is_some result.1 ≡ is_malformed result.0.end }
 {
     let name = name.as_bytes();

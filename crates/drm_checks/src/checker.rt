@@ -51,8 +51,8 @@ fn tell_line<K: Sink>(
     sink: &mut K,
     turns: &mut u64,
 ) -> Written
-    requires { (K.account sink.old).counts.calls + turns.old < 2 ^ 48 }
-    ensures { WritesOut result (K.account sink.old) (K.account sink.new) (line_text name.now number expected.now came.now) turns.old turns.new }
+    requires { (K.trace sink.old).counts.calls + turns.old < 2 ^ 48 }
+    ensures { WritesOut result (K.trace sink.old) (K.trace sink.new) (line_text name.now number expected.now came.now) turns.old turns.new }
 {
     let mut buffer = itoa::Buffer::new();
     let digits = buffer.format(number).as_bytes();
@@ -89,8 +89,8 @@ fn tell_line<K: Sink>(
 
 /// Tells which command explains a line, if there is one.
 fn tell_command<K: Sink>(command: &[u8], number: u64, sink: &mut K, turns: &mut u64) -> Written
-    requires { (K.account sink.old).counts.calls + turns.old < 2 ^ 48 }
-    ensures { WritesOut result (K.account sink.old) (K.account sink.new) (command_text command.now number) turns.old turns.new }
+    requires { (K.trace sink.old).counts.calls + turns.old < 2 ^ 48 }
+    ensures { WritesOut result (K.trace sink.old) (K.trace sink.new) (command_text command.now number) turns.old turns.new }
 {
     match command {
         [] => Written::Whole,
@@ -110,8 +110,8 @@ fn tell_why<K: Sink>(
     sink: &mut K,
     turns: &mut u64,
 ) -> Written
-    requires { (K.account sink.old).counts.calls + turns.old < 2 ^ 48 }
-    ensures { WritesOut result (K.account sink.old) (K.account sink.new) (why_text command.now number came.now) turns.old turns.new }
+    requires { (K.trace sink.old).counts.calls + turns.old < 2 ^ 48 }
+    ensures { WritesOut result (K.trace sink.old) (K.trace sink.new) (why_text command.now number came.now) turns.old turns.new }
 {
     match came {
         Some(_) => tell_command(command, number, sink, turns),
@@ -129,8 +129,8 @@ fn tell<K: Sink>(
     sink: &mut K,
     turns: &mut u64,
 ) -> Written
-    requires { (K.account sink.old).counts.calls + turns.old < 2 ^ 48 }
-    ensures { WritesOut result (K.account sink.old) (K.account sink.new) (difference_text (file_of name.now command.now) number expected.now came.now) turns.old turns.new }
+    requires { (K.trace sink.old).counts.calls + turns.old < 2 ^ 48 }
+    ensures { WritesOut result (K.trace sink.old) (K.trace sink.new) (difference_text (file_of name.now command.now) number expected.now came.now) turns.old turns.new }
 {
     match tell_line(name, number, expected, came, sink, turns) {
         Written::Whole => tell_why(command, number, came, sink, turns),
@@ -181,8 +181,8 @@ impl Checker {
     ) -> Option<Stop>
         requires passed { self.old.passed + 1 < 2 ^ 64 }
         requires failed { self.old.failed + 1 < 2 ^ 64 }
-        requires sink_calls { (K.account sink.old).counts.calls + self.old.turns < 2 ^ 48 }
-        ensures { Notes self.old self.new (file_of name.now command.now) (option_map (λ e. e.now) expected.entry) came.now (K.account sink.old) (K.account sink.new) result }
+        requires sink_calls { (K.trace sink.old).counts.calls + self.old.turns < 2 ^ 48 }
+        ensures { Notes self.old self.new (file_of name.now command.now) (option_map (λ e. e.now) expected.entry) came.now (K.trace sink.old) (K.trace sink.new) result }
     {
         let Some(expected) = expected else {
             return None;
@@ -215,8 +215,8 @@ impl Checker {
         requires number { self.old.number + 1 < 2 ^ 64 }
         requires passed { self.old.passed + 1 < 2 ^ 64 }
         requires failed { self.old.failed + 1 < 2 ^ 64 }
-        requires sink_calls { (K.account sink.old).counts.calls + self.old.turns < 2 ^ 48 }
-        ensures { ChecksLine self.old self.new (file_of name.now command.now) line.now (K.account sink.old) (K.account sink.new) result }
+        requires sink_calls { (K.trace sink.old).counts.calls + self.old.turns < 2 ^ 48 }
+        ensures { ChecksLine self.old self.new (file_of name.now command.now) line.now (K.trace sink.old) (K.trace sink.new) result }
     {
         self.number += 1;
         let (script, expected) = parts_of(line);

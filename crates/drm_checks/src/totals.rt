@@ -52,8 +52,8 @@ impl Totals {
 
 /// Writes how many expectations passed and failed.
 pub fn write_totals<K: Sink>(totals: &Totals, sink: &mut K, turns: &mut u64) -> Written
-    requires { (K.account sink.old).counts.calls + turns.old < 2 ^ 48 }
-    ensures { WritesOut result (K.account sink.old) (K.account sink.new) (totals_text totals.now) turns.old turns.new }
+    requires { (K.trace sink.old).counts.calls + turns.old < 2 ^ 48 }
+    ensures { WritesOut result (K.trace sink.old) (K.trace sink.new) (totals_text totals.now) turns.old turns.new }
 {
     let mut passed = itoa::Buffer::new();
     let mut failed = itoa::Buffer::new();
@@ -64,8 +64,8 @@ pub fn write_totals<K: Sink>(totals: &Totals, sink: &mut K, turns: &mut u64) -> 
 
 /// Writes that a line of a file is malformed: the file's name and the line's number.
 pub fn write_malformed<K: Sink>(name: &str, number: u64, sink: &mut K, turns: &mut u64) -> Written
-    requires { (K.account sink.old).counts.calls + turns.old < 2 ^ 48 }
-    ensures { WritesOut result (K.account sink.old) (K.account sink.new) (malformed_text name.now number) turns.old turns.new }
+    requires { (K.trace sink.old).counts.calls + turns.old < 2 ^ 48 }
+    ensures { WritesOut result (K.trace sink.old) (K.trace sink.new) (malformed_text name.now number) turns.old turns.new }
 {
     let mut buffer = itoa::Buffer::new();
     let digits = buffer.format(number).as_bytes();

@@ -9,7 +9,7 @@ use Rattle.drm_lists.proofs.Rising.{found}
 use Rattle.drm_masters.specs.declared.rows.Member.{Member}
 use Rattle.drm_masters.specs.declared.rows.Master.{Master}
 use Rattle.drm_masters.specs.Masters as masters
-use Rattle.drm_masters.specs.Masters.{MasterSet, AreMasters, swept, is_birth}
+use Rattle.drm_masters.specs.Masters.{MasterSet, AreMasters, swept, is_step_number}
 use Rattle.drm_masters.specs.Calls.{ClosedBy, ClosedOf, closed_own, without_member, released_under, kept_as}
 use Rattle.drm_leases.specs.Leases.{LeaseSet}
 use Rattle.drm_leases.specs.Calls as leases
@@ -35,7 +35,7 @@ pub nobody_gone : (v : MasterSet) (c : ℕ) → AreMasters v → masters.member_
 nobody_gone v c are none =
     let stay : filter (λ (x : Member). not (masters.is_client c x)) v.members ≡ v.members = filter_all (λ (x : Member). not (masters.is_client c x)) v.members (all_weaker (λ (x : Member). masters.is_client c x ≡ false) (λ (x : Member). not (masters.is_client c x) ≡ true) (λ x e. ap not e) v.members (none_found (masters.is_client c) v.members none)) in
     let device : device_without v c ≡ v.device_master = ap (λ o. option_map_or (λ (x : Member). if x.is_master && masters.is_option x.master v.device_master then None else v.device_master) o v.device_master) none in
-    let all = filter_all (λ (x : Master). masters.is_living v.members v.masters x.birth) v.masters are.used in
+    let all = filter_all (λ (x : Master). masters.is_living v.members v.masters x.step_number) v.masters are.used in
     (λ i. record v { masters = sym all i }) ∙ (λ i. swept (record v { members = sym stay i; masters = unreleased v c (ap own_master none) i; device_master = sym device i }))
 
 -- the device's master without a client whose row is this
@@ -49,38 +49,38 @@ own_is : (v : MasterSet) (c : ℕ) (x : Member) (b : Bool) → masters.member_of
 own_is v c x b here is = ap own_master here ∙ ap (λ d. if d then Some x.master else None) is
 
 -- one of another's master
-guest_gone : (v new : MasterSet) (c : ℕ) (x : Member) → masters.member_of v.members c ≡ Some x → x.is_master ≡ false → new ≡ swept (without_member x.client v) → new ≡ without_its_master c v
-guest_gone v new c x here guest e =
-    let device : v.device_master ≡ device_without v c = ap (λ b. if b && masters.is_option x.master v.device_master then None else v.device_master) (sym guest) ∙ device_is v c x here in
-    e ∙ (λ i. swept (record (without_member (number_is v c x here i) v) { masters = unreleased v c (own_is v c x false here guest) i; device_master = device i }))
+non_master_gone : (v new : MasterSet) (c : ℕ) (x : Member) → masters.member_of v.members c ≡ Some x → x.is_master ≡ false → new ≡ swept (without_member x.client v) → new ≡ without_its_master c v
+non_master_gone v new c x here non_master e =
+    let device : v.device_master ≡ device_without v c = ap (λ b. if b && masters.is_option x.master v.device_master then None else v.device_master) (sym non_master) ∙ device_is v c x here in
+    e ∙ (λ i. swept (record (without_member (number_is v c x here i) v) { masters = unreleased v c (own_is v c x false here non_master) i; device_master = device i }))
 
 -- that its own master was kept is nothing once it is released
-kept_lessors : (m n : ℕ) (ms : List Master) → masters.lessor_of (map (λ (x : Master). if is_birth m x then kept_as true x else x) ms) n ≡ masters.lessor_of ms n
+kept_lessors : (m n : ℕ) (ms : List Master) → masters.lessor_of (map (λ (x : Master). if is_step_number m x then kept_as true x else x) ms) n ≡ masters.lessor_of ms n
 kept_lessors m n [] = refl
 kept_lessors m n (x ∷ xs) =
-    elim (x.birth == m) as (λ b. option_and_then (λ (y : Master). y.lessor) (cond ((if b then kept_as true x else x).birth == n) (Some (if b then kept_as true x else x)) (find (is_birth n) (map (λ (y : Master). if is_birth m y then kept_as true y else y) xs))) ≡ option_and_then (λ (y : Master). y.lessor) (cond (x.birth == n) (Some x) (find (is_birth n) xs)))
+    elim (x.step_number == m) as (λ b. option_and_then (λ (y : Master). y.lessor) (cond ((if b then kept_as true x else x).step_number == n) (Some (if b then kept_as true x else x)) (find (is_step_number n) (map (λ (y : Master). if is_step_number m y then kept_as true y else y) xs))) ≡ option_and_then (λ (y : Master). y.lessor) (cond (x.step_number == n) (Some x) (find (is_step_number n) xs)))
     [ true ↦ here (kept_as true x) refl refl (kept_lessors m n xs) | false ↦ here x refl refl (kept_lessors m n xs) ]
   where
-    here : (y : Master) → y.birth ≡ x.birth → y.lessor ≡ x.lessor → masters.lessor_of (map (λ (z : Master). if is_birth m z then kept_as true z else z) xs) n ≡ masters.lessor_of xs n → option_and_then (λ (z : Master). z.lessor) (cond (y.birth == n) (Some y) (find (is_birth n) (map (λ (z : Master). if is_birth m z then kept_as true z else z) xs))) ≡ option_and_then (λ (z : Master). z.lessor) (cond (x.birth == n) (Some x) (find (is_birth n) xs))
+    here : (y : Master) → y.step_number ≡ x.step_number → y.lessor ≡ x.lessor → masters.lessor_of (map (λ (z : Master). if is_step_number m z then kept_as true z else z) xs) n ≡ masters.lessor_of xs n → option_and_then (λ (z : Master). z.lessor) (cond (y.step_number == n) (Some y) (find (is_step_number n) (map (λ (z : Master). if is_step_number m z then kept_as true z else z) xs))) ≡ option_and_then (λ (z : Master). z.lessor) (cond (x.step_number == n) (Some x) (find (is_step_number n) xs))
     here y e f rest =
-        ap (λ k. option_and_then (λ (z : Master). z.lessor) (cond (k == n) (Some y) (find (is_birth n) (map (λ (z : Master). if is_birth m z then kept_as true z else z) xs)))) e
-        ∙ elim (x.birth == n) as (λ b. option_and_then (λ (z : Master). z.lessor) (cond b (Some y) (find (is_birth n) (map (λ (z : Master). if is_birth m z then kept_as true z else z) xs))) ≡ option_and_then (λ (z : Master). z.lessor) (cond b (Some x) (find (is_birth n) xs))) [ true ↦ f | false ↦ rest ]
+        ap (λ k. option_and_then (λ (z : Master). z.lessor) (cond (k == n) (Some y) (find (is_step_number n) (map (λ (z : Master). if is_step_number m z then kept_as true z else z) xs)))) e
+        ∙ elim (x.step_number == n) as (λ b. option_and_then (λ (z : Master). z.lessor) (cond b (Some y) (find (is_step_number n) (map (λ (z : Master). if is_step_number m z then kept_as true z else z) xs))) ≡ option_and_then (λ (z : Master). z.lessor) (cond b (Some x) (find (is_step_number n) xs))) [ true ↦ f | false ↦ rest ]
 
-kept_above : (m : ℕ) (ms : List Master) → masters.lessor_of (map (λ (x : Master). if is_birth m x then kept_as true x else x) ms) ≡ masters.lessor_of ms
+kept_above : (m : ℕ) (ms : List Master) → masters.lessor_of (map (λ (x : Master). if is_step_number m x then kept_as true x else x) ms) ≡ masters.lessor_of ms
 kept_above m ms = λ i n. kept_lessors m n ms i
 
-released_again : (below : ℕ → Bool) (m : ℕ) → below m ≡ true → (ms : List Master) → released below (map (λ (x : Master). if is_birth m x then kept_as true x else x) ms) ≡ released below ms
+released_again : (below : ℕ → Bool) (m : ℕ) → below m ≡ true → (ms : List Master) → released below (map (λ (x : Master). if is_step_number m x then kept_as true x else x) ms) ≡ released below ms
 released_again below m is [] = refl
 released_again below m is (x ∷ xs) = λ i. one i ∷ released_again below m is xs i
   where
     change : Master → Master
-    change y = if below y.birth then kept_as false y else y
+    change y = if below y.step_number then kept_as false y else y
 
-    one : change (if is_birth m x then kept_as true x else x) ≡ change x
+    one : change (if is_step_number m x then kept_as true x else x) ≡ change x
     one =
-        (elim (x.birth == m) as (λ b. (x.birth == m) ≡ b → change (if b then kept_as true x else x) ≡ change x) [
+        (elim (x.step_number == m) as (λ b. (x.step_number == m) ≡ b → change (if b then kept_as true x else x) ≡ change x) [
           | true ↦ λ e.
-              let here : below x.birth ≡ true = ap below (eqb-true x.birth m e) ∙ is in
+              let here : below x.step_number ≡ true = ap below (eqb-true x.step_number m e) ∙ is in
               ap (λ b. if b then kept_as false x else kept_as true x) here ∙ sym (ap (λ b. if b then kept_as false x else x) here)
           | false ↦ λ e. refl
         ]) refl
@@ -115,7 +115,7 @@ closed_without v new c x here h = by_own x.is_master refl (subst (λ o. ClosedBy
   where
     by_own : (b : Bool) → x.is_master ≡ b → ClosedOf v x b None new → (own_master (masters.member_of v.members c) ≡ None) × (new ≡ without_its_master c v)
     by_own true own k = absurd (let n : None ≡ Some k.0.0 = k.0.1 in cc)
-    by_own false own k = (own_is v c x false here own, guest_gone v new c x here own k.1)
+    by_own false own k = (own_is v c x false here own, non_master_gone v new c x here own k.1)
 
 pub closed_with : (v middle : MasterSet) (c key : ℕ) (x : Member) → masters.member_of v.members c ≡ Some x → ClosedBy v (masters.member_of v.members c) (Some key) middle → (x.is_master ≡ true) × (middle ≡ closed_own x.client x.master v)
 closed_with v middle c key x here h = by_own x.is_master refl (subst (λ o. ClosedBy v o (Some key) middle) here h)

@@ -15,4 +15,4 @@ one_more keys refs fewer k n same e =
 
 -- one step further
 pub further : (start : List Object) (set new : ObjectSet) (keys refs fewer : List ℕ) (k : ℕ) → SameRows refs (k ∷ fewer) → IsStep start keys refs set → IsStep set.objects keys fewer new → IsStep start keys fewer new
-further start set new keys refs fewer k same h step = record { tied = step.tied; named = named_trans start set.objects new.objects (keys ++ refs) (keys ++ fewer) (λ n e. one_more keys refs fewer k n same e) h.named step.named }
+further start set new keys refs fewer k same h step = record { invariants = step.invariants; named = named_trans start set.objects new.objects (keys ++ refs) (keys ++ fewer) (λ n e. one_more keys refs fewer k n same e) h.named step.named }

@@ -8,7 +8,7 @@ use Rattle.std.proofs.lemmas.Bool.{lt-ltb}
 use Rattle.drm_state.proofs.Members.{found_last}
 use Rattle.drm_lists.proofs.Numbers.{less-differ}
 use Rattle.drm_files.specs.declared.rows.FileClient.{FileClient}
-use Rattle.drm_files.specs.Files.{FileLists, is_client, is_present, client_before, placed, authenticated, new_flags, with_client, with_authenticated}
+use Rattle.drm_files.specs.Files.{FileLists, is_client, is_open_client, client_before, placed, authenticated, new_flags, with_client, with_authenticated}
 
 -- ---- a new client comes last
 
@@ -35,9 +35,9 @@ opened files number render root authenticated universal = record files { clients
 pub opened_file : (files : FileLists) (number : ℕ) (render root universal : Bool) → AllByRecursion (λ (g : FileClient). g.client < number) files.clients → with_client files number (new_flags render root universal) ≡ opened files number render root root universal
 opened_file files number render root universal h = ap (λ fs. record files { clients = fs }) (placed_last (record { client = number; flags = new_flags render root universal }) files.clients h)
 
-pub opened_present : (files new : FileLists) (number : ℕ) (render root universal : Bool) → AllByRecursion (λ (g : FileClient). g.client < number) files.clients → new ≡ with_client files number (new_flags render root universal) → is_present new number ≡ true
-opened_present files new number render root universal h e =
-    ap (λ (l : FileLists). is_present l number) (e ∙ opened_file files number render root universal h) ∙ found_last (record { client = number; flags = new_flags render root universal }) files.clients
+pub opened_open_client : (files new : FileLists) (number : ℕ) (render root universal : Bool) → AllByRecursion (λ (g : FileClient). g.client < number) files.clients → new ≡ with_client files number (new_flags render root universal) → is_open_client new number ≡ true
+opened_open_client files new number render root universal h e =
+    ap (λ (l : FileLists). is_open_client l number) (e ∙ opened_file files number render root universal h) ∙ found_last (record { client = number; flags = new_flags render root universal }) files.clients
 
 pub opened_authenticated : (files new : FileLists) (number : ℕ) (render root universal : Bool) → AllByRecursion (λ (g : FileClient). g.client < number) files.clients → new ≡ with_client files number (new_flags render root universal) → with_authenticated new number ≡ opened files number render root true universal
 opened_authenticated files new number render root universal h e =

@@ -13,9 +13,9 @@ use Rattle.drm_lists.proofs.Found.{is_some-find, find_others}
 use Rattle.drm_lists.proofs.Numbers.{less-differ, flipped}
 use Rattle.drm_files.specs.declared.rows.FileFlags.{FileFlags}
 use Rattle.drm_files.specs.declared.rows.FileClient.{FileClient}
-use Rattle.drm_files.specs.declared.rows.FileHold.{FileHold}
+use Rattle.drm_files.specs.declared.rows.FileHandle.{FileHandle}
 use Rattle.drm_files.specs.Files as files
-use Rattle.drm_files.specs.Files.{FileLists, AreFiles, IsHoldOf, is_present, without_client}
+use Rattle.drm_files.specs.Files.{FileLists, AreFiles, IsHandleOf, is_open_client, without_client}
 use Rattle.drm_masters.specs.declared.rows.Magic.{Magic}
 use Rattle.drm_masters.specs.declared.rows.Member.{Member}
 use Rattle.drm_masters.specs.declared.rows.Master.{Master}
@@ -27,9 +27,9 @@ use Rattle.drm_model.specs.Rows.{Rows, ClientRow, MasterRow}
 use Rattle.drm_state.specs.declared.state.State.{State}
 use Rattle.drm_state.specs.Parts.{client_row_by, master_row_of, magic_row_of, clients_of, masters_of}
 use Rattle.drm_leases.specs.Agreed.{AreAgreed}
-use Rattle.drm_state.specs.Ties.{Tie, MembersOpen, ClientsHave, MastersAre, MagicsSuffice, LesseesFew, LeasesAre, TokensOfLessees, KeptHaveTokens, LeasesAgree, is_tied, IsTied, IsLater, HasMaster, AreOfLessees, AreKeptBy}
+use Rattle.drm_state.specs.Invariants.{Invariant, MembersOpen, ClientsHave, MastersAre, MagicsSuffice, LesseesFew, LeasesAre, TokensOfLessees, KeptHaveTokens, LeasesAgree, meets_invariant, MeetsInvariants, IsLater, HasMaster, AreOfLessees, AreKeptBy}
 use Rattle.drm_model.specs.Parts.{Part, Clients, Masters, Magics, DeviceMaster}
-use Rattle.drm_state.specs.Refinement.{stands_for, Represents}
+use Rattle.drm_state.specs.Refinement.{represents_part, Represents}
 use Rattle.drm_state.proofs.Represented.{clients_are, masters_are, magics_are, members_open, masters_so, clients_have, magics_suffice, lessees_few}
 use Rattle.drm_state.proofs.Members.{older, client_pushed, render_pushed, members_open_yet, found_last}
 use Rattle.drm_client_calls.proofs.Files.{not_there}
@@ -40,8 +40,8 @@ pub not_full : (a b : ℕ) → nat_le a b ≡ false → b < a
 not_full a b h = grind (arith, nat_tests)
 
 -- who stands to masters is older than a client that is made now
-pub newer : (s : State) (b : ℕ) → IsTied s → IsLater s b → IsNewClient s.masters b
-newer s b t later = all_weaker (λ (x : Member). is_present s.files x.client ≡ true) (λ (x : Member). x.client < b) (λ x e. older x.client b s.files.clients later.clients e) s.masters.members (members_open s t)
+pub newer : (s : State) (b : ℕ) → MeetsInvariants s → IsLater s b → IsNewClient s.masters b
+newer s b t later = all_weaker (λ (x : Member). is_open_client s.files x.client ≡ true) (λ (x : Member). x.client < b) (λ x e. older x.client b s.files.clients later.clients e) s.masters.members (members_open s t)
 
 -- ---- a file that was opened is closed again
 
@@ -64,11 +64,11 @@ closed_again fs c flags are newest = λ i. record fs { clients = clients i; hold
         ∙ ap (λ b. filter (λ (g : FileClient). not (files.is_client c g)) fs.clients ++ cond (not b) (record { client = c; flags = flags } ∷ []) []) (eq-eqb c c refl)
         ∙ append-nil (filter (λ (g : FileClient). not (files.is_client c g)) fs.clients) ∙ filter_all (λ (g : FileClient). not (files.is_client c g)) fs.clients others
 
-    holds : filter (λ (x : FileHold). not (files.of_client c x)) fs.holds ≡ fs.holds
-    holds = filter_all (λ (x : FileHold). not (files.of_client c x)) fs.holds (all_weaker (IsHoldOf fs) (λ (x : FileHold). not (files.of_client c x) ≡ true) (λ x h. ap not (its_client x h.client_open)) fs.holds are.holds_are)
+    holds : filter (λ (x : FileHandle). not (files.of_client c x)) fs.holds ≡ fs.holds
+    holds = filter_all (λ (x : FileHandle). not (files.of_client c x)) fs.holds (all_weaker (IsHandleOf fs) (λ (x : FileHandle). not (files.of_client c x) ≡ true) (λ x h. ap not (its_client x h.client_open)) fs.holds are.holds_are)
       where
-        its_client : (x : FileHold) → is_present fs x.client ≡ true → (x.client == c) ≡ false
-        its_client x there = (elim (x.client == c) as (λ b. (x.client == c) ≡ b → b ≡ false) [ true ↦ λ e. absurd (let j : false ≡ true = sym (not_there c fs.clients newest) ∙ ap (is_present fs) (sym (eqb-true x.client c e)) ∙ there in cc) | false ↦ λ e. refl ]) refl
+        its_client : (x : FileHandle) → is_open_client fs x.client ≡ true → (x.client == c) ≡ false
+        its_client x there = (elim (x.client == c) as (λ b. (x.client == c) ≡ b → b ≡ false) [ true ↦ λ e. absurd (let j : false ≡ true = sym (not_there c fs.clients newest) ∙ ap (is_open_client fs) (sym (eqb-true x.client c e)) ∙ there in cc) | false ↦ λ e. refl ]) refl
 
 -- ---- one more client
 
@@ -83,69 +83,69 @@ have_more v set m e f h = ap (λ l. f.flags.render || is_some (masters.member_of
     by_render true k = refl
     by_render false k = is_some-find (masters.is_client f.client) (v.members ++ m ∷ []) ∙ list_any_left (masters.is_client f.client) v.members (m ∷ []) (sym (is_some-find (masters.is_client f.client) v.members) ∙ k)
 
-pub joined_tied : (s : State) (flags : FileFlags) (m : Member) (set : MasterSet) (l : LeaseSet) → IsTied s → set.members ≡ s.masters.members ++ m ∷ [] → AreMasters set → AreLeases l → AreOfLessees l.tokens set.masters → AreKeptBy l.tokens set.masters → AreAgreed l set →
-    set.last_magic ≡ s.masters.last_magic → set.last_lessee ≡ s.masters.last_lessee → (tie : Tie) → is_tied tie (joined s m.client flags set l)
-unfolding is_tied
-joined_tied s flags m set l t e are leases lessees kept agreed last ids MembersOpen =
+pub joined_invariants : (s : State) (flags : FileFlags) (m : Member) (set : MasterSet) (l : LeaseSet) → MeetsInvariants s → set.members ≡ s.masters.members ++ m ∷ [] → AreMasters set → AreLeases l → AreOfLessees l.tokens set.masters → AreKeptBy l.tokens set.masters → AreAgreed l set →
+    set.last_magic ≡ s.masters.last_magic → set.last_lessee ≡ s.masters.last_lessee → (invariant : Invariant) → meets_invariant invariant (joined s m.client flags set l)
+unfolding meets_invariant
+joined_invariants s flags m set l t e are leases lessees kept agreed last ids MembersOpen =
     let f : FileClient = record { client = m.client; flags = flags } in
-    subst (AllByRecursion (λ (x : Member). is_present (with_file s.files m.client flags) x.client ≡ true)) (sym e) (all_append _ s.masters.members (m ∷ []) (members_open_yet f s.files.clients s.masters.members (members_open s t)) (found_last f s.files.clients, tt))
-joined_tied s flags m set l t e are leases lessees kept agreed last ids ClientsHave =
+    subst (AllByRecursion (λ (x : Member). is_open_client (with_file s.files m.client flags) x.client ≡ true)) (sym e) (all_append _ s.masters.members (m ∷ []) (members_open_yet f s.files.clients s.masters.members (members_open s t)) (found_last f s.files.clients, tt))
+joined_invariants s flags m set l t e are leases lessees kept agreed last ids ClientsHave =
     all_append (HasMaster set) s.files.clients (record { client = m.client; flags = flags } ∷ []) (all_weaker (HasMaster s.masters) (HasMaster set) (λ f h. have_more s.masters set m e f h) s.files.clients (clients_have s t))
     (ap (λ l. flags.render || is_some (masters.member_of l m.client)) e ∙ or_right flags.render _ (is_some-find (masters.is_client m.client) (s.masters.members ++ m ∷ []) ∙ list_any_right (masters.is_client m.client) s.masters.members (m ∷ []) (or_left (m.client == m.client) false (eq-eqb m.client m.client refl))), tt)
-joined_tied s flags m set l t e are leases lessees kept agreed last ids MastersAre = are
-joined_tied s flags m set l t e are leases lessees kept agreed last ids MagicsSuffice = last ∙ magics_suffice s t
-joined_tied s flags m set l t e are leases lessees kept agreed last ids LesseesFew = subst (λ n. n ≤ 64) (sym ids) (lessees_few s t)
-joined_tied s flags m set l t e are leases lessees kept agreed last ids LeasesAre = leases
-joined_tied s flags m set l t e are leases lessees kept agreed last ids TokensOfLessees = lessees
-joined_tied s flags m set l t e are leases lessees kept agreed last ids KeptHaveTokens = kept
-joined_tied s flags m set l t e are leases lessees kept agreed last ids LeasesAgree = agreed
-joined_tied s flags m set l t e are leases lessees kept agreed last ids tie = t tie
+joined_invariants s flags m set l t e are leases lessees kept agreed last ids MastersAre = are
+joined_invariants s flags m set l t e are leases lessees kept agreed last ids MagicsSuffice = last ∙ magics_suffice s t
+joined_invariants s flags m set l t e are leases lessees kept agreed last ids LesseesFew = subst (λ n. n ≤ 64) (sym ids) (lessees_few s t)
+joined_invariants s flags m set l t e are leases lessees kept agreed last ids LeasesAre = leases
+joined_invariants s flags m set l t e are leases lessees kept agreed last ids TokensOfLessees = lessees
+joined_invariants s flags m set l t e are leases lessees kept agreed last ids KeptHaveTokens = kept
+joined_invariants s flags m set l t e are leases lessees kept agreed last ids LeasesAgree = agreed
+joined_invariants s flags m set l t e are leases lessees kept agreed last ids invariant = t invariant
 
 pub no_magic_more : (m : Member) → m.magic ≡ None → (xs : List Member) → filter_map magic_row_of (xs ++ m ∷ []) ≡ filter_map magic_row_of xs
 no_magic_more m e [] = ap (λ (g : Option Magic). cons_option (option_map (λ (d : Magic). record { master = m.master; number = d.number; client = m.client; spent = d.spent }) g) []) e
 no_magic_more m e (x ∷ xs) = ap (cons_option (magic_row_of x)) (no_magic_more m e xs)
 
--- a guest
-pub guest_represents : (s : State) (w : Rows) (flags : FileFlags) (m : Member) (row : ClientRow) → IsTied s → IsLater s m.client → m.magic ≡ None → client_row_by (record { client = m.client; flags = flags }) (Some m) ≡ row → Represents s w →
-    (part : Part) → stands_for part (joined s m.client flags (with_member m s.masters) s.leases) (record w { clients = w.clients ++ row ∷ [] })
-unfolding stands_for
-guest_represents s w flags m row t later none r h Clients =
+-- a client that is no master
+pub non_master_represents : (s : State) (w : Rows) (flags : FileFlags) (m : Member) (row : ClientRow) → MeetsInvariants s → IsLater s m.client → m.magic ≡ None → client_row_by (record { client = m.client; flags = flags }) (Some m) ≡ row → Represents s w →
+    (part : Part) → represents_part part (joined s m.client flags (with_member m s.masters) s.leases) (record w { clients = w.clients ++ row ∷ [] })
+unfolding represents_part
+non_master_represents s w flags m row t later none r h Clients =
     ap (λ l. l ++ row ∷ []) (clients_are s w h) ∙ ap (λ x. clients_of s ++ x ∷ []) (sym r) ∙ sym (client_pushed flags m s.files.clients s.masters.members later.clients (members_open s t))
-guest_represents s w flags m row t later none r h Magics = subst (SameRows w.magics) (sym (no_magic_more m none s.masters.members)) (magics_are s w h)
-guest_represents s w flags m row t later none r h part = h part
+non_master_represents s w flags m row t later none r h Magics = subst (SameRows w.magics) (sym (no_magic_more m none s.masters.members)) (magics_are s w h)
+non_master_represents s w flags m row t later none r h part = h part
 
--- a founder
-pub founder_represents : (s : State) (w : Rows) (flags : FileFlags) (m : Member) (z : Master) (row : ClientRow) (master : MasterRow) → IsTied s → IsLater s m.client → m.magic ≡ None → client_row_by (record { client = m.client; flags = flags }) (Some m) ≡ row → master_row_of s.leases.tokens z ≡ master → Represents s w →
-    (part : Part) → stands_for part (joined s m.client flags (with_device (Some z.birth) (with_member m (with_master z s.masters))) s.leases) (record w { masters = w.masters ++ master ∷ []; device_master = Some master.master; clients = w.clients ++ row ∷ [] })
-unfolding stands_for
-founder_represents s w flags m z row master t later none r k h Clients =
+-- a master's opener
+pub opener_represents : (s : State) (w : Rows) (flags : FileFlags) (m : Member) (z : Master) (row : ClientRow) (master : MasterRow) → MeetsInvariants s → IsLater s m.client → m.magic ≡ None → client_row_by (record { client = m.client; flags = flags }) (Some m) ≡ row → master_row_of s.leases.tokens z ≡ master → Represents s w →
+    (part : Part) → represents_part part (joined s m.client flags (with_device (Some z.step_number) (with_member m (with_master z s.masters))) s.leases) (record w { masters = w.masters ++ master ∷ []; device_master = Some master.master; clients = w.clients ++ row ∷ [] })
+unfolding represents_part
+opener_represents s w flags m z row master t later none r k h Clients =
     ap (λ l. l ++ row ∷ []) (clients_are s w h) ∙ ap (λ x. clients_of s ++ x ∷ []) (sym r) ∙ sym (client_pushed flags m s.files.clients s.masters.members later.clients (members_open s t))
-founder_represents s w flags m z row master t later none r k h Masters = ap (λ l. l ++ master ∷ []) (masters_are s w h) ∙ ap (λ x. masters_of s ++ x ∷ []) (sym k) ∙ sym (map-append (master_row_of s.leases.tokens) s.masters.masters (z ∷ []))
-founder_represents s w flags m z row master t later none r k h Magics = subst (SameRows w.magics) (sym (no_magic_more m none s.masters.members)) (magics_are s w h)
-founder_represents s w flags m z row master t later none r k h DeviceMaster = ap (λ (x : MasterRow). Some x.master) (sym k)
-founder_represents s w flags m z row master t later none r k h part = h part
+opener_represents s w flags m z row master t later none r k h Masters = ap (λ l. l ++ master ∷ []) (masters_are s w h) ∙ ap (λ x. masters_of s ++ x ∷ []) (sym k) ∙ sym (map-append (master_row_of s.leases.tokens) s.masters.masters (z ∷ []))
+opener_represents s w flags m z row master t later none r k h Magics = subst (SameRows w.magics) (sym (no_magic_more m none s.masters.members)) (magics_are s w h)
+opener_represents s w flags m z row master t later none r k h DeviceMaster = ap (λ (x : MasterRow). Some x.master) (sym k)
+opener_represents s w flags m z row master t later none r k h part = h part
 
 -- ---- one more render client, which does not stand to masters
 
-rows_rendered : (s : State) (w : Rows) (c : ℕ) (flags : FileFlags) (row : ClientRow) → IsTied s → IsLater s c → client_row_by (record { client = c; flags = flags }) None ≡ row → Represents s w →
-    (part : Part) → stands_for part (record s { files = with_file s.files c flags }) (record w { clients = w.clients ++ row ∷ [] })
-unfolding stands_for
+rows_rendered : (s : State) (w : Rows) (c : ℕ) (flags : FileFlags) (row : ClientRow) → MeetsInvariants s → IsLater s c → client_row_by (record { client = c; flags = flags }) None ≡ row → Represents s w →
+    (part : Part) → represents_part part (record s { files = with_file s.files c flags }) (record w { clients = w.clients ++ row ∷ [] })
+unfolding represents_part
 rows_rendered s w c flags row t later r h Clients =
     ap (λ l. l ++ row ∷ []) (clients_are s w h) ∙ ap (λ x. clients_of s ++ x ∷ []) (sym r) ∙ sym (render_pushed (record { client = c; flags = flags }) s.files.clients s.masters.members later.clients (members_open s t))
 rows_rendered s w c flags row t later r h part = h part
 
-pub rendered_represents : (s : State) (w : Rows) (fs : FileLists) (c : ℕ) (flags : FileFlags) (row : ClientRow) → IsTied s → IsLater s c → fs ≡ with_file s.files c flags → client_row_by (record { client = c; flags = flags }) None ≡ row → Represents s w →
+pub rendered_represents : (s : State) (w : Rows) (fs : FileLists) (c : ℕ) (flags : FileFlags) (row : ClientRow) → MeetsInvariants s → IsLater s c → fs ≡ with_file s.files c flags → client_row_by (record { client = c; flags = flags }) None ≡ row → Represents s w →
     Represents (record s { files = fs }) (record w { clients = w.clients ++ row ∷ [] })
 rendered_represents s w fs c flags row t later e r h = subst (λ l. Represents (record s { files = l }) (record w { clients = w.clients ++ row ∷ [] })) (sym e) (rows_rendered s w c flags row t later r h)
 
-ties_rendered : (s : State) (c : ℕ) (flags : FileFlags) → flags.render ≡ true → IsTied s → (tie : Tie) → is_tied tie (record s { files = with_file s.files c flags })
-unfolding is_tied
+ties_rendered : (s : State) (c : ℕ) (flags : FileFlags) → flags.render ≡ true → MeetsInvariants s → (invariant : Invariant) → meets_invariant invariant (record s { files = with_file s.files c flags })
+unfolding meets_invariant
 ties_rendered s c flags render t MembersOpen = members_open_yet (record { client = c; flags = flags }) s.files.clients s.masters.members (members_open s t)
 ties_rendered s c flags render t ClientsHave = all_append (HasMaster s.masters) s.files.clients (record { client = c; flags = flags } ∷ []) (clients_have s t) (ap (λ b. b || is_some (masters.member_of s.masters.members c)) render, tt)
-ties_rendered s c flags render t tie = t tie
+ties_rendered s c flags render t invariant = t invariant
 
-pub rendered_tied : (s : State) (fs : FileLists) (c : ℕ) (flags : FileFlags) → flags.render ≡ true → IsTied s → fs ≡ with_file s.files c flags → IsTied (record s { files = fs })
-rendered_tied s fs c flags render t e = subst (λ l. IsTied (record s { files = l })) (sym e) (ties_rendered s c flags render t)
+pub rendered_invariants : (s : State) (fs : FileLists) (c : ℕ) (flags : FileFlags) → flags.render ≡ true → MeetsInvariants s → fs ≡ with_file s.files c flags → MeetsInvariants (record s { files = fs })
+rendered_invariants s fs c flags render t e = subst (λ l. MeetsInvariants (record s { files = l })) (sym e) (ties_rendered s c flags render t)
 
 -- no more clients stand to masters than are open
 pub fewer_members : (ms : List Member) (fs : List FileClient) → InOrder (λ (x y : Member). x.client < y.client) ms → AllByRecursion (λ (x : Member). is_some (find (files.is_client x.client) fs) ≡ true) ms → length ms ≤ length fs
@@ -157,7 +157,7 @@ fewer_members (m ∷ ms) fs h there =
     let lt = filter-fewer (files.is_client m.client) fs (sym (is_some-find (files.is_client m.client) fs) ∙ there.0) in
     omega (arith, rest, lt)
 
-pub room_for : (s : State) → IsTied s → length s.files.clients < s.files.limit → length s.masters.members < s.masters.last_magic
+pub room_for : (s : State) → MeetsInvariants s → length s.files.clients < s.files.limit → length s.masters.members < s.masters.last_magic
 room_for s t lt =
     let few = fewer_members s.masters.members s.files.clients (masters_so s t).members_rise (members_open s t) in
     let last = magics_suffice s t in

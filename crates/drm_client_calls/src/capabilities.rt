@@ -1,10 +1,10 @@
 //! What a client asks to be shown.
 
 ghost use Rattle.std.specs.Prelude.{◌≡◌, ◌==◌, ◌&&◌, nat_le, true};
-ghost use Rattle.drm_files.specs.Files.{is_present};
+ghost use Rattle.drm_files.specs.Files.{is_open_client};
 ghost use Rattle.drm_table.specs.declared.calls.Call.TheVariants.{SetClientCap};
-ghost use Rattle.drm_state.specs.Ties.{IsTied};
-ghost use Rattle.drm_state.specs.Refinement.{OwesReply};
+ghost use Rattle.drm_state.specs.Invariants.{MeetsInvariants};
+ghost use Rattle.drm_state.specs.Refinement.{RefinesReply};
 
 use drm_state::State;
 use drm_table::{Answer, Rule};
@@ -14,10 +14,10 @@ const UNIVERSAL_PLANES: u64 = 2;
 
 /// SET_CLIENT_CAP: universal planes alone can be set, on by 1 and off by 0. It takes no memory.
 pub fn set_client_cap(state: &mut State, client: u32, cap: u64, value: u64) -> Answer
-    requires tied { IsTied state.old }
-    requires present { is_present state.old.files client ≡ true }
-    ensures owes { OwesReply state.old client (SetClientCap cap value) result state.new }
-    ensures tied { IsTied state.new }
+    requires invariants { MeetsInvariants state.old }
+    requires open_client { is_open_client state.old.files client ≡ true }
+    ensures refines { RefinesReply state.old client (SetClientCap cap value) result state.new }
+    ensures invariants { MeetsInvariants state.new }
 {
     if !is_settable(cap, value) {
         return Answer::Denied(Rule::BadCap);

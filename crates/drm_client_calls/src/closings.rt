@@ -4,10 +4,10 @@ ghost use Rattle.std.specs.Prelude.{◌≡◌, ℕ, List, true, false, ◌++◌}
 ghost use Rattle.drm_masters.specs.Masters.{AreMasters};
 ghost use Rattle.drm_leases.specs.Agreed.{AreAgreed};
 ghost use Rattle.drm_table.specs.declared.events.Event.TheVariants.{Close};
-ghost use Rattle.drm_files.specs.Files.{is_present, without_client};
+ghost use Rattle.drm_files.specs.Files.{is_open_client, without_client};
 ghost use Rattle.drm_state.specs.Parts.{keys_of, token_keys, framebuffer_keys, without_tokens_of, LosesFramebuffersOf, without_its_master, without_its_leases};
-ghost use Rattle.drm_state.specs.Ties.{IsTied, AreTied, AreNamed, AreThoseNamed, Leaves};
-ghost use Rattle.drm_state.specs.Refinement.{OwesAnswer};
+ghost use Rattle.drm_state.specs.Invariants.{MeetsInvariants, AreCounted, AreNamed, AreThoseNamed, Leaves};
+ghost use Rattle.drm_state.specs.Refinement.{RefinesAnswer};
 
 use drm_files::Files;
 use drm_gem::Objects;
@@ -24,9 +24,9 @@ use drm_table::{Answer, Rule};
 /// of all below it and their open tokens. A client that isn't open is denied, and
 /// nothing changes. It takes no memory and asks for no limit.
 pub fn close(state: &mut State, client: u32) -> Answer
-    requires { IsTied state.old }
-    ensures tied { IsTied state.new }
-    ensures owes { OwesAnswer state.old (Close client) result state.new }
+    requires { MeetsInvariants state.old }
+    ensures invariants { MeetsInvariants state.new }
+    ensures refines { RefinesAnswer state.old (Close client) result state.new }
 {
     let Some(_flags) = state.files.flags_of(client) else {
         return Answer::Denied(Rule::NoClient);
@@ -64,10 +64,10 @@ fn close_master(masters: &mut Masters, leases: &mut Leases, client: u32)
 
 /// A client's tokens go, and the objects that they alone referred to, whatever handles name.
 fn close_tokens(tokens: &mut Tokens, objects: &mut Objects, client: u32)
-    requires { (keys others : List ℕ) × AreTied keys (token_keys tokens.old.tokens ++ others) objects.old.objects }
+    requires { (keys others : List ℕ) × AreCounted keys (token_keys tokens.old.tokens ++ others) objects.old.objects }
     ensures tokens { tokens.new ≡ without_tokens_of client tokens.old }
-    ensures tied { (keys others : List ℕ) → AreTied keys (token_keys tokens.old.tokens ++ others) objects.old.objects → AreTied keys (token_keys tokens.new.tokens ++ others) objects.new.objects }
-    ensures those { (keys others : List ℕ) → AreTied keys (token_keys tokens.old.tokens ++ others) objects.old.objects → AreThoseNamed objects.old.objects (keys ++ (token_keys tokens.new.tokens ++ others)) objects.new.objects }
+    ensures invariants { (keys others : List ℕ) → AreCounted keys (token_keys tokens.old.tokens ++ others) objects.old.objects → AreCounted keys (token_keys tokens.new.tokens ++ others) objects.new.objects }
+    ensures those { (keys others : List ℕ) → AreCounted keys (token_keys tokens.old.tokens ++ others) objects.old.objects → AreThoseNamed objects.old.objects (keys ++ (token_keys tokens.new.tokens ++ others)) objects.new.objects }
     ensures limit { objects.new.limit ≡ objects.old.limit }
 {
     while let Some(taken) = tokens.take_first_of(client) {
@@ -77,10 +77,10 @@ fn close_tokens(tokens: &mut Tokens, objects: &mut Objects, client: u32)
 
 /// A client's framebuffers go, what shows them goes dark, and the objects go that they alone referred to.
 fn close_framebuffers(modes: &mut Modes, objects: &mut Objects, client: u32)
-    requires { (keys others : List ℕ) × AreTied keys (others ++ framebuffer_keys modes.old.framebuffers) objects.old.objects }
+    requires { (keys others : List ℕ) × AreCounted keys (others ++ framebuffer_keys modes.old.framebuffers) objects.old.objects }
     ensures loses { LosesFramebuffersOf client modes.old modes.new }
-    ensures tied { (keys others : List ℕ) → AreTied keys (others ++ framebuffer_keys modes.old.framebuffers) objects.old.objects → AreTied keys (others ++ framebuffer_keys modes.new.framebuffers) objects.new.objects }
-    ensures those { (keys others : List ℕ) → AreTied keys (others ++ framebuffer_keys modes.old.framebuffers) objects.old.objects → AreThoseNamed objects.old.objects (keys ++ (others ++ framebuffer_keys modes.new.framebuffers)) objects.new.objects }
+    ensures invariants { (keys others : List ℕ) → AreCounted keys (others ++ framebuffer_keys modes.old.framebuffers) objects.old.objects → AreCounted keys (others ++ framebuffer_keys modes.new.framebuffers) objects.new.objects }
+    ensures those { (keys others : List ℕ) → AreCounted keys (others ++ framebuffer_keys modes.old.framebuffers) objects.old.objects → AreThoseNamed objects.old.objects (keys ++ (others ++ framebuffer_keys modes.new.framebuffers)) objects.new.objects }
     ensures limit { objects.new.limit ≡ objects.old.limit }
 {
     modes.laws();
@@ -93,11 +93,11 @@ fn close_framebuffers(modes: &mut Modes, objects: &mut Objects, client: u32)
 /// A client's file goes with its handles, the names of objects that no other handle names, and the objects that nothing else
 /// refers to.
 fn release_all(files: &mut Files, names: &mut Names, objects: &mut Objects, client: u32)
-    requires present { is_present files.old client ≡ true }
-    requires tied { (refs : List ℕ) × AreTied (keys_of files.old.holds) refs objects.old.objects }
+    requires open_client { is_open_client files.old client ≡ true }
+    requires invariants { (refs : List ℕ) × AreCounted (keys_of files.old.holds) refs objects.old.objects }
     requires named { AreNamed (keys_of files.old.holds) names.old.names }
     ensures files { files.new ≡ without_client files.old client }
-    ensures leaves { (refs : List ℕ) → AreTied (keys_of files.old.holds) refs objects.old.objects → Leaves names.old objects.old (keys_of files.new.holds) refs names.new objects.new }
+    ensures leaves { (refs : List ℕ) → AreCounted (keys_of files.old.holds) refs objects.old.objects → Leaves names.old objects.old (keys_of files.new.holds) refs names.new objects.new }
 {
     let mut rest = files.close(client);
     while let Some(hold) = rest.take_next() {

@@ -5,8 +5,8 @@ ghost use Rattle.std.specs.List.{AllByRecursion};
 ghost use Rattle.drm_files.specs.Files.{client};
 ghost use Rattle.drm_table.specs.declared.events.Event.TheVariants.{Open};
 ghost use Rattle.drm_table.specs.declared.events.Opening.TheVariants.{Primary, Render, Lease};
-ghost use Rattle.drm_state.specs.Ties.{IsTied, IsReady};
-ghost use Rattle.drm_state.specs.Refinement.{Owes};
+ghost use Rattle.drm_state.specs.Invariants.{MeetsInvariants, StepPrecondition};
+ghost use Rattle.drm_state.specs.Refinement.{Refines};
 
 use drm_files::Files;
 use drm_masters::NoMemory;
@@ -15,70 +15,81 @@ use drm_table::{Answer, Opening, Rule};
 use std::alloc::AllocError;
 
 /// Opens a client, by the kind of its opening.
-pub fn open(state: &mut State, birth: u32, opening: Opening) -> Result<Answer, AllocError>
-    requires { IsReady state.old birth }
-    ensures owes { Owes state.old birth (Open opening) result state.new }
-    ensures tied { IsTied state.new }
+pub fn open(state: &mut State, step_number: u32, opening: Opening) -> Result<Answer, AllocError>
+    requires { StepPrecondition state.old step_number }
+    ensures refines { Refines state.old step_number (Open opening) result state.new }
+    ensures invariants { MeetsInvariants state.new }
 {
     match opening {
-        Opening::Primary { root, universal } => open_primary(state, birth, root, universal),
-        Opening::Render => open_render(state, birth),
+        Opening::Primary { root, universal } => open_primary(state, step_number, root, universal),
+        Opening::Render => open_render(state, step_number),
         Opening::Lease {
             token,
             root,
             universal,
-        } => open_lease(state, birth, token, root, universal),
+        } => open_lease(state, step_number, token, root, universal),
     }
 }
 
 /// A primary client: of a master of its own where the device has none, and else of the device's.
 fn open_primary(
     state: &mut State,
-    birth: u32,
+    step_number: u32,
     root: bool,
     universal: bool,
 ) -> Result<Answer, AllocError>
-    requires { IsReady state.old birth }
-    ensures owes { Owes state.old birth (Open (Primary root universal)) result state.new }
-    ensures tied { IsTied state.new }
+    requires { StepPrecondition state.old step_number }
+    ensures refines { Refines state.old step_number (Open (Primary root universal)) result state.new }
+    ensures invariants { MeetsInvariants state.new }
 {
     if state.files.is_full() {
         return Ok(Answer::Denied(Rule::Full));
     }
-    let founder = state.masters.device_master().is_none();
-    open_file(&mut state.files, birth, false, root, universal, founder)?;
-    if let Err(NoMemory) = state.masters.on_open(birth, birth) {
-        let _rest = state.files.close(birth);
+    let opener = state.masters.device_master().is_none();
+    open_file(
+        &mut state.files,
+        step_number,
+        false,
+        root,
+        universal,
+        opener,
+    )?;
+    if let Err(NoMemory) = state.masters.on_open(step_number, step_number) {
+        let _rest = state.files.close(step_number);
         return Err(AllocError);
     }
     state.masters.laws();
-    Ok(Answer::Opened { client: birth })
+    Ok(Answer::Opened {
+        client: step_number,
+    })
 }
 
 /// A render client, which has no master, and universal planes on (own).
-fn open_render(state: &mut State, birth: u32) -> Result<Answer, AllocError>
-    requires { IsReady state.old birth }
-    ensures owes { Owes state.old birth (Open Render) result state.new }
-    ensures tied { IsTied state.new }
+fn open_render(state: &mut State, step_number: u32) -> Result<Answer, AllocError>
+    requires { StepPrecondition state.old step_number }
+    ensures refines { Refines state.old step_number (Open Render) result state.new }
+    ensures invariants { MeetsInvariants state.new }
 {
     if state.files.is_full() {
         return Ok(Answer::Denied(Rule::Full));
     }
-    open_file(&mut state.files, birth, true, false, true, false)?;
-    Ok(Answer::Opened { client: birth })
+    open_file(&mut state.files, step_number, true, false, true, false)?;
+    Ok(Answer::Opened {
+        client: step_number,
+    })
 }
 
 /// The client of a lessee that nobody redeemed, by the lessee's open token, which is spent (drm-uapi, leases; the token is own).
 fn open_lease(
     state: &mut State,
-    birth: u32,
+    step_number: u32,
     token: u32,
     root: bool,
     universal: bool,
 ) -> Result<Answer, AllocError>
-    requires { IsReady state.old birth }
-    ensures owes { Owes state.old birth (Open (Lease token root universal)) result state.new }
-    ensures tied { IsTied state.new }
+    requires { StepPrecondition state.old step_number }
+    ensures refines { Refines state.old step_number (Open (Lease token root universal)) result state.new }
+    ensures invariants { MeetsInvariants state.new }
 {
     let Some(number) = state.leases.token_master(token) else {
         return Ok(Answer::Denied(Rule::NoLeaseToken));
@@ -89,18 +100,20 @@ fn open_lease(
     let Some(lessee) = state.masters.master(number) else {
         unreachable!()
     };
-    open_file(&mut state.files, birth, false, root, universal, true)?;
-    if let Err(NoMemory) = state.masters.on_redeem(birth, lessee.key) {
-        let _rest = state.files.close(birth);
+    open_file(&mut state.files, step_number, false, root, universal, true)?;
+    if let Err(NoMemory) = state.masters.on_redeem(step_number, lessee.key) {
+        let _rest = state.files.close(step_number);
         return Err(AllocError);
     }
     let _spent = state.leases.redeem(token);
     state.masters.laws();
     state.leases.laws();
-    Ok(Answer::Opened { client: birth })
+    Ok(Answer::Opened {
+        client: step_number,
+    })
 }
 
-/// Opens the file of a client that is newer than all; a founder is authenticated whether it is root or not. Where memory is
+/// Opens the file of a client that is newer than all; a master's opener is authenticated whether it is root or not. Where memory is
 /// refused nothing changes.
 fn open_file(
     files: &mut Files,
@@ -108,17 +121,17 @@ fn open_file(
     render: bool,
     root: bool,
     universal: bool,
-    founder: bool,
+    opener: bool,
 ) -> Result<(), AllocError>
     requires newest { AllByRecursion (λ f. f.client < number) files.old.clients }
     requires room { length files.old.clients < files.old.limit }
-    ensures ok { OnOk result (files.new ≡ record files.old { clients = files.old.clients ++ client number (record { render = render; root = root; authenticated = if founder then true else root; universal = universal }) ∷ [] }) }
+    ensures ok { OnOk result (files.new ≡ record files.old { clients = files.old.clients ++ client number (record { render = render; root = root; authenticated = if opener then true else root; universal = universal }) ∷ [] }) }
     ensures err { OnErr result (files.new ≡ files.old) }
 {
     if let Err(_fault) = files.open(number, render, root, universal) {
         return Err(AllocError);
     }
-    if founder {
+    if opener {
         files.set_authenticated(number);
     }
     Ok(())

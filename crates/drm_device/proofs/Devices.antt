@@ -14,9 +14,9 @@ use Rattle.drm_lists.proofs.Rising.{found}
 use Rattle.drm_lists.proofs.Lists.{all_weaker, all_of_map}
 use Rattle.drm_gem.specs.declared.object.Object.{Object}
 use Rattle.drm_gem.specs.Objects.{ObjectSet}
-use Rattle.drm_files.specs.declared.rows.FileHold.{FileHold}
+use Rattle.drm_files.specs.declared.rows.FileHandle.{FileHandle}
 use Rattle.drm_files.specs.declared.rows.FileClient.{FileClient}
-use Rattle.drm_files.specs.Files.{FileLists, empty_files, is_present, hold_before}
+use Rattle.drm_files.specs.Files.{FileLists, empty_files, is_open_client, handle_before}
 use Rattle.drm_table.specs.declared.calls.Call.{Call}
 use Rattle.drm_table.specs.declared.events.Event.{Event}
 use Rattle.drm_table.specs.declared.events.Event.TheVariants.{Open, Ask, Close}
@@ -27,103 +27,103 @@ use Rattle.drm_share.specs.Names.{NameList, empty_names}
 use Rattle.drm_share.specs.Tokens.{TokenList, empty_tokens}
 use Rattle.drm_model.specs.Rows.{Rows, ClientRow, MasterRow, ObjectRow, GrantRow, empty_rows}
 use Rattle.drm_modes.specs.Topology.{Topology, IsTopology}
-use Rattle.drm_table.specs.Results.{IsFew}
+use Rattle.drm_table.specs.Results.{FitsOneFrame}
 use Rattle.drm_model.specs.Reply.{reply}
 use Rattle.drm_model.proofs.FewIds.{few_reply}
-use Rattle.drm_modes.specs.Modes.{ModeSet, AreModes, empty_modes, screen_count, lit_rows, shown_rows}
+use Rattle.drm_modes.specs.Modes.{ModeSet, AreModes, empty_modes, scanout_count, lit_rows, shown_rows}
 use Rattle.drm_model.specs.Change.{after}
-use Rattle.drm_model.specs.Run.{FoundRoom, places_left, run, rows_of, noted_in, no_room, start_of}
-use Rattle.drm_model.proofs.Births.{births_rise}
-use Rattle.drm_model.specs.Births.{GrantsMade}
+use Rattle.drm_model.specs.Run.{FoundRoom, places_left, run, rows_of, journaled_in, no_room, start_of}
+use Rattle.drm_model.proofs.StepNumbers.{step_numbers_rise}
+use Rattle.drm_model.specs.StepNumbers.{GrantsMade}
 use Rattle.drm_model.proofs.Counts.{few_rows}
 use Rattle.drm_model.proofs.Grants.{grants_made}
-use Rattle.drm_model.proofs.Journals.{found_room_push, rows_noted, after-topology, after-steps, rows_of-topology, rows_of-limits, rows_of-steps, room_after}
+use Rattle.drm_model.proofs.Journals.{found_room_push, rows_journaled, after-topology, after-steps, rows_of-topology, rows_of-limits, rows_of-steps, room_after}
 use Rattle.drm_device.specs.declared.device.Device.TheInside.{Inside}
 use Rattle.drm_masters.specs.declared.rows.Master.{Master}
 use Rattle.drm_masters.specs.declared.rows.Member.{Member}
-use Rattle.drm_masters.specs.Masters.{MasterSet, AreMasters, is_birth, is_lessee}
+use Rattle.drm_masters.specs.Masters.{MasterSet, AreMasters, is_step_number, is_lessee}
 use Rattle.drm_leases.specs.declared.rows.LeaseToken.{LeaseToken}
 use Rattle.drm_leases.specs.Leases.{LeaseSet, AreLeases, no_leases}
 use Rattle.drm_leases.specs.Calls.{IsNewLessee}
 use Rattle.drm_state.specs.declared.state.State.{State}
-use Rattle.drm_device.specs.Device.{history_of, IsDevice}
-use Rattle.drm_state.specs.Parts.{client_row_of, master_row_of, magic_row_of, object_row_of, hold_row_of, holds_of, name_row_of, token_row_of, tokens_of, grant_row_of, grants_of, framebuffer_row_of, framebuffers_of, shown_row_of, keys_of, framebuffer_keys, referring, referring_keys}
+use Rattle.drm_device.specs.Device.{value_of, IsDevice}
+use Rattle.drm_state.specs.Parts.{client_row_of, master_row_of, magic_row_of, object_row_of, handle_row_of, holds_of, name_row_of, token_row_of, tokens_of, grant_row_of, grants_of, framebuffer_row_of, framebuffers_of, shown_row_of, keys_of, framebuffer_keys, referring, referring_keys}
 use Rattle.drm_leases.specs.Agreed.{AreAgreed}
-use Rattle.drm_state.specs.Ties.{Tie, MembersOpen, ClientsHave, MastersAre, MagicsSuffice, LesseesFew, LeasesAre, TokensOfLessees, KeptHaveTokens, LeasesAgree, ModesAre, HasMaster, HoldsRise, ObjectsCounted, NamesHeld, is_tied, IsTied, IsLater, IsReady, AreTied, AreNamed, AreOfLessees, AreKeptBy}
+use Rattle.drm_state.specs.Invariants.{Invariant, MembersOpen, ClientsHave, MastersAre, MagicsSuffice, LesseesFew, LeasesAre, TokensOfLessees, KeptHaveTokens, LeasesAgree, ModesAre, HasMaster, HoldsRise, ObjectsCounted, NamesHeld, meets_invariant, MeetsInvariants, IsLater, StepPrecondition, AreCounted, AreNamed, AreOfLessees, AreKeptBy}
 use Rattle.drm_model.specs.Parts.{Part, Bounds, Masters, Magics, Holds, Clients, Objects, Names, Tokens, Grants, Framebuffers, Shown, DeviceMaster, LastToken, LastLeaseToken, count_in}
-use Rattle.drm_state.specs.Refinement.{stands_for, Represents, Stands}
+use Rattle.drm_state.specs.Refinement.{represents_part, Represents, RepresentsAt}
 use Rattle.drm_state.proofs.Represented.{bounds_are, clients_are, masters_are, holds_are, objects_are, tokens_are, grants_are, framebuffers_are, modes_so, tokens_of_lessees}
-use Rattle.drm_state.proofs.Outcomes.{represented_count}
+use Rattle.drm_state.proofs.Refinements.{represented_count}
 use Rattle.drm_state.proofs.Lookups.{is_open_is}
 
 -- the state of a device stands for its rows
-pub stands : (d : Inside) (n : ℕ) → IsDevice d → n ≡ vec_len d.journal → Stands d.state (n + 1) (rows_of (history_of d))
+pub stands : (d : Inside) (n : ℕ) → IsDevice d → n ≡ vec_len d.journal → RepresentsAt d.state (n + 1) (rows_of (value_of d))
 stands d n h e = record {
   rows = h.rows;
-  births = births_rise (history_of d);
-  birth_is = ap (λ n. n + 1) (rows_of-steps (history_of d) ∙ sym d.journal.ok.0 ∙ sym e);
+  step_numbers = step_numbers_rise (value_of d);
+  step_number_is = ap (λ n. n + 1) (rows_of-steps (value_of d) ∙ sym d.journal.ok.0 ∙ sym e);
 }
 
 -- in the rows' own words, the journal has places for the closings of the open clients
-pub fits : (d : Inside) → IsDevice d → (rows_of (history_of d)).steps + length (rows_of (history_of d)).clients ≤ (rows_of (history_of d)).limits.journal
+pub fits : (d : Inside) → IsDevice d → (rows_of (value_of d)).steps + length (rows_of (value_of d)).clients ≤ (rows_of (value_of d)).limits.journal
 fits d h =
-    let steps = rows_of-steps (history_of d) in
-    let count = represented_count d.state (rows_of (history_of d)) h.rows in
-    let limit : (rows_of (history_of d)).limits.journal ≡ d.limits.journal = ap (λ (l : Limits). l.journal) (rows_of-limits (history_of d)) in
+    let steps = rows_of-steps (value_of d) in
+    let count = represented_count d.state (rows_of (value_of d)) h.rows in
+    let limit : (rows_of (value_of d)).limits.journal ≡ d.limits.journal = ap (λ (l : Limits). l.journal) (rows_of-limits (value_of d)) in
     omega (arith, h.places, d.journal.ok.0)
 
 -- after an event that has room
-pub fits_after : (d : Inside) (event : Event) → IsDevice d → no_room (rows_of (history_of d)) event ≡ false → vec_len d.journal + 1 + length (after (rows_of (history_of d)) event).clients ≤ d.limits.journal
+pub fits_after : (d : Inside) (event : Event) → IsDevice d → no_room (rows_of (value_of d)) event ≡ false → vec_len d.journal + 1 + length (after (rows_of (value_of d)) event).clients ≤ d.limits.journal
 fits_after d event h room =
-    let enough = room_after (rows_of (history_of d)) event (fits d h) room in
-    let next = after-steps (rows_of (history_of d)) event in
-    let steps = rows_of-steps (history_of d) in
-    let limit : (rows_of (history_of d)).limits.journal ≡ d.limits.journal = ap (λ (l : Limits). l.journal) (rows_of-limits (history_of d)) in
+    let enough = room_after (rows_of (value_of d)) event (fits d h) room in
+    let next = after-steps (rows_of (value_of d)) event in
+    let steps = rows_of-steps (value_of d) in
+    let limit : (rows_of (value_of d)).limits.journal ≡ d.limits.journal = ap (λ (l : Limits). l.journal) (rows_of-limits (value_of d)) in
     omega (arith, d.journal.ok.0)
 
-pub within_after : (d : Inside) (event : Event) (journal : Vec Event) → IsDevice d → no_room (rows_of (history_of d)) event ≡ false →
+pub within_after : (d : Inside) (event : Event) (journal : Vec Event) → IsDevice d → no_room (rows_of (value_of d)) event ≡ false →
     vec_len journal ≡ vec_len d.journal + 1 → length journal.items ≤ d.limits.journal
 within_after d event journal h room len = omega (arith, fits_after d event h room, journal.ok.0)
 
-pub has_place : (d : Inside) (event : Event) → IsDevice d → no_room (rows_of (history_of d)) event ≡ false → vec_len d.journal < vec_capacity d.journal
-has_place d event h room = omega (arith, fits_after d event h room, h.reserved)
+pub has_room_for : (d : Inside) (event : Event) → IsDevice d → no_room (rows_of (value_of d)) event ≡ false → vec_len d.journal < vec_capacity d.journal
+has_room_for d event h room = omega (arith, fits_after d event h room, h.reserved)
 
 -- the fields after an event that was noted
 pub next_history : (d : Inside) (event : Event) (journal : Vec Event) (s : State) → journal.items ≡ d.journal.items ++ event ∷ [] → s.modes.topology ≡ d.state.modes.topology →
-    history_of (record { limits = d.limits; journal = journal; state = s }) ≡ noted_in (history_of d) event
+    value_of (record { limits = d.limits; journal = journal; state = s }) ≡ journaled_in (value_of d) event
 next_history d event journal s e fixed = λ i. record { topology = fixed i; limits = d.limits; journal = e i }
 
 pub next_rows : (d : Inside) (event : Event) (journal : Vec Event) (s : State) → journal.items ≡ d.journal.items ++ event ∷ [] → s.modes.topology ≡ d.state.modes.topology →
-    rows_of (history_of (record { limits = d.limits; journal = journal; state = s })) ≡ after (rows_of (history_of d)) event
-next_rows d event journal s e fixed = ap rows_of (next_history d event journal s e fixed) ∙ rows_noted (history_of d) event
+    rows_of (value_of (record { limits = d.limits; journal = journal; state = s })) ≡ after (rows_of (value_of d)) event
+next_rows d event journal s e fixed = ap rows_of (next_history d event journal s e fixed) ∙ rows_journaled (value_of d) event
 
 -- the same history, of another state
-pub same_history : (d : Inside) (s : State) → s.modes.topology ≡ d.state.modes.topology → history_of (record { limits = d.limits; journal = d.journal; state = s }) ≡ history_of d
+pub same_history : (d : Inside) (s : State) → s.modes.topology ≡ d.state.modes.topology → value_of (record { limits = d.limits; journal = d.journal; state = s }) ≡ value_of d
 same_history d s fixed = λ i. record { topology = fixed i; limits = d.limits; journal = d.journal.items }
 
 -- the fixed mode objects stay
-pub topology_same : (d : Inside) (s : State) (w : Rows) → Represents s w → w.topology ≡ (rows_of (history_of d)).topology → s.modes.topology ≡ d.state.modes.topology
-topology_same d s w r e = (bounds_are s w r).7 ∙ e ∙ rows_of-topology (history_of d)
+pub topology_same : (d : Inside) (s : State) (w : Rows) → Represents s w → w.topology ≡ (rows_of (value_of d)).topology → s.modes.topology ≡ d.state.modes.topology
+topology_same d s w r e = (bounds_are s w r).7 ∙ e ∙ rows_of-topology (value_of d)
 
-pub topology_after : (d : Inside) (event : Event) (s : State) → Represents s (after (rows_of (history_of d)) event) → s.modes.topology ≡ d.state.modes.topology
-topology_after d event s r = topology_same d s (after (rows_of (history_of d)) event) r (after-topology (rows_of (history_of d)) event)
+pub topology_after : (d : Inside) (event : Event) (s : State) → Represents s (after (rows_of (value_of d)) event) → s.modes.topology ≡ d.state.modes.topology
+topology_after d event s r = topology_same d s (after (rows_of (value_of d)) event) r (after-topology (rows_of (value_of d)) event)
 
 -- each event of the longer journal found room
-next_room : (d : Inside) (event : Event) → IsDevice d → no_room (rows_of (history_of d)) event ≡ false → FoundRoom (start_of (history_of d)) (d.journal.items ++ event ∷ [])
+next_room : (d : Inside) (event : Event) → IsDevice d → no_room (rows_of (value_of d)) event ≡ false → FoundRoom (start_of (value_of d)) (d.journal.items ++ event ∷ [])
 unfolding rows_of
-next_room d event h room = found_room_push (start_of (history_of d)) d.journal.items event h.found_room room
+next_room d event h room = found_room_push (start_of (value_of d)) d.journal.items event h.found_room room
 
-pub next_device : (d : Inside) (event : Event) (journal : Vec Event) (s : State) → IsDevice d → no_room (rows_of (history_of d)) event ≡ false →
+pub next_device : (d : Inside) (event : Event) (journal : Vec Event) (s : State) → IsDevice d → no_room (rows_of (value_of d)) event ≡ false →
     journal.items ≡ d.journal.items ++ event ∷ [] → vec_len journal ≡ vec_len d.journal + 1 → vec_capacity journal ≡ vec_capacity d.journal →
-    IsTied s → Represents s (after (rows_of (history_of d)) event) → IsDevice (record { limits = d.limits; journal = journal; state = s })
+    MeetsInvariants s → Represents s (after (rows_of (value_of d)) event) → IsDevice (record { limits = d.limits; journal = journal; state = s })
 next_device d event journal s h room items len capacity t r =
-    let count = represented_count s (after (rows_of (history_of d)) event) r in
+    let count = represented_count s (after (rows_of (value_of d)) event) r in
     let enough = fits_after d event h room in
     let fixed = topology_after d event s r in
     record {
       rows = subst (Represents s) (sym (next_rows d event journal s items fixed)) r;
-      tied = t;
-      found_room = subst (λ t. FoundRoom (empty_rows t d.limits) journal.items) (sym fixed) (subst (FoundRoom (start_of (history_of d))) (sym items) (next_room d event h room));
+      invariants = t;
+      found_room = subst (λ t. FoundRoom (empty_rows t d.limits) journal.items) (sym fixed) (subst (FoundRoom (start_of (value_of d))) (sym items) (next_room d event h room));
       places = omega arith;
       reserved = omega (arith, h.reserved);
       in_range = h.in_range;
@@ -131,14 +131,14 @@ next_device d event journal s h room items len capacity t r =
     }
 
 -- the fields after an event for which memory was short
-pub same_device : (d : Inside) (s : State) → IsDevice d → IsTied s → Represents s (rows_of (history_of d)) → IsDevice (record { limits = d.limits; journal = d.journal; state = s })
+pub same_device : (d : Inside) (s : State) → IsDevice d → MeetsInvariants s → Represents s (rows_of (value_of d)) → IsDevice (record { limits = d.limits; journal = d.journal; state = s })
 same_device d s h t r =
-    let now = represented_count s (rows_of (history_of d)) r in
-    let before = represented_count d.state (rows_of (history_of d)) h.rows in
-    let fixed = topology_same d s (rows_of (history_of d)) r refl in
+    let now = represented_count s (rows_of (value_of d)) r in
+    let before = represented_count d.state (rows_of (value_of d)) h.rows in
+    let fixed = topology_same d s (rows_of (value_of d)) r refl in
     let rows = subst (λ t. Represents s (rows_of (record { topology = t; limits = d.limits; journal = d.journal.items }))) (sym fixed) r in
     let found = subst (λ t. FoundRoom (empty_rows t d.limits) d.journal.items) (sym fixed) h.found_room in
-    record { rows = rows; tied = t; found_room = found; places = omega (arith, h.places); reserved = h.reserved; in_range = h.in_range; journal_fits = h.journal_fits }
+    record { rows = rows; invariants = t; found_room = found; places = omega (arith, h.places); reserved = h.reserved; in_range = h.in_range; journal_fits = h.journal_fits }
 
 -- a number that is tested for its range is at most the greatest
 at_most : (low high n : ℕ) → is_between low high n ≡ true → n ≤ high
@@ -210,18 +210,18 @@ all_dark : (x n : ℕ) → lit_rows x (replicate n 0) ≡ []
 all_dark x zero = refl
 all_dark x (suc n) = all_dark (x + 1) n
 
-start_represents : (t : Topology) (limits : Limits) (s : State) → IsStart s t limits → (part : Part) → stands_for part s (empty_rows t limits)
-unfolding stands_for
+start_represents : (t : Topology) (limits : Limits) (s : State) → IsStart s t limits → (part : Part) → represents_part part s (empty_rows t limits)
+unfolding represents_part
 start_represents t limits s is Bounds = (ap (λ (f : FileLists). f.limit) is.files, ap (λ (f : FileLists). f.last_handle) is.files, ap (λ (o : ObjectSet). o.limit) is.objects, ap (λ (l : NameList). l.last) is.names, ap (λ (l : TokenList). l.last) is.tokens, ap (λ (v : MasterSet). v.last_magic) is.masters, ap (λ (set : ModeSet). set.last) is.modes, ap (λ (set : ModeSet). set.topology) is.modes, ap (λ (v : MasterSet). v.last_lessee) is.masters, ap (λ (l : LeaseSet). l.last) is.leases)
 start_represents t limits s is Clients = sym (ap (λ (f : FileLists). map (client_row_of s.masters.members) f.clients) is.files)
 start_represents t limits s is Masters = sym (ap (λ (v : MasterSet). map (master_row_of s.leases.tokens) v.masters) is.masters)
 start_represents t limits s is Magics = λ test. sym (ap (λ (v : MasterSet). length (filter test (filter_map magic_row_of v.members))) is.masters)
-start_represents t limits s is Holds = λ test. sym (ap (λ (f : FileLists). length (filter test (map (hold_row_of s.objects.objects) f.holds))) is.files)
+start_represents t limits s is Holds = λ test. sym (ap (λ (f : FileLists). length (filter test (map (handle_row_of s.objects.objects) f.holds))) is.files)
 start_represents t limits s is Objects = sym (ap (λ (o : ObjectSet). map object_row_of o.objects) is.objects)
 start_represents t limits s is Names = λ test. sym (ap (λ (l : NameList). length (filter test (map (name_row_of s.objects.objects) l.names))) is.names)
 start_represents t limits s is Tokens = λ test. sym (ap (λ (l : TokenList). length (filter test (map (token_row_of s.objects.objects) l.tokens))) is.tokens)
 start_represents t limits s is Framebuffers = λ test. sym (ap (λ (set : ModeSet). length (filter test (map (framebuffer_row_of s.objects.objects) set.framebuffers))) is.modes)
-start_represents t limits s is Shown = λ test. sym (ap (λ (set : ModeSet). length (filter test (map shown_row_of (shown_rows set)))) is.modes ∙ ap (λ l. length (filter test (map shown_row_of l))) (all_dark 1 (screen_count t)))
+start_represents t limits s is Shown = λ test. sym (ap (λ (set : ModeSet). length (filter test (map shown_row_of (shown_rows set)))) is.modes ∙ ap (λ l. length (filter test (map shown_row_of l))) (all_dark 1 (scanout_count t)))
 start_represents t limits s is Grants = λ test. sym (ap (λ (l : LeaseSet). length (filter test (map grant_row_of l.grants))) is.leases)
 start_represents t limits s is LastLeaseToken = sym (ap (λ (l : LeaseSet). unwrap_or l.last_given 0) is.leases)
 start_represents t limits s is LastToken = sym (ap (λ (l : TokenList). unwrap_or l.last_given 0) is.tokens)
@@ -230,36 +230,36 @@ start_represents t limits s is DeviceMaster = sym (ap (λ (v : MasterSet). v.dev
 nobody : (clients lessees : ℕ) → AreMasters (no_masters clients lessees)
 nobody clients lessees = record { members_rise = tt; masters_rise = tt; lessors_older = tt; masters_there = tt; device_own = λ m e. absurd (let n : None ≡ Some m = e in cc); used = tt; magics_differ = tt; few = omega arith; device_owner = λ m e. absurd (let n : None ≡ Some m = e in cc); guests_of_owners = tt }
 
-start_tied : (t : Topology) (limits : Limits) (s : State) → IsStart s t limits → (tie : Tie) → is_tied tie s
-unfolding is_tied
-start_tied t limits s is MembersOpen = subst (λ (v : MasterSet). AllByRecursion (λ (x : Member). is_present s.files x.client ≡ true) v.members) (sym is.masters) tt
-start_tied t limits s is ClientsHave = subst (λ (f : FileLists). AllByRecursion (HasMaster s.masters) f.clients) (sym is.files) tt
-start_tied t limits s is MastersAre = subst AreMasters (sym is.masters) (nobody limits.clients limits.lessees)
-start_tied t limits s is LesseesFew = subst (λ (v : MasterSet). v.last_lessee ≤ 64) (sym is.masters) is.lessees_few
-start_tied t limits s is LeasesAre = is.leases_are
-start_tied t limits s is TokensOfLessees = subst (λ (l : LeaseSet). AreOfLessees l.tokens s.masters.masters) (sym is.leases) tt
-start_tied t limits s is KeptHaveTokens = subst (λ (v : MasterSet). AreKeptBy s.leases.tokens v.masters) (sym is.masters) tt
-start_tied t limits s is LeasesAgree = subst (λ (l : LeaseSet). AreAgreed l s.masters) (sym is.leases) tt
-start_tied t limits s is MagicsSuffice = ap (λ (v : MasterSet). v.last_magic) is.masters ∙ sym (ap (λ (f : FileLists). f.limit) is.files)
-start_tied t limits s is ModesAre = is.modes_are
-start_tied t limits s is HoldsRise = subst (λ (f : FileLists). InOrder (λ (x y : FileHold). hold_before x y ≡ true) f.holds) (sym is.files) tt
-start_tied t limits s is ObjectsCounted =
-    subst (λ (f : FileLists). AreTied (keys_of f.holds) (referring_keys s) s.objects.objects) (sym is.files)
-    (subst (λ (l : TokenList). AreTied [] (referring l.tokens s.modes.framebuffers) s.objects.objects) (sym is.tokens)
-    (subst (λ (set : ModeSet). AreTied [] (framebuffer_keys set.framebuffers) s.objects.objects) (sym is.modes)
-    (subst (λ (o : ObjectSet). AreTied [] [] o.objects) (sym is.objects) (record { there = λ n h. absurd (let k : false ≡ true = h in cc); counted = tt; used = tt; keys_differ = tt; births_differ = tt }))))
-start_tied t limits s is NamesHeld = subst (λ (l : NameList). AreNamed (keys_of s.files.holds) l.names) (sym is.names) tt
+start_invariants : (t : Topology) (limits : Limits) (s : State) → IsStart s t limits → (invariant : Invariant) → meets_invariant invariant s
+unfolding meets_invariant
+start_invariants t limits s is MembersOpen = subst (λ (v : MasterSet). AllByRecursion (λ (x : Member). is_open_client s.files x.client ≡ true) v.members) (sym is.masters) tt
+start_invariants t limits s is ClientsHave = subst (λ (f : FileLists). AllByRecursion (HasMaster s.masters) f.clients) (sym is.files) tt
+start_invariants t limits s is MastersAre = subst AreMasters (sym is.masters) (nobody limits.clients limits.lessees)
+start_invariants t limits s is LesseesFew = subst (λ (v : MasterSet). v.last_lessee ≤ 64) (sym is.masters) is.lessees_few
+start_invariants t limits s is LeasesAre = is.leases_are
+start_invariants t limits s is TokensOfLessees = subst (λ (l : LeaseSet). AreOfLessees l.tokens s.masters.masters) (sym is.leases) tt
+start_invariants t limits s is KeptHaveTokens = subst (λ (v : MasterSet). AreKeptBy s.leases.tokens v.masters) (sym is.masters) tt
+start_invariants t limits s is LeasesAgree = subst (λ (l : LeaseSet). AreAgreed l s.masters) (sym is.leases) tt
+start_invariants t limits s is MagicsSuffice = ap (λ (v : MasterSet). v.last_magic) is.masters ∙ sym (ap (λ (f : FileLists). f.limit) is.files)
+start_invariants t limits s is ModesAre = is.modes_are
+start_invariants t limits s is HoldsRise = subst (λ (f : FileLists). InOrder (λ (x y : FileHandle). handle_before x y ≡ true) f.holds) (sym is.files) tt
+start_invariants t limits s is ObjectsCounted =
+    subst (λ (f : FileLists). AreCounted (keys_of f.holds) (referring_keys s) s.objects.objects) (sym is.files)
+    (subst (λ (l : TokenList). AreCounted [] (referring l.tokens s.modes.framebuffers) s.objects.objects) (sym is.tokens)
+    (subst (λ (set : ModeSet). AreCounted [] (framebuffer_keys set.framebuffers) s.objects.objects) (sym is.modes)
+    (subst (λ (o : ObjectSet). AreCounted [] [] o.objects) (sym is.objects) (record { there = λ n h. absurd (let k : false ≡ true = h in cc); counted = tt; used = tt; keys_differ = tt; step_numbers_differ = tt }))))
+start_invariants t limits s is NamesHeld = subst (λ (l : NameList). AreNamed (keys_of s.files.holds) l.names) (sym is.names) tt
 
 pub new_device : (d : Inside) (t : Topology) → are_in_range d.limits ≡ true → d.journal.items ≡ [] → d.limits.journal ≤ vec_capacity d.journal → IsStart d.state t d.limits → IsDevice d
 unfolding rows_of run FoundRoom
 new_device d t good e room is =
     let fixed : d.state.modes.topology ≡ t = ap (λ (set : ModeSet). set.topology) is.modes in
-    let start : rows_of (history_of d) ≡ empty_rows t d.limits = ap (run (empty_rows d.state.modes.topology d.limits)) e ∙ ap (λ t. empty_rows t d.limits) fixed in
+    let start : rows_of (value_of d) ≡ empty_rows t d.limits = ap (run (empty_rows d.state.modes.topology d.limits)) e ∙ ap (λ t. empty_rows t d.limits) fixed in
     let journal : vec_len d.journal ≡ 0 = d.journal.ok.0 ∙ ap length e in
     let clients : length d.state.files.clients ≡ 0 = ap (λ (f : FileLists). length f.clients) is.files in
     record {
       rows = subst (Represents d.state) (sym start) (start_represents t d.limits d.state is);
-      tied = start_tied t d.limits d.state is;
+      invariants = start_invariants t d.limits d.state is;
       found_room = subst (FoundRoom (empty_rows d.state.modes.topology d.limits)) (sym e) tt;
       places = omega arith;
       reserved = room;
@@ -273,27 +273,27 @@ not_later : (n last : ℕ) → n ≤ last → n < last + 1
 not_later n last h = omega (arith, h)
 
 -- what is so of the fixed mode objects
-pub fixed_topology : (d : Inside) → IsDevice d → IsTopology (history_of d).topology
-fixed_topology d h = (modes_so d.state h.tied).topology
+pub fixed_topology : (d : Inside) → IsDevice d → IsTopology (value_of d).topology
+fixed_topology d h = (modes_so d.state h.invariants).topology
 
 -- a step makes one handle, one token and one framebuffer at most
-few_holds : (d : Inside) → IsDevice d → length (rows_of (history_of d)).holds ≤ (rows_of (history_of d)).steps
+few_holds : (d : Inside) → IsDevice d → length (rows_of (value_of d)).holds ≤ (rows_of (value_of d)).steps
 unfolding count_in
-few_holds d h = few_rows (history_of d) (fixed_topology d h) Holds
+few_holds d h = few_rows (value_of d) (fixed_topology d h) Holds
 
-few_tokens : (d : Inside) → IsDevice d → length (rows_of (history_of d)).tokens ≤ (rows_of (history_of d)).steps
+few_tokens : (d : Inside) → IsDevice d → length (rows_of (value_of d)).tokens ≤ (rows_of (value_of d)).steps
 unfolding count_in
-few_tokens d h = few_rows (history_of d) (fixed_topology d h) Tokens
+few_tokens d h = few_rows (value_of d) (fixed_topology d h) Tokens
 
-few_framebuffers : (d : Inside) → IsDevice d → length (rows_of (history_of d)).framebuffers ≤ (rows_of (history_of d)).steps
+few_framebuffers : (d : Inside) → IsDevice d → length (rows_of (value_of d)).framebuffers ≤ (rows_of (value_of d)).steps
 unfolding count_in
-few_framebuffers d h = few_rows (history_of d) (fixed_topology d h) Framebuffers
+few_framebuffers d h = few_rows (value_of d) (fixed_topology d h) Framebuffers
 
 framebuffers_many : (s : State) (w : Rows) → Represents s w → length w.framebuffers ≡ length s.modes.framebuffers
 framebuffers_many s w h = same-length w.framebuffers (framebuffers_of s) (framebuffers_are s w h) ∙ length-map s.modes.framebuffers (framebuffer_row_of s.objects.objects)
 
 holds_many : (s : State) (w : Rows) → Represents s w → length w.holds ≡ length s.files.holds
-holds_many s w h = same-length w.holds (holds_of s) (holds_are s w h) ∙ length-map s.files.holds (hold_row_of s.objects.objects)
+holds_many s w h = same-length w.holds (holds_of s) (holds_are s w h) ∙ length-map s.files.holds (handle_row_of s.objects.objects)
 
 tokens_many : (s : State) (w : Rows) → Represents s w → length w.tokens ≡ length s.tokens.tokens
 tokens_many s w h = same-length w.tokens (tokens_of s) (tokens_are s w h) ∙ length-map s.tokens.tokens (token_row_of s.objects.objects)
@@ -312,15 +312,15 @@ all_under last (row ∷ rows) h = let k = neither (nat_lt last row.master) (list
     neither false b e = (refl, e)
 
 -- a lessee is a master that is there
-lessee_made : (last m : ℕ) (ms : List Master) → AllByRecursion (λ (x : Master). x.birth < last + 1) ms → is_lessee ms m ≡ true → m < last + 1
-lessee_made last m ms h e = by_row (find (is_birth m) ms) refl e
+lessee_made : (last m : ℕ) (ms : List Master) → AllByRecursion (λ (x : Master). x.step_number < last + 1) ms → is_lessee ms m ≡ true → m < last + 1
+lessee_made last m ms h e = by_row (find (is_step_number m) ms) refl e
   where
-    by_row : (o : Option Master) → find (is_birth m) ms ≡ o → is_some (option_and_then (λ (x : Master). x.lessor) o) ≡ true → m < last + 1
+    by_row : (o : Option Master) → find (is_step_number m) ms ≡ o → is_some (option_and_then (λ (x : Master). x.lessor) o) ≡ true → m < last + 1
     by_row None k j = absurd (let n : false ≡ true = j in cc)
-    by_row (Some x) k j = let it = found (is_birth m) (λ (x : Master). x.birth < last + 1) x ms h k in subst (λ n. n < last + 1) (eqb-true x.birth m it.0) it.1
+    by_row (Some x) k j = let it = found (is_step_number m) (λ (x : Master). x.step_number < last + 1) x ms h k in subst (λ n. n < last + 1) (eqb-true x.step_number m it.0) it.1
 
 -- the lessees of tokens and grants were made
-leases_later : (s : State) (w : Rows) → IsTied s → Represents s w → GrantsMade w.steps w → AllByRecursion (λ (x : Master). x.birth < w.steps + 1) s.masters.masters → IsNewLessee s.leases (w.steps + 1)
+leases_later : (s : State) (w : Rows) → MeetsInvariants s → Represents s w → GrantsMade w.steps w → AllByRecursion (λ (x : Master). x.step_number < w.steps + 1) s.masters.masters → IsNewLessee s.leases (w.steps + 1)
 leases_later s w t h made older = record {
   tokens = all_weaker (λ (row : LeaseToken). is_lessee s.masters.masters row.master ≡ true) (λ (row : LeaseToken). row.master < w.steps + 1) (λ row e. lessee_made w.steps row.master s.masters.masters older e) s.leases.tokens (tokens_of_lessees s t);
   grants = all_of_map (λ (row : GrantRow). row.master < w.steps + 1) grant_row_of s.leases.grants
@@ -328,30 +328,30 @@ leases_later s w t h made older = record {
 }
 
 -- it is later than all that is there
-pub ready : (d : Inside) (n : ℕ) → IsDevice d → n ≡ vec_len d.journal → IsReady d.state (n + 1)
-ready d n h e =
-    let w = rows_of (history_of d) in
-    let steps : w.steps ≡ n = rows_of-steps (history_of d) ∙ sym d.journal.ok.0 ∙ sym e in
-    let births = births_rise (history_of d) in
-    let masters = all_weaker (λ (x : Master). x.birth ≤ w.steps) (λ (x : Master). x.birth < w.steps + 1) (λ x k. not_later x.birth w.steps k) d.state.masters.masters (all_of_map (λ (row : MasterRow). row.master ≤ w.steps) (master_row_of d.state.leases.tokens) d.state.masters.masters (subst (AllByRecursion (λ (row : MasterRow). row.master ≤ w.steps)) (masters_are d.state w h.rows) births.1.1)) in
+pub precondition : (d : Inside) (n : ℕ) → IsDevice d → n ≡ vec_len d.journal → StepPrecondition d.state (n + 1)
+precondition d n h e =
+    let w = rows_of (value_of d) in
+    let steps : w.steps ≡ n = rows_of-steps (value_of d) ∙ sym d.journal.ok.0 ∙ sym e in
+    let step_numbers = step_numbers_rise (value_of d) in
+    let masters = all_weaker (λ (x : Master). x.step_number ≤ w.steps) (λ (x : Master). x.step_number < w.steps + 1) (λ x k. not_later x.step_number w.steps k) d.state.masters.masters (all_of_map (λ (row : MasterRow). row.master ≤ w.steps) (master_row_of d.state.leases.tokens) d.state.masters.masters (subst (AllByRecursion (λ (row : MasterRow). row.master ≤ w.steps)) (masters_are d.state w h.rows) step_numbers.1.1)) in
     let later : IsLater d.state (w.steps + 1) = record {
-      clients = all_weaker (λ (f : FileClient). f.client ≤ w.steps) (λ (f : FileClient). f.client < w.steps + 1) (λ f k. not_later f.client w.steps k) d.state.files.clients (all_of_map (λ (row : ClientRow). row.client ≤ w.steps) (client_row_of d.state.masters.members) d.state.files.clients (subst (AllByRecursion (λ (row : ClientRow). row.client ≤ w.steps)) (clients_are d.state w h.rows) births.0.1));
-      objects = all_weaker (λ (x : Object). x.birth ≤ w.steps) (λ (x : Object). x.birth < w.steps + 1) (λ x k. not_later x.birth w.steps k) d.state.objects.objects (all_of_map (λ (row : ObjectRow). row.object ≤ w.steps) object_row_of d.state.objects.objects (subst (AllByRecursion (λ (row : ObjectRow). row.object ≤ w.steps)) (objects_are d.state w h.rows) births.2.1));
+      clients = all_weaker (λ (f : FileClient). f.client ≤ w.steps) (λ (f : FileClient). f.client < w.steps + 1) (λ f k. not_later f.client w.steps k) d.state.files.clients (all_of_map (λ (row : ClientRow). row.client ≤ w.steps) (client_row_of d.state.masters.members) d.state.files.clients (subst (AllByRecursion (λ (row : ClientRow). row.client ≤ w.steps)) (clients_are d.state w h.rows) step_numbers.0.1));
+      objects = all_weaker (λ (x : Object). x.step_number ≤ w.steps) (λ (x : Object). x.step_number < w.steps + 1) (λ x k. not_later x.step_number w.steps k) d.state.objects.objects (all_of_map (λ (row : ObjectRow). row.object ≤ w.steps) object_row_of d.state.objects.objects (subst (AllByRecursion (λ (row : ObjectRow). row.object ≤ w.steps)) (objects_are d.state w h.rows) step_numbers.2.1));
       masters = masters;
-      leases = leases_later d.state w h.tied h.rows (grants_made (history_of d)) masters;
+      leases = leases_later d.state w h.invariants h.rows (grants_made (value_of d)) masters;
       holds = not_later (length d.state.files.holds) w.steps (subst (λ n. n ≤ w.steps) (holds_many d.state w h.rows) (few_holds d h));
       tokens = not_later (length d.state.tokens.tokens) w.steps (subst (λ n. n ≤ w.steps) (tokens_many d.state w h.rows) (few_tokens d h));
       framebuffers = not_later (length d.state.modes.framebuffers) w.steps (subst (λ n. n ≤ w.steps) (framebuffers_many d.state w h.rows) (few_framebuffers d h));
     } in
-    record { tied = h.tied; later = subst (λ last. IsLater d.state (last + 1)) steps later; first = omega arith; fits = let places = h.places in let journal = h.journal_fits in omega (arith, e, places, journal) }
+    record { invariants = h.invariants; later = subst (λ last. IsLater d.state (last + 1)) steps later; first = omega arith; fits = let places = h.places in let journal = h.journal_fits in omega (arith, e, places, journal) }
 
 -- ---- what is answered
 
 -- an answer holds few ids
-pub few_answer : (d : Inside) (event : Event) → IsDevice d → IsFew (Ok (reply (rows_of (history_of d)) event))
+pub few_answer : (d : Inside) (event : Event) → IsDevice d → FitsOneFrame (Ok (reply (rows_of (value_of d)) event))
 few_answer d event h =
-    let w = rows_of (history_of d) in
-    let are = modes_so d.state h.tied in
+    let w = rows_of (value_of d) in
+    let are = modes_so d.state h.invariants in
     few_reply w event (subst IsTopology ((bounds_are d.state w h.rows).7) are.topology) (subst (λ n. n ≤ 64) (sym (framebuffers_many d.state w h.rows)) are.few)
 
 -- ---- room in the journal
@@ -359,29 +359,29 @@ few_answer d event h =
 not_less : (a b : ℕ) → nat_le b a ≡ not (nat_lt a b)
 not_less a b = grind (arith, nat_tests)
 
-places_are : (d : Inside) → places_left (rows_of (history_of d)) ≡ d.limits.journal - vec_len d.journal
-places_are d = ap (λ (l : Limits). l.journal - (rows_of (history_of d)).steps) (rows_of-limits (history_of d)) ∙ ap (λ n. d.limits.journal - n) (rows_of-steps (history_of d) ∙ sym d.journal.ok.0)
+places_are : (d : Inside) → places_left (rows_of (value_of d)) ≡ d.limits.journal - vec_len d.journal
+places_are d = ap (λ (l : Limits). l.journal - (rows_of (value_of d)).steps) (rows_of-limits (value_of d)) ∙ ap (λ n. d.limits.journal - n) (rows_of-steps (value_of d) ∙ sym d.journal.ok.0)
 
-pub room_to_open : (d : Inside) → IsDevice d → (opening : Opening) → nat_le (length d.state.files.clients + 2) (d.limits.journal - vec_len d.journal) ≡ not (no_room (rows_of (history_of d)) (Open opening))
+pub room_to_open : (d : Inside) → IsDevice d → (opening : Opening) → nat_le (length d.state.files.clients + 2) (d.limits.journal - vec_len d.journal) ≡ not (no_room (rows_of (value_of d)) (Open opening))
 unfolding no_room
-room_to_open d h opening = rw (places_are d, represented_count d.state (rows_of (history_of d)) h.rows) (not_less (d.limits.journal - vec_len d.journal) (length d.state.files.clients + 2))
+room_to_open d h opening = rw (places_are d, represented_count d.state (rows_of (value_of d)) h.rows) (not_less (d.limits.journal - vec_len d.journal) (length d.state.files.clients + 2))
 
-pub room_to_ask : (d : Inside) → IsDevice d → (c : ℕ) (call : Call) → nat_le (length d.state.files.clients + 1) (d.limits.journal - vec_len d.journal) ≡ not (no_room (rows_of (history_of d)) (Ask c call))
+pub room_to_ask : (d : Inside) → IsDevice d → (c : ℕ) (call : Call) → nat_le (length d.state.files.clients + 1) (d.limits.journal - vec_len d.journal) ≡ not (no_room (rows_of (value_of d)) (Ask c call))
 unfolding no_room
-room_to_ask d h c call = rw (places_are d, represented_count d.state (rows_of (history_of d)) h.rows) (not_less (d.limits.journal - vec_len d.journal) (length d.state.files.clients + 1))
+room_to_ask d h c call = rw (places_are d, represented_count d.state (rows_of (value_of d)) h.rows) (not_less (d.limits.journal - vec_len d.journal) (length d.state.files.clients + 1))
 
-pub room_to_close_open : (d : Inside) → IsDevice d → (c : ℕ) → is_present d.state.files c ≡ true → true ≡ not (no_room (rows_of (history_of d)) (Close c))
+pub room_to_close_open : (d : Inside) → IsDevice d → (c : ℕ) → is_open_client d.state.files c ≡ true → true ≡ not (no_room (rows_of (value_of d)) (Close c))
 unfolding no_room
-room_to_close_open d h c e = rw (is_open_is d.state (rows_of (history_of d)) h.rows c, e) refl
+room_to_close_open d h c e = rw (is_open_is d.state (rows_of (value_of d)) h.rows c, e) refl
 
-pub room_to_close : (d : Inside) → IsDevice d → (c : ℕ) → is_present d.state.files c ≡ false →
-    nat_le (length d.state.files.clients + 1) (d.limits.journal - vec_len d.journal) ≡ not (no_room (rows_of (history_of d)) (Close c))
+pub room_to_close : (d : Inside) → IsDevice d → (c : ℕ) → is_open_client d.state.files c ≡ false →
+    nat_le (length d.state.files.clients + 1) (d.limits.journal - vec_len d.journal) ≡ not (no_room (rows_of (value_of d)) (Close c))
 unfolding no_room
 room_to_close d h c e =
-    rw (is_open_is d.state (rows_of (history_of d)) h.rows c, e, places_are d, represented_count d.state (rows_of (history_of d)) h.rows) (not_less (d.limits.journal - vec_len d.journal) (length d.state.files.clients + 1))
+    rw (is_open_is d.state (rows_of (value_of d)) h.rows c, e, places_are d, represented_count d.state (rows_of (value_of d)) h.rows) (not_less (d.limits.journal - vec_len d.journal) (length d.state.files.clients + 1))
 
 -- what is left beside the places of the closings
 pub journal_left_is : (d : Inside) → IsDevice d →
-    d.limits.journal - vec_len d.journal - length d.state.files.clients + length d.journal.items + length (rows_of (history_of d)).clients ≡ d.limits.journal
+    d.limits.journal - vec_len d.journal - length d.state.files.clients + length d.journal.items + length (rows_of (value_of d)).clients ≡ d.limits.journal
 journal_left_is d h =
-    let count = represented_count d.state (rows_of (history_of d)) h.rows in omega (arith, h.places, d.journal.ok.0)
+    let count = represented_count d.state (rows_of (value_of d)) h.rows in omega (arith, h.places, d.journal.ok.0)

@@ -1,3 +1,4 @@
 pub mod Devices
 pub mod AuditRows
 pub mod Crossing
+pub mod Unadmitted

@@ -2,20 +2,20 @@
 use Rattle.std.specs.Prelude.{◌≡◌, ◌+◌, ◌≤◌, true, length}
 use Rattle.std.specs.Vec.{vec_len, vec_capacity}
 use Rattle.drm_table.specs.Limits.{are_in_range}
-use Rattle.drm_model.specs.Run.{History, FoundRoom, rows_of, start_of}
+use Rattle.drm_model.specs.Run.{DeviceValue, FoundRoom, rows_of, start_of}
 use Rattle.drm_device.specs.declared.device.Device.TheInside.{Inside}
-use Rattle.drm_state.specs.Ties.{IsTied}
+use Rattle.drm_state.specs.Invariants.{MeetsInvariants}
 use Rattle.drm_state.specs.Refinement.{Represents}
 
-abbrev pub history_of : Inside → History
-history_of d = record { topology = d.state.modes.topology; limits = d.limits; journal = d.journal.items }
+abbrev pub value_of : Inside → DeviceValue
+value_of d = record { topology = d.state.modes.topology; limits = d.limits; journal = d.journal.items }
 
 -- the state stands for the rows of the journal; each of its events found room, and it has places for the closings of the
 -- open clients; its storage is there, and the limits are in their ranges, small enough to count with
 pub record IsDevice (d : Inside) : Type 0 where
-  pub rows : Represents d.state (rows_of (history_of d))
-  pub tied : IsTied d.state
-  pub found_room : FoundRoom (start_of (history_of d)) d.journal.items
+  pub rows : Represents d.state (rows_of (value_of d))
+  pub invariants : MeetsInvariants d.state
+  pub found_room : FoundRoom (start_of (value_of d)) d.journal.items
   pub places : vec_len d.journal + length d.state.files.clients ≤ d.limits.journal
   pub reserved : d.limits.journal ≤ vec_capacity d.journal
   pub in_range : are_in_range d.limits ≡ true

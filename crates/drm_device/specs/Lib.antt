@@ -1,4 +1,3 @@
 pub mod Audits
-pub mod Calls
 pub mod Device
 pub mod Replay

@@ -4,13 +4,13 @@ use Rattle.drm_table.specs.declared.apart.Apart.{Apart}
 use Rattle.drm_table.specs.declared.events.Event.{Event}
 use Rattle.drm_table.specs.declared.limits.Limits.{Limits}
 use Rattle.drm_modes.specs.Topology.{Topology}
-use Rattle.drm_model.specs.Run.{History, FoundRoom, rows_of, start_of, Step}
+use Rattle.drm_model.specs.Run.{DeviceValue, FoundRoom, rows_of, start_of, Step}
 use Rattle.drm_device.specs.declared.device.NewFault.TheVariants.{BadLimits, NoMemory}
 use Rattle.drm_device.specs.declared.replays.ReplayFault.{ReplayFault}
 use Rattle.drm_device.specs.declared.replays.ReplayFault.TheVariants.{New, Stopped}
 use Rattle.drm_table.specs.Limits.{are_in_range}
 
-abbrev pub history_before : Topology → Limits → List Event → ℕ → History
+abbrev pub history_before : Topology → Limits → List Event → ℕ → DeviceValue
 history_before topology limits events n = record { topology = topology; limits = limits; journal = take n events }
 
 -- the events before this place found room, so that they were noted; the one at it is refused, and why
@@ -21,7 +21,7 @@ pub record StopsAt (topology : Topology) (limits : Limits) (events : List Event)
   pub is_there : slice_get events index ≡ Some event
   pub refused : Step (rows_of (history_before topology limits events index)) event (Err apart) (rows_of (history_before topology limits events index))
 
-unfoldable pub IsReplay : Topology → Limits → List Event → Result History ReplayFault → Type 0
+unfoldable pub IsReplay : Topology → Limits → List Event → Result DeviceValue ReplayFault → Type 0
 IsReplay topology limits events (Ok device) = device ≡ record { topology = topology; limits = limits; journal = events }
 IsReplay topology limits events (Err (New BadLimits)) = are_in_range limits ≡ false
 IsReplay topology limits events (Err (New NoMemory)) = Unit {0}

@@ -6,15 +6,15 @@ ghost use Rattle.drm_model.specs.Rows.{Rows};
 ghost use Rattle.drm_model.specs.Audit as model;
 ghost use Rattle.std.specs.Option.{option_map, option_map_or, option_and_then};
 ghost use Rattle.drm_model.specs.Rows.{magic_row};
-ghost use Rattle.drm_model.specs.Audit.{audit_row, client_audit, framebuffer_audit, grant_audit, hold_audit, master_audit, name_audit, shown_audit, token_audit};
+ghost use Rattle.drm_model.specs.Audit.{audit_row, client_audit, framebuffer_audit, grant_audit, handle_audit, master_audit, name_audit, shown_audit, token_audit};
 ghost use Rattle.drm_share.specs.Names.{AreNames};
 ghost use Rattle.drm_share.specs.Tokens.{AreTokens};
 ghost use Rattle.drm_modes.specs.Modes.{shown_rows};
 ghost use Rattle.drm_leases.specs.declared.rows.LeaseToken.{LeaseToken};
 ghost use Rattle.drm_leases.specs.Leases.{token_of};
 ghost use Rattle.drm_state.specs.Parts.{client_row_by, grant_row_of, magic_row_of, master_row_of, framebuffers_of, holds_of, names_of, shown_row_of, tokens_of};
-ghost use Rattle.drm_state.specs.Ties.{IsTied};
-ghost use Rattle.drm_state.specs.Refinement.{OwesCall};
+ghost use Rattle.drm_state.specs.Invariants.{MeetsInvariants};
+ghost use Rattle.drm_state.specs.Refinement.{RefinesCall};
 ghost use Rattle.drm_device.specs.Audits.{IsPage, IsRowAt};
 
 use drm_files::FileClient;
@@ -29,24 +29,24 @@ use drm_table::{Answer, AuditKind, AuditPage, AuditRow};
 const PAGE: usize = 16;
 
 /// AUDIT: a page of rows, as they stand before the step of this number. It takes no memory and asks for no limit.
-pub fn audit(state: &State, birth: u32, kind: AuditKind, from: u32) -> Answer
-    requires birth { 1 ≤ birth }
-    requires tied { IsTied state.now }
-    ensures { (client : ℕ) → OwesCall state.now birth client (Audit kind from) (Ok result) state.now }
+pub fn audit(state: &State, step_number: u32, kind: AuditKind, from: u32) -> Answer
+    requires step_number { 1 ≤ step_number }
+    requires invariants { MeetsInvariants state.now }
+    ensures { (client : ℕ) → RefinesCall state.now step_number client (Audit kind from) (Ok result) state.now }
 {
     Answer::Audit {
-        page: page_of(state, birth - 1, kind, from),
+        page: page_of(state, step_number - 1, kind, from),
     }
 }
 
 /// The page of a kind behind the first rows, where so many steps were noted.
 pub fn page_of(state: &State, steps: u32, kind: AuditKind, from: u32) -> AuditPage
-    requires { IsTied state.now }
+    requires { MeetsInvariants state.now }
     ensures { IsPage state.now steps kind from result }
 {
     let mut page = AuditPage::new();
-    for place in 0..PAGE {
-        match row_at(state, steps, kind, from as usize + place) {
+    for position in 0..PAGE {
+        match row_at(state, steps, kind, from as usize + position) {
             Some(row) => page.push(row),
             None => return page,
         }
@@ -55,25 +55,25 @@ pub fn page_of(state: &State, steps: u32, kind: AuditKind, from: u32) -> AuditPa
 }
 
 /// The row of a kind at a place, from 0, in the order of the rows' numbers; none past the last.
-fn row_at(state: &State, steps: u32, kind: AuditKind, place: usize) -> Option<AuditRow>
-    requires { IsTied state.now }
-    ensures { IsRowAt state.now steps kind place result }
+fn row_at(state: &State, steps: u32, kind: AuditKind, position: usize) -> Option<AuditRow>
+    requires { MeetsInvariants state.now }
+    ensures { IsRowAt state.now steps kind position result }
 {
     match kind {
         AuditKind::Client => {
-            let file = state.files.nth_client(place)?;
+            let file = state.files.nth_client(position)?;
             Some(client_row(file, state.masters.member(file.client)))
         }
         AuditKind::Master => {
-            let master = state.masters.nth_master(place)?;
-            Some(master_row(master, state.leases.token_of(master.birth)))
+            let master = state.masters.nth_master(position)?;
+            Some(master_row(master, state.leases.token_of(master.step_number)))
         }
-        AuditKind::Object => Some(object_row(state.objects.nth(place)?)),
-        AuditKind::Name => name_at(state, place),
-        AuditKind::Token => token_at(state, place),
-        AuditKind::Hold => hold_at(state, place),
-        AuditKind::Framebuffer => framebuffer_at(state, place),
-        AuditKind::Shown => shown_at(&state.modes, place),
+        AuditKind::Object => Some(object_row(state.objects.nth(position)?)),
+        AuditKind::Name => name_at(state, position),
+        AuditKind::Token => token_at(state, position),
+        AuditKind::Hold => handle_at(state, position),
+        AuditKind::Framebuffer => framebuffer_at(state, position),
+        AuditKind::Shown => shown_at(&state.modes, position),
         AuditKind::Device => {
             let tokens = LastTokens {
                 token: state.tokens.last_given(),
@@ -81,18 +81,18 @@ fn row_at(state: &State, steps: u32, kind: AuditKind, place: usize) -> Option<Au
             };
             item_at(
                 &[device_row(state.masters.device_master(), tokens, steps)],
-                place,
+                position,
             )
         }
-        AuditKind::Grant => grant_at(&state.leases, place),
+        AuditKind::Grant => grant_at(&state.leases, position),
     }
 }
 
 /// The item at a place, from 0.
-pub fn item_at<T: Copy>(items: &[T], place: usize) -> Option<T>
-    ensures { result ≡ slice_get items.now place }
+pub fn item_at<T: Copy>(items: &[T], position: usize) -> Option<T>
+    ensures { result ≡ slice_get items.now position }
 {
-    items.get(place).copied()
+    items.get(position).copied()
 }
 
 /// What is told of a client, by its file and by how it stands to masters; its magic is told with it.
@@ -170,10 +170,10 @@ fn number_of(magic: Option<Magic>) -> u64
 
 /// What is told of a master, and of the lease token that opens a client of it.
 fn master_row(master: Master, token: Option<u32>) -> AuditRow
-    ensures { (tokens : List LeaseToken) → token ≡ token_of tokens master.birth → result ≡ master_audit (master_row_of tokens master) }
+    ensures { (tokens : List LeaseToken) → token ≡ token_of tokens master.step_number → result ≡ master_audit (master_row_of tokens master) }
 {
     AuditRow {
-        a: master.birth as u64,
+        a: master.step_number as u64,
         b: or_zero(master.lessor),
         c: master.lessee_id as u64,
         d: or_zero(token),
@@ -182,10 +182,10 @@ fn master_row(master: Master, token: Option<u32>) -> AuditRow
 
 /// What is told of an object.
 fn object_row(object: Object) -> AuditRow
-    ensures { result ≡ audit_row object.birth object.size object.holds object.refs }
+    ensures { result ≡ audit_row object.step_number object.size object.holds object.refs }
 {
     AuditRow {
-        a: object.birth as u64,
+        a: object.step_number as u64,
         b: object.size,
         c: object.holds as u64,
         d: object.refs as u64,
@@ -193,70 +193,70 @@ fn object_row(object: Object) -> AuditRow
 }
 
 /// What is told of the handle at a place, from 0, in the order of clients and handles; none past the last.
-fn hold_at(state: &State, place: usize) -> Option<AuditRow>
-    requires { IsTied state.now }
-    ensures { result ≡ slice_get (map hold_audit (holds_of state.now)) place }
+fn handle_at(state: &State, position: usize) -> Option<AuditRow>
+    requires { MeetsInvariants state.now }
+    ensures { result ≡ slice_get (map handle_audit (holds_of state.now)) position }
 {
-    let hold = state.files.nth_hold(place)?;
+    let hold = state.files.nth_handle(position)?;
     Some(AuditRow {
         a: hold.client as u64,
         b: hold.handle as u64,
-        c: state.objects.birth(hold.object) as u64,
-        d: or_zero(hold.place),
+        c: state.objects.step_number(hold.object) as u64,
+        d: or_zero(hold.export_order),
     })
 }
 
 /// What is told of the name at a place, from 0, in the order of names; none past the last.
-fn name_at(state: &State, place: usize) -> Option<AuditRow>
-    requires { IsTied state.now }
-    ensures row { result ≡ slice_get (map name_audit (names_of state.now)) place }
+fn name_at(state: &State, position: usize) -> Option<AuditRow>
+    requires { MeetsInvariants state.now }
+    ensures row { result ≡ slice_get (map name_audit (names_of state.now)) position }
     ensures names { AreNames state.now.names }
 {
-    let shared = state.names.nth(place)?;
+    let shared = state.names.nth(position)?;
     Some(AuditRow {
         a: shared.name as u64,
-        b: state.objects.birth(shared.object) as u64,
+        b: state.objects.step_number(shared.object) as u64,
         c: 0,
         d: 0,
     })
 }
 
 /// What is told of the token at a place, from 0, in the order of tokens; none past the last.
-fn token_at(state: &State, place: usize) -> Option<AuditRow>
-    requires { IsTied state.now }
-    ensures row { result ≡ slice_get (map token_audit (tokens_of state.now)) place }
+fn token_at(state: &State, position: usize) -> Option<AuditRow>
+    requires { MeetsInvariants state.now }
+    ensures row { result ≡ slice_get (map token_audit (tokens_of state.now)) position }
     ensures tokens { AreTokens state.now.tokens }
 {
-    let shared = state.tokens.nth(place)?;
+    let shared = state.tokens.nth(position)?;
     Some(AuditRow {
         a: shared.token as u64,
         b: shared.client as u64,
-        c: state.objects.birth(shared.object) as u64,
+        c: state.objects.step_number(shared.object) as u64,
         d: 0,
     })
 }
 
 /// What is told of the framebuffer at a place, from 0, in the order of ids; none past the last.
-fn framebuffer_at(state: &State, place: usize) -> Option<AuditRow>
-    requires { IsTied state.now }
-    ensures { result ≡ slice_get (map framebuffer_audit (framebuffers_of state.now)) place }
+fn framebuffer_at(state: &State, position: usize) -> Option<AuditRow>
+    requires { MeetsInvariants state.now }
+    ensures { result ≡ slice_get (map framebuffer_audit (framebuffers_of state.now)) position }
 {
-    let made = state.modes.nth_framebuffer(place)?;
+    let made = state.modes.nth_framebuffer(position)?;
     Some(AuditRow {
         a: made.framebuffer as u64,
         b: made.client as u64,
-        c: state.objects.birth(made.object) as u64,
+        c: state.objects.step_number(made.object) as u64,
         d: 0,
     })
 }
 
 /// What is told of the CRTC or plane at a place, from 0, of those that show something, in the order of ids; none past the last.
-fn shown_at(modes: &Modes, place: usize) -> Option<AuditRow>
-    ensures { result ≡ slice_get (map shown_audit (map shown_row_of (shown_rows modes.now))) place }
+fn shown_at(modes: &Modes, position: usize) -> Option<AuditRow>
+    ensures { result ≡ slice_get (map shown_audit (map shown_row_of (shown_rows modes.now))) position }
 {
-    let shown = modes.nth_shown(place)?;
+    let shown = modes.nth_shown(position)?;
     Some(AuditRow {
-        a: shown.shower as u64,
+        a: shown.engine as u64,
         b: shown.framebuffer as u64,
         c: 0,
         d: 0,
@@ -264,10 +264,10 @@ fn shown_at(modes: &Modes, place: usize) -> Option<AuditRow>
 }
 
 /// What is told of the grant at a place, from 0, in the order of masters and mode objects; none past the last.
-fn grant_at(leases: &Leases, place: usize) -> Option<AuditRow>
-    ensures { result ≡ slice_get (map grant_audit (map grant_row_of leases.now.grants)) place }
+fn grant_at(leases: &Leases, position: usize) -> Option<AuditRow>
+    ensures { result ≡ slice_get (map grant_audit (map grant_row_of leases.now.grants)) position }
 {
-    let grant = leases.nth_grant(place)?;
+    let grant = leases.nth_grant(position)?;
     Some(AuditRow {
         a: grant.master as u64,
         b: grant.mode_object as u64,

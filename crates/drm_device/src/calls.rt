@@ -1,34 +1,40 @@
-//! The calls: who may make one, and which function carries it out.
+//! The calls: who may make one, and which family carries it out.
 
 ghost use Rattle.std.specs.Prelude.{◌≡◌, true, IfNone};
-ghost use Rattle.drm_files.specs.Files.{is_present};
-ghost use Rattle.drm_state.specs.Ties.{IsTied, IsReady};
+ghost use Rattle.drm_files.specs.Files.{is_open_client};
+ghost use Rattle.drm_state.specs.Invariants.{MeetsInvariants, StepPrecondition};
 ghost use Rattle.drm_table.specs.declared.events.Event.TheVariants.{Ask};
 ghost use Rattle.drm_model.specs.Verdict as model;
-ghost use Rattle.drm_state.specs.Refinement.{Owes, OwesCall, IsAdmission};
+ghost use Rattle.drm_state.specs.Refinement.{Refines, RefinesCall, IsAdmission};
 
-use crate::families::{buffer_call, device_call, lease_call, master_call, share_call};
-use crate::mode_calls::mode_call;
+use crate::families::{
+    buffer_call, device_call, framebuffer_call, lease_call, master_call, mode_call, share_call,
+};
 use drm_state::State;
-use drm_table::{Answer, Call, Rule, Standing, permit};
+use drm_table::{Answer, Call, Credentials, Family, Rule, permit};
 use std::alloc::AllocError;
 
 /// A request of a client: denied if it isn't admitted, and else answered by the call's own function.
-pub fn ask(state: &mut State, birth: u32, client: u32, call: &Call) -> Result<Answer, AllocError>
-    requires { IsReady state.old birth }
-    ensures owes { Owes state.old birth (Ask client call.now) result state.new }
-    ensures tied { IsTied state.new }
+pub fn ask(
+    state: &mut State,
+    step_number: u32,
+    client: u32,
+    call: &Call,
+) -> Result<Answer, AllocError>
+    requires { StepPrecondition state.old step_number }
+    ensures refines { Refines state.old step_number (Ask client call.now) result state.new }
+    ensures invariants { MeetsInvariants state.new }
 {
     if let Some(rule) = admission(state, client, call) {
         return Ok(Answer::Denied(rule));
     }
-    carry_out(state, birth, client, call)
+    carry_out(state, step_number, client, call)
 }
 
 /// The first rule that fails, of those that every call is tested for.
 fn admission(state: &State, client: u32, call: &Call) -> Option<Rule>
     ensures first { IsAdmission state.now client call.now result }
-    ensures present { IfNone result (is_present state.now.files client ≡ true) }
+    ensures open_client { IfNone result (is_open_client state.now.files client ≡ true) }
 {
     if !is_known(call) {
         return Some(Rule::Unknown);
@@ -39,13 +45,13 @@ fn admission(state: &State, client: u32, call: &Call) -> Option<Rule>
     match state.files.flags_of(client) {
         None => Some(Rule::NoClient),
         Some(flags) => {
-            let standing = Standing {
+            let credentials = Credentials {
                 root: flags.root,
                 render: flags.render,
                 authenticated: flags.authenticated,
                 current: state.masters.is_current(client),
             };
-            permit(call.flags(), standing)
+            permit(call.flags(), credentials)
         }
     }
 }
@@ -64,47 +70,27 @@ fn is_laid_out(call: &Call) -> bool
     !matches!(call, Call::BadLayout(_))
 }
 
-/// Answers a call that is admitted.
-#[tactic(auto, using(drm_state::proofs::Outcomes::is_answered))]
-fn carry_out(state: &mut State, birth: u32, client: u32, call: &Call) -> Result<Answer, AllocError>
-    requires ready { IsReady state.old birth }
-    requires present { is_present state.old.files client ≡ true }
-    ensures owes { OwesCall state.old birth client call.now result state.new }
-    ensures tied { IsTied state.new }
+/// Answers a call that is admitted, by its family. A call without a row has none, and is never admitted.
+#[tactic(auto, using(drm_state::proofs::Refinements::is_answered))]
+fn carry_out(
+    state: &mut State,
+    step_number: u32,
+    client: u32,
+    call: &Call,
+) -> Result<Answer, AllocError>
+    requires precondition { StepPrecondition state.old step_number }
+    requires open_client { is_open_client state.old.files client ≡ true }
+    ensures refines { RefinesCall state.old step_number client call.now result state.new }
+    ensures invariants { MeetsInvariants state.new }
 {
-    match call {
-        // these two are never admitted
-        Call::Unknown(_) => Ok(Answer::Denied(Rule::Unknown)),
-        Call::BadLayout(_) => Ok(Answer::Denied(Rule::Layout)),
-        Call::Version | Call::GetCap { .. } | Call::SetClientCap { .. } | Call::Audit { .. } =>
-            device_call(state, birth, client, call),
-        Call::GetMagic | Call::AuthMagic { .. } | Call::SetMaster | Call::DropMaster => master_call(
-            state, birth, client, call,
-        ),
-        Call::GemClose { .. }
-        | Call::DestroyDumb { .. }
-        | Call::BufCreate { .. }
-        | Call::CreateDumb { .. }
-        | Call::StampWrite { .. }
-        | Call::StampRead { .. }
-        | Call::ListHandles { .. } => buffer_call(state, birth, client, call),
-        Call::GemFlink { .. }
-        | Call::GemOpen { .. }
-        | Call::PrimeHandleToFd { .. }
-        | Call::PrimeFdToHandle { .. }
-        | Call::TokenClose { .. } => share_call(state, birth, client, call),
-        Call::CreateLease { .. } | Call::ListLessees | Call::GetLease | Call::RevokeLease { .. } =>
-            lease_call(state, birth, client, call),
-        Call::GetResources
-        | Call::GetPlaneResources
-        | Call::GetCrtc { .. }
-        | Call::GetEncoder { .. }
-        | Call::GetConnector { .. }
-        | Call::GetPlane { .. }
-        | Call::SetCrtc { .. }
-        | Call::SetPlane { .. }
-        | Call::GetFb { .. }
-        | Call::AddFb { .. }
-        | Call::RmFb { .. } => mode_call(state, birth, client, call),
+    match call.family() {
+        Some(Family::Device) => device_call(state, step_number, client, call),
+        Some(Family::Masters) => master_call(state, step_number, client, call),
+        Some(Family::Buffers) => buffer_call(state, step_number, client, call),
+        Some(Family::Sharing) => share_call(state, step_number, client, call),
+        Some(Family::Modes) => mode_call(state, step_number, client, call),
+        Some(Family::Framebuffers) => framebuffer_call(state, step_number, client, call),
+        Some(Family::Leases) => lease_call(state, step_number, client, call),
+        None => Ok(Answer::Denied(Rule::Unknown)),
     }
 }

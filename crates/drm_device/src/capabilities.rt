@@ -3,8 +3,8 @@
 ghost use Rattle.std.specs.Prelude.{◌≡◌};
 ghost use Rattle.drm_table.specs.declared.calls.Call.TheVariants.{GetCap};
 ghost use Rattle.drm_model.specs.Capabilities.{version_answer};
-ghost use Rattle.drm_state.specs.Ties.{IsTied};
-ghost use Rattle.drm_state.specs.Refinement.{OwesReply};
+ghost use Rattle.drm_state.specs.Invariants.{MeetsInvariants};
+ghost use Rattle.drm_state.specs.Refinement.{RefinesReply};
 
 use drm_state::State;
 use drm_table::{Answer, Rule};
@@ -28,8 +28,8 @@ pub fn version() -> Answer
 
 /// GET_CAP: dumb buffers there are, and PRIME in both directions. It takes no memory and asks for no limit.
 pub fn get_cap(state: &State, client: u32, cap: u64) -> Answer
-    requires { IsTied state.now }
-    ensures { OwesReply state.now client (GetCap cap) result state.now }
+    requires { MeetsInvariants state.now }
+    ensures { RefinesReply state.now client (GetCap cap) result state.now }
 {
     match cap {
         DUMB_BUFFER => Answer::Number { value: 1 },

@@ -2,9 +2,9 @@
 
 ghost use Rattle.std.specs.Prelude.{◌≡◌, ◌+◌, ◌^◌, ◌<◌, ◌≤◌, ◌↔◌, false, true, not, [], length, Err, IfOk, OnOk, OnErr};
 ghost use Rattle.drm_table.specs.Limits.{are_in_range};
-ghost use Rattle.drm_table.specs.Results.{IsFew};
+ghost use Rattle.drm_table.specs.Results.{FitsOneFrame};
 ghost use Rattle.drm_model.specs.Audit.{audit_page, audit_rows, rising_rows};
-ghost use Rattle.drm_model.specs.Run.{Step, FoundRoom, no_room, noted_in, rows_of, start_of};
+ghost use Rattle.drm_model.specs.Run.{Step, FoundRoom, no_room, journaled_in, rows_of, start_of};
 
 use crate::audits::page_of;
 use crate::events::advance;
@@ -21,6 +21,11 @@ use std::marker::Model;
 
 /// A state machine over openings, requests and closings. Contracts see its topology, its limits and its journal, and as
 /// its rows those that the journal leaves of empty ones.
+///
+/// ```rust
+/// let Some(topology) = Topology::new(2, &[1, 2], &[3, 2], &[5, 6]) else { return };
+/// let Ok(mut device) = Device::new(alloc, topology, Limits::PROGRAM) else { return };
+/// ```
 pub struct Device {
     limits: Limits,
     journal: Vec<Event>,
@@ -41,18 +46,25 @@ impl Drop for Device {
 }
 
 impl Model for Device {
-    ghost use Rattle.drm_model.specs.Run.{History};
+    ghost use Rattle.drm_model.specs.Run.{DeviceValue};
 
-    ghost Value = { History };
+    ghost Value = { DeviceValue };
 
-    ghost use Rattle.drm_device.specs.Device.{history_of, IsDevice};
+    ghost use Rattle.drm_device.specs.Device.{value_of, IsDevice};
 
-    ghost view = { history_of };
+    ghost view = { value_of };
 
     ghost invariant = { IsDevice };
 }
 
 /// Why there is no device.
+///
+/// ```rust
+/// let Some(topology) = Topology::new(2, &[1, 2], &[3, 2], &[5, 6]) else { return };
+/// let limits = Limits { clients: 0, ..Limits::PROGRAM };
+/// let Err(fault) = Device::new(alloc, topology, limits) else { return };
+/// assert!(fault == NewFault::BadLimits);
+/// ```
 #[derive(Clone, Copy, PartialEq, Eq, Debug)]
 pub enum NewFault {
     /// A limit is out of its range.
@@ -64,6 +76,10 @@ pub enum NewFault {
 impl Device {
     /// A device that nobody has opened yet. The whole journal is reserved. Without memory, or where a limit is out of
     /// its range, there is no device.
+    ///
+    /// ```rust
+    /// assert!(device.journal().is_empty());
+    /// ```
     pub fn new(alloc: Global, topology: Topology, limits: Limits) -> Result<Device, NewFault>
         ensures ok { IfOk result (λ device. device ≡ record { topology = topology; limits = limits; journal = [] }) }
         ensures bad_limits { (result ≡ Err NewFault.BadLimits) ↔ (are_in_range limits ≡ false) }
@@ -96,10 +112,16 @@ impl Device {
     /// Answers one event. A denial is an answer: it names the first rule that fails, and is noted. What stands apart, a
     /// full journal (own) and want of memory, leaves the device as it was and isn't noted. The lists of an answer have at
     /// most 251 ids together, which one frame takes.
+    ///
+    /// ```rust
+    /// let opening = Opening::Primary { root: false, universal: true };
+    /// assert!(device.step(Event::Open(opening)) == Ok(Answer::Opened { client: 1 }));
+    /// assert!(device.step(Event::Ask(1, Call::SetMaster)) == Ok(Answer::Done));
+    /// ```
     pub fn step(&mut self, event: Event) -> Result<Answer, Apart>
         ensures step { Step (rows_of self.old) event result (rows_of self.new) }
-        ensures few { IsFew result }
-        ensures ok { OnOk result (self.new ≡ noted_in self.old event) }
+        ensures few { FitsOneFrame result }
+        ensures ok { OnOk result (self.new ≡ journaled_in self.old event) }
         ensures err { OnErr result (self.new ≡ self.old) }
         ensures in_range { are_in_range self.new.limits ≡ true }
         ensures found_room { FoundRoom (start_of self.new) self.new.journal }
@@ -109,8 +131,8 @@ impl Device {
         if !self.has_room(&event) {
             return Err(Apart::JournalFull);
         }
-        let birth = self.journal.len() as u32 + 1;
-        match advance(&mut self.state, birth, &event) {
+        let step_number = self.journal.len() as u32 + 1;
+        match advance(&mut self.state, step_number, &event) {
             Ok(answer) => {
                 self.journal.push_reserved(event);
                 Ok(answer)
@@ -135,6 +157,10 @@ impl Device {
     }
 
     /// The events that were carried out or denied, the oldest first.
+    ///
+    /// ```rust
+    /// assert!(device.journal() == [Event::Open(opening), Event::Ask(1, Call::SetMaster)].as_slice());
+    /// ```
     pub fn journal(&self) -> &[Event]
         ensures events { result.now ≡ self.now.journal }
         ensures found_room { FoundRoom (start_of self.now) self.now.journal }
@@ -145,6 +171,10 @@ impl Device {
     }
 
     /// Up to 16 rows of a kind, behind the first `from`, in the order of their numbers (own). It takes no memory.
+    ///
+    /// ```rust
+    /// assert!(device.audit(AuditKind::Client, 0).rows().len() == 1);
+    /// ```
     pub fn audit(&self, kind: AuditKind, from: u32) -> AuditPage
         ensures page { result ≡ audit_page (rows_of self.now) kind from }
         ensures few { length (rising_rows (audit_rows (rows_of self.now) kind)) < 2 ^ 31 }
@@ -153,6 +183,10 @@ impl Device {
     }
 
     /// How many places the journal has left beside those kept for the closings of the open clients.
+    ///
+    /// ```rust
+    /// assert!(device.journal_left() < Limits::PROGRAM.journal);
+    /// ```
     pub fn journal_left(&self) -> u32
         ensures left { result + length self.now.journal + length (rows_of self.now).clients ≡ self.now.limits.journal }
     {

@@ -1,7 +1,7 @@
 //! One event, by its kind.
 
-ghost use Rattle.drm_state.specs.Ties.{IsTied, IsReady};
-ghost use Rattle.drm_state.specs.Refinement.{Owes};
+ghost use Rattle.drm_state.specs.Invariants.{MeetsInvariants, StepPrecondition};
+ghost use Rattle.drm_state.specs.Refinement.{Refines};
 
 use crate::calls::ask;
 use drm_client_calls::{close, open};
@@ -10,15 +10,15 @@ use drm_table::{Answer, Event};
 use std::alloc::AllocError;
 
 /// Answers an event for which the journal has room. Where memory is refused nothing changes.
-#[tactic(auto, using(drm_state::proofs::Outcomes::is_done))]
-pub fn advance(state: &mut State, birth: u32, event: &Event) -> Result<Answer, AllocError>
-    requires { IsReady state.old birth }
-    ensures tied { IsTied state.new }
-    ensures owes { Owes state.old birth event.now result state.new }
+#[tactic(auto, using(drm_state::proofs::Refinements::is_done))]
+pub fn advance(state: &mut State, step_number: u32, event: &Event) -> Result<Answer, AllocError>
+    requires { StepPrecondition state.old step_number }
+    ensures invariants { MeetsInvariants state.new }
+    ensures refines { Refines state.old step_number event.now result state.new }
 {
     match event {
-        Event::Open(opening) => open(state, birth, *opening),
-        Event::Ask(client, call) => ask(state, birth, *client, call),
+        Event::Open(opening) => open(state, step_number, *opening),
+        Event::Ask(client, call) => ask(state, step_number, *client, call),
         Event::Close(client) => Ok(close(state, *client)),
     }
 }

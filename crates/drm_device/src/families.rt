@@ -1,10 +1,11 @@
-//! The calls of each family but those of mode setting: which function carries each out.
+//! The calls of each family: which function carries each out.
 
-ghost use Rattle.std.specs.Prelude.{◌≡◌, true};
-ghost use Rattle.drm_files.specs.Files.{is_present};
-ghost use Rattle.drm_state.specs.Ties.{IsTied, IsReady};
-ghost use Rattle.drm_state.specs.Refinement.{OwesCall};
-ghost use Rattle.drm_device.specs.Calls.{is_buffer_call, is_device_call, is_lease_call, is_master_call, is_share_call};
+ghost use Rattle.std.specs.Prelude.{◌≡◌, Some, true};
+ghost use Rattle.drm_files.specs.Files.{is_open_client};
+ghost use Rattle.drm_state.specs.Invariants.{MeetsInvariants, StepPrecondition};
+ghost use Rattle.drm_state.specs.Refinement.{RefinesCall};
+ghost use Rattle.drm_table.specs.Table.{family_of};
+ghost use Rattle.drm_table.specs.declared.rows.Family.TheVariants.{Device, Masters, Buffers, Sharing, Modes, Framebuffers, Leases};
 
 use crate::audits::audit;
 use crate::capabilities::{get_cap, version};
@@ -14,82 +15,87 @@ use drm_buffer_calls::{
 use drm_client_calls::set_client_cap;
 use drm_lease_calls::{create_lease, get_lease, list_lessees, revoke_lease};
 use drm_master_calls::{auth_magic, drop_master, get_magic, set_master};
+use drm_mode_calls::{
+    add_fb, get_connector, get_crtc, get_encoder, get_fb, get_plane, get_plane_resources,
+    get_resources, rm_fb, set_crtc, set_plane,
+};
+use drm_modes::Shape;
 use drm_share_calls::{gem_flink, gem_open, prime_export, prime_import, token_close};
 use drm_state::State;
 use drm_table::{Answer, Call};
 use std::alloc::AllocError;
 
 /// Answers a call of the device itself, or of what a client sees of it, that is admitted.
-#[tactic(auto, using(drm_state::proofs::Outcomes::is_answered))]
+#[tactic(auto, using(drm_state::proofs::Refinements::is_answered), unfolding(drm_table::specs::Table::family_of, drm_table::specs::Table::call_row, drm_table::specs::Table::kind_row))]
 pub fn device_call(
     state: &mut State,
-    birth: u32,
+    step_number: u32,
     client: u32,
     call: &Call,
 ) -> Result<Answer, AllocError>
-    requires device_call { is_device_call call.now ≡ true }
-    requires ready { IsReady state.old birth }
-    requires present { is_present state.old.files client ≡ true }
-    ensures owes { OwesCall state.old birth client call.now result state.new }
-    ensures tied { IsTied state.new }
+    requires device_call { family_of call.now ≡ Some Device }
+    requires precondition { StepPrecondition state.old step_number }
+    requires open_client { is_open_client state.old.files client ≡ true }
+    ensures refines { RefinesCall state.old step_number client call.now result state.new }
+    ensures invariants { MeetsInvariants state.new }
 {
     match call {
         Call::Version => Ok(version()),
         Call::GetCap { cap } => Ok(get_cap(state, client, *cap)),
         Call::SetClientCap { cap, value } => Ok(set_client_cap(state, client, *cap, *value)),
-        Call::Audit { kind, from } => Ok(audit(state, birth, *kind, *from)),
+        Call::Audit { kind, from } => Ok(audit(state, step_number, *kind, *from)),
         _ => unreachable!(),
     }
 }
 
 /// Answers a call of masters and magics that is admitted. Where memory is refused nothing changes.
-#[tactic(auto, using(drm_state::proofs::Outcomes::is_answered))]
+#[tactic(auto, using(drm_state::proofs::Refinements::is_answered), unfolding(drm_table::specs::Table::family_of, drm_table::specs::Table::call_row, drm_table::specs::Table::kind_row))]
 pub fn master_call(
     state: &mut State,
-    birth: u32,
+    step_number: u32,
     client: u32,
     call: &Call,
 ) -> Result<Answer, AllocError>
-    requires master_call { is_master_call call.now ≡ true }
-    requires ready { IsReady state.old birth }
-    requires present { is_present state.old.files client ≡ true }
-    ensures owes { OwesCall state.old birth client call.now result state.new }
-    ensures tied { IsTied state.new }
+    requires master_call { family_of call.now ≡ Some Masters }
+    requires precondition { StepPrecondition state.old step_number }
+    requires open_client { is_open_client state.old.files client ≡ true }
+    ensures refines { RefinesCall state.old step_number client call.now result state.new }
+    ensures invariants { MeetsInvariants state.new }
 {
     match call {
         Call::GetMagic => Ok(get_magic(state, client)),
         Call::AuthMagic { magic } => Ok(auth_magic(state, client, *magic)),
-        Call::SetMaster => set_master(state, birth, client),
+        Call::SetMaster => set_master(state, step_number, client),
         Call::DropMaster => Ok(drop_master(state, client)),
         _ => unreachable!(),
     }
 }
 
 /// Answers a call of buffers that is admitted. Where memory is refused nothing changes.
-#[tactic(auto, using(drm_state::proofs::Outcomes::is_answered))]
+#[tactic(auto, using(drm_state::proofs::Refinements::is_answered), unfolding(drm_table::specs::Table::family_of, drm_table::specs::Table::call_row, drm_table::specs::Table::kind_row))]
 pub fn buffer_call(
     state: &mut State,
-    birth: u32,
+    step_number: u32,
     client: u32,
     call: &Call,
 ) -> Result<Answer, AllocError>
-    requires buffer_call { is_buffer_call call.now ≡ true }
-    requires ready { IsReady state.old birth }
-    requires present { is_present state.old.files client ≡ true }
-    ensures owes { OwesCall state.old birth client call.now result state.new }
-    ensures tied { IsTied state.new }
+    requires buffer_call { family_of call.now ≡ Some Buffers }
+    requires precondition { StepPrecondition state.old step_number }
+    requires open_client { is_open_client state.old.files client ≡ true }
+    ensures refines { RefinesCall state.old step_number client call.now result state.new }
+    ensures invariants { MeetsInvariants state.new }
 {
     match call {
         Call::GemClose { handle } => Ok(gem_close(state, client, *handle)),
         Call::DestroyDumb { handle } => Ok(gem_close(state, client, *handle)),
-        Call::BufCreate { size } => buf_create(state, birth, client, *size),
+        Call::BufCreate { size } => buf_create(state, step_number, client, *size),
         Call::CreateDumb { width, height, bpp } => {
             let pixels = Pixels {
                 width: *width,
                 height: *height,
                 bpp: *bpp,
             };
-            create_dumb(state, birth, client, pixels)
+            create_dumb(state, step_number, client, pixels)
         }
         Call::StampWrite { handle, stamp } => Ok(stamp_write(state, client, *handle, *stamp)),
         Call::StampRead { handle } => Ok(stamp_read(state, client, *handle)),
@@ -99,45 +105,116 @@ pub fn buffer_call(
 }
 
 /// Answers a call that shares objects and is admitted. Where memory is refused nothing changes.
-#[tactic(auto, using(drm_state::proofs::Outcomes::is_answered))]
+#[tactic(auto, using(drm_state::proofs::Refinements::is_answered), unfolding(drm_table::specs::Table::family_of, drm_table::specs::Table::call_row, drm_table::specs::Table::kind_row))]
 pub fn share_call(
     state: &mut State,
-    birth: u32,
+    step_number: u32,
     client: u32,
     call: &Call,
 ) -> Result<Answer, AllocError>
-    requires share_call { is_share_call call.now ≡ true }
-    requires ready { IsReady state.old birth }
-    requires present { is_present state.old.files client ≡ true }
-    ensures owes { OwesCall state.old birth client call.now result state.new }
-    ensures tied { IsTied state.new }
+    requires share_call { family_of call.now ≡ Some Sharing }
+    requires precondition { StepPrecondition state.old step_number }
+    requires open_client { is_open_client state.old.files client ≡ true }
+    ensures refines { RefinesCall state.old step_number client call.now result state.new }
+    ensures invariants { MeetsInvariants state.new }
 {
     match call {
-        Call::GemFlink { handle } => gem_flink(state, birth, client, *handle),
-        Call::GemOpen { name } => gem_open(state, birth, client, *name),
-        Call::PrimeHandleToFd { handle } => prime_export(state, birth, client, *handle),
-        Call::PrimeFdToHandle { token } => prime_import(state, birth, client, *token),
+        Call::GemFlink { handle } => gem_flink(state, step_number, client, *handle),
+        Call::GemOpen { name } => gem_open(state, step_number, client, *name),
+        Call::PrimeHandleToFd { handle } => prime_export(state, step_number, client, *handle),
+        Call::PrimeFdToHandle { token } => prime_import(state, step_number, client, *token),
         Call::TokenClose { token } => Ok(token_close(state, client, *token)),
         _ => unreachable!(),
     }
 }
 
-/// Answers a call of leases that is admitted. Where memory is refused nothing changes.
-#[tactic(auto, using(drm_state::proofs::Outcomes::is_answered))]
-pub fn lease_call(
+/// Answers a call of mode objects, or of what CRTCs and planes show, that is admitted. It takes no memory.
+#[tactic(auto, using(drm_state::proofs::Refinements::is_answered), unfolding(drm_table::specs::Table::family_of, drm_table::specs::Table::call_row, drm_table::specs::Table::kind_row))]
+pub fn mode_call(
     state: &mut State,
-    birth: u32,
+    step_number: u32,
     client: u32,
     call: &Call,
 ) -> Result<Answer, AllocError>
-    requires lease_call { is_lease_call call.now ≡ true }
-    requires ready { IsReady state.old birth }
-    requires present { is_present state.old.files client ≡ true }
-    ensures owes { OwesCall state.old birth client call.now result state.new }
-    ensures tied { IsTied state.new }
+    requires mode_call { family_of call.now ≡ Some Modes }
+    requires precondition { StepPrecondition state.old step_number }
+    requires open_client { is_open_client state.old.files client ≡ true }
+    ensures refines { RefinesCall state.old step_number client call.now result state.new }
+    ensures invariants { MeetsInvariants state.new }
+{
+    match *call {
+        Call::GetResources => Ok(get_resources(state, client)),
+        Call::GetPlaneResources => Ok(get_plane_resources(state, client)),
+        Call::GetCrtc { crtc } => Ok(get_crtc(state, client, crtc)),
+        Call::GetEncoder { encoder } => Ok(get_encoder(state, client, encoder)),
+        Call::GetConnector { connector } => Ok(get_connector(state, client, connector)),
+        Call::GetPlane { plane } => Ok(get_plane(state, client, plane)),
+        Call::SetCrtc {
+            crtc,
+            framebuffer,
+            connector,
+        } => Ok(set_crtc(state, client, crtc, framebuffer, connector)),
+        Call::SetPlane {
+            plane,
+            crtc,
+            framebuffer,
+        } => Ok(set_plane(state, client, plane, crtc, framebuffer)),
+        _ => unreachable!(),
+    }
+}
+
+/// Answers a call of framebuffers that is admitted. Where memory is refused nothing changes.
+#[tactic(auto, using(drm_state::proofs::Refinements::is_answered), unfolding(drm_table::specs::Table::family_of, drm_table::specs::Table::call_row, drm_table::specs::Table::kind_row))]
+pub fn framebuffer_call(
+    state: &mut State,
+    step_number: u32,
+    client: u32,
+    call: &Call,
+) -> Result<Answer, AllocError>
+    requires framebuffer_call { family_of call.now ≡ Some Framebuffers }
+    requires precondition { StepPrecondition state.old step_number }
+    requires open_client { is_open_client state.old.files client ≡ true }
+    ensures refines { RefinesCall state.old step_number client call.now result state.new }
+    ensures invariants { MeetsInvariants state.new }
+{
+    match *call {
+        Call::GetFb { framebuffer } => get_fb(state, step_number, client, framebuffer),
+        Call::AddFb {
+            width,
+            height,
+            pitch,
+            bpp,
+            handle,
+        } => {
+            let shape = Shape {
+                width,
+                height,
+                pitch,
+                bpp,
+            };
+            add_fb(state, step_number, client, shape, handle)
+        }
+        Call::RmFb { framebuffer } => Ok(rm_fb(state, client, framebuffer)),
+        _ => unreachable!(),
+    }
+}
+
+/// Answers a call of leases that is admitted. Where memory is refused nothing changes.
+#[tactic(auto, using(drm_state::proofs::Refinements::is_answered), unfolding(drm_table::specs::Table::family_of, drm_table::specs::Table::call_row, drm_table::specs::Table::kind_row))]
+pub fn lease_call(
+    state: &mut State,
+    step_number: u32,
+    client: u32,
+    call: &Call,
+) -> Result<Answer, AllocError>
+    requires lease_call { family_of call.now ≡ Some Leases }
+    requires precondition { StepPrecondition state.old step_number }
+    requires open_client { is_open_client state.old.files client ≡ true }
+    ensures refines { RefinesCall state.old step_number client call.now result state.new }
+    ensures invariants { MeetsInvariants state.new }
 {
     match call {
-        Call::CreateLease { ids } => create_lease(state, birth, client, ids),
+        Call::CreateLease { ids } => create_lease(state, step_number, client, ids),
         Call::ListLessees => Ok(list_lessees(state, client)),
         Call::GetLease => Ok(get_lease(state, client)),
         Call::RevokeLease { lessee } => Ok(revoke_lease(state, client, *lessee)),

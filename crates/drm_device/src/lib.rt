@@ -7,7 +7,6 @@ mod capabilities;
 mod device;
 mod events;
 mod families;
-mod mode_calls;
 mod replays;
 
 pub use device::{Device, NewFault};

@@ -10,6 +10,12 @@ use drm_table::{Apart, Event, Limits};
 use std::alloc::Global;
 
 /// Why a replay gives no device.
+///
+/// ```rust
+/// let Some(topology) = Topology::new(2, &[1, 2], &[3, 2], &[5, 6]) else { return };
+/// let Err(fault) = replay(alloc, topology, limits, &[]) else { return };
+/// assert!(fault == ReplayFault::New(NewFault::BadLimits));
+/// ```
 #[derive(Clone, Copy, PartialEq, Eq, Debug)]
 pub enum ReplayFault {
     /// There is no device to begin with.
@@ -21,6 +27,13 @@ pub enum ReplayFault {
 /// A new device that was asked these events in turn: its journal is the events, and its rows are those that they leave.
 ///
 /// It stops at the first event that the journal has no place for, or that wants a row for which memory is refused.
+///
+/// ```rust
+/// let Some(topology) = Topology::new(2, &[1, 2], &[3, 2], &[5, 6]) else { return };
+/// let events = [Event::Open(Opening::Render)];
+/// let Ok(device) = replay(alloc, topology, Limits::PROGRAM, &events) else { return };
+/// assert!(device.journal() == events.as_slice());
+/// ```
 pub fn replay(
     alloc: Global,
     topology: Topology,

@@ -1,7 +1,7 @@
 //! Explaining a history.
 
 ghost use Rattle.std.specs.Prelude.{◌≡◌, IfOk};
-ghost use Rattle.drm_authority.specs.Standing.{owner_in};
+ghost use Rattle.drm_authority.specs.MasterState.{owner_in};
 ghost use Rattle.drm_explanations.specs.Rows as rows;
 
 use crate::clients::client_rows;

@@ -24,7 +24,7 @@ fn row_of(
         leased,
         token: lease.token,
         mode_objects: ledger.leased(alloc, topology, lease.master)?,
-        redeemed_by: ledger.redeemer(lease.master),
+        redeemed_by: ledger.lease_client(lease.master),
         ended,
     }))
 }

@@ -14,6 +14,6 @@ pub use lines::{Subject, line_about, lines_of};
 pub use names::{Labels, Name, at};
 pub use reasons::closed_at;
 pub use rows::{
-    At, Authenticated, AuthenticatedBy, ClientRow, DeviceRow, Explanation, HoldRow, LeaseRow,
+    At, Authenticated, AuthenticatedBy, ClientRow, DeviceRow, Explanation, HandleRow, LeaseRow,
     LinkRow, Node, PublishedBy, PublishedRow, StandingRow,
 };

@@ -2,7 +2,7 @@
 
 use crate::names::{Labels, Name};
 use crate::rows::{
-    At, Authenticated, AuthenticatedBy, ClientRow, Explanation, HoldRow, LeaseRow, LinkRow, Node,
+    At, Authenticated, AuthenticatedBy, ClientRow, Explanation, HandleRow, LeaseRow, LinkRow, Node,
     PublishedBy, PublishedRow, StandingRow,
 };
 use drm_modes::{Kind, Topology};
@@ -395,11 +395,11 @@ fn write_objects(scene: Scene<'_>, ids: &[u32], text: &mut String) -> Result<(),
 fn hold_line(
     scene: Scene<'_>,
     client: u64,
-    hold: &HoldRow,
+    hold: &HandleRow,
     text: &mut String,
 ) -> Result<(), AllocError> {
     let name = scene.name(client);
-    let HoldRow { handle, object, .. } = hold;
+    let HandleRow { handle, object, .. } = hold;
     write!(text, "{name} holds buffer {object} as handle {handle}: ")?;
     for (place, link) in hold.chain.iter().enumerate() {
         if place > 0 {

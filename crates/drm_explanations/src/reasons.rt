@@ -2,7 +2,7 @@
 
 use crate::names::at;
 use crate::rows::{
-    Authenticated, AuthenticatedBy, HoldRow, LinkRow, PublishedBy, PublishedRow, StandingRow,
+    Authenticated, AuthenticatedBy, HandleRow, LinkRow, PublishedBy, PublishedRow, StandingRow,
     UniversalRow,
 };
 use drm_rights::{Key, Ledger, Link, Origin, Step, handles_of};
@@ -36,7 +36,7 @@ pub(crate) fn authenticated(ledger: &Ledger, client: u64) -> Option<Authenticate
     if ledger.is_master(client) {
         return Some(Authenticated {
             by: AuthenticatedBy::Master,
-            since: at(steps, ledger.standing(client)?.step)?,
+            since: at(steps, ledger.master_state(client)?.step)?,
             magic: None,
         });
     }
@@ -59,7 +59,7 @@ pub(crate) fn universal_row(ledger: &Ledger, client: u64) -> Option<UniversalRow
 
 /// How a client stands to masters, and since which step.
 pub(crate) fn standing_row(ledger: &Ledger, client: u64) -> Option<StandingRow> {
-    let standing = ledger.standing(client)?;
+    let standing = ledger.master_state(client)?;
     Some(StandingRow {
         is_master: standing.is_master,
         master: standing.master,
@@ -110,7 +110,7 @@ pub(crate) fn holds_of(
     alloc: Global,
     ledger: &Ledger,
     client: u64,
-) -> Result<Vec<HoldRow>, AllocError> {
+) -> Result<Vec<HandleRow>, AllocError> {
     let steps = ledger.steps();
     let trail = ledger.trail();
     let mut rows = Vec::new(alloc);
@@ -118,7 +118,7 @@ pub(crate) fn holds_of(
         let past = count_to(held.step);
         if let Some(links) = trail.chain_of(alloc, past, client, held.handle)? {
             if let Some(made) = links.last() {
-                rows.push(HoldRow {
+                rows.push(HandleRow {
                     handle: held.handle,
                     object: made.step,
                     chain: chain_rows(alloc, steps, links.as_slice())?,

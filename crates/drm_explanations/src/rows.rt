@@ -88,7 +88,7 @@ pub struct LinkRow {
 
 /// A handle of a buffer, which is named by the step that made it, and the chain by which it came.
 #[derive(PartialEq, Eq, Debug, Drop, Serialize)]
-pub struct HoldRow {
+pub struct HandleRow {
     pub handle: u64,
     pub object: u64,
     pub chain: Vec<LinkRow>,
@@ -107,7 +107,7 @@ pub struct ClientRow {
     pub standing: Option<StandingRow>,
     /// The CRTCs and planes that it may set.
     pub may_set: Vec<u32>,
-    pub holds: Vec<HoldRow>,
+    pub holds: Vec<HandleRow>,
 }
 
 /// A lease: its lessee is a master, which is named by the step that made it.

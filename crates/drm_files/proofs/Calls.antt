@@ -5,8 +5,8 @@ use Rattle.std.specs.FinMap as fin
 use Rattle.drm_files.specs.declared.files.FileRecord.{FileRecord}
 use Rattle.drm_files.specs.declared.files.Held.{Held}
 use Rattle.drm_files.specs.declared.rows.FileClient.{FileClient}
-use Rattle.drm_files.specs.declared.rows.FileHold.{FileHold}
-use Rattle.drm_files.specs.Files.{FileLists, is_client, is_hold, client, hold, with_client, without_client, with_hold, without_hold, with_place, with_change}
+use Rattle.drm_files.specs.declared.rows.FileHandle.{FileHandle}
+use Rattle.drm_files.specs.Files.{FileLists, is_client, is_handle, client, hold, with_client, without_client, with_handle_row, without_handle_row, with_export_order, with_change}
 use Rattle.drm_files.specs.Records.{clients_in, holds_in, lists_of, rows_in}
 use Rattle.drm_files.proofs.Flat.{held}
 use Rattle.drm_index_array.proofs.Keyed.{row_at, rows_length}
@@ -28,16 +28,16 @@ module _ (limit last : ℕ) (m : fin.FinMap nat_cmp FileRecord) (c : ℕ) where
   closed = by_rows (fin.remove m c) (without_client (lists_of limit last m) c) (clients_closed m c) (holds_closed m c)
 
   pub added : (r s : FileRecord) (h : ℕ) (x : Held) → fin.get m c ≡ Some r → fin.get r.handles.slots h ≡ None → s.flags ≡ r.flags → s.handles.slots ≡ fin.insert r.handles.slots h x →
-      lists_of limit last (fin.insert m c s) ≡ with_hold (lists_of limit last m) (hold c h x.object x.place)
+      lists_of limit last (fin.insert m c s) ≡ with_handle_row (lists_of limit last m) (hold c h x.object x.export_order)
   added r s h x found new flags slots =
-      by_rows (fin.insert m c s) (with_hold (lists_of limit last m) (hold c h x.object x.place)) (clients_kept m c r s found flags) (holds_added m c r s h x found new slots)
+      by_rows (fin.insert m c s) (with_handle_row (lists_of limit last m) (hold c h x.object x.export_order)) (clients_kept m c r s found flags) (holds_added m c r s h x found new slots)
 
-  pub dropped : (r s : FileRecord) (h : ℕ) → fin.get m c ≡ Some r → s.flags ≡ r.flags → s.handles.slots ≡ fin.remove r.handles.slots h → lists_of limit last (fin.insert m c s) ≡ without_hold (lists_of limit last m) c h
-  dropped r s h found flags slots = by_rows (fin.insert m c s) (without_hold (lists_of limit last m) c h) (clients_kept m c r s found flags) (holds_dropped m c r s h found slots)
+  pub dropped : (r s : FileRecord) (h : ℕ) → fin.get m c ≡ Some r → s.flags ≡ r.flags → s.handles.slots ≡ fin.remove r.handles.slots h → lists_of limit last (fin.insert m c s) ≡ without_handle_row (lists_of limit last m) c h
+  dropped r s h found flags slots = by_rows (fin.insert m c s) (without_handle_row (lists_of limit last m) c h) (clients_kept m c r s found flags) (holds_dropped m c r s h found slots)
 
-  pub given : (r s : FileRecord) (h : ℕ) (x : Held) (place : ℕ) → fin.get m c ≡ Some r → fin.get r.handles.slots h ≡ Some x → s.flags ≡ r.flags → s.handles.slots ≡ fin.insert r.handles.slots h (record { object = x.object; place = option_or x.place (Some place) }) → lists_of limit last (fin.insert m c s) ≡ with_place (lists_of limit last m) c h place
-  given r s h x place found here flags slots =
-      by_rows (fin.insert m c s) (with_place (lists_of limit last m) c h place) (clients_kept m c r s found flags) (holds_placed m c r s h x place found here slots)
+  pub given : (r s : FileRecord) (h : ℕ) (x : Held) (export_order : ℕ) → fin.get m c ≡ Some r → fin.get r.handles.slots h ≡ Some x → s.flags ≡ r.flags → s.handles.slots ≡ fin.insert r.handles.slots h (record { object = x.object; export_order = option_or x.export_order (Some export_order) }) → lists_of limit last (fin.insert m c s) ≡ with_export_order (lists_of limit last m) c h export_order
+  given r s h x export_order found here flags slots =
+      by_rows (fin.insert m c s) (with_export_order (lists_of limit last m) c h export_order) (clients_kept m c r s found flags) (holds_placed m c r s h x export_order found here slots)
 
   pub changed : (change : FileClient → FileClient) (r s : FileRecord) → fin.get m c ≡ Some r → ((k : ℕ) → client k s.flags ≡ change (client k r.flags)) → s.handles.slots ≡ r.handles.slots → lists_of limit last (fin.insert m c s) ≡ with_change change (lists_of limit last m) c
   changed change r s found flags slots =
@@ -60,10 +60,10 @@ module _ (limit last : ℕ) (m : fin.FinMap nat_cmp FileRecord) (c : ℕ) where
       sym (ap (option_map (λ row. row.flags)) (find_client m c) ∙ composed (λ (row : FileClient). row.flags) (λ (r : FileRecord). client c r.flags) (fin.get m c))
       ∙ ap (λ (k : FileLists). option_map (λ row. row.flags) (find (is_client c) k.clients)) is
 
-  pub object_is : (l : FileLists) → lists_of limit last m ≡ l → (h : ℕ) → option_map (λ (x : Held). x.object) (held m c h) ≡ option_map (λ row. row.object) (find (is_hold c h) l.holds)
+  pub object_is : (l : FileLists) → lists_of limit last m ≡ l → (h : ℕ) → option_map (λ (x : Held). x.object) (held m c h) ≡ option_map (λ row. row.object) (find (is_handle c h) l.holds)
   object_is l is h =
-      sym (ap (option_map (λ row. row.object)) (find_hold m c h) ∙ composed (λ (row : FileHold). row.object) (λ (x : Held). hold c h x.object x.place) (held m c h))
-      ∙ ap (λ (k : FileLists). option_map (λ row. row.object) (find (is_hold c h) k.holds)) is
+      sym (ap (option_map (λ row. row.object)) (find_hold m c h) ∙ composed (λ (row : FileHandle). row.object) (λ (x : Held). hold c h x.object x.export_order) (held m c h))
+      ∙ ap (λ (k : FileLists). option_map (λ row. row.object) (find (is_handle c h) k.holds)) is
 
 -- the client at a place, by its number
 abbrev pub client_named : fin.FinMap nat_cmp FileRecord → Option ℕ → Option FileClient
@@ -73,8 +73,8 @@ pub client_at : (m : fin.FinMap nat_cmp FileRecord) (i : ℕ) → client_named m
 client_at m i = row_at m 0 client_of i
 
 -- the hold at a place of one client's, by its handle
-abbrev pub held_named : ℕ → fin.FinMap nat_cmp Held → Option ℕ → Option FileHold
-held_named c m k = option_and_then (λ h. option_map (λ (x : Held). hold c h x.object x.place) (fin.get m h)) k
+abbrev pub held_named : ℕ → fin.FinMap nat_cmp Held → Option ℕ → Option FileHandle
+held_named c m k = option_and_then (λ h. option_map (λ (x : Held). hold c h x.object x.export_order) (fin.get m h)) k
 
-pub hold_at : (c : ℕ) (m : fin.FinMap nat_cmp Held) (i : ℕ) → held_named c m (slice_get (fin.keys m) i) ≡ slice_get (rows_in c (fin.entries m)) i
-hold_at c m i = row_at m 0 (λ e. hold c e.0 e.1.object e.1.place) i
+pub handle_at : (c : ℕ) (m : fin.FinMap nat_cmp Held) (i : ℕ) → held_named c m (slice_get (fin.keys m) i) ≡ slice_get (rows_in c (fin.entries m)) i
+handle_at c m i = row_at m 0 (λ e. hold c e.0 e.1.object e.1.export_order) i

@@ -12,23 +12,18 @@ use Rattle.drm_index_array.proofs.MarkedLemmas.{get-insert, get-remove}
 use Rattle.drm_files.specs.declared.files.FileRecord.{FileRecord}
 use Rattle.drm_files.specs.declared.files.Held.{Held}
 use Rattle.drm_files.specs.declared.rows.FileClient.{FileClient}
-use Rattle.drm_files.specs.declared.rows.FileHold.{FileHold}
-use Rattle.drm_files.specs.Files.{client, hold, hold_before, client_before, is_client, is_hold, of_client, given_place}
+use Rattle.drm_files.specs.declared.rows.FileHandle.{FileHandle}
+use Rattle.drm_files.specs.Files.{client, hold, handle_before, client_before, is_client, is_handle, of_client, given_export_order}
 use Rattle.drm_index_array.specs.Rows.{placed}
 use Rattle.drm_files.specs.Records.{rows_in, holds_in, clients_in}
 use Rattle.drm_index_array.proofs.Keyed.{rows_where, find_rows, rows_put, rows_put_found, entries_removed}
-use Rattle.drm_files.proofs.Flat.{Place, place_cmp, place_total, place_exact, place_eq, place_lt, row_of, tagged, flat, rows_flat, rows_tagged, sorted_flat, sorted_tagged, held, find_held, find_tagged, flat_is, eqb_same, eqb_other}
+use Rattle.drm_files.proofs.Flat.{KeyPair, key_pair_cmp, export_order_total, export_order_exact, export_order_eq, export_order_lt, row_of, tagged, flat, rows_flat, rows_tagged, sorted_flat, sorted_tagged, held, find_held, find_tagged, flat_is, eqb_same, eqb_other}
+use Rattle.drm_index_array.proofs.Entries.{same_test, before_test}
 
 -- clients
 
 abbrev pub client_of : ℕ × FileRecord → FileClient
 client_of e = client e.0 e.1.flags
-
-same_test : (c k : ℕ) → (k == c) ≡ eq_by_cmp nat_cmp c k
-same_test c k = grind (arith, nat_tests)
-
-pub before_test : (a b : ℕ) → nat_lt a b ≡ is_lt (nat_cmp a b)
-before_test a b = grind (arith, nat_tests)
 
 module _ (m : fin.FinMap nat_cmp FileRecord) (c : ℕ) where
   pub find_client : find_row (is_client c) (clients_in (fin.entries m)) ≡ option_map (λ r. client c r.flags) (fin.get m c)
@@ -66,24 +61,24 @@ module _ (m : fin.FinMap nat_cmp FileRecord) (c : ℕ) where
 
 -- holds
 
-hold_test : (c h : ℕ) (e : Place × Held) → is_hold c h (row_of e) ≡ eq_by_cmp place_cmp (c, h) e.0
-hold_test c h e = turn e.0.0 e.0.1 ∙ sym (place_eq c h e.0.0 e.0.1)
+hold_test : (c h : ℕ) (e : KeyPair × Held) → is_handle c h (row_of e) ≡ eq_by_cmp key_pair_cmp (c, h) e.0
+hold_test c h e = turn e.0.0 e.0.1 ∙ sym (export_order_eq c h e.0.0 e.0.1)
   where
     turn : (a b : ℕ) → ((a == c) && (b == h)) ≡ (eqb c a && eqb h b)
     turn a b = grind (arith, nat_tests)
 
-pub hold_order : (e f : Place × Held) → hold_before (row_of e) (row_of f) ≡ is_lt (place_cmp e.0 f.0)
-hold_order e f = sym (place_lt e.0.0 e.0.1 f.0.0 f.0.1)
+pub hold_order : (e f : KeyPair × Held) → handle_before (row_of e) (row_of f) ≡ is_lt (key_pair_cmp e.0 f.0)
+hold_order e f = sym (export_order_lt e.0.0 e.0.1 f.0.0 f.0.1)
 
 by_client : (a c : ℕ) (P : Bool → Type 0) → (a ≡ c → P true) → ((a ≡ c → ⊥) → P false) → P (eqb a c)
 by_client a c P same other = elim (cases_eq a c) [ inl is ↦ subst P (sym (eqb_same a c is)) (same is) | inr apart ↦ subst P (sym (eqb_other a c apart)) (other apart) ]
 
 module _ (m : fin.FinMap nat_cmp FileRecord) (c : ℕ) where
-  pub find_hold : (h : ℕ) → find_row (is_hold c h) (holds_in (fin.entries m)) ≡ option_map (λ x. hold c h x.object x.place) (held m c h)
+  pub find_hold : (h : ℕ) → find_row (is_handle c h) (holds_in (fin.entries m)) ≡ option_map (λ x. hold c h x.object x.export_order) (held m c h)
   find_hold h =
-      ap (find_row (is_hold c h)) (rows_flat (fin.entries m))
-      ∙ find_rows place_cmp place_total row_of place_exact (c, h) (is_hold c h) (hold_test c h) (flat (fin.entries m))
-      ∙ ap (option_map (λ x. hold c h x.object x.place)) (find_held m c h)
+      ap (find_row (is_handle c h)) (rows_flat (fin.entries m))
+      ∙ find_rows key_pair_cmp export_order_total row_of export_order_exact (c, h) (is_handle c h) (hold_test c h) (flat (fin.entries m))
+      ∙ ap (option_map (λ x. hold c h x.object x.export_order)) (find_held m c h)
 
   pub held_insert : (s : FileRecord) (a b : ℕ) → held (fin.insert m c s) a b ≡ cond (eqb a c) (fin.get s.handles.slots b) (held m a b)
   held_insert s a b = ap (option_and_then (λ r. fin.get r.handles.slots b)) (get-insert m c s a) ∙ inside (eqb a c)
@@ -106,63 +101,63 @@ module _ (m : fin.FinMap nat_cmp FileRecord) (c : ℕ) where
       ∙ sym (rows_flat (fin.entries m))
 
   -- a client's table that has one more entry, or another at its number
-  holds_put : (r s : FileRecord) (h : ℕ) (x : Held) → fin.get m c ≡ Some r → s.handles.slots ≡ fin.insert r.handles.slots h x → holds_in (fin.entries (fin.insert m c s)) ≡ map row_of (put place_cmp (c, h) x (flat (fin.entries m)))
+  holds_put : (r s : FileRecord) (h : ℕ) (x : Held) → fin.get m c ≡ Some r → s.handles.slots ≡ fin.insert r.handles.slots h x → holds_in (fin.entries (fin.insert m c s)) ≡ map row_of (put key_pair_cmp (c, h) x (flat (fin.entries m)))
   holds_put r s h x found slots =
       let es = flat (fin.entries m) in
       let sorted = sorted_flat (fin.entries m) (fin.entries_sorted m) in
       rows_flat _
-      ∙ ap (map row_of) (flat_is (fin.insert m c s) (put place_cmp (c, h) x es) (is_sorted-put place_cmp place_total (c, h) x es sorted) (λ a b.
+      ∙ ap (map row_of) (flat_is (fin.insert m c s) (put key_pair_cmp (c, h) x es) (is_sorted-put key_pair_cmp export_order_total (c, h) x es sorted) (λ a b.
       held_insert s a b
       ∙ by_client a c (λ t. cond t (fin.get s.handles.slots b) (held m a b) ≡ cond (t && eqb b h) (Some x) (held m a b))
       (λ is. ap (λ t. fin.get t b) slots ∙ get-insert r.handles.slots h x b ∙ ap (cond (eqb b h) (Some x)) (sym (held_here r found a b is)))
       (λ apart. refl)
-      ∙ (λ i. cond (sym (place_eq a b c h) i) (Some x) (sym (find_held m a b) i))
-      ∙ sym (find-put place_cmp place_total (a, b) (c, h) x es)))
+      ∙ (λ i. cond (sym (export_order_eq a b c h) i) (Some x) (sym (find_held m a b) i))
+      ∙ sym (find-put key_pair_cmp export_order_total (a, b) (c, h) x es)))
 
   pub holds_added : (r s : FileRecord) (h : ℕ) (x : Held) → fin.get m c ≡ Some r → fin.get r.handles.slots h ≡ None → s.handles.slots ≡ fin.insert r.handles.slots h x →
-      holds_in (fin.entries (fin.insert m c s)) ≡ placed hold_before (hold c h x.object x.place) (holds_in (fin.entries m))
+      holds_in (fin.entries (fin.insert m c s)) ≡ placed handle_before (hold c h x.object x.export_order) (holds_in (fin.entries m))
   holds_added r s h x found new slots =
       let es = flat (fin.entries m) in
       let sorted = sorted_flat (fin.entries m) (fin.entries_sorted m) in
       holds_put r s h x found slots
-      ∙ rows_put place_cmp place_total row_of hold_before hold_order (c, h) x es sorted (find_held m c h ∙ held_here r found c h refl ∙ new)
-      ∙ ap (placed hold_before (hold c h x.object x.place)) (sym (rows_flat (fin.entries m)))
+      ∙ rows_put key_pair_cmp export_order_total row_of handle_before hold_order (c, h) x es sorted (find_held m c h ∙ held_here r found c h refl ∙ new)
+      ∙ ap (placed handle_before (hold c h x.object x.export_order)) (sym (rows_flat (fin.entries m)))
 
-  abbrev with_own : ℕ → ℕ → FileHold → FileHold
-  with_own h place row = if is_hold c h row then given_place place row else row
+  abbrev with_own : ℕ → ℕ → FileHandle → FileHandle
+  with_own h export_order row = if is_handle c h row then given_export_order export_order row else row
 
-  pub holds_placed : (r s : FileRecord) (h : ℕ) (x : Held) (place : ℕ) → fin.get m c ≡ Some r → fin.get r.handles.slots h ≡ Some x → s.handles.slots ≡ fin.insert r.handles.slots h (record { object = x.object; place = option_or x.place (Some place) }) →
-      holds_in (fin.entries (fin.insert m c s)) ≡ map (with_own h place) (holds_in (fin.entries m))
-  holds_placed r s h x place found here slots =
+  pub holds_placed : (r s : FileRecord) (h : ℕ) (x : Held) (export_order : ℕ) → fin.get m c ≡ Some r → fin.get r.handles.slots h ≡ Some x → s.handles.slots ≡ fin.insert r.handles.slots h (record { object = x.object; export_order = option_or x.export_order (Some export_order) }) →
+      holds_in (fin.entries (fin.insert m c s)) ≡ map (with_own h export_order) (holds_in (fin.entries m))
+  holds_placed r s h x export_order found here slots =
       let es = flat (fin.entries m) in
       let sorted = sorted_flat (fin.entries m) (fin.entries_sorted m) in
-      let y : Held = record { object = x.object; place = option_or x.place (Some place) } in
-      let own : (e : Place × Held) → with_own h place (row_of e) ≡ cond (eq_by_cmp place_cmp (c, h) e.0) (given_place place (row_of e)) (row_of e) =
-      λ e. ap (λ b. cond b (given_place place (row_of e)) (row_of e)) (hold_test c h e) in
+      let y : Held = record { object = x.object; export_order = option_or x.export_order (Some export_order) } in
+      let own : (e : KeyPair × Held) → with_own h export_order (row_of e) ≡ cond (eq_by_cmp key_pair_cmp (c, h) e.0) (given_export_order export_order (row_of e)) (row_of e) =
+      λ e. ap (λ b. cond b (given_export_order export_order (row_of e)) (row_of e)) (hold_test c h e) in
       holds_put r s h y found slots
-      ∙ rows_put_found place_cmp place_total row_of (with_own h place) (c, h)
-      (λ e no. own e ∙ ap (λ b. cond b (given_place place (row_of e)) (row_of e)) no)
+      ∙ rows_put_found key_pair_cmp export_order_total row_of (with_own h export_order) (c, h)
+      (λ e no. own e ∙ ap (λ b. cond b (given_export_order export_order (row_of e)) (row_of e)) no)
       x y
-      (λ e at value. (λ i. hold e.0.0 e.0.1 (sym value i).object (option_or (sym value i).place (Some place))) ∙ sym (own e ∙ ap (λ b. cond b (given_place place (row_of e)) (row_of e)) at))
+      (λ e at value. (λ i. hold e.0.0 e.0.1 (sym value i).object (option_or (sym value i).export_order (Some export_order))) ∙ sym (own e ∙ ap (λ b. cond b (given_export_order export_order (row_of e)) (row_of e)) at))
       es sorted (find_held m c h ∙ held_here r found c h refl ∙ here)
-      ∙ ap (map (with_own h place)) (sym (rows_flat (fin.entries m)))
+      ∙ ap (map (with_own h export_order)) (sym (rows_flat (fin.entries m)))
 
   pub holds_dropped : (r s : FileRecord) (h : ℕ) → fin.get m c ≡ Some r → s.handles.slots ≡ fin.remove r.handles.slots h →
-      holds_in (fin.entries (fin.insert m c s)) ≡ filter (λ row. not (is_hold c h row)) (holds_in (fin.entries m))
+      holds_in (fin.entries (fin.insert m c s)) ≡ filter (λ row. not (is_handle c h row)) (holds_in (fin.entries m))
   holds_dropped r s h found slots =
       let es = flat (fin.entries m) in
       let sorted = sorted_flat (fin.entries m) (fin.entries_sorted m) in
-      let keep : Place → Bool = λ p. not (eq_by_cmp place_cmp (c, h) p) in
+      let keep : KeyPair → Bool = λ p. not (eq_by_cmp key_pair_cmp (c, h) p) in
       rows_flat _
-      ∙ ap (map row_of) (flat_is (fin.insert m c s) (where_key place_cmp keep es) (is_sorted-where_key place_cmp keep es sorted) (λ a b.
+      ∙ ap (map row_of) (flat_is (fin.insert m c s) (where_key key_pair_cmp keep es) (is_sorted-where_key key_pair_cmp keep es sorted) (λ a b.
       held_insert s a b
       ∙ by_client a c (λ t. cond t (fin.get s.handles.slots b) (held m a b) ≡ cond (not (t && eqb b h)) (held m a b) None)
       (λ is. ap (λ t. fin.get t b) slots ∙ get-remove r.handles.slots h b ∙ swap (eqb b h) _ ∙ ap (λ y. cond (not (eqb b h)) y None) (sym (held_here r found a b is)))
       (λ apart. refl)
       ∙ (λ i. cond (not (test a b i)) (sym (find_held m a b) i) None)
-      ∙ sym (find-where_key place_cmp keep (a, b) (λ p t. ap keep (sym (place_exact (a, b) p t))) es)))
-      ∙ rows_where place_cmp place_total row_of keep (λ row. not (is_hold c h row)) (λ e. ap not (hold_test c h e)) es
-      ∙ ap (filter (λ row. not (is_hold c h row))) (sym (rows_flat (fin.entries m)))
+      ∙ sym (find-where_key key_pair_cmp keep (a, b) (λ p t. ap keep (sym (export_order_exact (a, b) p t))) es)))
+      ∙ rows_where key_pair_cmp export_order_total row_of keep (λ row. not (is_handle c h row)) (λ e. ap not (hold_test c h e)) es
+      ∙ ap (filter (λ row. not (is_handle c h row))) (sym (rows_flat (fin.entries m)))
     where
       swap : (t : Bool) (y : Option Held) → cond t None y ≡ cond (not t) y None
       swap true y = refl
@@ -171,21 +166,21 @@ module _ (m : fin.FinMap nat_cmp FileRecord) (c : ℕ) where
       turn : (a b : ℕ) → (eqb a c && eqb b h) ≡ (eqb c a && eqb h b)
       turn a b = grind (arith, nat_tests)
 
-      test : (a b : ℕ) → (eqb a c && eqb b h) ≡ eq_by_cmp place_cmp (c, h) (a, b)
-      test a b = turn a b ∙ sym (place_eq c h a b)
+      test : (a b : ℕ) → (eqb a c && eqb b h) ≡ eq_by_cmp key_pair_cmp (c, h) (a, b)
+      test a b = turn a b ∙ sym (export_order_eq c h a b)
 
   pub holds_closed : holds_in (fin.entries (fin.remove m c)) ≡ filter (λ row. not (of_client c row)) (holds_in (fin.entries m))
   holds_closed =
       let es = flat (fin.entries m) in
       let sorted = sorted_flat (fin.entries m) (fin.entries_sorted m) in
-      let keep : Place → Bool = λ p. not (p.0 == c) in
+      let keep : KeyPair → Bool = λ p. not (p.0 == c) in
       rows_flat _
-      ∙ ap (map row_of) (flat_is (fin.remove m c) (where_key place_cmp keep es) (is_sorted-where_key place_cmp keep es sorted) (λ a b.
+      ∙ ap (map row_of) (flat_is (fin.remove m c) (where_key key_pair_cmp keep es) (is_sorted-where_key key_pair_cmp keep es sorted) (λ a b.
       ap (option_and_then (λ r. fin.get r.handles.slots b)) (get-remove m c a)
       ∙ swap (eqb a c) (fin.get m a) b
       ∙ ap (λ y. cond (not (eqb a c)) y None) (sym (find_held m a b))
-      ∙ sym (find-where_key place_cmp keep (a, b) (λ p t. ap keep (sym (place_exact (a, b) p t))) es)))
-      ∙ rows_where place_cmp place_total row_of keep (λ row. not (of_client c row)) (λ e. refl) es
+      ∙ sym (find-where_key key_pair_cmp keep (a, b) (λ p t. ap keep (sym (export_order_exact (a, b) p t))) es)))
+      ∙ rows_where key_pair_cmp export_order_total row_of keep (λ row. not (of_client c row)) (λ e. refl) es
       ∙ ap (filter (λ row. not (of_client c row))) (sym (rows_flat (fin.entries m)))
     where
       swap : (t : Bool) (y : Option FileRecord) (b : ℕ) → option_and_then (λ r. fin.get r.handles.slots b) (cond t None y) ≡ cond (not t) (option_and_then (λ r. fin.get r.handles.slots b) y) None
@@ -198,11 +193,11 @@ module _ (m : fin.FinMap nat_cmp FileRecord) (c : ℕ) where
       let es = flat (fin.entries m) in
       let hs = fin.entries r.handles.slots in
       let sorted = sorted_flat (fin.entries m) (fin.entries_sorted m) in
-      let keep : Place → Bool = λ p. p.0 == c in
+      let keep : KeyPair → Bool = λ p. p.0 == c in
       ap (filter (of_client c)) (rows_flat (fin.entries m))
-      ∙ sym (rows_where place_cmp place_total row_of keep (of_client c) (λ e. refl) es)
-      ∙ ap (map row_of) (same_entries place_cmp place_total place_exact (where_key place_cmp keep es) (tagged c hs) (is_sorted-where_key place_cmp keep es sorted) (subst T (sym (sorted_tagged c hs)) (fin.entries_sorted r.handles.slots)) (λ q.
-      find-where_key place_cmp keep q (λ p t. ap keep (sym (place_exact q p t))) es
+      ∙ sym (rows_where key_pair_cmp export_order_total row_of keep (of_client c) (λ e. refl) es)
+      ∙ ap (map row_of) (same_entries key_pair_cmp export_order_total export_order_exact (where_key key_pair_cmp keep es) (tagged c hs) (is_sorted-where_key key_pair_cmp keep es sorted) (subst T (sym (sorted_tagged c hs)) (fin.entries_sorted r.handles.slots)) (λ q.
+      find-where_key key_pair_cmp keep q (λ p t. ap keep (sym (export_order_exact q p t))) es
       ∙ ap (λ y. cond (q.0 == c) y None) (find_held m q.0 q.1)
       ∙ by_client q.0 c (λ t. cond t (held m q.0 q.1) None ≡ cond t (find nat_cmp q.1 hs) None) (λ is. held_here r found q.0 q.1 is ∙ fin.get-entries r.handles.slots q.1) (λ apart. refl)
       ∙ sym (find_tagged q.0 q.1 c hs)))

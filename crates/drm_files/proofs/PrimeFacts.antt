@@ -6,36 +6,36 @@ use Rattle.std.specs.Ordering.{eq_by_cmp}
 use Rattle.std.specs.Cmp.{nat_cmp_total}
 use Rattle.std.specs.FinMap as fin
 use Rattle.std.specs.FinMap.Entries.{find}
-use Rattle.std.proofs.lemmas.Bool.{false≢true, eqb-true}
+use Rattle.std.proofs.lemmas.Bool.{false≢true, eqb-true, and_parts, and_from}
 use Rattle.std.proofs.lemmas.Bool.Decides.{nat_tests}
-use Rattle.std.proofs.lemmas.Option.{same_Some}
+use Rattle.std.proofs.lemmas.Option.{same_Some, none-some}
 use Rattle.drm_lists.proofs.Lists.{some_passing, all_weaker, all_append, all_of_map}
 use Rattle.drm_index_array.specs.Least.{least_of}
 use Rattle.drm_index_array.proofs.Least.{least_of_is}
-use Rattle.drm_index_array.proofs.Keyed.{none_some, all_rows}
+use Rattle.drm_index_array.proofs.Keyed.{all_rows}
 use Rattle.drm_files.specs.declared.files.FileRecord.{FileRecord}
 use Rattle.drm_files.specs.declared.files.Held.{Held}
 use Rattle.drm_files.specs.declared.primes.Prime.{Prime}
-use Rattle.drm_files.specs.declared.rows.FileHold.{FileHold}
-use Rattle.drm_files.specs.Files.{hold, of_client, is_hold_of, has_place, places_of, handles_at, prime_handle}
+use Rattle.drm_files.specs.declared.rows.FileHandle.{FileHandle}
+use Rattle.drm_files.specs.Files.{hold, of_client, is_handle_of, has_export_order, export_orders_of, handles_at, prime_handle}
 use Rattle.drm_files.specs.Records.{rows_in, holds_in, lists_of}
-use Rattle.drm_files.specs.Primes.{is_for, is_at, places_in, handles_in, least_prime, prime_of, prime_at, is_before, lesser_prime, IsFirst, IsLeastIn}
+use Rattle.drm_files.specs.Primes.{is_for, is_at, export_orders_in, handles_in, least_prime, prime_of, prime_at, is_before, lesser_prime, IsFirst, IsLeastIn}
 use Rattle.drm_files.proofs.Changes.{rows_of_client}
 
 -- what a walk over handles keeps
 
 handle_is : (object h : ℕ) (o : Option Held) (y : Prime) → option_and_then (λ held. prime_of object (h, held)) o ≡ Some y → y.handle ≡ h
-handle_is object h None y e = absurd (none_some y e)
-handle_is object h (Some held) y e = by_test (held.object == object) held.place e
+handle_is object h None y e = absurd (none-some y e)
+handle_is object h (Some held) y e = by_test (held.object == object) held.export_order e
   where
-    by_test : (t : Bool) (p : Option ℕ) → (if t then option_map (λ place. record { place = place; handle = h }) p else None) ≡ Some y → y.handle ≡ h
-    by_test true None e = absurd (none_some y e)
-    by_test true (Some place) e = sym (ap (λ o. handle_or o) e)
+    by_test : (t : Bool) (p : Option ℕ) → (if t then option_map (λ export_order. record { export_order = export_order; handle = h }) p else None) ≡ Some y → y.handle ≡ h
+    by_test true None e = absurd (none-some y e)
+    by_test true (Some export_order) e = sym (ap (λ o. handle_or o) e)
       where
         handle_or : Option Prime → ℕ
         handle_or None = 0
         handle_or (Some z) = z.handle
-    by_test false p e = absurd (none_some y e)
+    by_test false p e = absurd (none-some y e)
 
 not_after : (y x : Prime) → is_before y x ≡ true → IsFirst y x
 not_after y x is = ((grind (arith, nat_tests)), λ same. grind (arith, nat_tests))
@@ -47,15 +47,12 @@ first_trans : (x y z : Prime) → IsFirst x y → IsFirst y z → IsFirst x z
 first_trans x y z a b = (
   omega (arith, a.0, b.0),
   λ same.
-      let xy : x.place ≡ y.place = omega (arith, a.0, b.0, same) in
-      let yz : y.place ≡ z.place = omega (arith, a.0, b.0, same) in
+      let xy : x.export_order ≡ y.export_order = omega (arith, a.0, b.0, same) in
+      let yz : y.export_order ≡ z.export_order = omega (arith, a.0, b.0, same) in
       omega (arith, a.1 xy, b.1 yz),
 )
 
 module _ (slots : fin.FinMap nat_cmp Held) (object : ℕ) where
-  IfFirst : Prime → Option Prime → Type 0
-  IfFirst x o = IfSome o (λ y. IsFirst x y)
-
   -- one more handle
   pub one_more : (handles : List ℕ) (r : Option Prime) (h : ℕ) → IsLeastIn slots object handles r → IsLeastIn slots object (handles ++ h ∷ []) (lesser_prime r (prime_at slots object h))
   one_more handles r h is = by r (prime_at slots object h) refl is
@@ -89,34 +86,34 @@ module _ (slots : fin.FinMap nat_cmp Held) (object : ℕ) where
 
 -- what the entries of a table have
 
-any_place : (object k : ℕ) (es : List (ℕ × Held)) → list_any (λ x. x == k) (places_in object es) ≡ list_any (λ e. is_for object e && is_at k e) es
-any_place object k [] = refl
-any_place object k (e ∷ es) =
+any_export_order : (object k : ℕ) (es : List (ℕ × Held)) → list_any (λ x. x == k) (export_orders_in object es) ≡ list_any (λ e. is_for object e && is_at k e) es
+any_export_order object k [] = refl
+any_export_order object k (e ∷ es) =
     let others = filter (is_for object) es in
     let rest = list_any (λ e. is_for object e && is_at k e) es in
-    elim (is_for object e) as (λ t. list_any (λ x. x == k) (filter_map (λ x. x.1.place) (cond t (e ∷ others) others)) ≡ ((t && is_at k e) || rest)) [
-      | true ↦ elim e.1.place as (λ p. list_any (λ x. x == k) (cons_option p (filter_map (λ x. x.1.place) others)) ≡ (option_map_or (λ x. x == k) p false || rest)) [
-        | None ↦ any_place object k es
-        | Some place ↦ ap (λ b. (place == k) || b) (any_place object k es)
+    elim (is_for object e) as (λ t. list_any (λ x. x == k) (filter_map (λ x. x.1.export_order) (cond t (e ∷ others) others)) ≡ ((t && is_at k e) || rest)) [
+      | true ↦ elim e.1.export_order as (λ p. list_any (λ x. x == k) (cons_option p (filter_map (λ x. x.1.export_order) others)) ≡ (option_map_or (λ x. x == k) p false || rest)) [
+        | None ↦ any_export_order object k es
+        | Some export_order ↦ ap (λ b. (export_order == k) || b) (any_export_order object k es)
       ]
-      | false ↦ any_place object k es
+      | false ↦ any_export_order object k es
     ]
 
-any_handle : (object place h : ℕ) (es : List (ℕ × Held)) → list_any (λ x. x == h) (handles_in object place es) ≡ list_any (λ e. (is_for object e && is_at place e) && (e.0 == h)) es
-any_handle object place h [] = refl
-any_handle object place h (e ∷ es) =
+any_handle : (object export_order h : ℕ) (es : List (ℕ × Held)) → list_any (λ x. x == h) (handles_in object export_order es) ≡ list_any (λ e. (is_for object e && is_at export_order e) && (e.0 == h)) es
+any_handle object export_order h [] = refl
+any_handle object export_order h (e ∷ es) =
     let others = filter (is_for object) es in
-    let rest = list_any (λ e. (is_for object e && is_at place e) && (e.0 == h)) es in
-    elim (is_for object e) as (λ t. list_any (λ x. x == h) (map (λ x. x.0) (filter (is_at place) (cond t (e ∷ others) others))) ≡ (((t && is_at place e) && (e.0 == h)) || rest)) [
-      | true ↦ elim (is_at place e) as (λ t. list_any (λ x. x == h) (map (λ x. x.0) (cond t (e ∷ filter (is_at place) others) (filter (is_at place) others))) ≡ ((t && (e.0 == h)) || rest)) [
-        | true ↦ ap (λ b. (e.0 == h) || b) (any_handle object place h es)
-        | false ↦ any_handle object place h es
+    let rest = list_any (λ e. (is_for object e && is_at export_order e) && (e.0 == h)) es in
+    elim (is_for object e) as (λ t. list_any (λ x. x == h) (map (λ x. x.0) (filter (is_at export_order) (cond t (e ∷ others) others))) ≡ (((t && is_at export_order e) && (e.0 == h)) || rest)) [
+      | true ↦ elim (is_at export_order e) as (λ t. list_any (λ x. x == h) (map (λ x. x.0) (cond t (e ∷ filter (is_at export_order) others) (filter (is_at export_order) others))) ≡ ((t && (e.0 == h)) || rest)) [
+        | true ↦ ap (λ b. (e.0 == h) || b) (any_handle object export_order h es)
+        | false ↦ any_handle object export_order h es
       ]
-      | false ↦ any_handle object place h es
+      | false ↦ any_handle object export_order h es
     ]
 
 any_entry : (p : ℕ × Held → Bool) (h : ℕ) (x : Held) (es : List (ℕ × Held)) → find nat_cmp h es ≡ Some x → p (h, x) ≡ true → list_any p es ≡ true
-any_entry p h x [] found passes = absurd (none_some x found)
+any_entry p h x [] found passes = absurd (none-some x found)
 any_entry p h x (e ∷ es) found passes =
     elim (eq_by_cmp nat_cmp h e.0) as (λ t. eq_by_cmp nat_cmp h e.0 ≡ t → cond t (Some e.1) (find nat_cmp h es) ≡ Some x → (p e || list_any p es) ≡ true) [
       | true ↦ λ same is.
@@ -131,13 +128,6 @@ any_entry p h x (e ∷ es) found passes =
     or_true : (b : Bool) → (b || true) ≡ true
     or_true true = refl
     or_true false = refl
-
-both_of : (a b : Bool) → (a && b) ≡ true → (a ≡ true) × (b ≡ true)
-both_of true b e = (refl, e)
-both_of false b e = absurd (false≢true e)
-
-both_are : (a b : Bool) → a ≡ true → b ≡ true → (a && b) ≡ true
-both_are a b p q = (λ i. p i && q i)
 
 placed_at : (k : ℕ) (p : Option ℕ) → option_map_or (λ x. x == k) p false ≡ true → p ≡ Some k
 placed_at k None e = absurd (false≢true e)
@@ -156,66 +146,66 @@ module _ (m : fin.FinMap nat_cmp Held) (object : ℕ) (handles : List ℕ) (file
       let some = some_passing (λ n. n == h) P handles all (filed h ∙ ap (λ o. option_map_or (λ (y : Held). y.object == object) o false) at ∙ mine) in
       subst P (eqb-true some.0 h some.1) some.2
 
-  prime_is_at : (h k : ℕ) (x : Held) → fin.get m h ≡ Some x → (x.object == object) ≡ true → x.place ≡ Some k → prime_at m object h ≡ Some (record { place = k; handle = h })
-  prime_is_at h k x at mine place =
+  prime_is_at : (h k : ℕ) (x : Held) → fin.get m h ≡ Some x → (x.object == object) ≡ true → x.export_order ≡ Some k → prime_at m object h ≡ Some (record { export_order = k; handle = h })
+  prime_is_at h k x at mine export_order =
       ap (option_and_then (λ held. prime_of object (h, held))) at
-      ∙ ap (λ t. if t then option_map (λ place. record { place = place; handle = h }) x.place else None) mine
-      ∙ ap (option_map (λ place. record { place = place; handle = h })) place
+      ∙ ap (λ t. if t then option_map (λ export_order. record { export_order = export_order; handle = h }) x.export_order else None) mine
+      ∙ ap (option_map (λ export_order. record { export_order = export_order; handle = h })) export_order
 
-  placed : (x : Prime) (o : Option Held) → option_and_then (λ held. prime_of object (x.handle, held)) o ≡ Some x → (y : Held) × (o ≡ Some y) × ((y.object == object) ≡ true) × (y.place ≡ Some x.place)
-  placed x None e = absurd (none_some x e)
+  placed : (x : Prime) (o : Option Held) → option_and_then (λ held. prime_of object (x.handle, held)) o ≡ Some x → (y : Held) × (o ≡ Some y) × ((y.object == object) ≡ true) × (y.export_order ≡ Some x.export_order)
+  placed x None e = absurd (none-some x e)
   placed x (Some y) e = let tests = by_test (y.object == object) e in (y, refl, tests.0, tests.1)
     where
-      by_place : (p : Option ℕ) → option_map (λ place. record { place = place; handle = x.handle }) p ≡ Some x → p ≡ Some x.place
-      by_place None e = absurd (none_some x e)
-      by_place (Some k) e = ap (λ o. option_map (λ (z : Prime). z.place) o) e
+      by_export_order : (p : Option ℕ) → option_map (λ export_order. record { export_order = export_order; handle = x.handle }) p ≡ Some x → p ≡ Some x.export_order
+      by_export_order None e = absurd (none-some x e)
+      by_export_order (Some k) e = ap (λ o. option_map (λ (z : Prime). z.export_order) o) e
 
-      by_test : (t : Bool) → (if t then option_map (λ place. record { place = place; handle = x.handle }) y.place else None) ≡ Some x → (t ≡ true) × (y.place ≡ Some x.place)
-      by_test true e = (refl, by_place y.place e)
-      by_test false e = absurd (none_some x e)
+      by_test : (t : Bool) → (if t then option_map (λ export_order. record { export_order = export_order; handle = x.handle }) y.export_order else None) ≡ Some x → (t ≡ true) × (y.export_order ≡ Some x.export_order)
+      by_test true e = (refl, by_export_order y.export_order e)
+      by_test false e = absurd (none-some x e)
 
-  no_places : AllByRecursion (λ h. prime_at m object h ≡ None) handles → (fs : List (ℕ × Held)) → AllByRecursion (λ e. fin.get m e.0 ≡ Some e.1) fs → places_in object fs ≡ []
-  no_places none [] at = refl
-  no_places none (e ∷ fs) at =
+  no_export_orders : AllByRecursion (λ h. prime_at m object h ≡ None) handles → (fs : List (ℕ × Held)) → AllByRecursion (λ e. fin.get m e.0 ≡ Some e.1) fs → export_orders_in object fs ≡ []
+  no_export_orders none [] at = refl
+  no_export_orders none (e ∷ fs) at =
       let others = filter (is_for object) fs in
-      elim (is_for object e) as (λ t. is_for object e ≡ t → filter_map (λ (x : ℕ × Held). x.1.place) (cond t (e ∷ others) others) ≡ []) [
+      elim (is_for object e) as (λ t. is_for object e ≡ t → filter_map (λ (x : ℕ × Held). x.1.export_order) (cond t (e ∷ others) others) ≡ []) [
         | true ↦ λ mine.
-            let nowhere : e.1.place ≡ None = without e.1.place refl mine in
-            ap (λ p. cons_option p (filter_map (λ (x : ℕ × Held). x.1.place) others)) nowhere ∙ no_places none fs at.1
-        | false ↦ λ other. no_places none fs at.1
+            let nowhere : e.1.export_order ≡ None = without e.1.export_order refl mine in
+            ap (λ p. cons_option p (filter_map (λ (x : ℕ × Held). x.1.export_order) others)) nowhere ∙ no_export_orders none fs at.1
+        | false ↦ λ other. no_export_orders none fs at.1
       ] refl
     where
-      without : (p : Option ℕ) → e.1.place ≡ p → is_for object e ≡ true → e.1.place ≡ None
+      without : (p : Option ℕ) → e.1.export_order ≡ p → is_for object e ≡ true → e.1.export_order ≡ None
       without None is mine = is
       without (Some k) is mine =
-          absurd (none_some (record { place = k; handle = e.0 }) (sym (of_entry (λ h. prime_at m object h ≡ None) none e.0 e.1 at.0 mine) ∙ prime_is_at e.0 k e.1 at.0 mine is))
+          absurd (none-some (record { export_order = k; handle = e.0 }) (sym (of_entry (λ h. prime_at m object h ≡ None) none e.0 e.1 at.0 mine) ∙ prime_is_at e.0 k e.1 at.0 mine is))
 
   pub least_is : (r : Option Prime) → IsLeastIn m object handles r → r ≡ least_prime object es
-  least_is None none = ap (λ places. option_and_then (λ place. option_map (λ handle. record { place = place; handle = handle }) (least_of (handles_in object place es))) (least_of places)) (sym (no_places none es there))
+  least_is None none = ap (λ export_orders. option_and_then (λ export_order. option_map (λ handle. record { export_order = export_order; handle = handle }) (least_of (handles_in object export_order es))) (least_of export_orders)) (sym (no_export_orders none es there))
   least_is (Some x) is =
       let held = placed x (fin.get m x.handle) is.0 in
       let entry = sym (fin.get-entries m x.handle) ∙ held.1 in
       let mine = held.2 in
-      let here : is_at x.place (x.handle, held.0) ≡ true = ap (λ p. option_map_or (λ q. q == x.place) p false) held.3 ∙ eq-eqb x.place x.place refl in
-      let place = least_of_is (places_in object es) x.place (record {
-        among = any_place object x.place es ∙ any_entry (λ e. is_for object e && is_at x.place e) x.handle held.0 es entry (both_are _ _ mine here);
+      let here : is_at x.export_order (x.handle, held.0) ≡ true = ap (λ p. option_map_or (λ q. q == x.export_order) p false) held.3 ∙ eq-eqb x.export_order x.export_order refl in
+      let export_order = least_of_is (export_orders_in object es) x.export_order (record {
+        among = any_export_order object x.export_order es ∙ any_entry (λ e. is_for object e && is_at x.export_order e) x.handle held.0 es entry (and_from _ _ mine here);
         at_most = λ k among.
-            let e = some_passing (λ e. is_for object e && is_at k e) (λ e. fin.get m e.0 ≡ Some e.1) es there (sym (any_place object k es) ∙ among) in
-            let tests = both_of _ _ e.1 in
-            let prime = prime_is_at e.0.0 k e.0.1 e.2 tests.0 (placed_at k e.0.1.place tests.1) in
+            let e = some_passing (λ e. is_for object e && is_at k e) (λ e. fin.get m e.0 ≡ Some e.1) es there (sym (any_export_order object k es) ∙ among) in
+            let tests = and_parts _ _ e.1 in
+            let prime = prime_is_at e.0.0 k e.0.1 e.2 tests.0 (placed_at k e.0.1.export_order tests.1) in
             (subst (λ o. IfSome o (λ z. IsFirst x z)) prime (of_entry (λ h. IfSome (prime_at m object h) (λ z. IsFirst x z)) is.1 e.0.0 e.0.1 e.2 tests.0)).0;
       }) in
-      let handle = least_of_is (handles_in object x.place es) x.handle (record {
-        among = any_handle object x.place x.handle es ∙ any_entry (λ e. (is_for object e && is_at x.place e) && (e.0 == x.handle)) x.handle held.0 es entry (both_are _ _ (both_are _ _ mine here) (eq-eqb x.handle x.handle refl));
+      let handle = least_of_is (handles_in object x.export_order es) x.handle (record {
+        among = any_handle object x.export_order x.handle es ∙ any_entry (λ e. (is_for object e && is_at x.export_order e) && (e.0 == x.handle)) x.handle held.0 es entry (and_from _ _ (and_from _ _ mine here) (eq-eqb x.handle x.handle refl));
         at_most = λ k among.
-            let e = some_passing (λ e. (is_for object e && is_at x.place e) && (e.0 == k)) (λ e. fin.get m e.0 ≡ Some e.1) es there (sym (any_handle object x.place k es) ∙ among) in
-            let last = both_of _ _ e.1 in
-            let tests = both_of _ _ last.0 in
-            let prime = prime_is_at e.0.0 x.place e.0.1 e.2 tests.0 (placed_at x.place e.0.1.place tests.1) in
+            let e = some_passing (λ e. (is_for object e && is_at x.export_order e) && (e.0 == k)) (λ e. fin.get m e.0 ≡ Some e.1) es there (sym (any_handle object x.export_order k es) ∙ among) in
+            let last = and_parts _ _ e.1 in
+            let tests = and_parts _ _ last.0 in
+            let prime = prime_is_at e.0.0 x.export_order e.0.1 e.2 tests.0 (placed_at x.export_order e.0.1.export_order tests.1) in
             let least = (subst (λ o. IfSome o (λ z. IsFirst x z)) prime (of_entry (λ h. IfSome (prime_at m object h) (λ z. IsFirst x z)) is.1 e.0.0 e.0.1 e.2 tests.0)).1 refl in
             subst (λ n. x.handle ≤ n) (eqb-true e.0.0 k last.1) least;
       }) in
-      ap (option_map (λ h. record { place = x.place; handle = h })) (sym handle) ∙ ap (option_and_then (λ place. option_map (λ handle. record { place = place; handle = handle }) (least_of (handles_in object place es)))) (sym place)
+      ap (option_map (λ h. record { export_order = x.export_order; handle = h })) (sym handle) ∙ ap (option_and_then (λ export_order. option_map (λ handle. record { export_order = export_order; handle = handle }) (least_of (handles_in object export_order es)))) (sym export_order)
 
   -- no handle is for the object
   pub least_none : ((h : ℕ) → list_any (λ x. x == h) handles ≡ false) → None ≡ least_prime object es
@@ -236,47 +226,47 @@ both_tests p q (x ∷ xs) =
     ]
 
 module _ (c : ℕ) where
-  rows_for : (object : ℕ) (es : List (ℕ × Held)) → filter (λ (row : FileHold). row.object == object) (rows_in c es) ≡ rows_in c (filter (is_for object) es)
+  rows_for : (object : ℕ) (es : List (ℕ × Held)) → filter (λ (row : FileHandle). row.object == object) (rows_in c es) ≡ rows_in c (filter (is_for object) es)
   rows_for object [] = refl
   rows_for object (e ∷ es) =
-      let row = hold c e.0 e.1.object e.1.place in
+      let row = hold c e.0 e.1.object e.1.export_order in
       ap (λ l. cond (is_for object e) (row ∷ l) l) (rows_for object es)
       ∙ elim (is_for object e) as (λ t. cond t (row ∷ rows_in c (filter (is_for object) es)) (rows_in c (filter (is_for object) es)) ≡ rows_in c (cond t (e ∷ filter (is_for object) es) (filter (is_for object) es))) [ true ↦ refl | false ↦ refl ]
 
-  places_by_row : (es : List (ℕ × Held)) → filter_map (λ (row : FileHold). row.place) (rows_in c es) ≡ filter_map (λ e. e.1.place) es
-  places_by_row [] = refl
-  places_by_row (e ∷ es) = ap (cons_option e.1.place) (places_by_row es)
+  export_orders_by_row : (es : List (ℕ × Held)) → filter_map (λ (row : FileHandle). row.export_order) (rows_in c es) ≡ filter_map (λ e. e.1.export_order) es
+  export_orders_by_row [] = refl
+  export_orders_by_row (e ∷ es) = ap (cons_option e.1.export_order) (export_orders_by_row es)
 
-  handles_by_row : (place : ℕ) (es : List (ℕ × Held)) → map (λ (row : FileHold). row.handle) (filter (has_place place) (rows_in c es)) ≡ map (λ e. e.0) (filter (is_at place) es)
-  handles_by_row place [] = refl
-  handles_by_row place (e ∷ es) =
-      let row = hold c e.0 e.1.object e.1.place in
-      elim (is_at place e) as (λ t. map (λ (row : FileHold). row.handle) (cond t (row ∷ filter (has_place place) (rows_in c es)) (filter (has_place place) (rows_in c es))) ≡ map (λ e. e.0) (cond t (e ∷ filter (is_at place) es) (filter (is_at place) es))) [
-        | true ↦ ap (λ l. e.0 ∷ l) (handles_by_row place es)
-        | false ↦ handles_by_row place es
+  handles_by_row : (export_order : ℕ) (es : List (ℕ × Held)) → map (λ (row : FileHandle). row.handle) (filter (has_export_order export_order) (rows_in c es)) ≡ map (λ e. e.0) (filter (is_at export_order) es)
+  handles_by_row export_order [] = refl
+  handles_by_row export_order (e ∷ es) =
+      let row = hold c e.0 e.1.object e.1.export_order in
+      elim (is_at export_order e) as (λ t. map (λ (row : FileHandle). row.handle) (cond t (row ∷ filter (has_export_order export_order) (rows_in c es)) (filter (has_export_order export_order) (rows_in c es))) ≡ map (λ e. e.0) (cond t (e ∷ filter (is_at export_order) es) (filter (is_at export_order) es))) [
+        | true ↦ ap (λ l. e.0 ∷ l) (handles_by_row export_order es)
+        | false ↦ handles_by_row export_order es
       ]
 
 module _ (limit last : ℕ) (m : fin.FinMap nat_cmp FileRecord) (c : ℕ) (r : FileRecord) (found : fin.get m c ≡ Some r) (object : ℕ) where
-  rows_are : filter (is_hold_of c object) (holds_in (fin.entries m)) ≡ rows_in c (filter (is_for object) (fin.entries r.handles.slots))
+  rows_are : filter (is_handle_of c object) (holds_in (fin.entries m)) ≡ rows_in c (filter (is_for object) (fin.entries r.handles.slots))
   rows_are =
       both_tests (of_client c) (λ row. row.object == object) (holds_in (fin.entries m))
       ∙ ap (filter (λ row. row.object == object)) (rows_of_client m c r found)
       ∙ rows_for c object (fin.entries r.handles.slots)
 
-  places_are : places_of (lists_of limit last m) c object ≡ places_in object (fin.entries r.handles.slots)
-  places_are = ap (filter_map (λ row. row.place)) rows_are ∙ places_by_row c (filter (is_for object) (fin.entries r.handles.slots))
+  export_orders_are : export_orders_of (lists_of limit last m) c object ≡ export_orders_in object (fin.entries r.handles.slots)
+  export_orders_are = ap (filter_map (λ row. row.export_order)) rows_are ∙ export_orders_by_row c (filter (is_for object) (fin.entries r.handles.slots))
 
-  handles_at_are : (place : ℕ) → handles_at (lists_of limit last m) c object place ≡ handles_in object place (fin.entries r.handles.slots)
-  handles_at_are place = ap (λ rows. map (λ row. row.handle) (filter (has_place place) rows)) rows_are ∙ handles_by_row c place (filter (is_for object) (fin.entries r.handles.slots))
+  handles_at_are : (export_order : ℕ) → handles_at (lists_of limit last m) c object export_order ≡ handles_in object export_order (fin.entries r.handles.slots)
+  handles_at_are export_order = ap (λ rows. map (λ row. row.handle) (filter (has_export_order export_order) rows)) rows_are ∙ handles_by_row c export_order (filter (is_for object) (fin.entries r.handles.slots))
 
   -- the least in the client's table is its PRIME handle
   pub prime_is : option_map (λ (prime : Prime). prime.handle) (least_prime object (fin.entries r.handles.slots)) ≡ prime_handle (lists_of limit last m) c object
-  prime_is = handle_of (least_of (places_in object (fin.entries r.handles.slots))) ∙ (λ i. option_and_then (λ place. least_of (sym (handles_at_are place) i)) (least_of (sym places_are i)))
+  prime_is = handle_of (least_of (export_orders_in object (fin.entries r.handles.slots))) ∙ (λ i. option_and_then (λ export_order. least_of (sym (handles_at_are export_order) i)) (least_of (sym export_orders_are i)))
     where
-      of_place : (place : ℕ) (x : Option ℕ) → option_map (λ (prime : Prime). prime.handle) (option_map (λ handle. record { place = place; handle = handle }) x) ≡ x
-      of_place place None = refl
-      of_place place (Some handle) = refl
+      of_export_order : (export_order : ℕ) (x : Option ℕ) → option_map (λ (prime : Prime). prime.handle) (option_map (λ handle. record { export_order = export_order; handle = handle }) x) ≡ x
+      of_export_order export_order None = refl
+      of_export_order export_order (Some handle) = refl
 
-      handle_of : (x : Option ℕ) → option_map (λ (prime : Prime). prime.handle) (option_and_then (λ place. option_map (λ handle. record { place = place; handle = handle }) (least_of (handles_in object place (fin.entries r.handles.slots)))) x) ≡ option_and_then (λ place. least_of (handles_in object place (fin.entries r.handles.slots))) x
+      handle_of : (x : Option ℕ) → option_map (λ (prime : Prime). prime.handle) (option_and_then (λ export_order. option_map (λ handle. record { export_order = export_order; handle = handle }) (least_of (handles_in object export_order (fin.entries r.handles.slots)))) x) ≡ option_and_then (λ export_order. least_of (handles_in object export_order (fin.entries r.handles.slots))) x
       handle_of None = refl
-      handle_of (Some place) = of_place place (least_of (handles_in object place (fin.entries r.handles.slots)))
+      handle_of (Some export_order) = of_export_order export_order (least_of (handles_in object export_order (fin.entries r.handles.slots)))

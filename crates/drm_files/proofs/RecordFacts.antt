@@ -15,12 +15,14 @@ use Rattle.drm_id_alloc.specs.Groups.{Groups, GroupMap, has, AreSame, IsAdded, I
 use Rattle.drm_id_alloc.proofs.GroupLemmas.{grouped_same, grouped_more, grouped_fewer, grouped_kept}
 use Rattle.drm_files.specs.declared.files.FileRecord.{FileRecord}
 use Rattle.drm_files.specs.declared.files.Held.{Held}
-use Rattle.drm_files.specs.declared.rows.FileHold.{FileHold}
-use Rattle.drm_files.specs.Files.{client, hold, hold_before, client_before, is_present, is_hold, is_among, handles_of, free_handle, left_by, empty_files, AreFiles, IsHoldOf, InOrder}
+use Rattle.drm_files.specs.declared.rows.FileHandle.{FileHandle}
+use Rattle.drm_files.specs.Files.{client, hold, handle_before, client_before, is_open_client, is_handle, is_among, handles_of, free_handle, left_by, empty_files, AreFiles, IsHandleOf, InOrder}
 use Rattle.drm_files.specs.Records.{rows_in, holds_in, clients_in, lists_of, pairs_of, IsTable, IsFiled, AreRecords}
-use Rattle.drm_index_array.proofs.Keyed.{all_rows, rows_in_order, none_some}
-use Rattle.drm_files.proofs.Flat.{place_cmp, place_total, row_of, flat, rows_flat, sorted_flat, held, find_held, eqb_other}
-use Rattle.drm_files.proofs.Changes.{client_of, before_test, hold_order, find_client, find_hold, held_here, rows_of_client}
+use Rattle.drm_index_array.proofs.Keyed.{all_rows, rows_in_order}
+use Rattle.drm_files.proofs.Flat.{key_pair_cmp, export_order_total, row_of, flat, rows_flat, sorted_flat, held, find_held, eqb_other}
+use Rattle.drm_files.proofs.Changes.{client_of, hold_order, find_client, find_hold, held_here, rows_of_client}
+use Rattle.std.proofs.lemmas.Option.{none-some}
+use Rattle.drm_index_array.proofs.Entries.{before_test}
 
 some_of : {X Y : Type 0} (f : X → Y) (x : Option X) → is_some (option_map f x) ≡ is_some x
 some_of f None = refl
@@ -28,28 +30,28 @@ some_of f (Some x) = refl
 
 module _ (limit last : ℕ) (m : fin.FinMap nat_cmp FileRecord) where
   -- a client is present where it has a record
-  pub present_is : (c : ℕ) → is_present (lists_of limit last m) c ≡ is_some (fin.get m c)
-  present_is c = ap is_some (find_client m c) ∙ some_of (λ r. client c r.flags) (fin.get m c)
+  pub open_client_is : (c : ℕ) → is_open_client (lists_of limit last m) c ≡ is_some (fin.get m c)
+  open_client_is c = ap is_some (find_client m c) ∙ some_of (λ r. client c r.flags) (fin.get m c)
 
-  pub absent_none : (c : ℕ) → is_present (lists_of limit last m) c ≡ false → fin.get m c ≡ None
-  absent_none c absent = none_of (fin.get m c) (sym (present_is c) ∙ absent)
+  pub absent_none : (c : ℕ) → is_open_client (lists_of limit last m) c ≡ false → fin.get m c ≡ None
+  absent_none c absent = none_of (fin.get m c) (sym (open_client_is c) ∙ absent)
     where
       none_of : (x : Option FileRecord) → is_some x ≡ false → x ≡ None
       none_of None h = refl
       none_of (Some x) h = absurd (false≢true (sym h))
 
-  pub nobody : (c : ℕ) → is_present (lists_of limit last m) c ≡ true → None ≡ fin.get m c → ⊥
-  nobody c present none = false≢true (ap is_some none ∙ sym (present_is c) ∙ present)
+  pub nobody : (c : ℕ) → is_open_client (lists_of limit last m) c ≡ true → None ≡ fin.get m c → ⊥
+  nobody c open_client none = false≢true (ap is_some none ∙ sym (open_client_is c) ∙ open_client)
 
   -- a handle that the client has is in its table
-  pub has_none : (c h : ℕ) (r : FileRecord) → fin.get m c ≡ Some r → is_some (find (is_hold c h) (lists_of limit last m).holds) ≡ true → None ≡ fin.get r.handles.slots h → ⊥
-  has_none c h r found has none = false≢true (ap is_some none ∙ sym (ap is_some (find_hold m c h) ∙ some_of (λ x. hold c h x.object x.place) (held m c h) ∙ ap is_some (held_here m c r found c h refl)) ∙ has)
+  pub has_none : (c h : ℕ) (r : FileRecord) → fin.get m c ≡ Some r → is_some (find (is_handle c h) (lists_of limit last m).holds) ≡ true → None ≡ fin.get r.handles.slots h → ⊥
+  has_none c h r found has none = false≢true (ap is_some none ∙ sym (ap is_some (find_hold m c h) ∙ some_of (λ x. hold c h x.object x.export_order) (held m c h) ∙ ap is_some (held_here m c r found c h refl)) ∙ has)
 
   -- the handles of a client are the keys of its table
   pub handles_are : (c : ℕ) (r : FileRecord) → fin.get m c ≡ Some r → handles_of (lists_of limit last m) c ≡ fin.keys r.handles.slots
   handles_are c r found = ap (map (λ row. row.handle)) (rows_of_client m c r found) ∙ keys_in (fin.entries r.handles.slots)
     where
-      keys_in : (hs : List (ℕ × Held)) → map (λ (row : FileHold). row.handle) (rows_in c hs) ≡ map (λ e. e.0) hs
+      keys_in : (hs : List (ℕ × Held)) → map (λ (row : FileHandle). row.handle) (rows_in c hs) ≡ map (λ e. e.0) hs
       keys_in [] = refl
       keys_in (e ∷ hs) = ap (λ l. e.0 ∷ l) (keys_in hs)
 
@@ -57,7 +59,7 @@ module _ (limit last : ℕ) (m : fin.FinMap nat_cmp FileRecord) where
   pub left_is : (c : ℕ) (r : FileRecord) → fin.get m c ≡ Some r → left_by (lists_of limit last m) c ≡ pairs_of r.handles
   left_is c r found = ap (map {B = ℕ × ℕ} (λ row. (row.handle, row.object))) (rows_of_client m c r found) ∙ pairs_in (fin.entries r.handles.slots)
     where
-      pairs_in : (hs : List (ℕ × Held)) → map {B = ℕ × ℕ} (λ (row : FileHold). (row.handle, row.object)) (rows_in c hs) ≡ map {B = ℕ × ℕ} (λ e. (e.0, e.1.object)) hs
+      pairs_in : (hs : List (ℕ × Held)) → map {B = ℕ × ℕ} (λ (row : FileHandle). (row.handle, row.object)) (rows_in c hs) ≡ map {B = ℕ × ℕ} (λ e. (e.0, e.1.object)) hs
       pairs_in [] = refl
       pairs_in (e ∷ hs) = ap (λ l. (e.0, e.1.object) ∷ l) (pairs_in hs)
 
@@ -83,22 +85,22 @@ module _ (limit last : ℕ) (m : fin.FinMap nat_cmp FileRecord) where
     limit_high = are.limit_high;
     clients_rise = rows_in_order nat_cmp nat_cmp_total client_of client_before (λ e f. before_test e.0 f.0) (fin.entries m) (fin.entries_sorted m);
     clients_fit = all_rows nat_cmp nat_cmp_total client_of (λ row. row.client ≤ 4294967295) (fin.entries m) (fin.entries_sorted m) (λ k v found. fit k (ap is_some (fin.get-entries m k ∙ found)));
-    holds_rise = subst (λ l. InOrder hold_before l) (sym (rows_flat (fin.entries m))) (rows_in_order place_cmp place_total row_of hold_before hold_order (flat (fin.entries m)) sorted);
-    holds_are = subst (λ l. AllByRecursion (IsHoldOf (lists_of limit last m)) l) (sym (rows_flat (fin.entries m))) (all_rows place_cmp place_total row_of (IsHoldOf (lists_of limit last m)) (flat (fin.entries m)) sorted (λ p v found. each p.0 p.1 v (sym (find_held m p.0 p.1) ∙ found)));
+    holds_rise = subst (λ l. InOrder handle_before l) (sym (rows_flat (fin.entries m))) (rows_in_order key_pair_cmp export_order_total row_of handle_before hold_order (flat (fin.entries m)) sorted);
+    holds_are = subst (λ l. AllByRecursion (IsHandleOf (lists_of limit last m)) l) (sym (rows_flat (fin.entries m))) (all_rows key_pair_cmp export_order_total row_of (IsHandleOf (lists_of limit last m)) (flat (fin.entries m)) sorted (λ p v found. each p.0 p.1 v (sym (find_held m p.0 p.1) ∙ found)));
   }
     where
-      sorted : T (is_sorted place_cmp (flat (fin.entries m)))
+      sorted : T (is_sorted key_pair_cmp (flat (fin.entries m)))
       sorted = sorted_flat (fin.entries m) (fin.entries_sorted m)
 
-      in_table : (c h : ℕ) (v : Held) (x : Option FileRecord) → fin.get m c ≡ x → option_and_then (λ r. fin.get r.handles.slots h) x ≡ Some v → IsHoldOf (lists_of limit last m) (hold c h v.object v.place)
-      in_table c h v None is found = absurd (none_some v found)
+      in_table : (c h : ℕ) (v : Held) (x : Option FileRecord) → fin.get m c ≡ x → option_and_then (λ r. fin.get r.handles.slots h) x ≡ Some v → IsHandleOf (lists_of limit last m) (hold c h v.object v.export_order)
+      in_table c h v None is found = absurd (none-some v found)
       in_table c h v (Some r) is found = record {
-        client_open = present_is c ∙ ap is_some is;
+        client_open = open_client_is c ∙ ap is_some is;
         handle_low = (are.tables c r is).low h (ap is_some found);
         handle_high = (are.tables c r is).high h (ap is_some found);
       }
 
-      each : (c h : ℕ) (v : Held) → held m c h ≡ Some v → IsHoldOf (lists_of limit last m) (hold c h v.object v.place)
+      each : (c h : ℕ) (v : Held) → held m c h ≡ Some v → IsHandleOf (lists_of limit last m) (hold c h v.object v.export_order)
       each c h v found = in_table c h v (fin.get m c) refl found
 
 -- how the records stay what they are
@@ -160,7 +162,7 @@ module _ (limit last : ℕ) (m : fin.FinMap nat_cmp FileRecord) (are : AreRecord
   }
     where
       each : (k : ℕ) (r : FileRecord) (b : Bool) → cond b None (fin.get m k) ≡ Some r → fin.get m k ≡ Some r
-      each k r true found = absurd (none_some r found)
+      each k r true found = absurd (none-some r found)
       each k r false found = found
 
 abbrev pub with_table : FileRecord → Table Held → FileRecord
@@ -215,8 +217,8 @@ AreRecords-empty limit last m none limit_high low high = record {
   limit_high = limit_high;
   last_low = low;
   last_high = high;
-  tables = λ k r found. absurd (none_some r (sym (ap (λ n. fin.get n k) none ∙ fin.get-empty nat_cmp k) ∙ found));
-  filed = λ k r found. absurd (none_some r (sym (ap (λ n. fin.get n k) none ∙ fin.get-empty nat_cmp k) ∙ found));
+  tables = λ k r found. absurd (none-some r (sym (ap (λ n. fin.get n k) none ∙ fin.get-empty nat_cmp k) ∙ found));
+  filed = λ k r found. absurd (none-some r (sym (ap (λ n. fin.get n k) none ∙ fin.get-empty nat_cmp k) ∙ found));
 }
 
 no_entries : fin.entries (fin.empty {K = ℕ} {X = FileRecord} {R = nat_cmp}) ≡ []
@@ -232,6 +234,6 @@ lists-empty limit last = λ i. record { limit = limit; last_handle = last; clien
 -- a test that says whether there is none
 pub room_is : (b : Bool) (x : Option ℕ) → (IsTrue b → x ≡ None) → (x ≡ None → IsTrue b) → not b ≡ is_some x
 room_is true None f g = refl
-room_is true (Some n) f g = absurd (none_some n (sym (f refl)))
+room_is true (Some n) f g = absurd (none-some n (sym (f refl)))
 room_is false None f g = absurd (false≢true (g refl))
 room_is false (Some n) f g = refl

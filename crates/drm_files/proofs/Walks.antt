@@ -9,8 +9,9 @@ use Rattle.std.proofs.lemmas.Bool.Decides.{nat_tests}
 use Rattle.drm_index_array.specs.Least.{least, IsLeast}
 use Rattle.drm_index_array.proofs.Least.{least_some}
 use Rattle.drm_index_array.proofs.MarkedLemmas.{get-remove, eq_by_cmp-nat_cmp}
-use Rattle.drm_index_array.proofs.Keyed.{both, none_some}
+use Rattle.drm_index_array.proofs.Keyed.{both}
 use Rattle.drm_files.proofs.Flat.{eqb_same, eqb_other}
+use Rattle.std.proofs.lemmas.Option.{none-some}
 
 -- the entries from a number on
 abbrev pub entries_from : {X : Type 0} → fin.FinMap nat_cmp X → ℕ → List (ℕ × X)
@@ -148,7 +149,7 @@ module _ {X : Type 0} where
 
 -- a place in the first of two lists, and one behind it
 pub at_front : {Y : Type 0} (xs ys : List Y) (i : ℕ) (y : Y) → slice_get xs i ≡ Some y → slice_get (xs ++ ys) i ≡ Some y
-at_front [] ys i y is = absurd (none_some y is)
+at_front [] ys i y is = absurd (none-some y is)
 at_front (x ∷ xs) ys zero y is = is
 at_front (x ∷ xs) ys (suc i) y is = at_front xs ys i y is
 

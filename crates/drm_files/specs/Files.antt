@@ -6,7 +6,7 @@ use Rattle.drm_index_array.specs.Least.{least, least_of}
 pub use Rattle.drm_index_array.specs.Rows.{placed, InOrder}
 use Rattle.drm_files.specs.declared.rows.FileFlags.{FileFlags}
 use Rattle.drm_files.specs.declared.rows.FileClient.{FileClient}
-use Rattle.drm_files.specs.declared.rows.FileHold.{FileHold}
+use Rattle.drm_files.specs.declared.rows.FileHandle.{FileHandle}
 
 -- `limit` clients may be open, and each may hold the handles from 1 to `last_handle`. The clients rise, and the holds stand
 -- in the order of their clients, and then of their handles
@@ -14,7 +14,7 @@ pub record FileLists : Type 0 where
   pub limit : ℕ
   pub last_handle : ℕ
   pub clients : List FileClient
-  pub holds : List FileHold
+  pub holds : List FileHandle
 
 abbrev pub empty_files : ℕ → ℕ → FileLists
 empty_files limit last_handle = record { limit = limit; last_handle = last_handle; clients = []; holds = [] }
@@ -22,27 +22,27 @@ empty_files limit last_handle = record { limit = limit; last_handle = last_handl
 abbrev pub is_client : ℕ → FileClient → Bool
 is_client c row = row.client == c
 
-abbrev pub of_client : ℕ → FileHold → Bool
+abbrev pub of_client : ℕ → FileHandle → Bool
 of_client c row = row.client == c
 
-abbrev pub is_hold : ℕ → ℕ → FileHold → Bool
-is_hold c h row = (row.client == c) && (row.handle == h)
+abbrev pub is_handle : ℕ → ℕ → FileHandle → Bool
+is_handle c h row = (row.client == c) && (row.handle == h)
 
 -- the client is open
-abbrev pub is_present : FileLists → ℕ → Bool
-is_present files c = is_some (find (is_client c) files.clients)
+abbrev pub is_open_client : FileLists → ℕ → Bool
+is_open_client files c = is_some (find (is_client c) files.clients)
 
 abbrev pub client_before : FileClient → FileClient → Bool
 client_before x y = nat_lt x.client y.client
 
-abbrev pub hold_before : FileHold → FileHold → Bool
-hold_before x y = nat_lt x.client y.client || ((x.client == y.client) && nat_lt x.handle y.handle)
+abbrev pub handle_before : FileHandle → FileHandle → Bool
+handle_before x y = nat_lt x.client y.client || ((x.client == y.client) && nat_lt x.handle y.handle)
 
 abbrev pub client : ℕ → FileFlags → FileClient
 client c flags = record { client = c; flags = flags }
 
-abbrev pub hold : ℕ → ℕ → ℕ → Option ℕ → FileHold
-hold c h object place = record { client = c; handle = h; object = object; place = place }
+abbrev pub hold : ℕ → ℕ → ℕ → Option ℕ → FileHandle
+hold c h object export_order = record { client = c; handle = h; object = object; export_order = export_order }
 
 -- a new client is authenticated where it is root
 abbrev pub new_flags : Bool → Bool → Bool → FileFlags
@@ -79,11 +79,11 @@ without_client files c = record files {
   holds = filter (λ row. not (of_client c row)) files.holds;
 }
 
-abbrev pub with_hold : FileLists → FileHold → FileLists
-with_hold files row = record files { holds = placed hold_before row files.holds }
+abbrev pub with_handle_row : FileLists → FileHandle → FileLists
+with_handle_row files row = record files { holds = placed handle_before row files.holds }
 
-abbrev pub without_hold : FileLists → ℕ → ℕ → FileLists
-without_hold files c h = record files { holds = filter (λ row. not (is_hold c h row)) files.holds }
+abbrev pub without_handle_row : FileLists → ℕ → ℕ → FileLists
+without_handle_row files c h = record files { holds = filter (λ row. not (is_handle c h row)) files.holds }
 
 -- what the client's row is made into
 abbrev pub with_change : (FileClient → FileClient) → FileLists → ℕ → FileLists
@@ -96,35 +96,35 @@ abbrev pub with_universal : FileLists → ℕ → Bool → FileLists
 with_universal files c on = with_change (universal on) files c
 
 -- a handle of the client for the object
-abbrev pub is_hold_of : ℕ → ℕ → FileHold → Bool
-is_hold_of c object row = (row.client == c) && (row.object == object)
+abbrev pub is_handle_of : ℕ → ℕ → FileHandle → Bool
+is_handle_of c object row = (row.client == c) && (row.object == object)
 
 -- the PRIME places of the client's handles for the object
-abbrev pub places_of : FileLists → ℕ → ℕ → List ℕ
-places_of files c object = filter_map (λ row. row.place) (filter (is_hold_of c object) files.holds)
+abbrev pub export_orders_of : FileLists → ℕ → ℕ → List ℕ
+export_orders_of files c object = filter_map (λ row. row.export_order) (filter (is_handle_of c object) files.holds)
 
-abbrev pub has_place : ℕ → FileHold → Bool
-has_place place row = option_map_or (λ p. p == place) row.place false
+abbrev pub has_export_order : ℕ → FileHandle → Bool
+has_export_order export_order row = option_map_or (λ p. p == export_order) row.export_order false
 
 -- the client's handles for the object that have this PRIME place
 abbrev pub handles_at : FileLists → ℕ → ℕ → ℕ → List ℕ
-handles_at files c object place = map (λ row. row.handle) (filter (has_place place) (filter (is_hold_of c object) files.holds))
+handles_at files c object export_order = map (λ row. row.handle) (filter (has_export_order export_order) (filter (is_handle_of c object) files.holds))
 
 -- the client's handle for the object with the least PRIME place, and at a tie the least handle
 abbrev pub prime_handle : FileLists → ℕ → ℕ → Option ℕ
-prime_handle files c object = option_and_then (λ place. least_of (handles_at files c object place)) (least_of (places_of files c object))
+prime_handle files c object = option_and_then (λ export_order. least_of (handles_at files c object export_order)) (least_of (export_orders_of files c object))
 
 -- a place that a handle has stays
-abbrev pub given_place : ℕ → FileHold → FileHold
-given_place place row = record row { place = option_or row.place (Some place) }
+abbrev pub given_export_order : ℕ → FileHandle → FileHandle
+given_export_order export_order row = record row { export_order = option_or row.export_order (Some export_order) }
 
 -- the lists where the client's handle has this PRIME place, unless it had one already
-abbrev pub with_place : FileLists → ℕ → ℕ → ℕ → FileLists
-with_place files c h place = record files { holds = map (λ row. if is_hold c h row then given_place place row else row) files.holds }
+abbrev pub with_export_order : FileLists → ℕ → ℕ → ℕ → FileLists
+with_export_order files c h export_order = record files { holds = map (λ row. if is_handle c h row then given_export_order export_order row else row) files.holds }
 
 -- what is so of a hold: its client is open, and its numbers are in their ranges
-pub record IsHoldOf (files : FileLists) (row : FileHold) : Type 0 where
-  pub client_open : is_present files row.client ≡ true
+pub record IsHandleOf (files : FileLists) (row : FileHandle) : Type 0 where
+  pub client_open : is_open_client files row.client ≡ true
   pub handle_low : 1 ≤ row.handle
   pub handle_high : row.handle ≤ files.last_handle
 
@@ -135,5 +135,5 @@ pub record AreFiles (files : FileLists) : Type 0 where
   pub limit_high : files.limit ≤ 4294967295
   pub clients_rise : InOrder client_before files.clients
   pub clients_fit : AllByRecursion (λ row. row.client ≤ 4294967295) files.clients
-  pub holds_rise : InOrder hold_before files.holds
-  pub holds_are : AllByRecursion (IsHoldOf files) files.holds
+  pub holds_rise : InOrder handle_before files.holds
+  pub holds_are : AllByRecursion (IsHandleOf files) files.holds

@@ -12,30 +12,30 @@ abbrev pub is_for : ℕ → ℕ × Held → Bool
 is_for object entry = entry.1.object == object
 
 -- the places of the handles for an object
-abbrev pub places_in : ℕ → List (ℕ × Held) → List ℕ
-places_in object entries = filter_map (λ entry. entry.1.place) (filter (is_for object) entries)
+abbrev pub export_orders_in : ℕ → List (ℕ × Held) → List ℕ
+export_orders_in object entries = filter_map (λ entry. entry.1.export_order) (filter (is_for object) entries)
 
 abbrev pub is_at : ℕ → ℕ × Held → Bool
-is_at place entry = option_map_or (λ p. p == place) entry.1.place false
+is_at export_order entry = option_map_or (λ p. p == export_order) entry.1.export_order false
 
 -- the handles for an object that have a place
 abbrev pub handles_in : ℕ → ℕ → List (ℕ × Held) → List ℕ
-handles_in object place entries = list_map (λ entry. entry.0) (filter (is_at place) (filter (is_for object) entries))
+handles_in object export_order entries = list_map (λ entry. entry.0) (filter (is_at export_order) (filter (is_for object) entries))
 
 -- the least place of the handles for an object, with the least handle that has it
 abbrev pub least_prime : ℕ → List (ℕ × Held) → Option Prime
-least_prime object entries = option_and_then (λ place. option_map (λ handle. record { place = place; handle = handle }) (least_of (handles_in object place entries))) (least_of (places_in object entries))
+least_prime object entries = option_and_then (λ export_order. option_map (λ handle. record { export_order = export_order; handle = handle }) (least_of (handles_in object export_order entries))) (least_of (export_orders_in object entries))
 
 -- the handle and its place, if it is for the object and has one
 abbrev pub prime_of : ℕ → ℕ × Held → Option Prime
-prime_of object entry = if is_for object entry then option_map (λ place. record { place = place; handle = entry.0 }) entry.1.place else None
+prime_of object entry = if is_for object entry then option_map (λ export_order. record { export_order = export_order; handle = entry.0 }) entry.1.export_order else None
 
 -- a handle and its place, if it is for the object and has one
 abbrev pub prime_at : map.FinMap nat_cmp Held → ℕ → ℕ → Option Prime
 prime_at slots object h = option_and_then (λ held. prime_of object (h, held)) (map.get slots h)
 
 abbrev pub is_before : Prime → Prime → Bool
-is_before y x = nat_lt y.place x.place || ((y.place == x.place) && nat_lt y.handle x.handle)
+is_before y x = nat_lt y.export_order x.export_order || ((y.export_order == x.export_order) && nat_lt y.handle x.handle)
 
 -- the one with the lesser place, and at a tie that with the lesser handle
 abbrev pub lesser_prime : Option Prime → Option Prime → Option Prime
@@ -45,7 +45,7 @@ lesser_prime (Some x) (Some y) = if is_before y x then Some y else Some x
 
 -- no place is lesser, nor a handle at that place
 abbrev pub IsFirst : Prime → Prime → Type 0
-IsFirst x y = (x.place ≤ y.place) × (x.place ≡ y.place → x.handle ≤ y.handle)
+IsFirst x y = (x.export_order ≤ y.export_order) × (x.export_order ≡ y.export_order → x.handle ≤ y.handle)
 
 -- the least among these handles
 abbrev pub IsLeastIn : map.FinMap nat_cmp Held → ℕ → List ℕ → Option Prime → Type 0

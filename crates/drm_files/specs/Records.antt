@@ -6,7 +6,7 @@ use Rattle.drm_id_alloc.specs.Table.{Table}
 use Rattle.drm_id_alloc.specs.Groups.{has, AreGroupsOf}
 use Rattle.drm_files.specs.Files.{FileLists, client, hold}
 use Rattle.drm_files.specs.declared.rows.FileClient.{FileClient}
-use Rattle.drm_files.specs.declared.rows.FileHold.{FileHold}
+use Rattle.drm_files.specs.declared.rows.FileHandle.{FileHandle}
 use Rattle.drm_files.specs.declared.files.FileRecord.{FileRecord}
 use Rattle.drm_files.specs.declared.files.Held.{Held}
 
@@ -14,10 +14,10 @@ abbrev pub clients_in : List (ℕ × FileRecord) → List FileClient
 clients_in records = list_map (λ entry. client entry.0 entry.1.flags) records
 
 -- the rows of one client
-abbrev pub rows_in : ℕ → List (ℕ × Held) → List FileHold
-rows_in c entries = list_map (λ entry. hold c entry.0 entry.1.object entry.1.place) entries
+abbrev pub rows_in : ℕ → List (ℕ × Held) → List FileHandle
+rows_in c entries = list_map (λ entry. hold c entry.0 entry.1.object entry.1.export_order) entries
 
-abbrev pub holds_in : List (ℕ × FileRecord) → List FileHold
+abbrev pub holds_in : List (ℕ × FileRecord) → List FileHandle
 holds_in records = flat_map (λ entry. rows_in entry.0 (map.entries entry.1.handles.slots)) records
 
 abbrev pub lists_of : ℕ → ℕ → map.FinMap nat_cmp FileRecord → FileLists

@@ -1,7 +1,7 @@
 //! The open clients and their handles.
 
 ghost use Rattle.std.specs.Prelude.{◌≡◌, ◌≤◌, ◌<◌, ◌↔◌, true, false, nat_le, length, find, is_some, OnOk, OnErr, IfOk, IfErr, IfNone, Some, None, option_map};
-ghost use Rattle.drm_files.specs.Files.{AreFiles, empty_files, is_client, is_hold, is_present, free_handle, with_client, without_client, left_by, with_hold, without_hold, with_authenticated, with_universal, new_flags, hold};
+ghost use Rattle.drm_files.specs.Files.{AreFiles, empty_files, is_client, is_handle, is_open_client, free_handle, with_client, without_client, left_by, with_handle_row, without_handle_row, with_authenticated, with_universal, new_flags, hold};
 ghost use Rattle.drm_files.specs.FileFault.{IsFull};
 
 use crate::faults::FileFault;
@@ -17,7 +17,7 @@ use std::marker::Model;
 #[derive(Clone, Copy)]
 pub(crate) struct Held {
     pub(crate) object: ObjectKey,
-    pub(crate) place: Option<u32>,
+    pub(crate) export_order: Option<u32>,
 }
 
 // An open client.
@@ -31,6 +31,11 @@ pub(crate) struct FileRecord {
 
 /// The open clients with their flags, and the handles of each. Contracts see flat lists: the
 /// clients, rising by their numbers, and the handles, in the order of clients and then handles.
+///
+/// ```rust
+/// let mut files = Files::new(alloc, 4, 100);
+/// let Ok(()) = files.open(1, false, false, true) else { return };
+/// ```
 pub struct Files {
     alloc: Global,
     pub(crate) clients: IndexArray<FileRecord>,
@@ -65,6 +70,10 @@ impl Model for Files {
 impl Files {
     /// No open client. At most `clients` may be open at once, and each may hold the handles from 1
     /// to `handles`. It takes no memory.
+    ///
+    /// ```rust
+    /// assert!(Files::new(alloc, 4, 100).len() == 0);
+    /// ```
     pub fn new(alloc: Global, clients: u32, handles: u32) -> Files
         requires { 1 ≤ handles }
         ensures { result ≡ empty_files clients handles }
@@ -80,6 +89,10 @@ impl Files {
     /// Opens a client that isn't open, without handles, with universal planes on or off. It is
     /// authenticated exactly where it is root. It is refused as full where as many clients are open
     /// as may be, and then, as without memory, nothing changes.
+    ///
+    /// ```rust
+    /// assert!(files.flags_of(1).is_some() && files.flags_of(2).is_none());
+    /// ```
     pub fn open(
         &mut self,
         client: u32,
@@ -87,7 +100,7 @@ impl Files {
         root: bool,
         universal: bool,
     ) -> Result<(), FileFault>
-        requires absent { is_present self.old client ≡ false }
+        requires absent { is_open_client self.old client ≡ false }
         ensures ok { OnOk result (self.new ≡ with_client self.old client (new_flags render root universal)) }
         ensures err { OnErr result (self.new ≡ self.old) }
         ensures room { OnOk result (length self.old.clients < self.old.limit) }
@@ -114,8 +127,14 @@ impl Files {
 
     /// Closes an open client, and gives its handles with their objects, to be released. It takes
     /// no memory.
+    ///
+    /// ```rust
+    /// let Ok(()) = files.open(2, true, false, false) else { return };
+    /// let mut rest = files.close(2);
+    /// assert!(rest.take_next().is_none() && files.len() == 1);
+    /// ```
     pub fn close(&mut self, client: u32) -> FileRest
-        requires present { is_present self.old client ≡ true }
+        requires open_client { is_open_client self.old client ≡ true }
         ensures rest { result ≡ left_by self.old client }
         ensures closed { self.new ≡ without_client self.old client }
     {
@@ -127,6 +146,10 @@ impl Files {
     }
 
     /// How many clients are open.
+    ///
+    /// ```rust
+    /// assert!(files.len() == 1);
+    /// ```
     pub fn len(&self) -> usize
         ensures { result ≡ length self.now.clients }
     {
@@ -134,6 +157,10 @@ impl Files {
     }
 
     /// Whether as many clients are open as may be.
+    ///
+    /// ```rust
+    /// assert!(!files.is_full());
+    /// ```
     pub fn is_full(&self) -> bool
         ensures full { result ≡ nat_le self.now.limit (length self.now.clients) }
         ensures lists { AreFiles self.now }
@@ -142,8 +169,12 @@ impl Files {
     }
 
     /// Whether an open client has a free handle.
+    ///
+    /// ```rust
+    /// assert!(files.has_room(1));
+    /// ```
     pub fn has_room(&self, client: u32) -> bool
-        requires present { is_present self.now client ≡ true }
+        requires open_client { is_open_client self.now client ≡ true }
         ensures { result ≡ is_some (free_handle self.now client) }
     {
         let Some(record) = self.clients.get(client) else {
@@ -155,22 +186,31 @@ impl Files {
     /// Gives an open client its least free handle for an object (drm-gem(7): handles). It is
     /// refused as full where the client has every handle, and then, as without memory, nothing
     /// changes.
+    ///
+    /// ```rust
+    /// let object = ObjectKey::from_number(7);
+    /// let Ok(handle) = files.add_handle(1, object, None) else { return };
+    /// assert!(handle == 1);
+    /// ```
     pub fn add_handle(
         &mut self,
         client: u32,
         object: ObjectKey,
-        place: Option<u32>,
+        export_order: Option<u32>,
     ) -> Result<u32, FileFault>
-        requires present { is_present self.old client ≡ true }
+        requires open_client { is_open_client self.old client ≡ true }
         ensures given { IfOk result (λ handle. free_handle self.old client ≡ Some handle) }
-        ensures ok { IfOk result (λ handle. self.new ≡ with_hold self.old (hold client handle object place)) }
+        ensures ok { IfOk result (λ handle. self.new ≡ with_handle_row self.old (hold client handle object export_order)) }
         ensures err { OnErr result (self.new ≡ self.old) }
         ensures full { IfErr result (λ fault. IsFull fault ↔ (free_handle self.old client ≡ None)) }
     {
         let Some(record) = self.clients.get_mut(client) else {
             unreachable!();
         };
-        let handle = match record.handles.add(Held { object, place }) {
+        let handle = match record.handles.add(Held {
+            object,
+            export_order,
+        }) {
             Ok(handle) => handle,
             Err(AddFault::Full(_)) => return Err(FileFault::Full),
             Err(AddFault::NoMemory(_)) => return Err(FileFault::NoMemory),
@@ -183,9 +223,13 @@ impl Files {
     }
 
     /// The object behind a handle of an open client, if the client has that handle.
+    ///
+    /// ```rust
+    /// assert!(files.object_of(1, handle) == Some(object));
+    /// ```
     pub fn object_of(&self, client: u32, handle: u32) -> Option<ObjectKey>
-        requires present { is_present self.now client ≡ true }
-        ensures object { result ≡ option_map (λ row. row.object) (find (is_hold client handle) self.now.holds) }
+        requires open_client { is_open_client self.now client ≡ true }
+        ensures object { result ≡ option_map (λ row. row.object) (find (is_handle client handle) self.now.holds) }
         ensures lists { AreFiles self.now }
     {
         let record = self.clients.get(client)?;
@@ -195,10 +239,15 @@ impl Files {
 
     /// Takes a handle from an open client, if the client has it, and gives the object behind it.
     /// It takes no memory.
+    ///
+    /// ```rust
+    /// assert!(files.drop_handle(1, handle) == Some(object));
+    /// assert!(files.object_of(1, handle).is_none());
+    /// ```
     pub fn drop_handle(&mut self, client: u32, handle: u32) -> Option<ObjectKey>
-        requires present { is_present self.old client ≡ true }
-        ensures object { result ≡ option_map (λ row. row.object) (find (is_hold client handle) self.old.holds) }
-        ensures dropped { self.new ≡ without_hold self.old client handle }
+        requires open_client { is_open_client self.old client ≡ true }
+        ensures object { result ≡ option_map (λ row. row.object) (find (is_handle client handle) self.old.holds) }
+        ensures dropped { self.new ≡ without_handle_row self.old client handle }
         ensures none { IfNone result (self.new ≡ self.old) }
     {
         let Some(record) = self.clients.get_mut(client) else {
@@ -210,6 +259,10 @@ impl Files {
     }
 
     /// What a client may do, if it is open.
+    ///
+    /// ```rust
+    /// assert!(files.flags_of(1).is_some_and(|flags| flags.universal && !flags.render));
+    /// ```
     pub fn flags_of(&self, client: u32) -> Option<FileFlags>
         ensures flags { result ≡ option_map (λ row. row.flags) (find (is_client client) self.now.clients) }
         ensures lists { AreFiles self.now }
@@ -219,8 +272,13 @@ impl Files {
     }
 
     /// Notes that an open client is authenticated (drm-uapi). It takes no memory.
+    ///
+    /// ```rust
+    /// files.set_authenticated(1);
+    /// assert!(files.flags_of(1).is_some_and(|flags| flags.authenticated));
+    /// ```
     pub fn set_authenticated(&mut self, client: u32)
-        requires present { is_present self.old client ≡ true }
+        requires open_client { is_open_client self.old client ≡ true }
         ensures { self.new ≡ with_authenticated self.old client }
     {
         let Some(record) = self.clients.get_mut(client) else {
@@ -231,8 +289,13 @@ impl Files {
 
     /// Turns universal planes of an open client on or off (drm-uapi, client capabilities). It takes
     /// no memory.
+    ///
+    /// ```rust
+    /// files.set_universal(1, false);
+    /// assert!(files.flags_of(1).is_some_and(|flags| !flags.universal));
+    /// ```
     pub fn set_universal(&mut self, client: u32, on: bool)
-        requires present { is_present self.old client ≡ true }
+        requires open_client { is_open_client self.old client ≡ true }
         ensures { self.new ≡ with_universal self.old client on }
     {
         let Some(record) = self.clients.get_mut(client) else {

@@ -3,19 +3,25 @@
 ghost use Rattle.std.specs.Prelude.{◌≡◌, ◌++◌, List, true, filter, nat_le, take, slice_get, IfOk, IfErr, Some};
 ghost use Rattle.std.specs.FinMap as map;
 ghost use Rattle.drm_index_array.specs.Keys.{keys_from};
-ghost use Rattle.drm_files.specs.Files.{is_present, handles_of};
+ghost use Rattle.drm_files.specs.Files.{is_open_client, handles_of};
 ghost use Rattle.drm_files.specs.Records.{rows_in};
-ghost use Rattle.drm_files.specs.declared.rows.FileHold.{FileHold};
+ghost use Rattle.drm_files.specs.declared.rows.FileHandle.{FileHandle};
 
 use crate::files::{FileRecord, Files, Held};
-use crate::rows::{FileClient, FileHold};
+use crate::rows::{FileClient, FileHandle};
 use drm_id_alloc::IdTable;
 use drm_table::ShownList;
 
 impl Files {
     /// The handles of an open client from a number on, rising, 64 at most. It takes no memory.
+    ///
+    /// ```rust
+    /// let object = ObjectKey::from_number(7);
+    /// let Ok(handle) = files.add_handle(1, object, None) else { return };
+    /// assert!(files.handles_of(1, 0).ids() == [handle].as_slice());
+    /// ```
     pub fn handles_of(&self, client: u32, from: u32) -> ShownList
-        requires present { is_present self.now client ≡ true }
+        requires open_client { is_open_client self.now client ≡ true }
         ensures { result ≡ take 64 (filter (λ h. nat_le from h) (handles_of self.now client)) }
     {
         let Some(record) = self.clients.get(client) else {
@@ -25,10 +31,14 @@ impl Files {
     }
 
     /// The client at a place of the list of clients, where 0 is the first. It takes no memory.
-    pub fn nth_client(&self, place: usize) -> Option<FileClient>
-        ensures { result ≡ slice_get self.now.clients place }
+    ///
+    /// ```rust
+    /// assert!(files.nth_client(0).is_some_and(|row| row.client == 1));
+    /// ```
+    pub fn nth_client(&self, position: usize) -> Option<FileClient>
+        ensures { result ≡ slice_get self.now.clients position }
     {
-        let client = self.clients.nth(place)?;
+        let client = self.clients.nth(position)?;
         let record = self.clients.get(client)?;
         Some(FileClient {
             client,
@@ -37,10 +47,14 @@ impl Files {
     }
 
     /// The hold at a place of the list of holds, where 0 is the first. It passes over whole clients, and takes no memory.
-    pub fn nth_hold(&self, place: usize) -> Option<FileHold>
-        ensures { result ≡ slice_get self.now.holds place }
+    ///
+    /// ```rust
+    /// assert!(files.nth_handle(0).is_some_and(|row| row.handle == handle));
+    /// ```
+    pub fn nth_handle(&self, position: usize) -> Option<FileHandle>
+        ensures { result ≡ slice_get self.now.holds position }
     {
-        let mut left = place;
+        let mut left = position;
         let mut at = 0;
         for _turn in 0..self.clients.len() {
             let client = self.clients.next(at)?;
@@ -77,20 +91,20 @@ fn shown_handles(table: &IdTable<Held>, from: u32) -> ShownList
 }
 
 // The hold at a place of one client's, or how far behind the last of them the place is.
-fn nth_held(client: u32, table: &IdTable<Held>, place: usize) -> Result<FileHold, usize>
-    ensures ok { IfOk result (λ hold. (rest : List FileHold) → slice_get (rows_in client (map.entries table.now.slots) ++ rest) place ≡ Some hold) }
-    ensures err { IfErr result (λ behind. (rest : List FileHold) → slice_get (rows_in client (map.entries table.now.slots) ++ rest) place ≡ slice_get rest behind) }
+fn nth_held(client: u32, table: &IdTable<Held>, position: usize) -> Result<FileHandle, usize>
+    ensures ok { IfOk result (λ hold. (rest : List FileHandle) → slice_get (rows_in client (map.entries table.now.slots) ++ rest) position ≡ Some hold) }
+    ensures err { IfErr result (λ behind. (rest : List FileHandle) → slice_get (rows_in client (map.entries table.now.slots) ++ rest) position ≡ slice_get rest behind) }
 {
-    let Some(handle) = table.nth(place) else {
-        return Err(place - table.len());
+    let Some(handle) = table.nth(position) else {
+        return Err(position - table.len());
     };
     let Some(held) = table.get(handle) else {
         unreachable!();
     };
-    Ok(FileHold {
+    Ok(FileHandle {
         client,
         handle,
         object: held.object,
-        place: held.place,
+        export_order: held.export_order,
     })
 }

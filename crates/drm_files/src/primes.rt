@@ -2,7 +2,7 @@
 
 ghost use Rattle.std.specs.Prelude.{◌≡◌, true, is_some, find};
 ghost use Rattle.drm_id_alloc.specs.Groups.{numbers_of};
-ghost use Rattle.drm_files.specs.Files.{AreFiles, is_present, is_hold, prime_handle, with_place};
+ghost use Rattle.drm_files.specs.Files.{AreFiles, is_open_client, is_handle, prime_handle, with_export_order};
 ghost use Rattle.drm_files.specs.Primes.{IsLeastIn, prime_at, prime_of, is_before, lesser_prime};
 
 use crate::files::{Files, Held};
@@ -12,7 +12,7 @@ use drm_id_alloc::{Groups, IdTable};
 // A handle that has a PRIME place.
 #[derive(Clone, Copy)]
 struct Prime {
-    place: u32,
+    export_order: u32,
     handle: u32,
 }
 
@@ -20,8 +20,13 @@ impl Files {
     /// The handle of an open client for an object with the least PRIME place, and at a tie the least handle (drm-mm,
     /// PRIME): the one that a further import of the object gives. There is none where no handle of the client for
     /// the object has a place. It passes over no handle for another object, and takes no memory.
+    ///
+    /// ```rust
+    /// let object = ObjectKey::from_number(7);
+    /// assert!(files.prime_handle(1, object).is_none());
+    /// ```
     pub fn prime_handle(&self, client: u32, object: ObjectKey) -> Option<u32>
-        requires present { is_present self.now client ≡ true }
+        requires open_client { is_open_client self.now client ≡ true }
         ensures handle { result ≡ prime_handle self.now client object }
         ensures lists { AreFiles self.now }
     {
@@ -34,10 +39,16 @@ impl Files {
 
     /// Gives a handle of an open client a PRIME place (drm-mm, PRIME), unless it has one already: that one stays, and
     /// then nothing changes. It takes no memory.
-    pub fn set_prime(&mut self, client: u32, handle: u32, place: u32)
-        requires present { is_present self.old client ≡ true }
-        requires held { is_some (find (is_hold client handle) self.old.holds) ≡ true }
-        ensures { self.new ≡ with_place self.old client handle place }
+    ///
+    /// ```rust
+    /// let Ok(handle) = files.add_handle(1, object, None) else { return };
+    /// files.set_prime(1, handle, 5);
+    /// assert!(files.prime_handle(1, object) == Some(handle));
+    /// ```
+    pub fn set_prime(&mut self, client: u32, handle: u32, export_order: u32)
+        requires open_client { is_open_client self.old client ≡ true }
+        requires held { is_some (find (is_handle client handle) self.old.holds) ≡ true }
+        ensures { self.new ≡ with_export_order self.old client handle export_order }
     {
         let Some(record) = self.clients.get_mut(client) else {
             unreachable!();
@@ -47,7 +58,7 @@ impl Files {
         };
         let placed = Held {
             object: held.object,
-            place: held.place.or(Some(place)),
+            export_order: held.export_order.or(Some(export_order)),
         };
         let Ok(_replaced) = record.handles.replace(handle, placed) else {
             unreachable!();
@@ -61,8 +72,8 @@ fn least_prime(table: &IdTable<Held>, by_object: &Groups, object: ObjectKey) -> 
 {
     let number = object.number();
     let mut least = None;
-    for place in 0..by_object.len(number) {
-        let Some(handle) = by_object.nth(number, place) else {
+    for position in 0..by_object.len(number) {
+        let Some(handle) = by_object.nth(number, position) else {
             unreachable!()
         };
         least = lesser_prime(least, prime_at(table, handle, object));
@@ -85,8 +96,11 @@ fn prime_of(handle: u32, held: Held, object: ObjectKey) -> Option<Prime>
     if held.object != object {
         return None;
     }
-    let place = held.place?;
-    Some(Prime { place, handle })
+    let export_order = held.export_order?;
+    Some(Prime {
+        export_order,
+        handle,
+    })
 }
 
 // The one with the lesser place, and at a tie that with the lesser handle.
@@ -105,5 +119,6 @@ fn lesser_prime(first: Option<Prime>, second: Option<Prime>) -> Option<Prime>
 fn is_before(other: Prime, one: Prime) -> bool
     ensures { result ≡ is_before other one }
 {
-    other.place < one.place || (other.place == one.place && other.handle < one.handle)
+    other.export_order < one.export_order
+        || (other.export_order == one.export_order && other.handle < one.handle)
 }

@@ -10,6 +10,14 @@ use std::marker::Model;
 
 /// The handles that a closed client had, each with its object, to be taken one after another.
 /// Contracts see the list of these pairs, in the order of the handles.
+///
+/// ```rust
+/// let mut files = Files::new(alloc, 4, 100);
+/// let Ok(()) = files.open(1, false, false, true) else { return };
+/// let object = ObjectKey::from_number(7);
+/// let Ok(handle) = files.add_handle(1, object, None) else { return };
+/// let mut rest = files.close(1);
+/// ```
 pub struct FileRest {
     handles: IdTable<Held>,
 }
@@ -40,6 +48,11 @@ impl FileRest {
     }
 
     /// Takes the next handle with its object. There is none exactly where the list is empty, and then it stays so.
+    ///
+    /// ```rust
+    /// assert!(rest.take_next() == Some((handle, object)));
+    /// assert!(rest.take_next().is_none());
+    /// ```
     pub fn take_next(&mut self) -> Option<(u32, ObjectKey)>
         ensures first { result ≡ slice_get self.old 0 }
         ensures rest { self.new ≡ drop 1 self.old }

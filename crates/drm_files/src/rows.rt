@@ -3,6 +3,13 @@
 use drm_gem::ObjectKey;
 
 /// What a client may do (drm-uapi: primary and render nodes, authentication).
+///
+/// ```rust
+/// let mut files = Files::new(alloc, 4, 100);
+/// let Ok(()) = files.open(1, false, true, true) else { return };
+/// let flags = FileFlags { render: false, root: true, authenticated: true, universal: true };
+/// assert!(files.flags_of(1) == Some(flags));
+/// ```
 #[derive(Clone, Copy, PartialEq, Eq, Debug)]
 pub struct FileFlags {
     /// It opened the render node.
@@ -17,6 +24,10 @@ pub struct FileFlags {
 }
 
 /// An open client.
+///
+/// ```rust
+/// assert!(files.nth_client(0) == Some(FileClient { client: 1, flags }));
+/// ```
 #[derive(Clone, Copy, PartialEq, Eq, Debug)]
 pub struct FileClient {
     /// Its number.
@@ -26,8 +37,15 @@ pub struct FileClient {
 }
 
 /// A handle that a client holds (drm-gem(7)).
+///
+/// ```rust
+/// let object = ObjectKey::from_number(7);
+/// let Ok(handle) = files.add_handle(1, object, Some(3)) else { return };
+/// let hold = FileHandle { client: 1, handle, object, export_order: Some(3) };
+/// assert!(files.nth_handle(0) == Some(hold));
+/// ```
 #[derive(Clone, Copy, PartialEq, Eq, Debug)]
-pub struct FileHold {
+pub struct FileHandle {
     /// The client that holds it.
     pub client: u32,
     /// The handle, a number of the client's own.
@@ -35,5 +53,5 @@ pub struct FileHold {
     /// The object behind it.
     pub object: ObjectKey,
     /// The PRIME place: which export or import the handle is known by, if it is by one (drm-mm, PRIME).
-    pub place: Option<u32>,
+    pub export_order: Option<u32>,
 }

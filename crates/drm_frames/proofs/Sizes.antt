@@ -2,10 +2,7 @@
 use Rattle.std.proofs.Common.{◌≡◌, ℕ, Bool, true, false, cond, List, length, Option, Some, None, refl, ap, ◌∙◌}
 use Rattle.std.specs.Prelude.{◌&&◌, nat_eq}
 use Rattle.std.proofs.lemmas.Bool.{eq-eqb, eqb-true}
-use Rattle.drm_frames.specs.Grammar.{Packet, packet, if_size}
-
-pub of_size : {A : Type 0} (n : ℕ) (fields : List ℕ) (said : A) → length fields ≡ n → if_size n fields said ≡ Some said
-of_size n fields said h = rw (eq-eqb (length fields) n h) refl
+use Rattle.drm_frames.specs.Grammar.{FrameValue, frame_value, if_size}
 
 pub cond-some : {A : Type 0} (b : Bool) (x : Option A) (a : A) → cond b x None ≡ Some a → (b ≡ true) × (x ≡ Some a)
 cond-some true x a e = (refl, e)
@@ -23,5 +20,5 @@ pub both-true : (a b : Bool) → a && b ≡ true → (a ≡ true) × (b ≡ true
 both-true true b e = (refl, e)
 both-true false b e = absurd cc
 
-pub packet-is : (f : Packet) (n : ℕ) (xs : List ℕ) → f.number ≡ n → f.fields ≡ xs → f ≡ packet n xs
-packet-is f n xs a b = ap (λ (k : ℕ). packet k f.fields) a ∙ ap (λ (y : List ℕ). packet n y) b
+pub frame_value-is : (f : FrameValue) (n : ℕ) (xs : List ℕ) → f.number ≡ n → f.fields ≡ xs → f ≡ frame_value n xs
+frame_value-is f n xs a b = ap (λ (k : ℕ). frame_value k f.fields) a ∙ ap (λ (y : List ℕ). frame_value n y) b

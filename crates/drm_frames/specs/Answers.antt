@@ -8,33 +8,34 @@ use Rattle.drm_table.specs.declared.rules.Rule.{Rule}
 use Rattle.drm_table.specs.Answers.{Told, answer_number, answer_widths, answer_kind_of, answer_with, told}
 use Rattle.drm_table.specs.Answers.Told.{row, resources, list, page, denial}
 use Rattle.drm_table.specs.Fields.{FitsField}
+use Rattle.drm_table.specs.ResourceIds.{short_ids}
 use Rattle.drm_table.specs.Rules.{rule_number, rule_errno, rule_of_number, apart_number, apart_errno, apart_of_number}
 use Rattle.std.specs.List.{flat_map}
 use Rattle.std.specs.Option.{option_map, option_and_then}
 use Rattle.drm_frames.specs.Number.{u32, u32_in}
-use Rattle.drm_frames.specs.Grammar.{Packet, packet, frame_text}
+use Rattle.drm_frames.specs.Grammar.{FrameValue, frame_value, frame_text}
 use Rattle.drm_frames.specs.Fields.{field_text, numbers_in}
 use Rattle.drm_frames.specs.Lists.{list_text, FitsList, FitsResources, front_list, behind_list}
 use Rattle.drm_frames.specs.Pages.{page_text, FitsPage, rows_in}
 
 -- what the device gives back: an answer, or what stands apart
-abbrev pub Outcome : Type 0
-Outcome = Result Answer Apart
+abbrev pub CallResult : Type 0
+CallResult = Result Answer Apart
 
 -- ---- the grammar
 
 -- the fields of an answer one behind the other, four lists, a list, a page, or the rule's number and errno
-abbrev pub told_packet : Told → Packet
-told_packet (row kind fs) = packet (answer_number kind) (flat_map field_text fs)
-told_packet (resources crtcs connectors encoders framebuffers) = packet 0x1006 (list_text crtcs ++ list_text connectors ++ list_text encoders ++ list_text framebuffers)
-told_packet (list ids) = packet 0x1007 (list_text ids)
-told_packet (page rows) = packet 0x100B (page_text rows)
-told_packet (denial rule) = packet 0x2000 (u32 (rule_number rule) ++ u32 (rule_errno rule))
+abbrev pub told_frame : Told → FrameValue
+told_frame (row kind fs) = frame_value (answer_number kind) (flat_map field_text fs)
+told_frame (resources crtcs connectors encoders framebuffers) = frame_value 0x1006 (list_text crtcs ++ list_text connectors ++ list_text encoders ++ list_text framebuffers)
+told_frame (list ids) = frame_value 0x1007 (list_text ids)
+told_frame (page rows) = frame_value 0x100B (page_text rows)
+told_frame (denial rule) = frame_value 0x2000 (u32 (rule_number rule) ++ u32 (rule_errno rule))
 
 -- the number of each result and its fields in order
-abbrev pub answer_packet : Outcome → Packet
-answer_packet (Ok answer) = told_packet (told answer)
-answer_packet (Err apart) = packet 0x2001 (u32 (apart_number apart) ++ u32 (apart_errno apart))
+abbrev pub answer_frame : CallResult → FrameValue
+answer_frame (Ok answer) = told_frame (told answer)
+answer_frame (Err apart) = frame_value 0x2001 (u32 (apart_number apart) ++ u32 (apart_errno apart))
 
 -- The numbers that are told fit their fields.
 abbrev pub FitsTold : Told → Type 0
@@ -45,44 +46,49 @@ FitsTold (page rows) = FitsPage rows
 FitsTold (denial rule) = Unit {0}
 
 -- The numbers of a result fit their fields.
-abbrev pub FitsFields : Outcome → Type 0
+abbrev pub FitsFields : CallResult → Type 0
 FitsFields (Ok answer) = FitsTold (told answer)
 FitsFields (Err apart) = Unit {0}
 
 -- The frame is this result.
-abbrev pub IsAnswer : Packet → Outcome → Type 0
-IsAnswer f outcome = FitsFields outcome × (f ≡ answer_packet outcome)
+abbrev pub IsAnswer : FrameValue → CallResult → Type 0
+IsAnswer f outcome = FitsFields outcome × (f ≡ answer_frame outcome)
 
 -- Every frame is one result or none.
-abbrev pub Tells : Packet → Option Outcome → Type 0
-Tells f None = (outcome : Outcome) → IsAnswer f outcome → ⊥
+abbrev pub Tells : FrameValue → Option CallResult → Type 0
+Tells f None = (outcome : CallResult) → IsAnswer f outcome → ⊥
 Tells f (Some outcome) = IsAnswer f outcome
 
 -- the bytes of a result
-unfoldable pub answer_text : Outcome → List ℕ
-answer_text outcome = frame_text (answer_packet outcome)
+unfoldable pub answer_text : CallResult → List ℕ
+answer_text outcome = frame_text (answer_frame outcome)
 
 -- ---- the same as a function
 
 -- what a list says, where it ends the fields
-abbrev pub list_from : List ℕ → List ℕ → Option Outcome
+abbrev pub list_from : List ℕ → List ℕ → Option CallResult
 list_from fields behind = if nat_eq (length behind) 0 then Some (Ok (Listed (front_list fields))) else None
 
 -- what a list says, and nothing behind it
-abbrev pub list_in : List ℕ → Option Outcome
+abbrev pub list_in : List ℕ → Option CallResult
 list_in fields = option_and_then (list_from fields) (behind_list fields)
 
+-- the resources of four lists, if each has ids of mode objects and framebuffers
+abbrev pub resources_of : Option (List ℕ) → Option (List ℕ) → Option (List ℕ) → Option (List ℕ) → Option CallResult
+resources_of (Some crtcs) (Some connectors) (Some encoders) (Some framebuffers) = Some (Ok (Resources crtcs connectors encoders framebuffers))
+resources_of _ _ _ _ = None
+
 -- what four lists say, where the last ends the fields
-abbrev pub resources_from : List ℕ → List ℕ → List ℕ → List ℕ → List ℕ → Option Outcome
+abbrev pub resources_from : List ℕ → List ℕ → List ℕ → List ℕ → List ℕ → Option CallResult
 resources_from crtcs connectors encoders framebuffers behind =
-    if nat_eq (length behind) 0 then Some (Ok (Resources (front_list crtcs) (front_list connectors) (front_list encoders) (front_list framebuffers))) else None
+    if nat_eq (length behind) 0 then resources_of (short_ids (front_list crtcs)) (short_ids (front_list connectors)) (short_ids (front_list encoders)) (short_ids (front_list framebuffers)) else None
 
 -- what four lists say, and nothing behind them
-abbrev pub resources_in : List ℕ → Option Outcome
+abbrev pub resources_in : List ℕ → Option CallResult
 resources_in fields = option_and_then (λ second. option_and_then (λ third. option_and_then (λ fourth. option_and_then (resources_from fields second third fourth) (behind_list fourth)) (behind_list third)) (behind_list second)) (behind_list fields)
 
 -- what a count of at most 16 and so many rows say, and nothing behind them
-abbrev pub audit_in : List ℕ → Option Outcome
+abbrev pub audit_in : List ℕ → Option CallResult
 audit_in fields =
     if nat_le 4 (length fields) && nat_le (u32_in fields) 16 && nat_eq (length fields) (4 + 32 * u32_in fields) then Some (Ok (Audit (rows_in (u32_in fields) (drop 4 fields)))) else None
 
@@ -99,28 +105,28 @@ unfoldable pub apart_of : ℕ → ℕ → Option Apart
 apart_of number errno = option_and_then (if_errno apart_errno errno) (apart_of_number number)
 
 -- the denial by a rule, or by none
-abbrev pub denied : Option Rule → Option Outcome
+abbrev pub denied : Option Rule → Option CallResult
 denied None = None
 denied (Some rule) = Some (Ok (Denied rule))
 
 -- the refusal by what stands apart, or by nothing
-abbrev pub refused : Option Apart → Option Outcome
+abbrev pub refused : Option Apart → Option CallResult
 refused None = None
 refused (Some apart) = Some (Err apart)
 
 -- what a number and an errno say, and nothing behind them
-abbrev pub denied_in : List ℕ → Option Outcome
+abbrev pub denied_in : List ℕ → Option CallResult
 denied_in fields = if nat_eq (length fields) 8 then denied (rule_of (u32_in fields) (u32_in (drop 4 fields))) else None
 
-abbrev pub refused_in : List ℕ → Option Outcome
+abbrev pub refused_in : List ℕ → Option CallResult
 refused_in fields = if nat_eq (length fields) 8 then refused (apart_of (u32_in fields) (u32_in (drop 4 fields))) else None
 
 -- what fields of fixed number say
-abbrev pub row_in : AnswerKind → List ℕ → Option Outcome
+abbrev pub row_in : AnswerKind → List ℕ → Option CallResult
 row_in kind fields = option_map Ok (option_and_then (answer_with kind) (numbers_in (answer_widths kind) fields))
 
 -- the result that a frame of this kind's number is
-abbrev pub result_in : Option AnswerKind → Packet → Option Outcome
+abbrev pub result_in : Option AnswerKind → FrameValue → Option CallResult
 result_in (Some kind) f = row_in kind f.fields
 result_in None f =
     if nat_eq f.number 0x1006 then resources_in f.fields
@@ -131,5 +137,5 @@ result_in None f =
     else None
 
 -- the result that the frame is
-unfoldable pub answer_in : Packet → Option Outcome
+unfoldable pub answer_in : FrameValue → Option CallResult
 answer_in f = result_in (answer_kind_of f.number) f

@@ -1,5 +1,5 @@
 -- The fields of requests and answers as bytes (own).
-use Rattle.std.specs.Prelude.{ℕ, ◌&&◌, if◌then◌else◌, nat_le, List, ◌++◌, length, drop, replicate, Option, Some, None}
+use Rattle.std.specs.Prelude.{ℕ, Bool, true, false, ◌&&◌, if◌then◌else◌, nat_le, List, ◌++◌, length, drop, replicate, Option, Some, None}
 use Rattle.std.specs.List.{flat_map}
 use Rattle.std.specs.Option.{option_and_then}
 use Rattle.drm_table.specs.declared.fields.Width.{Width}
@@ -29,6 +29,11 @@ fields_text ids fs = u32 (length fs) ++ flat_map field_text fs
 unfoldable pub field_in : Width → List ℕ → Option (Field × List ℕ)
 field_in widths.U32 bytes = if nat_le 4 (length bytes) then Some (fields.U32 (u32_in bytes), drop 4 bytes) else None
 field_in widths.U64 bytes = if nat_le 8 (length bytes) then Some (fields.U64 (u64_in bytes), drop 8 bytes) else None
+
+-- fields that were read, or none
+abbrev pub if_read : Bool → List Field → Option (List Field)
+if_read true fields = Some fields
+if_read false fields = None
 
 -- the fields of these widths that the bytes are, and nothing behind them
 unfoldable pub numbers_in : List Width → List ℕ → Option (List Field)

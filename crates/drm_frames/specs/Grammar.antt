@@ -3,19 +3,19 @@ use Rattle.std.specs.Prelude.{ℕ, ◌+◌, ◌^◌, ◌<◌, ◌≤◌, ◌⊎�
 use Rattle.drm_frames.specs.Number.{u16, u32, u32_in, AreBytes}
 
 -- a number and the fields that go with it
-pub record Packet : Type 0 where
+pub record FrameValue : Type 0 where
   pub number : ℕ
   pub fields : List ℕ
 
-abbrev pub packet : ℕ → List ℕ → Packet
-packet number fields = record { number = number; fields = fields }
+abbrev pub frame_value : ℕ → List ℕ → FrameValue
+frame_value number fields = record { number = number; fields = fields }
 
 -- The length counts the number and the fields.
-abbrev pub frame_text : Packet → List ℕ
+abbrev pub frame_text : FrameValue → List ℕ
 frame_text f = u32 (2 + length f.fields) ++ u16 f.number ++ f.fields
 
 -- what can stand in a frame
-pub record IsPacket (f : Packet) : Type 0 where
+pub record IsFrame (f : FrameValue) : Type 0 where
   pub number : f.number < 2 ^ 16
   pub short : length f.fields ≤ 1022
   pub bytes : AreBytes f.fields

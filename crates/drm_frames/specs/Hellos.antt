@@ -2,7 +2,7 @@
 use Rattle.std.specs.Prelude.{◌≡◌, ℕ, ◌<◌, ◌^◌, Bool, true, ◌&&◌, ◌||◌, if◌then◌else◌, nat_eq, List, ◌++◌, length, drop, Option, Some, None}
 use Rattle.drm_frames.specs.declared.hello.Hello.{Hello}
 use Rattle.drm_frames.specs.Number.{u32, u32_in}
-use Rattle.drm_frames.specs.Grammar.{Packet, packet, frame_text}
+use Rattle.drm_frames.specs.Grammar.{FrameValue, frame_value, frame_text}
 
 -- the versions that there are
 abbrev pub is_version : ℕ → Bool
@@ -19,8 +19,8 @@ hello_fields version None = u32 version ++ u32 0 ++ u32 0
 hello_fields version (Some token) = u32 version ++ u32 1 ++ u32 token
 
 -- the hello of a node, or of a lease token
-abbrev pub hello_packet : Hello → Packet
-hello_packet hello = packet 0x0100 (hello_fields hello.version hello.lease)
+abbrev pub hello_frame : Hello → FrameValue
+hello_frame hello = frame_value 0x0100 (hello_fields hello.version hello.lease)
 
 -- The token fits its field.
 abbrev pub IsToken : Option ℕ → Type 0
@@ -28,17 +28,17 @@ IsToken None = Unit {0}
 IsToken (Some token) = token < 2 ^ 32
 
 -- The frame is this hello.
-abbrev pub IsHello : Packet → Hello → Type 0
-IsHello f hello = (is_version hello.version ≡ true) × IsToken hello.lease × (f ≡ hello_packet hello)
+abbrev pub IsHello : FrameValue → Hello → Type 0
+IsHello f hello = (is_version hello.version ≡ true) × IsToken hello.lease × (f ≡ hello_frame hello)
 
 -- Every frame is one hello or none.
-abbrev pub Greets : Packet → Option Hello → Type 0
+abbrev pub Greets : FrameValue → Option Hello → Type 0
 Greets f None = (hello : Hello) → IsHello f hello → ⊥
 Greets f (Some hello) = IsHello f hello
 
 -- the bytes of a hello
 unfoldable pub hello_text : Hello → List ℕ
-hello_text hello = frame_text (hello_packet hello)
+hello_text hello = frame_text (hello_frame hello)
 
 -- ---- the same as a function
 
@@ -50,7 +50,7 @@ lease_in version what token =
     else None
 
 -- the hello that the frame is
-unfoldable pub hello_in : Packet → Option Hello
+unfoldable pub hello_in : FrameValue → Option Hello
 hello_in f =
     if nat_eq f.number 0x0100 && nat_eq (length f.fields) 12 && is_version (u32_in f.fields)
     then lease_in (u32_in f.fields) (u32_in (drop 4 f.fields)) (u32_in (drop 8 f.fields))

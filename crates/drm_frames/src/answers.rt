@@ -1,16 +1,17 @@
 //! What a result is as a frame.
 ghost use Rattle.std.specs.Prelude.{◌≡◌, ◌<◌, ◌≤◌, [], ◌++◌, length, Ok};
-ghost use Rattle.drm_frames.specs.Answers.{FitsFields, FitsTold, answer_packet, answer_text, told_packet};
-ghost use Rattle.drm_frames.specs.Grammar.{packet};
+ghost use Rattle.drm_frames.specs.Answers.{FitsFields, FitsTold, answer_frame, answer_text, told_frame};
+ghost use Rattle.drm_frames.specs.Grammar.{frame_value};
 ghost use Rattle.drm_frames.specs.Number.{u32};
 ghost use Rattle.drm_table.specs.Answers.{told};
-ghost use Rattle.drm_table.specs.Results.{IsFew};
+ghost use Rattle.drm_table.specs.Results.{FitsOneFrame};
 
 use crate::fields::push_numbers;
 use crate::lists::{push_list, push_resources};
 use crate::pages::push_page;
-use crate::text::{FrameBytes, framed};
+use crate::text::{FrameBytes, framed, push_frame};
 use drm_table::{Answer, Apart, Told};
+use std::marker::Model;
 
 // Writes the number and the errno of what refuses.
 fn push_refusal(text: &mut FrameBytes, number: u32, errno: u32)
@@ -25,8 +26,8 @@ fn push_refusal(text: &mut FrameBytes, number: u32, errno: u32)
 // Writes the fields of an answer, and gives the number of its frame.
 fn push_answer(text: &mut FrameBytes, answer: &Answer) -> u16
     requires empty { text.old ≡ [] }
-    requires few { IsFew (Ok answer.now) }
-    ensures text { packet result text.new ≡ told_packet (told answer.now) }
+    requires few { FitsOneFrame (Ok answer.now) }
+    ensures text { frame_value result text.new ≡ told_frame (told answer.now) }
     ensures fits { FitsTold (told answer.now) }
     ensures length { length text.new ≤ 1022 }
 {
@@ -62,8 +63,8 @@ fn push_answer(text: &mut FrameBytes, answer: &Answer) -> u16
 // Writes the fields of a result, and gives the number of its frame.
 fn push_outcome(text: &mut FrameBytes, outcome: &Result<Answer, Apart>) -> u16
     requires empty { text.old ≡ [] }
-    requires few { IsFew outcome.now }
-    ensures text { packet result text.new ≡ answer_packet outcome.now }
+    requires few { FitsOneFrame outcome.now }
+    ensures text { frame_value result text.new ≡ answer_frame outcome.now }
     ensures fits { FitsFields outcome.now }
     ensures length { length text.new ≤ 1022 }
 {
@@ -80,7 +81,7 @@ fn push_outcome(text: &mut FrameBytes, outcome: &Result<Answer, Apart>) -> u16
 /// one frame.
 #[tactic(auto, unfolding(crate::specs::Answers::answer_text))]
 pub fn encode_answer(outcome: &Result<Answer, Apart>) -> FrameBytes
-    requires { IsFew outcome.now }
+    requires { FitsOneFrame outcome.now }
     ensures text { result ≡ answer_text outcome.now }
     ensures fits { FitsFields outcome.now }
     ensures some { 0 < length result }
@@ -89,4 +90,53 @@ pub fn encode_answer(outcome: &Result<Answer, Apart>) -> FrameBytes
     let mut fields = FrameBytes::new();
     let number = push_outcome(&mut fields, outcome);
     framed(number, fields.as_slice())
+}
+
+/// A place for the frames of results, one after the other (own). Contracts see the bytes of the last one.
+#[derive(Drop)]
+pub struct AnswerText {
+    fields: FrameBytes,
+    frame: FrameBytes,
+}
+
+impl Model for AnswerText {
+    ghost use Rattle.std.specs.Prelude.{List, ℕ};
+
+    ghost Value = { List ℕ };
+
+    ghost view = { λ text. text.frame };
+}
+
+impl AnswerText {
+    /// A place without a frame.
+    pub fn new() -> AnswerText
+        ensures { result ≡ [] }
+    {
+        AnswerText {
+            fields: FrameBytes::new(),
+            frame: FrameBytes::new(),
+        }
+    }
+
+    /// Writes a result's frame in place of the last one, of as many ids as `encode_answer` does.
+    #[tactic(auto, unfolding(crate::specs::Answers::answer_text))]
+    pub fn write(&mut self, outcome: &Result<Answer, Apart>)
+        requires { FitsOneFrame outcome.now }
+        ensures text { self.new ≡ answer_text outcome.now }
+        ensures fits { FitsFields outcome.now }
+        ensures some { 0 < length self.new }
+    {
+        self.fields.clear();
+        self.frame.clear();
+        let number = push_outcome(&mut self.fields, outcome);
+        push_frame(&mut self.frame, number, self.fields.as_slice());
+    }
+
+    /// The bytes as a slice.
+    pub fn as_slice(&self) -> &[u8]
+        ensures bytes { result.now ≡ self.now }
+        ensures short { length result.now ≤ 1028 }
+    {
+        self.frame.as_slice()
+    }
 }

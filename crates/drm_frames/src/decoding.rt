@@ -6,9 +6,9 @@ use crate::number::{u16_in, u32_in};
 
 /// What stands at the front of bytes.
 #[derive(Debug, Drop)]
-pub enum Decoded {
+pub enum Decoded<'a> {
     /// A frame, and how many bytes it took.
-    Whole(Frame, usize),
+    Whole(Frame<'a>, usize),
     /// Less than a frame: more bytes are wanted.
     NeedMore,
     /// A length that no frame has: below 2, or above 1,024.
@@ -18,7 +18,7 @@ pub enum Decoded {
 /// The frame at the front of the bytes. More bytes may follow it (own).
 ///
 /// `TooLong` comes as soon as the four bytes of the length are there.
-pub fn decode(bytes: &[u8]) -> Decoded
+pub fn decode(bytes: &[u8]) -> Decoded<'_>
     ensures { Decodes bytes.now result }
 {
     if bytes.len() < 4 {

@@ -2,7 +2,7 @@
 ghost use Rattle.std.specs.Prelude.{◌≡◌, ◌+◌, ◌*◌, ◌≤◌, [], ◌++◌, All, length};
 ghost use Rattle.std.specs.List.{flat_map};
 ghost use Rattle.std.specs.Option.{option_map};
-ghost use Rattle.drm_frames.specs.Fields.{field_in, field_text, fields_in, fields_text, numbers_in};
+ghost use Rattle.drm_frames.specs.Fields.{field_in, field_text, fields_in, fields_text, if_read, numbers_in};
 ghost use Rattle.drm_table.specs.Fields.{FitsField, IsShort, layout_of};
 ghost use Rattle.drm_table.specs.Fields.Layout.{ids};
 
@@ -33,47 +33,51 @@ fn field_in(width: Width, bytes: &[u8]) -> Option<(Field, &[u8])>
     }
 }
 
-/// The fields of these widths that the bytes are, and nothing behind them.
+/// Reads the fields of these widths, where the bytes are these and nothing behind them.
 #[tactic(auto, unfolding(crate::specs::Fields::numbers_in))]
-pub(crate) fn numbers_in(widths: &[Width], bytes: &[u8]) -> Option<Fields>
-    requires { length widths.now ≤ 32 }
-    ensures { result ≡ numbers_in widths.now bytes.now }
+pub(crate) fn read_numbers(fields: &mut Fields, widths: &[Width], bytes: &[u8]) -> bool
+    requires empty { fields.old ≡ [] }
+    requires few { length widths.now ≤ 32 }
+    ensures { if_read result fields.new ≡ numbers_in widths.now bytes.now }
 {
-    let mut fields = Fields::new();
     let mut rest = bytes;
     for width in widths {
-        let (field, behind) = field_in(*width, rest)?;
+        let Some((field, behind)) = field_in(*width, rest) else {
+            return false;
+        };
         fields.push(field);
         rest = behind;
     }
-    if rest.is_empty() { Some(fields) } else { None }
+    rest.is_empty()
 }
 
-/// The ids that the bytes are: how many there are, and each of them.
+/// Reads ids, where the bytes are how many there are, and each of them.
 #[tactic(auto, unfolding(crate::specs::Fields::fields_in))]
-fn ids_in(bytes: &[u8]) -> Option<Fields>
-    ensures { result ≡ fields_in ids bytes.now }
+fn read_ids(fields: &mut Fields, bytes: &[u8]) -> bool
+    requires { fields.old ≡ [] }
+    ensures { if_read result fields.new ≡ fields_in ids bytes.now }
 {
     if bytes.len() < 4 {
-        return None;
+        return false;
     }
     let count = u32_in(bytes) as usize;
     if count > Layout::MOST_IDS {
-        return None;
+        return false;
     }
     let (_, behind) = bytes.split_at(4);
-    numbers_in(Width::of_ids(count), behind)
+    read_numbers(fields, Width::of_ids(count), behind)
 }
 
-/// The fields of a layout that the bytes are.
+/// Reads the fields of a layout, where the bytes are these.
 #[tactic(auto, unfolding(crate::specs::Fields::fields_in))]
-pub(crate) fn fields_in(layout: Layout, bytes: &[u8]) -> Option<Fields>
-    requires { IsShort (layout_of layout) }
-    ensures { result ≡ fields_in (layout_of layout) bytes.now }
+pub(crate) fn read_fields(fields: &mut Fields, layout: Layout, bytes: &[u8]) -> bool
+    requires empty { fields.old ≡ [] }
+    requires short { IsShort (layout_of layout) }
+    ensures { if_read result fields.new ≡ fields_in (layout_of layout) bytes.now }
 {
     match layout {
-        Layout::Numbers(widths) => numbers_in(widths, bytes),
-        Layout::Ids => ids_in(bytes),
+        Layout::Numbers(widths) => read_numbers(fields, widths, bytes),
+        Layout::Ids => read_ids(fields, bytes),
     }
 }
 

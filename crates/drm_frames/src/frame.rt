@@ -1,35 +1,29 @@
 //! One frame.
 ghost use Rattle.std.specs.Prelude.{◌≡◌, ◌≤◌, length};
-ghost use Rattle.drm_frames.specs.Grammar.{Packet, packet};
+ghost use Rattle.drm_frames.specs.Grammar.{FrameValue, frame_value};
 
-use arrayvec::ArrayVec;
 use std::marker::Model;
 
-/// A frame: a number and up to 1,022 bytes of fields (own).
+/// A frame: a number and up to 1,022 bytes of fields, which stay where they stand (own).
 #[derive(Debug, Drop)]
-pub struct Frame {
+pub struct Frame<'a> {
     number: u16,
-    fields: ArrayVec<u8, 1022>,
+    fields: &'a [u8],
 }
 
-impl Model for Frame {
-    ghost Value = { Packet };
+impl<'a> Model for Frame<'a> {
+    ghost Value = { FrameValue };
 
-    ghost view = { λ f. record { number = f.number; fields = f.fields.items } };
+    ghost view = { λ f. record { number = f.number; fields = f.fields.now } };
 }
 
-impl Frame {
+impl<'a> Frame<'a> {
     /// The frame of a number and its fields.
-    pub fn new(number: u16, fields: &[u8]) -> Self
+    pub fn new(number: u16, fields: &'a [u8]) -> Frame<'a>
         requires { length fields.now ≤ 1022 }
-        ensures { result ≡ packet number fields.now }
+        ensures { result ≡ frame_value number fields.now }
     {
-        let mut copy = ArrayVec::new();
-        let _ = copy.try_extend_from_slice(fields);
-        Frame {
-            number,
-            fields: copy,
-        }
+        Frame { number, fields }
     }
 
     /// What the frame is: a call's number, or that of a hello or of a result.
@@ -40,9 +34,9 @@ impl Frame {
     }
 
     /// The bytes behind the number.
-    pub fn fields(&self) -> &[u8]
+    pub fn fields(&self) -> &'a [u8]
         ensures { result.now ≡ self.now.fields }
     {
-        self.fields.as_slice()
+        self.fields
     }
 }

@@ -18,7 +18,7 @@ pub struct Hello {
 /// The hello that the frame is. `None` where its number, its version or its fields are those of no
 /// hello, as those of a node with a token other than 0 (own).
 #[tactic(auto, unfolding(crate::specs::Hellos::hello_in))]
-pub fn hello_of(frame: &Frame) -> Option<Hello>
+pub fn hello_of(frame: &Frame<'_>) -> Option<Hello>
     ensures { result ≡ hello_in frame.now }
 {
     let fields = frame.fields();

@@ -1,10 +1,10 @@
 //! Laws of the grammar. Each function is its contract: there is nothing to call it for.
 ghost use Rattle.std.specs.Prelude.{◌≡◌, ◌^◌, ◌<◌, ◌++◌, List, None, Some, is_some, length, true, ℕ};
 ghost use Rattle.std.specs.List.{flat_map, AllByRecursion};
-ghost use Rattle.drm_frames.specs.Answers.{FitsFields, IsAnswer, Outcome, Tells, answer_in, answer_packet, answer_text};
+ghost use Rattle.drm_frames.specs.Answers.{FitsFields, IsAnswer, CallResult, Tells, answer_in, answer_frame, answer_text};
 ghost use Rattle.drm_frames.specs.Decoding.{Decodes, ReadsAs};
-ghost use Rattle.drm_frames.specs.Grammar.{Packet, frame_text, IsPacket, IsPart};
-ghost use Rattle.drm_frames.specs.Hellos.{Greets, IsHello, IsToken, is_version, hello_in, hello_packet, hello_text};
+ghost use Rattle.drm_frames.specs.Grammar.{FrameValue, frame_text, IsFrame, IsPart};
+ghost use Rattle.drm_frames.specs.Hellos.{Greets, IsHello, IsToken, is_version, hello_in, hello_frame, hello_text};
 ghost use Rattle.drm_frames.specs.Number.{AreBytes, u16, u16_in, u32, u32_in, u64, u64_in};
 ghost use Rattle.drm_frames.specs.Requests.{Asks, HasRow, IsRowCall, WritesCall, request_of};
 ghost use Rattle.drm_table.specs.Table.{call_number, row_of};
@@ -31,14 +31,14 @@ pub fn numbers_written_back()
 
 /// No text of a frame begins another, so what stands at the front of bytes is one frame at most.
 pub fn no_text_begins_another()
-    ensures { (f g : Packet) (x y : List ℕ) → IsPacket f → IsPacket g
+    ensures { (f g : FrameValue) (x y : List ℕ) → IsFrame f → IsFrame g
         → frame_text f ++ x ≡ frame_text g ++ y → (f ≡ g) × (x ≡ y) }
 {}
 
 /// Bytes are whole frames, and then less than a frame, in one way.
 pub fn one_reading()
-    ensures { (fs gs : List Packet) (x y : List ℕ) → AllByRecursion IsPacket fs
-        → AllByRecursion IsPacket gs → IsPart x → IsPart y
+    ensures { (fs gs : List FrameValue) (x y : List ℕ) → AllByRecursion IsFrame fs
+        → AllByRecursion IsFrame gs → IsPart x → IsPart y
         → flat_map frame_text fs ++ x ≡ flat_map frame_text gs ++ y → (fs ≡ gs) × (x ≡ y) }
 {}
 
@@ -50,70 +50,70 @@ pub fn one_decoding()
 
 /// The text of a frame is found where it stands.
 pub fn texts_are_found()
-    ensures { (f : Packet) → IsPacket f → ReadsAs (frame_text f) f }
+    ensures { (f : FrameValue) → IsFrame f → ReadsAs (frame_text f) f }
 {}
 
 /// What a frame is found to ask, it asks.
 pub fn each_frame_asks()
-    ensures { (f : Packet) → IsPacket f → Asks f (request_of f) }
+    ensures { (f : FrameValue) → IsFrame f → Asks f (request_of f) }
 {}
 
 /// What a frame asks is found, and so it asks nothing else.
 pub fn one_call()
-    ensures { (f : Packet) (call : ACall) → IsPacket f → Asks f call → request_of f ≡ call }
+    ensures { (f : FrameValue) (call : ACall) → IsFrame f → Asks f call → request_of f ≡ call }
 {}
 
 /// The numbers with a row, and the number of each row's call, are those of the table of calls.
 pub fn rows_of_the_table()
     ensures has { (n : ℕ) → HasRow n → is_some (row_of n) ≡ true }
     ensures no_other { (n : ℕ) → (HasRow n → ⊥) → row_of n ≡ None }
-    ensures number { (f : Packet) (call : ACall) → IsRowCall call f
+    ensures number { (f : FrameValue) (call : ACall) → IsRowCall call f
         → f.number ≡ call_number call }
 {}
 
 /// A row's call is asked by one frame.
 pub fn one_frame()
-    ensures fits { (f : Packet) (call : ACall) → IsRowCall call f → IsPacket f }
-    ensures one { (f g : Packet) (call : ACall) → IsRowCall call f → IsRowCall call g → f ≡ g }
+    ensures fits { (f : FrameValue) (call : ACall) → IsRowCall call f → IsFrame f }
+    ensures one { (f g : FrameValue) (call : ACall) → IsRowCall call f → IsRowCall call g → f ≡ g }
 {}
 
 /// The hello that is found in a frame is the frame's, and where none is found it has none.
 pub fn each_frame_greets()
-    ensures { (f : Packet) → IsPacket f → Greets f (hello_in f) }
+    ensures { (f : FrameValue) → IsFrame f → Greets f (hello_in f) }
 {}
 
 /// A frame's hello is found, and so it has no other.
 pub fn one_hello()
-    ensures { (f : Packet) (hello : AHello) → IsHello f hello → hello_in f ≡ Some hello }
+    ensures { (f : FrameValue) (hello : AHello) → IsHello f hello → hello_in f ≡ Some hello }
 {}
 
 /// The result that is found in a frame is the frame's, and where none is found it has none.
 pub fn each_frame_tells()
-    ensures { (f : Packet) → IsPacket f → Tells f (answer_in f) }
+    ensures { (f : FrameValue) → IsFrame f → Tells f (answer_in f) }
 {}
 
 /// A frame's result is found, and so it has no other.
 pub fn one_result()
-    ensures { (f : Packet) (outcome : Outcome) → IsAnswer f outcome
+    ensures { (f : FrameValue) (outcome : CallResult) → IsAnswer f outcome
         → answer_in f ≡ Some outcome }
 {}
 
 /// A call that is encoded is read back.
 pub fn calls_read_back()
     ensures { (call : ACall) (text : List ℕ) → WritesCall call text
-        → (f : Packet) × ReadsAs text f × (request_of f ≡ call) }
+        → (f : FrameValue) × ReadsAs text f × (request_of f ≡ call) }
 {}
 
 /// A hello that is encoded is read back.
 pub fn hellos_read_back()
     ensures { (hello : AHello) → is_version hello.version ≡ true → IsToken hello.lease
-        → ReadsAs (hello_text hello) (hello_packet hello)
-        × (hello_in (hello_packet hello) ≡ Some hello) }
+        → ReadsAs (hello_text hello) (hello_frame hello)
+        × (hello_in (hello_frame hello) ≡ Some hello) }
 {}
 
 /// A result that is encoded is read back.
 pub fn answers_read_back()
-    ensures { (outcome : Outcome) → FitsFields outcome
-        → ReadsAs (answer_text outcome) (answer_packet outcome)
-        × (answer_in (answer_packet outcome) ≡ Some outcome) }
+    ensures { (outcome : CallResult) → FitsFields outcome
+        → ReadsAs (answer_text outcome) (answer_frame outcome)
+        × (answer_in (answer_frame outcome) ≡ Some outcome) }
 {}

@@ -15,7 +15,7 @@ mod requests;
 mod results;
 mod text;
 
-pub use answers::encode_answer;
+pub use answers::{AnswerText, encode_answer};
 pub use decoding::{Decoded, decode};
 pub use frame::Frame;
 pub use hello::{Hello, encode_hello, hello_of};

@@ -2,25 +2,26 @@
 ghost use Rattle.std.specs.Prelude.{◌≡◌, ◌<◌, ◌≤◌, length};
 ghost use Rattle.drm_frames.specs.Requests.{IsOfRow, WritesCall, request_of};
 
-use crate::fields::{fields_in, push_fields};
+use crate::fields::{push_fields, read_fields};
 use crate::frame::Frame;
 use crate::text::{FrameBytes, framed};
-use drm_table::{Call, CallKind};
+use drm_table::{Call, CallKind, Fields};
 
 /// What a frame asks: a row's call, `Unknown` where no row has the number, or `BadLayout` where the
 /// fields are not exactly those of the row, or name a kind that no audit has (drm-uapi for the rows;
 /// the layout is own).
 #[tactic(auto, unfolding(crate::specs::Requests::request_of))]
-pub fn call_of(frame: &Frame) -> Call
+pub fn call_of(frame: &Frame<'_>) -> Call
     ensures { result ≡ request_of frame.now }
 {
     let number = frame.number();
     let Some(kind) = CallKind::of_number(number) else {
         return Call::Unknown(number);
     };
-    let Some(fields) = fields_in(kind.layout(), frame.fields()) else {
+    let mut fields = Fields::new();
+    if !read_fields(&mut fields, kind.layout(), frame.fields()) {
         return Call::BadLayout(number);
-    };
+    }
     match kind.call(fields.as_slice()) {
         Some(call) => call,
         None => Call::BadLayout(number),

@@ -2,22 +2,25 @@
 ghost use Rattle.std.specs.Prelude.{◌≡◌};
 ghost use Rattle.drm_frames.specs.Answers.{answer_in, audit_in, denied_in, list_in, refused_in, resources_in, row_in};
 
-use crate::fields::numbers_in;
+use crate::fields::read_numbers;
 use crate::frame::Frame;
-use crate::lists::{behind_list, front_list};
+use crate::lists::{behind_list, front_ids, front_list};
 use crate::number::u32_in;
 use crate::pages::page_of;
 use crate::refusals::{apart_of, rule_of};
-use drm_table::{Answer, AnswerKind, Apart};
+use drm_table::{Answer, AnswerKind, Apart, Fields};
 
 /// How many rows of an audit a page has at most (own).
 const MOST_ROWS: usize = 16;
 
 /// The answer of a kind, if the fields are one's.
-fn row(kind: AnswerKind, fields: &[u8]) -> Option<Result<Answer, Apart>>
-    ensures { result ≡ row_in kind fields.now }
+fn row(kind: AnswerKind, bytes: &[u8]) -> Option<Result<Answer, Apart>>
+    ensures { result ≡ row_in kind bytes.now }
 {
-    let fields = numbers_in(kind.widths(), fields)?;
+    let mut fields = Fields::new();
+    if !read_numbers(&mut fields, kind.widths(), bytes) {
+        return None;
+    }
     let answer = kind.answer(fields.as_slice())?;
     Some(Ok(answer))
 }
@@ -32,11 +35,15 @@ fn resources(fields: &[u8]) -> Option<Result<Answer, Apart>>
     if !behind.is_empty() {
         return None;
     }
+    let crtcs = front_ids(fields)?;
+    let connectors = front_ids(second)?;
+    let encoders = front_ids(third)?;
+    let framebuffers = front_ids(fourth)?;
     Some(Ok(Answer::Resources {
-        crtcs: front_list(fields),
-        connectors: front_list(second),
-        encoders: front_list(third),
-        framebuffers: front_list(fourth),
+        crtcs,
+        connectors,
+        encoders,
+        framebuffers,
     }))
 }
 
@@ -94,10 +101,10 @@ fn refused(fields: &[u8]) -> Option<Result<Answer, Apart>>
 }
 
 /// The result that the frame is. `None` where it is none: another number, other fields, a list of
-/// more than 64 ids, a page of more than 16 rows, the number of no rule, or an errno that is not the
+/// more than 64 ids, an id of resources above 65,535, a page of more than 16 rows, the number of no rule, or an errno that is not the
 /// rule's own (own).
 #[tactic(auto, unfolding(crate::specs::Answers::answer_in))]
-pub fn answer_of(frame: &Frame) -> Option<Result<Answer, Apart>>
+pub fn answer_of(frame: &Frame<'_>) -> Option<Result<Answer, Apart>>
     ensures { result ≡ answer_in frame.now }
 {
     let fields = frame.fields();

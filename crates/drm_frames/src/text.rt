@@ -1,6 +1,6 @@
 //! Bytes as they are built up.
 ghost use Rattle.std.specs.Prelude.{◌≡◌, ◌+◌, ◌≤◌, List, [], ◌++◌, length, ℕ};
-ghost use Rattle.drm_frames.specs.Grammar.{frame_text, packet};
+ghost use Rattle.drm_frames.specs.Grammar.{frame_text, frame_value};
 ghost use Rattle.drm_frames.specs.Number.{u16, u32, u64};
 
 use arrayvec::ArrayVec;
@@ -34,6 +34,12 @@ impl FrameBytes {
         ensures short { length result.now ≤ 1028 }
     {
         self.bytes.as_slice()
+    }
+
+    pub(crate) fn clear(&mut self)
+        ensures { self.new ≡ [] }
+    {
+        self.bytes.clear();
     }
 
     pub(crate) fn push_bytes(&mut self, bytes: &[u8])
@@ -81,12 +87,22 @@ impl FrameBytes {
 /// The bytes of the frame of a number and its fields.
 pub(crate) fn framed(number: u16, fields: &[u8]) -> FrameBytes
     requires { length fields.now ≤ 1022 }
-    ensures text { result ≡ frame_text (packet number fields.now) }
+    ensures text { result ≡ frame_text (frame_value number fields.now) }
     ensures length { length result ≡ 6 + length fields.now }
 {
     let mut text = FrameBytes::new();
+    push_frame(&mut text, number, fields);
+    text
+}
+
+/// Writes the frame of a number and its fields.
+pub(crate) fn push_frame(text: &mut FrameBytes, number: u16, fields: &[u8])
+    requires empty { text.old ≡ [] }
+    requires short { length fields.now ≤ 1022 }
+    ensures text { text.new ≡ frame_text (frame_value number fields.now) }
+    ensures length { length text.new ≡ 6 + length fields.now }
+{
     text.push_u32(2 + fields.len() as u32);
     text.push_u16(number);
     text.push_bytes(fields);
-    text
 }

@@ -71,8 +71,8 @@ pub there : (test : Object → Bool) (found : Option Object) → option_map_or t
 there test None h = absurd (let e : false ≡ true = h in cc)
 there test (Some x) h = refl
 
-pub birth_there : (k : ℕ) (xs : List Object) (x : Object) → find (is_key k) xs ≡ Some x → option_map (λ (o : Object). o.birth) (find (is_key x.key) xs) ≡ Some x.birth
-birth_there k xs x e = ap (λ n. option_map (λ (o : Object). o.birth) (find (is_key n) xs)) (found-key k xs x e) ∙ ap (option_map (λ (o : Object). o.birth)) e
+pub step_number_there : (k : ℕ) (xs : List Object) (x : Object) → find (is_key k) xs ≡ Some x → option_map (λ (o : Object). o.step_number) (find (is_key x.key) xs) ≡ Some x.step_number
+step_number_there k xs x e = ap (λ n. option_map (λ (o : Object). o.step_number) (find (is_key n) xs)) (found-key k xs x e) ∙ ap (option_map (λ (o : Object). o.step_number)) e
 
 -- the set with another object at a key
 pub changed_there : (set : ObjectSet) (k : ℕ) (f : Object → Object) (x : Object) → AreRising set.objects → object_at set k ≡ Some x → changed_at x.key (λ o. f x) set ≡ changed_at k f set

@@ -11,18 +11,18 @@ use Rattle.drm_gem.specs.Objects.{ObjectSet}
 
 -- the object of a key, of which this is kept
 abbrev pub object : ℕ → Kept → Object
-object key kept = record { key = key; birth = kept.birth; size = kept.size; stamp = kept.stamp; holds = kept.holds; refs = kept.refs }
+object key kept = record { key = key; step_number = kept.step_number; size = kept.size; stamp = kept.stamp; holds = kept.holds; refs = kept.refs }
 
 abbrev pub nothing : Kept
-nothing = record { birth = 0; size = 0; stamp = 0; holds = 0; refs = 0 }
+nothing = record { step_number = 0; size = 0; stamp = 0; holds = 0; refs = 0 }
 
 -- what is kept under a key
 abbrev pub kept_at : Slab Kept → ℕ → Kept
 kept_at kept key = unwrap_or (get kept key) nothing
 
--- the object of a birth and its key
+-- the object of a step number and its key
 abbrev pub row : Slab Kept → ℕ × ℕ → Object
-row kept entry = record (object entry.1 (kept_at kept entry.1)) { birth = entry.0 }
+row kept entry = record (object entry.1 (kept_at kept entry.1)) { step_number = entry.0 }
 
 abbrev pub objects_in : Slab Kept → List (ℕ × ℕ) → List Object
 objects_in kept entries = list_map (row kept) entries
@@ -30,10 +30,10 @@ objects_in kept entries = list_map (row kept) entries
 abbrev pub objects_of : Inside → ObjectSet
 objects_of a = record { limit = a.limit; objects = objects_in a.kept (map.entries a.keys.items) }
 
--- each birth's key has what is kept of that birth, and nothing is kept of any other
+-- each step number's key has what is kept of that step number, and nothing is kept of any other
 pub record IsKeyed (keys : map.FinMap nat_cmp ℕ) (kept : Slab Kept) : Type 0 where
-  pub kept_of : (birth key : ℕ) → map.get keys birth ≡ Some key → option_map (λ (x : Kept). x.birth) (get kept key) ≡ Some birth
-  pub key_of : (key : ℕ) (x : Kept) → get kept key ≡ Some x → map.get keys x.birth ≡ Some key
+  pub kept_of : (step_number key : ℕ) → map.get keys step_number ≡ Some key → option_map (λ (x : Kept). x.step_number) (get kept key) ≡ Some step_number
+  pub key_of : (key : ℕ) (x : Kept) → get kept key ≡ Some x → map.get keys x.step_number ≡ Some key
 
 abbrev pub IsSound : Inside → Type 0
 IsSound a = IsKeyed a.keys.items a.kept

@@ -1,4 +1,4 @@
--- The objects that are there, in the order of their births (drm-mm, drm-gem(7); births and stamps are this project's own).
+-- The objects that are there, in the order of their step numbers (drm-mm, drm-gem(7); step numbers and stamps are this project's own).
 use Rattle.std.specs.Prelude.{ℕ, ◌+◌, ◌-◌, ◌<◌, ◌==◌, Bool, false, not, ◌&&◌, List, [], ◌∷◌, ◌++◌, Option, find, map, filter, if◌then◌else◌}
 use Rattle.std.specs.List.{AllByRecursion}
 use Rattle.std.specs.Option.{option_map, option_map_or, is_some}
@@ -25,13 +25,13 @@ abbrev pub passes : (Object → Bool) → ObjectSet → ℕ → Bool
 passes test set key = option_map_or test (object_at set key) false
 
 -- every object that is there is older
-abbrev pub IsNewBirth : ObjectSet → ℕ → Type 0
-IsNewBirth set birth = AllByRecursion (λ (x : Object). x.birth < birth) set.objects
+abbrev pub IsNewStepNumber : ObjectSet → ℕ → Type 0
+IsNewStepNumber set step_number = AllByRecursion (λ (x : Object). x.step_number < step_number) set.objects
 
 -- one more object, which a handle names
 abbrev pub with_object : ObjectSet → ℕ → ℕ → ℕ → ObjectSet
-with_object set key birth size = record set {
-  objects = set.objects ++ record { key = key; birth = birth; size = size; stamp = 0; holds = 1; refs = 0 } ∷ [];
+with_object set key step_number size = record set {
+  objects = set.objects ++ record { key = key; step_number = step_number; size = size; stamp = 0; holds = 1; refs = 0 } ∷ [];
 }
 
 -- the object of the key is changed
@@ -60,7 +60,7 @@ abbrev pub stamped : ℕ → Object → Object
 stamped stamp x = record x { stamp = stamp }
 
 abbrev pub dead_of : Object → Dead
-dead_of x = record { birth = x.birth; size = x.size }
+dead_of x = record { step_number = x.step_number; size = x.size }
 
 -- whether nothing refers to it
 abbrev pub is_unused : Object → Bool

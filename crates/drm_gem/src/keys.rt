@@ -6,6 +6,10 @@ use std::marker::Model;
 
 /// Names an object of its [`Objects`](crate::Objects) for as long as it is there; another may have the key afterwards.
 /// Contracts see a number.
+///
+/// ```rust
+/// let key = ObjectKey::from_number(7);
+/// ```
 #[derive(Clone, Copy, PartialEq, Eq, Debug)]
 pub struct ObjectKey {
     number: u32,
@@ -23,6 +27,10 @@ impl Model for ObjectKey {
 
 impl ObjectKey {
     /// The key of a number, of which it says nothing whether an object has it.
+    ///
+    /// ```rust
+    /// assert!(key == ObjectKey::from_number(7));
+    /// ```
     pub fn from_number(number: u32) -> ObjectKey
         ensures { result ≡ number }
     {
@@ -30,6 +38,10 @@ impl ObjectKey {
     }
 
     /// The key's number.
+    ///
+    /// ```rust
+    /// assert!(key.number() == 7);
+    /// ```
     pub fn number(self) -> u32
         ensures { result ≡ self }
     {

@@ -3,12 +3,19 @@
 use crate::keys::ObjectKey;
 
 /// An object, and how much refers to it.
+///
+/// ```rust
+/// let mut objects = Objects::new(alloc, 1);
+/// let Ok(key) = objects.create(3, 4096) else { return };
+/// let Some(object) = objects.get(key) else { return };
+/// assert!(object.step_number == 3 && object.size == 4096 && object.holds == 1);
+/// ```
 #[derive(Clone, Copy, PartialEq, Eq, Debug)]
 pub struct Object {
     /// What names it while it is there.
     pub key: ObjectKey,
     /// The number of the step that made it, which no other object ever has (own).
-    pub birth: u32,
+    pub step_number: u32,
     /// Its size in bytes.
     pub size: u64,
     /// It stands for the contents (own).
@@ -20,10 +27,17 @@ pub struct Object {
 }
 
 /// An object that is gone, since nothing refers to it any more.
+///
+/// ```rust
+/// let mut objects = Objects::new(alloc, 1);
+/// let Ok(key) = objects.create(3, 4096) else { return };
+/// let gone = Dead { step_number: 3, size: 4096 };
+/// assert!(objects.unhold(key) == Some(gone));
+/// ```
 #[derive(Clone, Copy, PartialEq, Eq, Debug)]
 pub struct Dead {
     /// The number of the step that made it.
-    pub birth: u32,
+    pub step_number: u32,
     /// Its size in bytes.
     pub size: u64,
 }

@@ -6,7 +6,7 @@ ghost use Rattle.drm_gem.specs.declared.object.Object as gem;
 ghost use Rattle.drm_gem.specs.declared.objects.CreateFault.TheVariants as fault;
 ghost use Rattle.drm_gem.specs.Rising.{AreRising};
 ghost use Rattle.drm_gem.specs.Fields.{object};
-ghost use Rattle.drm_gem.specs.Objects.{IsNewBirth, with_object, changed_at, without_key, object_at, is_there, is_key, passes, held, unheld, referred, unreferred, stamped, dead_of, dead_after, is_unused};
+ghost use Rattle.drm_gem.specs.Objects.{IsNewStepNumber, with_object, changed_at, without_key, object_at, is_there, is_key, passes, held, unheld, referred, unreferred, stamped, dead_of, dead_after, is_unused};
 
 use crate::keys::ObjectKey;
 use crate::object::{Dead, Object};
@@ -16,6 +16,11 @@ use std::alloc::Global;
 use std::marker::Model;
 
 /// Why no object was made.
+///
+/// ```rust
+/// let mut full = Objects::new(alloc, 0);
+/// assert!(full.create(1, 4096) == Err(CreateFault::Full));
+/// ```
 #[derive(Clone, Copy, PartialEq, Eq, Debug)]
 pub enum CreateFault {
     /// As many objects are there as may be.
@@ -27,7 +32,7 @@ pub enum CreateFault {
 // What is kept of an object under its key.
 #[derive(Clone, Copy)]
 pub(crate) struct Kept {
-    pub(crate) birth: u32,
+    pub(crate) step_number: u32,
     pub(crate) size: u64,
     pub(crate) stamp: u64,
     pub(crate) holds: u32,
@@ -35,8 +40,13 @@ pub(crate) struct Kept {
 }
 
 /// The objects that are there, in the order of the steps that made them. Contracts see a flat list.
+///
+/// ```rust
+/// let mut objects = Objects::new(alloc, 2);
+/// let Ok(key) = objects.create(1, 4096) else { return };
+/// ```
 pub struct Objects {
-    // the keys, by the births of their objects
+    // the keys, by the step numbers of their objects
     keys: IndexArray<u32>,
     kept: Slab<Kept>,
     limit: u32,
@@ -69,6 +79,10 @@ impl Model for Objects {
 
 impl Objects {
     /// No objects, of which so many may be there at once. It takes no memory.
+    ///
+    /// ```rust
+    /// assert!(Objects::new(alloc, 2).nth(0).is_none());
+    /// ```
     pub fn new(alloc: Global, limit: u32) -> Objects
         ensures { result ≡ record { limit = limit; objects = [] } }
     {
@@ -82,12 +96,17 @@ impl Objects {
     /// Makes an object of so many bytes, with stamp 0 and one handle that names it; the step of this number makes it,
     /// and all that are there are older. A refusal leaves all as it was: `Full` exactly where the limit is reached
     /// (own), `NoMemory` where memory was refused.
-    pub fn create(&mut self, birth: u32, size: u64) -> Result<ObjectKey, CreateFault>
-        requires newest { IsNewBirth self.old birth }
+    ///
+    /// ```rust
+    /// let Ok(other) = objects.create(2, 8192) else { return };
+    /// assert!(other != key);
+    /// ```
+    pub fn create(&mut self, step_number: u32, size: u64) -> Result<ObjectKey, CreateFault>
+        requires newest { IsNewStepNumber self.old step_number }
         ensures room { OnOk result (length self.old.objects < self.old.limit) }
         ensures full { IfErr result (λ why. (why ≡ fault.Full) ↔ (self.old.limit ≤ length self.old.objects)) }
         ensures fresh { IfOk result (λ key. object_at self.old key ≡ None) }
-        ensures ok { IfOk result (λ key. self.new ≡ with_object self.old key birth size) }
+        ensures ok { IfOk result (λ key. self.new ≡ with_object self.old key step_number size) }
         ensures err { OnErr result (self.new ≡ self.old) }
     {
         if self.keys.len() >= self.limit as usize {
@@ -101,13 +120,13 @@ impl Objects {
         if let Err(_fault) = self.kept.reserve(1) {
             return Err(CreateFault::NoMemory);
         }
-        match self.keys.insert(birth, key as u32) {
+        match self.keys.insert(step_number, key as u32) {
             Ok(()) => {}
             Err(InsertFault::NoMemory(_)) => return Err(CreateFault::NoMemory),
             Err(InsertFault::Taken(_)) => unreachable!(),
         }
         let _key = self.kept.insert_reserved(Kept {
-            birth,
+            step_number,
             size,
             stamp: 0,
             holds: 1,
@@ -117,6 +136,10 @@ impl Objects {
     }
 
     /// The object of a key, if it is there.
+    ///
+    /// ```rust
+    /// assert!(objects.get(key).is_some());
+    /// ```
     pub fn get(&self, key: ObjectKey) -> Option<Object>
         ensures { result ≡ object_at self.now key }
     {
@@ -124,6 +147,11 @@ impl Objects {
     }
 
     /// One handle more names the object.
+    ///
+    /// ```rust
+    /// objects.hold(key);
+    /// assert!(objects.holds(key) == 2);
+    /// ```
     pub fn hold(&mut self, key: ObjectKey)
         requires { passes (λ x. nat_lt x.holds u32.MAX) self.old key ≡ true }
         ensures { self.new ≡ changed_at key held self.old }
@@ -137,6 +165,10 @@ impl Objects {
 
     /// One handle fewer names the object. Where nothing refers to it any more it goes, and what it was is answered
     /// (drm-gem(7): an object goes with its last reference).
+    ///
+    /// ```rust
+    /// assert!(objects.unhold(key).is_none());
+    /// ```
     pub fn unhold(&mut self, key: ObjectKey) -> Option<Dead>
         requires { passes (λ x. nat_le 1 x.holds) self.old key ≡ true }
         ensures dead { result ≡ dead_after unheld self.old key }
@@ -151,6 +183,11 @@ impl Objects {
     }
 
     /// One token or framebuffer more refers to the object.
+    ///
+    /// ```rust
+    /// objects.refer(key);
+    /// assert!(objects.refs(key) == 1);
+    /// ```
     pub fn refer(&mut self, key: ObjectKey)
         requires { passes (λ x. nat_lt x.refs u32.MAX) self.old key ≡ true }
         ensures { self.new ≡ changed_at key referred self.old }
@@ -164,6 +201,10 @@ impl Objects {
 
     /// One token or framebuffer fewer refers to the object. Where nothing refers to it any more it goes, and what it
     /// was is answered.
+    ///
+    /// ```rust
+    /// assert!(objects.unrefer(key).is_none());
+    /// ```
     pub fn unrefer(&mut self, key: ObjectKey) -> Option<Dead>
         requires { passes (λ x. nat_le 1 x.refs) self.old key ≡ true }
         ensures dead { result ≡ dead_after unreferred self.old key }
@@ -178,6 +219,10 @@ impl Objects {
     }
 
     /// How many handles name the object.
+    ///
+    /// ```rust
+    /// assert!(objects.holds(key) == 1);
+    /// ```
     pub fn holds(&self, key: ObjectKey) -> u32
         requires { is_there self.now key ≡ true }
         ensures { option_map (λ x. x.holds) (object_at self.now key) ≡ Some result }
@@ -186,6 +231,10 @@ impl Objects {
     }
 
     /// How many tokens and framebuffers refer to the object.
+    ///
+    /// ```rust
+    /// assert!(objects.refs(key) == 0);
+    /// ```
     pub fn refs(&self, key: ObjectKey) -> u32
         requires { is_there self.now key ≡ true }
         ensures { option_map (λ x. x.refs) (object_at self.now key) ≡ Some result }
@@ -194,14 +243,22 @@ impl Objects {
     }
 
     /// The number of the step that made the object.
-    pub fn birth(&self, key: ObjectKey) -> u32
+    ///
+    /// ```rust
+    /// assert!(objects.step_number(key) == 1);
+    /// ```
+    pub fn step_number(&self, key: ObjectKey) -> u32
         requires { is_there self.now key ≡ true }
-        ensures { option_map (λ x. x.birth) (object_at self.now key) ≡ Some result }
+        ensures { option_map (λ x. x.step_number) (object_at self.now key) ≡ Some result }
     {
-        self.there(key).birth
+        self.there(key).step_number
     }
 
     /// The object's size in bytes.
+    ///
+    /// ```rust
+    /// assert!(objects.size(key) == 4096);
+    /// ```
     pub fn size(&self, key: ObjectKey) -> u64
         requires { is_there self.now key ≡ true }
         ensures { option_map (λ x. x.size) (object_at self.now key) ≡ Some result }
@@ -210,6 +267,10 @@ impl Objects {
     }
 
     /// The object's stamp, which stands for its contents (own).
+    ///
+    /// ```rust
+    /// assert!(objects.stamp(key) == 0);
+    /// ```
     pub fn stamp(&self, key: ObjectKey) -> u64
         requires { is_there self.now key ≡ true }
         ensures { option_map (λ x. x.stamp) (object_at self.now key) ≡ Some result }
@@ -218,6 +279,11 @@ impl Objects {
     }
 
     /// Gives the object another stamp.
+    ///
+    /// ```rust
+    /// objects.set_stamp(key, 77);
+    /// assert!(objects.stamp(key) == 77);
+    /// ```
     pub fn set_stamp(&mut self, key: ObjectKey, stamp: u64)
         requires { is_there self.old key ≡ true }
         ensures { self.new ≡ changed_at key (stamped stamp) self.old }
@@ -226,12 +292,16 @@ impl Objects {
         self.set(Object { stamp, ..object });
     }
 
-    /// The object at a place, from 0, in the order of births; none past the last.
-    pub fn nth(&self, place: usize) -> Option<Object>
-        ensures { result ≡ slice_get self.now.objects place }
+    /// The object at a place, from 0, in the order of step numbers; none past the last.
+    ///
+    /// ```rust
+    /// assert!(objects.nth(0) == objects.get(key));
+    /// ```
+    pub fn nth(&self, position: usize) -> Option<Object>
+        ensures { result ≡ slice_get self.now.objects position }
     {
-        let birth = self.keys.nth(place)?;
-        let key = *self.keys.get(birth)?;
+        let step_number = self.keys.nth(position)?;
+        let key = *self.keys.get(step_number)?;
         self.find(ObjectKey::from_number(key))
     }
 
@@ -256,16 +326,16 @@ impl Objects {
         }
     }
 
-    // puts an object in place of that of its key, which has the same birth
+    // puts an object in place of that of its key, which has the same step number
     fn set(&mut self, object: Object)
-        requires { option_map (λ x. x.birth) (object_at self.old object.key) ≡ Some object.birth }
+        requires { option_map (λ x. x.step_number) (object_at self.old object.key) ≡ Some object.step_number }
         ensures { self.new ≡ changed_at object.key (λ x. object) self.old }
     {
         let Some(kept) = self.kept.get_mut(object.key.number() as usize) else {
             unreachable!()
         };
         *kept = Kept {
-            birth: object.birth,
+            step_number: object.step_number,
             size: object.size,
             stamp: object.stamp,
             holds: object.holds,
@@ -275,7 +345,7 @@ impl Objects {
 
     // the same, or takes the object away where nothing refers to it any more
     fn settle(&mut self, object: Object) -> Option<Dead>
-        requires { option_map (λ x. x.birth) (object_at self.old object.key) ≡ Some object.birth }
+        requires { option_map (λ x. x.step_number) (object_at self.old object.key) ≡ Some object.step_number }
         ensures dead { result ≡ if is_unused object then Some (dead_of object) else None }
         ensures gone { OnSome result (self.new ≡ without_key object.key self.old) }
         ensures stays { IfNone result (self.new ≡ changed_at object.key (λ x. object) self.old) }
@@ -284,19 +354,19 @@ impl Objects {
             self.set(object);
             return None;
         }
-        self.remove(object.key, object.birth);
+        self.remove(object.key, object.step_number);
         Some(Dead {
-            birth: object.birth,
+            step_number: object.step_number,
             size: object.size,
         })
     }
 
-    // takes the object of a key away, which has this birth
-    fn remove(&mut self, key: ObjectKey, birth: u32)
-        requires { option_map (λ x. x.birth) (object_at self.old key) ≡ Some birth }
+    // takes the object of a key away, which has this step number
+    fn remove(&mut self, key: ObjectKey, step_number: u32)
+        requires { option_map (λ x. x.step_number) (object_at self.old key) ≡ Some step_number }
         ensures { self.new ≡ without_key key self.old }
     {
-        let _key = self.keys.remove(birth);
+        let _key = self.keys.remove(step_number);
         let _kept = self.kept.try_remove(key.number() as usize);
     }
 }
@@ -307,7 +377,7 @@ fn object_of(key: ObjectKey, kept: Kept) -> Object
 {
     Object {
         key,
-        birth: kept.birth,
+        step_number: kept.step_number,
         size: kept.size,
         stamp: kept.stamp,
         holds: kept.holds,

@@ -8,43 +8,43 @@ use Rattle.drm_table.specs.declared.events.Event.{Event}
 use Rattle.drm_model.specs.Rows.{Rows}
 use Rattle.drm_model.specs.Change.{after}
 use Rattle.drm_model.specs.Reply.{reply}
-use Rattle.drm_model.specs.Run.{History, Step, Answers, noted_in, noted_events, run, rows_of, start_of}
-use Rattle.drm_history.specs.History.{Entry, recorded, history_of, events_of, with_noted}
+use Rattle.drm_model.specs.Run.{DeviceValue, Step, Answers, journaled_in, journaled_events, run, rows_of, start_of}
+use Rattle.drm_history.specs.History.{AnsweredEvent, recorded, history_of, events_in, with_journaled}
 
-recorded_events : (w : Rows) (past : List Entry) (events : List Event) → events_of (recorded w past events) ≡ events_of past ++ events
-unfolding recorded events_of
-recorded_events w past [] = sym (append-nil (events_of past))
+recorded_events : (w : Rows) (past : List AnsweredEvent) (events : List Event) → events_in (recorded w past events) ≡ events_in past ++ events
+unfolding recorded events_in
+recorded_events w past [] = sym (append-nil (events_in past))
 recorded_events w past (event ∷ events) =
-    recorded_events (after w event) (record { event = event; answer = reply w event } ∷ past) events ∙ append_assoc (events_of past) (event ∷ []) events
+    recorded_events (after w event) (record { event = event; answer = reply w event } ∷ past) events ∙ append_assoc (events_in past) (event ∷ []) events
 
-pub events_of_journal : (h : History) → events_of (history_of h) ≡ h.journal
-unfolding history_of events_of
+pub events_of_journal : (h : DeviceValue) → events_in (history_of h) ≡ h.journal
+unfolding history_of events_in
 events_of_journal h = recorded_events (start_of h) [] h.journal
 
-recorded_more : (w : Rows) (past : List Entry) (events : List Event) (event : Event) → recorded w past (events ++ event ∷ []) ≡ record { event = event; answer = reply (run w events) event } ∷ recorded w past events
+recorded_more : (w : Rows) (past : List AnsweredEvent) (events : List Event) (event : Event) → recorded w past (events ++ event ∷ []) ≡ record { event = event; answer = reply (run w events) event } ∷ recorded w past events
 unfolding recorded run
 recorded_more w past [] event = refl
 recorded_more w past (e ∷ es) event = recorded_more (after w e) (record { event = e; answer = reply w e } ∷ past) es event
 
 -- one more event
-pub history_grows : (h : History) (event : Event) → history_of (noted_in h event) ≡ record { event = event; answer = reply (rows_of h) event } ∷ history_of h
+pub history_grows : (h : DeviceValue) (event : Event) → history_of (journaled_in h event) ≡ record { event = event; answer = reply (rows_of h) event } ∷ history_of h
 unfolding history_of rows_of
 history_grows h event = recorded_more (start_of h) [] h.journal event
 
 -- whatever was answered to the events
-recorded_answers : (w : Rows) (past : List Entry) (events : List Event) (results : List (Result Answer Apart)) (v : Rows) → Answers w events results v → with_noted past events results ≡ recorded w past (noted_events events results)
-unfolding Answers Step with_noted recorded
+recorded_answers : (w : Rows) (past : List AnsweredEvent) (events : List Event) (results : List (Result Answer Apart)) (v : Rows) → Answers w events results v → with_journaled past events results ≡ recorded w past (journaled_events events results)
+unfolding Answers Step with_journaled recorded
 recorded_answers w past [] [] v h = refl
 recorded_answers w past (e ∷ es) (Ok a ∷ rs) v h =
     recorded_answers h.0 (record { event = e; answer = a } ∷ past) es rs v h.2
-    ∙ (λ i. recorded (h.1.2 i) (record { event = e; answer = h.1.1 i } ∷ past) (noted_events es rs))
-recorded_answers w past (e ∷ es) (Err JournalFull ∷ rs) v h = recorded_answers h.0 past es rs v h.2 ∙ ap (λ u. recorded u past (noted_events es rs)) h.1.1
-recorded_answers w past (e ∷ es) (Err NoMemory ∷ rs) v h = recorded_answers h.0 past es rs v h.2 ∙ ap (λ u. recorded u past (noted_events es rs)) h.1.2
+    ∙ (λ i. recorded (h.1.2 i) (record { event = e; answer = h.1.1 i } ∷ past) (journaled_events es rs))
+recorded_answers w past (e ∷ es) (Err JournalFull ∷ rs) v h = recorded_answers h.0 past es rs v h.2 ∙ ap (λ u. recorded u past (journaled_events es rs)) h.1.1
+recorded_answers w past (e ∷ es) (Err NoMemory ∷ rs) v h = recorded_answers h.0 past es rs v h.2 ∙ ap (λ u. recorded u past (journaled_events es rs)) h.1.2
 recorded_answers w past (e ∷ es) (Err Worn ∷ rs) v h = absurd h.1
 recorded_answers w past [] (r ∷ rs) v h = absurd h
 recorded_answers w past (e ∷ es) [] v h = absurd h
 
 -- a device whose journal is of the events that were noted
-pub history_of_answers : (h : History) (events : List Event) (results : List (Result Answer Apart)) (v : Rows) → Answers (start_of h) events results v → h.journal ≡ noted_events events results → history_of h ≡ with_noted [] events results
+pub history_of_answers : (h : DeviceValue) (events : List Event) (results : List (Result Answer Apart)) (v : Rows) → Answers (start_of h) events results v → h.journal ≡ journaled_events events results → history_of h ≡ with_journaled [] events results
 unfolding history_of
 history_of_answers h events results v answers journal = ap (recorded (start_of h) []) journal ∙ sym (recorded_answers (start_of h) [] events results v answers)

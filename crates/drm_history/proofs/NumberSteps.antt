@@ -14,31 +14,32 @@ use Rattle.drm_table.specs.declared.answers.Answer.TheVariants.{Number}
 use Rattle.drm_table.specs.declared.calls.Call.TheVariants.{AddFb}
 use Rattle.drm_table.specs.declared.events.Event.TheVariants.{Ask}
 use Rattle.drm_model.specs.Rows.{FramebufferRow}
-use Rattle.drm_history.specs.History.{Entry}
+use Rattle.drm_history.specs.History.{AnsweredEvent}
 use Rattle.drm_history.specs.Steps.{Key, Framebuffer}
-use Rattle.drm_history.proofs.Told.{some_inj, holder_under, Holder, Question, Held, Published, Publisher, told, from_holder, last_under}
+use Rattle.drm_history.proofs.Told.{holder_under, Holder, Question, Held, Published, Publisher, told, from_holder, last_under}
+use Rattle.std.proofs.lemmas.Option.{same_Some}
 
 -- what the history tells of each row's number
-abbrev pub Tells : {X : Type 0} → List Entry → (ℕ → Question) → (X → ℕ) → (X → ℕ) → List X → Type 0
+abbrev pub Tells : {X : Type 0} → List AnsweredEvent → (ℕ → Question) → (X → ℕ) → (X → ℕ) → List X → Type 0
 Tells past question number value rows = AllByRecursion (λ row. told past (question (number row)) ≡ Some (value row)) rows
 
 -- the step publishes the handle's object under this number, and nothing else of the kind
-abbrev pub PublishesAt : Entry → (ℕ → Key) → ℕ → Holder → Type 0
+abbrev pub PublishesAt : AnsweredEvent → (ℕ → Key) → ℕ → Holder → Type 0
 PublishesAt step key n holder = (m : ℕ) → holder_under step (key m) ≡ cond (n == m) (Some holder) None
 
 -- a question of keys, which a step answers where it publishes
-abbrev pub IsAnswered : Entry → List Entry → (ℕ → Key) → (ℕ → Question) → (Holder → Option ℕ) → Type 0
+abbrev pub IsAnswered : AnsweredEvent → List AnsweredEvent → (ℕ → Key) → (ℕ → Question) → (Holder → Option ℕ) → Type 0
 IsAnswered step past key question had = (n : ℕ) → told (step ∷ past) (question n) ≡ from_holder (holder_under step (key n)) had (told past (question n))
 
-pub object_answered : (step : Entry) (past : List Entry) (key : ℕ → Key) → IsAnswered step past key (λ n. Published (key n)) (λ holder. told past (Held holder.client holder.handle))
+pub object_answered : (step : AnsweredEvent) (past : List AnsweredEvent) (key : ℕ → Key) → IsAnswered step past key (λ n. Published (key n)) (λ holder. told past (Held holder.client holder.handle))
 unfolding told
 object_answered step past key = λ n. refl
 
-pub client_answered : (step : Entry) (past : List Entry) (key : ℕ → Key) → IsAnswered step past key (λ n. Publisher (key n)) (λ holder. Some holder.client)
+pub client_answered : (step : AnsweredEvent) (past : List AnsweredEvent) (key : ℕ → Key) → IsAnswered step past key (λ n. Publisher (key n)) (λ holder. Some holder.client)
 unfolding told
 client_answered step past key = λ n. refl
 
-module _ {X : Type 0} (step : Entry) (past : List Entry) (key : ℕ → Key) (question : ℕ → Question) (had : Holder → Option ℕ) (answered : IsAnswered step past key question had) (number value : X → ℕ) where
+module _ {X : Type 0} (step : AnsweredEvent) (past : List AnsweredEvent) (key : ℕ → Key) (question : ℕ → Question) (had : Holder → Option ℕ) (answered : IsAnswered step past key question had) (number value : X → ℕ) where
   -- a step that publishes nothing of the kind
   pub tells_still : ((n : ℕ) → holder_under step (key n) ≡ None) → (rows : List X) → Tells past question number value rows → Tells (step ∷ past) question number value rows
   tells_still none rows h =
@@ -72,7 +73,7 @@ module _ {X : Type 0} (step : Entry) (past : List Entry) (key : ℕ → Key) (qu
 abbrev pub NumbersApart : {X : Type 0} → (X → ℕ) → List X → Type 0
 NumbersApart number rows = InOrder (λ x y. (number x == number y) ≡ false) rows
 
-pub record Numbered {X : Type 0} (past : List Entry) (key : ℕ → Key) (number object : X → ℕ) (rows : List X) : Type 0 where
+pub record Numbered {X : Type 0} (past : List AnsweredEvent) (key : ℕ → Key) (number object : X → ℕ) (rows : List X) : Type 0 where
   pub objects : Tells past (λ n. Published (key n)) number object rows
   pub differ : NumbersApart number rows
 
@@ -84,19 +85,19 @@ other_numbers number n (x ∷ xs) h =
     [ true ↦ λ e. absurd (let no : true ≡ false = e in cc) | false ↦ λ e. (refl, other_numbers number n xs e) ] h
 
 module _ {X : Type 0} (key : ℕ → Key) (number object : X → ℕ) where
-  pub numbered_fewer : (past : List Entry) (p : X → Bool) (rows : List X) → Numbered past key number object rows → Numbered past key number object (filter p rows)
+  pub numbered_fewer : (past : List AnsweredEvent) (p : X → Bool) (rows : List X) → Numbered past key number object rows → Numbered past key number object (filter p rows)
   numbered_fewer past p rows f = record {
     objects = all_filter (λ (row : X). told past (Published (key (number row))) ≡ Some (object row)) p rows f.objects;
     differ = in_order_filter (λ (x y : X). (number x == number y) ≡ false) p rows f.differ;
   }
 
-  pub numbered_still : (step : Entry) (past : List Entry) → ((n : ℕ) → holder_under step (key n) ≡ None) → (rows : List X) → Numbered past key number object rows → Numbered (step ∷ past) key number object rows
+  pub numbered_still : (step : AnsweredEvent) (past : List AnsweredEvent) → ((n : ℕ) → holder_under step (key n) ≡ None) → (rows : List X) → Numbered past key number object rows → Numbered (step ∷ past) key number object rows
   numbered_still step past none rows f = record {
     objects = tells_still step past key (λ n. Published (key n)) (λ holder. told past (Held holder.client holder.handle)) (object_answered step past key) number object none rows f.objects;
     differ = f.differ;
   }
 
-  pub numbered_more : (step : Entry) (past : List Entry) (x : X) (holder : Holder) → PublishesAt step key (number x) holder → told past (Held holder.client holder.handle) ≡ Some (object x) →
+  pub numbered_more : (step : AnsweredEvent) (past : List AnsweredEvent) (x : X) (holder : Holder) → PublishesAt step key (number x) holder → told past (Held holder.client holder.handle) ≡ Some (object x) →
       (rows : List X) → is_among (map number rows) (number x) ≡ false → Numbered past key number object rows → Numbered (step ∷ past) key number object (rows ++ x ∷ [])
   numbered_more step past x holder p held rows free f =
       let others = other_numbers number (number x) rows free in
@@ -106,23 +107,23 @@ module _ {X : Type 0} (key : ℕ → Key) (number object : X → ℕ) where
       }
 
   -- a row's number is told to have its object
-  pub numbered_found : (past : List Entry) (n : ℕ) (rows : List X) (x : X) → find (λ row. number row == n) rows ≡ Some x → Numbered past key number object rows → told past (Published (key n)) ≡ Some (object x)
+  pub numbered_found : (past : List AnsweredEvent) (n : ℕ) (rows : List X) (x : X) → find (λ row. number row == n) rows ≡ Some x → Numbered past key number object rows → told past (Published (key n)) ≡ Some (object x)
   numbered_found past n rows x e f =
       let is = found (λ (row : X). number row == n) (λ (row : X). told past (Published (key (number row))) ≡ Some (object row)) x rows f.objects e in
       ap (λ m. told past (Published (key m))) (sym (eqb-true (number x) n is.0)) ∙ is.1
 
-  numbered_told_of : (past : List Entry) (n : ℕ) (rows : List X) (r : Option X) → find (λ row. number row == n) rows ≡ r → is_some (option_map object r) ≡ true → Numbered past key number object rows →
+  numbered_told_of : (past : List AnsweredEvent) (n : ℕ) (rows : List X) (r : Option X) → find (λ row. number row == n) rows ≡ r → is_some (option_map object r) ≡ true → Numbered past key number object rows →
       told past (Published (key n)) ≡ Some (unwrap_or (option_map object r) 0)
   numbered_told_of past n rows (Some x) e there f = numbered_found past n rows x e f
   numbered_told_of past n rows None e there f = absurd (let no : false ≡ true = there in cc)
 
   -- a number that is some row's is told to have its object
-  pub numbered_told : (past : List Entry) (n : ℕ) (rows : List X) → is_some (option_map object (find (λ row. number row == n) rows)) ≡ true → Numbered past key number object rows →
+  pub numbered_told : (past : List AnsweredEvent) (n : ℕ) (rows : List X) → is_some (option_map object (find (λ row. number row == n) rows)) ≡ true → Numbered past key number object rows →
       told past (Published (key n)) ≡ Some (unwrap_or (option_map object (find (λ row. number row == n) rows)) 0)
   numbered_told past n rows there f = numbered_told_of past n rows (find (λ row. number row == n) rows) refl there f
 
   -- a step that publishes an object again under the number that it has
-  pub numbered_again : (step : Entry) (past : List Entry) (x : X) (o : ℕ) (holder : Holder) → PublishesAt step key (number x) holder → told past (Held holder.client holder.handle) ≡ Some o →
+  pub numbered_again : (step : AnsweredEvent) (past : List AnsweredEvent) (x : X) (o : ℕ) (holder : Holder) → PublishesAt step key (number x) holder → told past (Held holder.client holder.handle) ≡ Some o →
       (rows : List X) → find (λ row. object row == o) rows ≡ Some x → Numbered past key number object rows → Numbered (step ∷ past) key number object rows
   numbered_again step past x o holder p held rows e f =
       let all = all_found_apart number rows f.differ in
@@ -130,30 +131,30 @@ module _ {X : Type 0} (key : ℕ → Key) (number object : X → ℕ) where
       record {
         objects = tells_again step past key (λ n. Published (key n)) (λ held_by. told past (Held held_by.client held_by.handle)) (object_answered step past key) number object (number x) o holder p held rows
             (all_weaker (λ (row : X). find (λ y. number y == number row) rows ≡ Some row) (λ (row : X). (number x == number row) ≡ true → object row ≡ o)
-            (λ row own k. ap object (some_inj row x (sym own ∙ ap (λ n. find (λ y. number y == n) rows) (sym (eqb-true (number x) (number row) k)) ∙ is.1)) ∙ eqb-true (object x) o is.0) rows all) f.objects;
+            (λ row own k. ap object (same_Some row x (sym own ∙ ap (λ n. find (λ y. number y == n) rows) (sym (eqb-true (number x) (number row) k)) ∙ is.1)) ∙ eqb-true (object x) o is.0) rows all) f.objects;
         differ = f.differ;
       }
 
 -- ---- rows of a kind that have a client: it published the object
 
-pub record Owned {X : Type 0} (past : List Entry) (key : ℕ → Key) (number object client : X → ℕ) (rows : List X) : Type 0 where
+pub record Owned {X : Type 0} (past : List AnsweredEvent) (key : ℕ → Key) (number object client : X → ℕ) (rows : List X) : Type 0 where
   pub numbered : Numbered past key number object rows
   pub clients : Tells past (λ n. Publisher (key n)) number client rows
 
 module _ {X : Type 0} (key : ℕ → Key) (number object client : X → ℕ) where
-  pub owned_fewer : (past : List Entry) (p : X → Bool) (rows : List X) → Owned past key number object client rows → Owned past key number object client (filter p rows)
+  pub owned_fewer : (past : List AnsweredEvent) (p : X → Bool) (rows : List X) → Owned past key number object client rows → Owned past key number object client (filter p rows)
   owned_fewer past p rows f = record {
     numbered = numbered_fewer key number object past p rows f.numbered;
     clients = all_filter (λ (row : X). told past (Publisher (key (number row))) ≡ Some (client row)) p rows f.clients;
   }
 
-  pub owned_still : (step : Entry) (past : List Entry) → ((n : ℕ) → holder_under step (key n) ≡ None) → (rows : List X) → Owned past key number object client rows → Owned (step ∷ past) key number object client rows
+  pub owned_still : (step : AnsweredEvent) (past : List AnsweredEvent) → ((n : ℕ) → holder_under step (key n) ≡ None) → (rows : List X) → Owned past key number object client rows → Owned (step ∷ past) key number object client rows
   owned_still step past none rows f = record {
     numbered = numbered_still key number object step past none rows f.numbered;
     clients = tells_still step past key (λ n. Publisher (key n)) (λ holder. Some holder.client) (client_answered step past key) number client none rows f.clients;
   }
 
-  pub owned_more : (step : Entry) (past : List Entry) (x : X) (handle : ℕ) → PublishesAt step key (number x) (record { client = client x; handle = handle }) → told past (Held (client x) handle) ≡ Some (object x) →
+  pub owned_more : (step : AnsweredEvent) (past : List AnsweredEvent) (x : X) (handle : ℕ) → PublishesAt step key (number x) (record { client = client x; handle = handle }) → told past (Held (client x) handle) ≡ Some (object x) →
       (rows : List X) → is_among (map number rows) (number x) ≡ false → Owned past key number object client rows → Owned (step ∷ past) key number object client (rows ++ x ∷ [])
   owned_more step past x handle p held rows free f =
       let holder : Holder = record { client = client x; handle = handle } in
@@ -165,19 +166,19 @@ module _ {X : Type 0} (key : ℕ → Key) (number object client : X → ℕ) whe
 -- ---- framebuffers have the shape that they were added with
 
 -- the step that adds the framebuffer over the object of this handle
-abbrev pub adding : FramebufferRow → ℕ → Entry
+abbrev pub adding : FramebufferRow → ℕ → AnsweredEvent
 adding row handle = record { event = Ask row.client (AddFb row.width row.height row.pitch row.bpp handle); answer = Number row.framebuffer }
 
 -- the last step that published under its id added it
-abbrev pub WasAdded : List Entry → FramebufferRow → Type 0
+abbrev pub WasAdded : List AnsweredEvent → FramebufferRow → Type 0
 WasAdded past row = (handle : ℕ) × (last_under past (Framebuffer row.framebuffer) ≡ Some (adding row handle))
 
-pub added_still : (step : Entry) (past : List Entry) → ((n : ℕ) → holder_under step (Framebuffer n) ≡ None) → (rows : List FramebufferRow) → AllByRecursion (WasAdded past) rows → AllByRecursion (WasAdded (step ∷ past)) rows
+pub added_still : (step : AnsweredEvent) (past : List AnsweredEvent) → ((n : ℕ) → holder_under step (Framebuffer n) ≡ None) → (rows : List FramebufferRow) → AllByRecursion (WasAdded past) rows → AllByRecursion (WasAdded (step ∷ past)) rows
 unfolding last_under
 added_still step past none rows h = all_weaker (WasAdded past) (WasAdded (step ∷ past)) (λ row k. (k.0, rw (none row.framebuffer) k.1)) rows h
 
 -- a new framebuffer, of which no other has the id
-pub added_more : (past : List Entry) (x : FramebufferRow) (handle : ℕ) → PublishesAt (adding x handle) Framebuffer x.framebuffer (record { client = x.client; handle = handle }) → (rows : List FramebufferRow) →
+pub added_more : (past : List AnsweredEvent) (x : FramebufferRow) (handle : ℕ) → PublishesAt (adding x handle) Framebuffer x.framebuffer (record { client = x.client; handle = handle }) → (rows : List FramebufferRow) →
     is_among (map (λ (row : FramebufferRow). row.framebuffer) rows) x.framebuffer ≡ false → AllByRecursion (WasAdded past) rows → AllByRecursion (WasAdded (adding x handle ∷ past)) (rows ++ x ∷ [])
 unfolding last_under
 added_more past x handle p rows free h =

@@ -1,30 +1,26 @@
 -- Free numbers are no row's.
-use Rattle.std.proofs.Common.{◌≡◌, ℕ, ◌≤◌, ◌==◌, Bool, true, false, not, List, find, Option, None, Some, refl, sym, ◌∙◌, arith}
+use Rattle.std.proofs.Common.{◌≡◌, ℕ, ◌≤◌, ◌==◌, true, false, not, List, find, Option, None, Some, refl, sym, ◌∙◌, arith}
 use Rattle.std.specs.Prelude.{unwrap_or}
 use Rattle.std.specs.Option.{is_some, option_map, option_or}
-use Rattle.std.proofs.lemmas.Bool.{eqb-true}
+use Rattle.std.proofs.lemmas.Bool.{eqb-true, not-true}
 use Rattle.drm_lists.specs.Numbers.{is_among}
 use Rattle.drm_lists.proofs.Found.{is_among-map_filter}
 use Rattle.drm_index_array.specs.Least.{least}
 use Rattle.drm_index_array.proofs.Least.{least_some}
 use Rattle.drm_model.specs.Numbers.{next_in_turn}
-use Rattle.drm_model.specs.Rows.{Rows, HoldRow, is_hold, hold_row, has_handle, object_of, handles_of, free_handle}
+use Rattle.drm_model.specs.Rows.{Rows, HandleRow, is_handle, handle_row, has_handle, object_of, handles_of, free_handle}
 use Rattle.drm_history.proofs.HoldSteps.{object_at}
 
 pub some_of : (o : Option ℕ) → is_some o ≡ true → o ≡ Some (unwrap_or o 0)
 some_of (Some n) h = refl
 some_of None h = absurd (let e : false ≡ true = h in cc)
 
-not_true : (b : Bool) → not b ≡ true → b ≡ false
-not_true false h = refl
-not_true true h = absurd (let e : false ≡ true = h in cc)
-
 is_none : {X : Type 0} (o : Option X) → is_some o ≡ false → o ≡ None
 is_none None h = refl
 is_none (Some x) h = absurd (let e : true ≡ false = h in cc)
 
 pub least_is_free : (taken : List ℕ) (first last n : ℕ) → least (λ m. not (is_among taken m)) first last ≡ Some n → is_among taken n ≡ false
-least_is_free taken first last n h = not_true (is_among taken n) (least_some (λ m. not (is_among taken m)) first last n h).passes
+least_is_free taken first last n h = not-true (is_among taken n) (least_some (λ m. not (is_among taken m)) first last n h).passes
 
 either_free : (taken : List ℕ) (a b : Option ℕ) (n : ℕ) → ((m : ℕ) → a ≡ Some m → is_among taken m ≡ false) → ((m : ℕ) → b ≡ Some m → is_among taken m ≡ false) → option_or a b ≡ Some n → is_among taken n ≡ false
 either_free taken None b n p q h = q n h
@@ -34,11 +30,11 @@ pub next_is_free : (taken : List ℕ) (given last n : ℕ) → next_in_turn (λ 
 next_is_free taken given last n h = either_free taken _ _ n (λ m e. least_is_free taken _ last m e) (λ m e. least_is_free taken 1 last m e) h
 
 -- a client's free handle
-pub free_is_none : (w : Rows) (c : ℕ) → is_some (free_handle w c) ≡ true → find (is_hold c (unwrap_or (free_handle w c) 0)) w.holds ≡ None
+pub free_is_none : (w : Rows) (c : ℕ) → is_some (free_handle w c) ≡ true → find (is_handle c (unwrap_or (free_handle w c) 0)) w.holds ≡ None
 free_is_none w c h =
     let n = unwrap_or (free_handle w c) 0 in
-    is_none (find (is_hold c n) w.holds)
-    (sym (is_among-map_filter (λ (row : HoldRow). row.client == c) (λ (row : HoldRow). row.handle) n w.holds) ∙ least_is_free (handles_of w c) 1 w.limits.handles n (some_of (free_handle w c) h))
+    is_none (find (is_handle c n) w.holds)
+    (sym (is_among-map_filter (λ (row : HandleRow). row.client == c) (λ (row : HandleRow). row.handle) n w.holds) ∙ least_is_free (handles_of w c) 1 w.limits.handles n (some_of (free_handle w c) h))
 
 not_zero : (n : ℕ) → 1 ≤ n → (n == 0) ≡ false
 not_zero n h = elim (n == 0) as (λ b. (n == 0) ≡ b → b ≡ false) [ true ↦ λ e. absurd (let k : n ≡ 0 = eqb-true n 0 e in omega (arith, h, k)) | false ↦ λ e. refl ] refl
@@ -49,10 +45,10 @@ free_is_some w c h =
     let n = unwrap_or (free_handle w c) 0 in
     not_zero n (least_some (λ m. not (is_among (handles_of w c) m)) 1 w.limits.handles n (some_of (free_handle w c) h)).at_least
 
-held_of : (o : Option HoldRow) → is_some o ≡ true → option_map (λ (row : HoldRow). row.object) o ≡ Some (unwrap_or (option_map (λ (row : HoldRow). row.object) o) 0)
+held_of : (o : Option HandleRow) → is_some o ≡ true → option_map (λ (row : HandleRow). row.object) o ≡ Some (unwrap_or (option_map (λ (row : HandleRow). row.object) o) 0)
 held_of (Some row) h = refl
 held_of None h = absurd (let e : false ≡ true = h in cc)
 
 -- the object of a handle that is there
 pub held_object : (w : Rows) (c h : ℕ) → has_handle w c h ≡ true → object_at w.holds c h ≡ Some (object_of w c h)
-held_object w c h there = held_of (hold_row w c h) there
+held_object w c h there = held_of (handle_row w c h) there

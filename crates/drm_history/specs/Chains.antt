@@ -1,6 +1,6 @@
 -- How an object came to a client: by transfers, each of which some step gave, from the step that made it (own).
 use Rattle.std.specs.Prelude.{◌≡◌, ℕ, ◌<◌, List, [], ◌∷◌}
-use Rattle.drm_history.specs.History.{Entry, next_number}
+use Rattle.drm_history.specs.History.{AnsweredEvent, next_number}
 use Rattle.drm_history.specs.Steps.{Key, Creation, Transfer}
 use Rattle.drm_history.specs.Holds.{WasGiven, WasPublished}
 
@@ -13,13 +13,13 @@ pub record Link : Type 0 where
 -- The last link comes first. The first of all made the object, which is named by its number. Before each other link, and after the
 -- one before it, stands the step that published the object for it: that was the client of the link before, with the handle that
 -- it was given there and that no step between took.
-unfoldable pub IsChain : List Entry → ℕ → List Link → Type 0
+unfoldable pub IsChain : List AnsweredEvent → ℕ → List Link → Type 0
 IsChain history o [] = ⊥
-IsChain history o (link ∷ []) = (past : List Entry) × WasGiven history link.client link.handle Creation past × (link.step ≡ next_number past) × (link.step ≡ o)
+IsChain history o (link ∷ []) = (past : List AnsweredEvent) × WasGiven history link.client link.handle Creation past × (link.step ≡ next_number past) × (link.step ≡ o)
 IsChain history o (link ∷ before ∷ links) =
-    (past older : List Entry) × (key : Key) × WasGiven history link.client link.handle (Transfer key) past × (link.step ≡ next_number past)
+    (past older : List AnsweredEvent) × (key : Key) × WasGiven history link.client link.handle (Transfer key) past × (link.step ≡ next_number past)
     × WasPublished past key before.client before.handle older × (before.step < link.step) × IsChain older o (before ∷ links)
 
 -- a chain leads to the client's handle
-abbrev pub Chain : List Entry → ℕ → ℕ → ℕ → Type 0
+abbrev pub Chain : List AnsweredEvent → ℕ → ℕ → ℕ → Type 0
 Chain history c h o = (i : ℕ) × (links : List Link) × IsChain history o (record { step = i; client = c; handle = h } ∷ links)

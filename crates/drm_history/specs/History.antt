@@ -7,34 +7,34 @@ use Rattle.drm_table.specs.declared.events.Event.{Event}
 use Rattle.drm_model.specs.Rows.{Rows}
 use Rattle.drm_model.specs.Change.{after}
 use Rattle.drm_model.specs.Reply.{reply}
-use Rattle.drm_model.specs.Run.{History, start_of}
+use Rattle.drm_model.specs.Run.{DeviceValue, start_of}
 
 -- a step
-pub record Entry : Type 0 where
+pub record AnsweredEvent : Type 0 where
   pub event : Event
   pub answer : Answer
 
 -- the number of the step that comes after these
-abbrev pub next_number : List Entry → ℕ
+abbrev pub next_number : List AnsweredEvent → ℕ
 next_number past = length past + 1
 
 -- what came before, with the steps of these events, from these rows on
-unfoldable pub recorded : Rows → List Entry → List Event → List Entry
+unfoldable pub recorded : Rows → List AnsweredEvent → List Event → List AnsweredEvent
 recorded w past [] = past
 recorded w past (event ∷ events) = recorded (after w event) (record { event = event; answer = reply w event } ∷ past) events
 
 -- the history of a device: its journal, and what running it answers
-unfoldable pub history_of : History → List Entry
+unfoldable pub history_of : DeviceValue → List AnsweredEvent
 history_of h = recorded (start_of h) [] h.journal
 
 -- the events of a history, in the order in which they came
-unfoldable pub events_of : List Entry → List Event
-events_of [] = []
-events_of (step ∷ past) = events_of past ++ step.event ∷ []
+unfoldable pub events_in : List AnsweredEvent → List Event
+events_in [] = []
+events_in (step ∷ past) = events_in past ++ step.event ∷ []
 
 -- what came before, with the steps of these events and results: those that nothing apart was answered to
-unfoldable pub with_noted : List Entry → List Event → List (Result Answer Apart) → List Entry
-with_noted past [] results = past
-with_noted past (event ∷ events) [] = past
-with_noted past (event ∷ events) (Ok answer ∷ results) = with_noted (record { event = event; answer = answer } ∷ past) events results
-with_noted past (event ∷ events) (Err apart ∷ results) = with_noted past events results
+unfoldable pub with_journaled : List AnsweredEvent → List Event → List (Result Answer Apart) → List AnsweredEvent
+with_journaled past [] results = past
+with_journaled past (event ∷ events) [] = past
+with_journaled past (event ∷ events) (Ok answer ∷ results) = with_journaled (record { event = event; answer = answer } ∷ past) events results
+with_journaled past (event ∷ events) (Err apart ∷ results) = with_journaled past events results

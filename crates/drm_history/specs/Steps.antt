@@ -6,7 +6,7 @@ use Rattle.drm_table.specs.declared.answers.Answer.TheVariants.{Done, Number, Du
 use Rattle.drm_table.specs.declared.calls.Call.TheVariants.{GemClose, GemFlink, GemOpen, PrimeHandleToFd, PrimeFdToHandle, BufCreate, GetFb, AddFb, CreateDumb, DestroyDumb}
 use Rattle.drm_table.specs.declared.events.Event.{Event}
 use Rattle.drm_table.specs.declared.events.Event.TheVariants.{Ask, Close}
-use Rattle.drm_history.specs.History.{Entry}
+use Rattle.drm_history.specs.History.{AnsweredEvent}
 
 -- under what an object is published: a global name (drm-gem(7)), a PRIME token (drm-mm; tokens are own), a framebuffer (drm-uapi)
 pub data Key : Type 0 where
@@ -53,7 +53,7 @@ given_by (Ask c (GetFb framebuffer)) (Shape width height pitch bpp handle) = if 
 given_by event answer = None
 
 -- the handle that a step gives
-unfoldable pub given : Entry → Option Giving
+unfoldable pub given : AnsweredEvent → Option Giving
 given step = given_by step.event step.answer
 
 -- a closing takes all handles of its client
@@ -64,7 +64,7 @@ taken_by (Close client) Closed c h = client == c
 taken_by event answer c h = false
 
 -- whether a step takes the client's handle
-unfoldable pub takes : Entry → ℕ → ℕ → Bool
+unfoldable pub takes : AnsweredEvent → ℕ → ℕ → Bool
 takes step c h = taken_by step.event step.answer c h
 
 abbrev pub published_by : Event → Answer → Option Publishing
@@ -74,9 +74,9 @@ published_by (Ask c (AddFb width height pitch bpp handle)) (Number framebuffer) 
 published_by event answer = None
 
 -- what a step publishes
-unfoldable pub published : Entry → Option Publishing
+unfoldable pub published : AnsweredEvent → Option Publishing
 published step = published_by step.event step.answer
 
 -- whether a step publishes under the key
-abbrev pub publishes : Entry → Key → Bool
+abbrev pub publishes : AnsweredEvent → Key → Bool
 publishes step key = option_map_or (λ (p : Publishing). is_key p.key key) (published step) false

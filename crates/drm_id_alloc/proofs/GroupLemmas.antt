@@ -5,6 +5,8 @@ use Rattle.std.specs.FinMap as fin
 use Rattle.std.proofs.lemmas.Bool.{false≢true, eqb-true, ne_eqb}
 use Rattle.drm_index_array.proofs.MarkedLemmas.{get-insert, get-remove, insert_same}
 use Rattle.drm_id_alloc.specs.Groups.{Groups, AreSame, IsAdded, IsTaken, groups_in, AreGroupsOf}
+use Rattle.std.proofs.Math.Bool.{and-false}
+use Rattle.drm_lists.proofs.Numbers.{same_either}
 
 pub nothing_or : (b : Bool) → b ≡ (b || false)
 nothing_or true = refl
@@ -13,16 +15,6 @@ nothing_or false = refl
 pub all_and : (b : Bool) → b ≡ (b && true)
 all_and true = refl
 all_and false = refl
-
-pub none_and : (b : Bool) → (b && false) ≡ false
-none_and true = refl
-none_and false = refl
-
-pub turned : (a b : ℕ) → (a == b) ≡ (b == a)
-turned a b = elim (a == b) as (λ s. (a == b) ≡ s → s ≡ (b == a)) [
-  | true ↦ λ same. sym (eq-eqb b a (sym (eqb-true a b same)))
-  | false ↦ λ apart. sym (ne_eqb b a (λ e. false≢true (sym apart ∙ eq-eqb a b (sym e))))
-] refl
 
 -- ---- by a map from each group to what has its numbers
 
@@ -52,9 +44,6 @@ module _ {Y : Type 0} (has : Y → ℕ → Bool) where
     here : (o : Option Y) → fin.get m g ≡ o → (d u : ℕ) → (d == g) ≡ true → groups_in has m d u ≡ option_map_or (λ y. has y u) o false
     here o is d u same = ap (λ k. groups_in has m k u) (eqb-true d g same) ∙ group_is o is u
 
-    pub group_kept : (a b : Y) → fin.get m g ≡ Some a → b ≡ a → AreSame (groups_in has m) (groups_in has (fin.insert m g b))
-    group_kept a b is same d u = ap (λ n. groups_in has n d u) (ap (fin.insert m g) same ∙ insert_same m g a is)
-
     pub group_more : (o : Option Y) (b : Y) (n : ℕ) → fin.get m g ≡ o → ((u : ℕ) → has b u ≡ (option_map_or (λ y. has y u) o false || (u == n))) → IsAdded (groups_in has m) g n (groups_in has (fin.insert m g b))
     group_more o b n is own d u =
         groups_insert b d u
@@ -68,14 +57,6 @@ module _ {Y : Type 0} (has : Y → ℕ → Bool) where
         groups_insert b d u
         ∙ elim (d == g) as (λ s. (d == g) ≡ s → cond s (has b u) (groups_in has m d u) ≡ (groups_in has m d u && not (s && (u == n)))) [
           | true ↦ λ same. own u ∙ ap (λ s. s && not (u == n)) (sym (here (Some a) is d u same))
-          | false ↦ λ apart. all_and (groups_in has m d u)
-        ] refl
-
-    -- the group has no number, so that there is none to take
-    pub group_none : (n : ℕ) → fin.get m g ≡ None → IsTaken (groups_in has m) g n (groups_in has m)
-    group_none n is d u =
-        elim (d == g) as (λ s. (d == g) ≡ s → groups_in has m d u ≡ (groups_in has m d u && not (s && (u == n)))) [
-          | true ↦ λ same. here None is d u same ∙ ap (λ s. s && not (u == n)) (sym (here None is d u same))
           | false ↦ λ apart. all_and (groups_in has m d u)
         ] refl
 
@@ -108,8 +89,8 @@ module _ {X : Type 0} (group : X → ℕ) where
         ∙ elim (u == n) as (λ s. (u == n) ≡ s → (in_group d (fin.get m u) || ((d == g) && s)) ≡ in_group d (cond s (Some x) (fin.get m u))) [
           | true ↦ λ same.
               ap (λ o. in_group d o || ((d == g) && true)) (ap (fin.get m) (eqb-true u n same) ∙ fresh)
-              ∙ sym (all_and (d == g)) ∙ turned d g ∙ ap (λ k. k == d) (sym is)
-          | false ↦ λ apart. ap (λ s. in_group d (fin.get m u) || s) (none_and (d == g)) ∙ sym (nothing_or (in_group d (fin.get m u)))
+              ∙ sym (all_and (d == g)) ∙ same_either d g ∙ ap (λ k. k == d) (sym is)
+          | false ↦ λ apart. ap (λ s. in_group d (fin.get m u) || s) (and-false (d == g)) ∙ sym (nothing_or (in_group d (fin.get m u)))
         ] refl
         ∙ ap (in_group d) (sym (get-insert m n x u))
 
@@ -121,10 +102,10 @@ module _ {X : Type 0} (group : X → ℕ) where
           | true ↦ λ same.
               ap (λ o. in_group d o && not ((d == g) && true)) (ap (fin.get m) (eqb-true u n same) ∙ there)
               ∙ elim (d == g) as (λ s. (d == g) ≡ s → ((group x == d) && not (s && true)) ≡ false) [
-                | true ↦ λ e. none_and (group x == d)
+                | true ↦ λ e. and-false (group x == d)
                 | false ↦ λ e. ap (λ s. s && true) (ne_eqb (group x) d (λ same. false≢true (sym e ∙ eq-eqb d g (sym same ∙ is))))
               ] refl
-          | false ↦ λ apart. ap (λ s. in_group d (fin.get m u) && not s) (none_and (d == g)) ∙ sym (all_and (in_group d (fin.get m u)))
+          | false ↦ λ apart. ap (λ s. in_group d (fin.get m u) && not s) (and-false (d == g)) ∙ sym (all_and (in_group d (fin.get m u)))
         ] refl
         ∙ ap (in_group d) (sym (get-remove m n u))
 
@@ -143,7 +124,7 @@ module _ {X : Type 0} (group : X → ℕ) where
     grouped_back again g n fresh added taken d u =
         taken d u ∙ ap (λ s. s && not ((d == g) && (u == n))) (added d u)
         ∙ elim ((d == g) && (u == n)) as (λ s. ((d == g) && (u == n)) ≡ s → ((old d u || s) && not s) ≡ old d u) [
-          | true ↦ λ both. none_and (old d u || true) ∙ sym (are d u ∙ ap (in_group d) (ap (fin.get m) (eqb-true u n (second (d == g) (u == n) both)) ∙ fresh))
+          | true ↦ λ both. and-false (old d u || true) ∙ sym (are d u ∙ ap (in_group d) (ap (fin.get m) (eqb-true u n (second (d == g) (u == n) both)) ∙ fresh))
           | false ↦ λ apart. sym (nothing_or (old d u) ∙ all_and (old d u || false))
         ] refl
       where

@@ -14,7 +14,9 @@ use Rattle.drm_index_array.specs.Least.{least}
 use Rattle.drm_index_array.proofs.Least.{least-same, least_is, least_is_none}
 use Rattle.drm_index_array.proofs.MarkedLemmas.{get-insert, get-remove}
 use Rattle.drm_id_alloc.specs.Groups.{GroupMap, has_number, has, numbers_of, IsNoted, IsForgotten}
-use Rattle.drm_id_alloc.proofs.GroupLemmas.{group_is, nothing_or, all_and, none_and, turned}
+use Rattle.drm_id_alloc.proofs.GroupLemmas.{group_is, nothing_or, all_and}
+use Rattle.std.proofs.Math.Bool.{and-false}
+use Rattle.drm_lists.proofs.Numbers.{same_either}
 
 abbrev Numbers : Type 0
 Numbers = Indexed (Unit {0})
@@ -105,7 +107,7 @@ single_len n =
 
 -- a list of one number, and whether another is in it
 in_one : (k u : ℕ) → list_any (eq_by_cmp nat_cmp u) (k ∷ []) ≡ (u == k)
-in_one k u = sym (nothing_or (eq_by_cmp nat_cmp u k)) ∙ sym (key_test k u) ∙ turned k u
+in_one k u = sym (nothing_or (eq_by_cmp nat_cmp u k)) ∙ sym (key_test k u) ∙ same_either k u
 
 one_key : (ks : List ℕ) (n : ℕ) → length ks ≡ 1 → list_any (eq_by_cmp nat_cmp n) ks ≡ true → ks ≡ n ∷ []
 one_key [] n many there = absurd (omega (arith, many))
@@ -126,15 +128,15 @@ alone a only one first u = fin.contains_key-keys a.items u ∙ by_keys (fin.keys
     by_keys (k ∷ []) many first = let same : k ≡ only = cc in in_one k u ∙ ap (λ n. u == n) same
     by_keys (k ∷ j ∷ ks) many first = absurd (omega (arith, many))
 
-pub single_past : (n place : ℕ) → 0 < place → None ≡ slice_get (fin.keys (single n).items) place
-single_past n place past = rw single_keys (past_one place past)
+pub single_past : (n position : ℕ) → 0 < position → None ≡ slice_get (fin.keys (single n).items) position
+single_past n position past = rw single_keys (past_one position past)
   where
     past_one : (p : ℕ) → 0 < p → None ≡ slice_get (n ∷ []) p
     past_one zero past = absurd (omega (arith, past))
     past_one (suc p) past = refl
 
-pub single_first : (n place : ℕ) → place ≡ 0 → Some n ≡ slice_get (fin.keys (single n).items) place
-single_first n place first = rw (single_keys, first) refl
+pub single_first : (n position : ℕ) → position ≡ 0 → Some n ≡ slice_get (fin.keys (single n).items) position
+single_first n position first = rw (single_keys, first) refl
 
 pub single_above : (n from : ℕ) → n < from → (k : ℕ) → from ≤ k → has_number (single n) k ≡ false
 single_above n from below k low = single_has n k ∙ grind (arith, nat_tests)
@@ -166,14 +168,14 @@ pub single_gone : (n u : ℕ) → n ≡ u → IsForgotten (single n) u empty_arr
 single_gone n u same k =
     ap is_some (fin.get-empty nat_cmp k)
     ∙ elim (k == u) as (λ t. (k == u) ≡ t → false ≡ (has_number (single n) k && not t)) [
-      | true ↦ λ e. sym (none_and (has_number (single n) k))
+      | true ↦ λ e. sym (and-false (has_number (single n) k))
       | false ↦ λ e. ap (λ s. s && true) (sym (single_has n k ∙ ap (λ m. k == m) same ∙ e))
     ] refl
 
 pub single_stays : (n u : ℕ) → (n ≡ u → ⊥) → IsForgotten (single n) u (single n)
 single_stays n u apart k =
     elim (k == u) as (λ t. (k == u) ≡ t → has_number (single n) k ≡ (has_number (single n) k && not t)) [
-      | true ↦ λ e. single_has n k ∙ ap (λ m. m == n) (eqb-true k u e) ∙ ne_eqb u n (λ same. apart (sym same)) ∙ sym (none_and (has_number (single n) k))
+      | true ↦ λ e. single_has n k ∙ ap (λ m. m == n) (eqb-true k u e) ∙ ne_eqb u n (λ same. apart (sym same)) ∙ sym (and-false (has_number (single n) k))
       | false ↦ λ e. all_and (has_number (single n) k)
     ] refl
 

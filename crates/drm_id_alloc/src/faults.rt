@@ -1,10 +1,22 @@
 //! Why an addition is refused.
 
 /// Memory was refused, and all is as it was.
+///
+/// ```rust
+/// let mut groups = Groups::new(alloc);
+/// let Ok(()) = groups.note(3, 500) else { return };
+/// assert!(groups.note(3, 500) != Err(NoMemory));
+/// ```
 #[derive(Clone, Copy, PartialEq, Eq, Debug)]
 pub struct NoMemory;
 
 /// Why nothing was added. Each hands the value back.
+///
+/// ```rust
+/// let mut table: IdTable<u8> = IdTable::new(alloc, 1, 1);
+/// let Ok(_id) = table.add(7) else { return };
+/// assert!(table.add(8) == Err(AddFault::Full(8)));
+/// ```
 #[derive(Debug, Drop, PartialEq, Eq)]
 pub enum AddFault<T> {
     /// No number of the range is free.

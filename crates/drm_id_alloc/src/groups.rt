@@ -17,6 +17,11 @@ use std::marker::Model;
 /// places where they are far from one another. One number of a group takes no more than that; from the second on, the group
 /// has an array of its own. A group that has no number takes no memory. Contracts see a map from each group to what has its
 /// numbers.
+///
+/// ```rust
+/// let mut groups = Groups::new(alloc);
+/// let Ok(()) = groups.note(3, 500) else { return };
+/// ```
 #[derive(Drop)]
 pub struct Groups {
     alloc: Global,
@@ -35,6 +40,10 @@ impl Model for Groups {
 
 impl Groups {
     /// No group has a number. It takes no memory.
+    ///
+    /// ```rust
+    /// assert!(!Groups::new(alloc).has(3, 500));
+    /// ```
     pub fn new(alloc: Global) -> Groups
         ensures { (g n : ℕ) → has result g n ≡ false }
     {
@@ -45,6 +54,10 @@ impl Groups {
     }
 
     /// Notes a number of a group. One that the group has stays. Without memory nothing changes.
+    ///
+    /// ```rust
+    /// let Ok(()) = groups.note(3, 7) else { return };
+    /// ```
     pub fn note(&mut self, group: u32, number: u32) -> Result<(), NoMemory>
         ensures ok { OnOk result (IsAdded (has self.old) group number (has self.new)) }
         ensures err { OnErr result (self.new ≡ self.old) }
@@ -59,6 +72,11 @@ impl Groups {
     }
 
     /// Forgets a number of a group, if the group has it. It takes no memory.
+    ///
+    /// ```rust
+    /// groups.forget(3, 500);
+    /// assert!(!groups.has(3, 500));
+    /// ```
     pub fn forget(&mut self, group: u32, number: u32)
         ensures { IsTaken (has self.old) group number (has self.new) }
     {
@@ -73,6 +91,10 @@ impl Groups {
     }
 
     /// The least number of a group that is not below `from`.
+    ///
+    /// ```rust
+    /// assert!(groups.next(3, 0) == Some(7));
+    /// ```
     pub fn next(&self, group: u32, from: u32) -> Option<u32>
         ensures least { result ≡ least (has self.now group) from u32.MAX }
         ensures none_above { IfNone result ((n : ℕ) → from ≤ n → has self.now group n ≡ false) }
@@ -82,13 +104,21 @@ impl Groups {
 
     /// The number at a place of a group's, rising, where 0 is the first; none past the last. A late place costs what an
     /// early one does.
-    pub fn nth(&self, group: u32, place: usize) -> Option<u32>
-        ensures { result ≡ slice_get (numbers_of self.now group) place }
+    ///
+    /// ```rust
+    /// assert!(groups.nth(3, 0) == Some(7));
+    /// ```
+    pub fn nth(&self, group: u32, position: usize) -> Option<u32>
+        ensures { result ≡ slice_get (numbers_of self.now group) position }
     {
-        self.groups.get(group)?.nth(place)
+        self.groups.get(group)?.nth(position)
     }
 
     /// How many numbers a group has.
+    ///
+    /// ```rust
+    /// assert!(groups.len(3) == 1 && groups.len(4) == 0);
+    /// ```
     pub fn len(&self, group: u32) -> usize
         ensures { result ≡ length (numbers_of self.now group) }
     {
@@ -99,6 +129,10 @@ impl Groups {
     }
 
     /// Whether a group has a number.
+    ///
+    /// ```rust
+    /// assert!(groups.has(3, 7) && !groups.has(4, 7));
+    /// ```
     pub fn has(&self, group: u32, number: u32) -> bool
         ensures { result ≡ has self.now group number }
     {

@@ -100,17 +100,17 @@ impl Numbers {
     }
 
     /// The number at a place of them, rising, where 0 is the first; none past the last.
-    pub fn nth(&self, place: usize) -> Option<u32>
-        ensures { result ≡ slice_get (map.keys self.now.items) place }
+    pub fn nth(&self, position: usize) -> Option<u32>
+        ensures { result ≡ slice_get (map.keys self.now.items) position }
     {
         match &self.kept {
             Kept::One(only) => {
-                if place > 0 {
+                if position > 0 {
                     return None;
                 }
                 Some(*only)
             }
-            Kept::Many(numbers) => numbers.nth(place),
+            Kept::Many(numbers) => numbers.nth(position),
         }
     }
 

@@ -13,6 +13,11 @@ use std::marker::Model;
 
 /// A table whose numbers are given out from a range, with both its ends (as Linux's IDR). Contracts see the map from
 /// numbers to values, the range, and the number that `add_cyclic` gave last.
+///
+/// ```rust
+/// let mut table: IdTable<u8> = IdTable::new(alloc, 1, 2);
+/// let Ok(id) = table.add(7) else { return };
+/// ```
 #[derive(Drop)]
 pub struct IdTable<T> {
     entries: IndexArray<T>,
@@ -42,6 +47,11 @@ impl<T: Drop> IdTable<T> {
     ghost use Rattle.drm_id_alloc.specs.Table.{empty_table, least_free, next_cyclic, is_free, with_entry, without_entry};
 
     /// A table with nothing in it, which takes no memory. It keeps the allocator for the entries to come.
+    ///
+    /// ```rust
+    /// let empty: IdTable<u8> = IdTable::new(alloc, 1, 9);
+    /// assert!(empty.len() == 0 && empty.last_given().is_none());
+    /// ```
     pub fn new(alloc: Global, first: u32, last: u32) -> Self
         requires { first ≤ last }
         ensures { result ≡ empty_table first last }
@@ -56,6 +66,10 @@ impl<T: Drop> IdTable<T> {
 
     /// Adds the value at the least free number. Where no number is free, or memory is refused, the table stays as it is
     /// and the value comes back.
+    ///
+    /// ```rust
+    /// assert!(id == 1);
+    /// ```
     pub fn add(&mut self, value: T) -> Result<u32, AddFault<T>>
         ensures given { IfOk result (λ id. least_free self.old ≡ Some id) }
         ensures fresh { IfOk result (λ id. map.get self.old.slots id ≡ None) }
@@ -78,6 +92,12 @@ impl<T: Drop> IdTable<T> {
     /// Adds the value at the next number in turn: the least free one above the last one that this call gave or, where
     /// there is none, the least free one. Where no number is free, or memory is refused, the table stays as it is and
     /// the value comes back.
+    ///
+    /// ```rust
+    /// let Ok(other) = table.add_cyclic(8) else { return };
+    /// assert!(other == 2 || other == 1);
+    /// assert!(table.add(9) == Err(AddFault::Full(9)));
+    /// ```
     pub fn add_cyclic(&mut self, value: T) -> Result<u32, AddFault<T>>
         ensures given { IfOk result (λ id. next_cyclic self.old ≡ Some id) }
         ensures fresh { IfOk result (λ id. map.get self.old.slots id ≡ None) }
@@ -115,6 +135,10 @@ impl<T: Drop> IdTable<T> {
     }
 
     /// The number that `add_cyclic` gives next; none where no number is free.
+    ///
+    /// ```rust
+    /// assert!(table.next_in_turn().is_none());
+    /// ```
     pub fn next_in_turn(&self) -> Option<u32>
         ensures next { result ≡ next_cyclic self.now }
         ensures fresh { IfSome result (λ id. map.get self.now.slots id ≡ None) }
@@ -150,6 +174,10 @@ impl<T: Drop> IdTable<T> {
     }
 
     /// The value at the number, if there is one.
+    ///
+    /// ```rust
+    /// assert!(table.get(id) == Some(&7));
+    /// ```
     pub fn get(&self, id: u32) -> Option<&T>
         ensures value { option_copied result ≡ map.get self.now.slots id }
         ensures low { OnSome result (self.now.first ≤ id) }
@@ -160,6 +188,10 @@ impl<T: Drop> IdTable<T> {
 
     /// Puts the value at a number that has one, and gives the old one. Where the number has none, the table stays as it
     /// is and the new value comes back.
+    ///
+    /// ```rust
+    /// assert!(table.replace(id, 5) == Ok(7));
+    /// ```
     pub fn replace(&mut self, id: u32, value: T) -> Result<T, T>
         ensures had { IfOk result (λ old. map.get self.old.slots id ≡ Some old) }
         ensures ok { OnOk result (self.new ≡ with_entry self.old id value) }
@@ -175,6 +207,10 @@ impl<T: Drop> IdTable<T> {
 
     /// Takes the value out, and the number is free. The last number given stays. Where the number has no value, the
     /// table stays as it is.
+    ///
+    /// ```rust
+    /// assert!(table.remove(id) == Some(5));
+    /// ```
     pub fn remove(&mut self, id: u32) -> Option<T>
         ensures value { result ≡ map.get self.old.slots id }
         ensures after { self.new ≡ without_entry self.old id }
@@ -184,6 +220,10 @@ impl<T: Drop> IdTable<T> {
     }
 
     /// The least number not below `from` that is in use.
+    ///
+    /// ```rust
+    /// assert!(table.next(1) == Some(2));
+    /// ```
     pub fn next(&self, from: u32) -> Option<u32>
         ensures least { result ≡ least (map.contains_key self.now.slots) from u32.MAX }
         ensures none_above { IfNone result ((k : ℕ) → from ≤ k → map.contains_key self.now.slots k ≡ false) }
@@ -196,18 +236,26 @@ impl<T: Drop> IdTable<T> {
 
     /// The number at a place of the list of the numbers in use, rising, where 0 is the first. A late place costs what an
     /// early one does.
-    pub fn nth(&self, place: usize) -> Option<u32>
-        ensures nth { result ≡ slice_get (map.keys self.now.slots) place }
+    ///
+    /// ```rust
+    /// assert!(table.nth(0) == Some(2));
+    /// ```
+    pub fn nth(&self, position: usize) -> Option<u32>
+        ensures nth { result ≡ slice_get (map.keys self.now.slots) position }
         ensures present { IfSome result (λ id. IsTrue (map.contains_key self.now.slots id)) }
-        ensures past { IfNone result (map.len self.now.slots ≤ place) }
+        ensures past { IfNone result (map.len self.now.slots ≤ position) }
         ensures bound { (k : ℕ) → IsTrue (map.contains_key self.now.slots k) → k ≤ u32.MAX }
         ensures low { (k : ℕ) → IsTrue (map.contains_key self.now.slots k) → self.now.first ≤ k }
         ensures high { (k : ℕ) → IsTrue (map.contains_key self.now.slots k) → k ≤ self.now.last }
     {
-        self.entries.nth(place)
+        self.entries.nth(position)
     }
 
     /// How many numbers are in use.
+    ///
+    /// ```rust
+    /// assert!(table.len() == 1);
+    /// ```
     pub fn len(&self) -> usize
         ensures len { result ≡ map.len self.now.slots }
         ensures bound { (k : ℕ) → IsTrue (map.contains_key self.now.slots k) → k ≤ u32.MAX }
@@ -216,6 +264,10 @@ impl<T: Drop> IdTable<T> {
     }
 
     /// Whether no number is free.
+    ///
+    /// ```rust
+    /// assert!(!table.is_full());
+    /// ```
     pub fn is_full(&self) -> bool
         ensures { IsTrue result ↔ (least_free self.now ≡ None) }
     {
@@ -223,6 +275,10 @@ impl<T: Drop> IdTable<T> {
     }
 
     /// The last number that `add_cyclic` gave; none before the first.
+    ///
+    /// ```rust
+    /// assert!(table.last_given() == Some(2));
+    /// ```
     pub fn last_given(&self) -> Option<u32>
         ensures last_given { result ≡ self.now.last_given }
         ensures low { IfSome result (λ id. self.now.first ≤ id) }

@@ -9,7 +9,7 @@ use Rattle.std.specs.FinSet as set
 use Rattle.std.proofs.lemmas.Bool.{cases_lt, cases_eq, eq-eqb, ne_eqb, false≢true}
 use Rattle.drm_index_array.specs.Least.{least, IsLeastFrom}
 use Rattle.std.specs.List.{slice_get}
-use Rattle.drm_index_array.specs.Place.{passing, IsPlaced}
+use Rattle.drm_index_array.specs.Position.{passing, IsPlaced}
 use Rattle.drm_index_array.proofs.PlaceLemmas.{passing-moved, passing-none, len_counted, key_placed}
 use Rattle.drm_index_array.specs.Indexed.{Indexed, marked_with, with_item, without_item, written_mark}
 use Rattle.drm_index_array.specs.Marked.{Marked, MarkedMap, mark_of, with_mark, unmarked, get, write_mark, set_value, values, array_of}
@@ -36,28 +36,28 @@ module _ {T : Type 0} (items : MarkedMap T) (v : Indexed T) (view_is : array_of 
   mark_is_key m = rw (← view_is) (marked_is_key items m)
 
   -- the number at a place of the tree's indices
-  placed_at : (end place : ℕ) (r : Option ℕ) → IsPlaced (λ k. map.contains_key items k) end place r → IsPlaced (λ k. map.contains_key v.items k) end place r
-  placed_at end place None few = omega (arith, few, passing-moved (λ k. map.contains_key items k) (λ k. map.contains_key v.items k) 0 0 end (λ r lt. key_at (0 + r)))
-  placed_at end place (Some n) is = record {
+  placed_at : (end position : ℕ) (r : Option ℕ) → IsPlaced (λ k. map.contains_key items k) end position r → IsPlaced (λ k. map.contains_key v.items k) end position r
+  placed_at end position None few = omega (arith, few, passing-moved (λ k. map.contains_key items k) (λ k. map.contains_key v.items k) 0 0 end (λ r lt. key_at (0 + r)))
+  placed_at end position (Some n) is = record {
     below = is.below;
     passes = sym (key_at n) ∙ is.passes;
     before = sym (passing-moved (λ k. map.contains_key items k) (λ k. map.contains_key v.items k) 0 0 n (λ r lt. key_at (0 + r))) ∙ is.before;
   }
 
-  module _ (m : MarkedMap T) (same : m ≡ items) (end : ℕ) (past : (k : ℕ) → end ≤ k → map.get m k ≡ None) (place : ℕ) where
+  module _ (m : MarkedMap T) (same : m ≡ items) (end : ℕ) (past : (k : ℕ) → end ≤ k → map.get m k ≡ None) (position : ℕ) where
     nothing_past : (k : ℕ) → end ≤ k → map.contains_key v.items k ≡ false
     nothing_past k le = sym (key_at k) ∙ ap (λ m. map.contains_key m k) (sym same) ∙ ap is_some (past k le)
 
-    here : (r : Option ℕ) → IsPlaced (λ k. map.contains_key m k) end place r → IsPlaced (λ k. map.contains_key v.items k) end place r
-    here r placed = placed_at end place r (subst (λ m. IsPlaced (λ k. map.contains_key m k) end place r) same placed)
+    here : (r : Option ℕ) → IsPlaced (λ k. map.contains_key m k) end position r → IsPlaced (λ k. map.contains_key v.items k) end position r
+    here r placed = placed_at end position r (subst (λ m. IsPlaced (λ k. map.contains_key m k) end position r) same placed)
 
-    pub nth_found : (r : Option ℕ) → IsPlaced (λ k. map.contains_key m k) end place r → r ≡ slice_get (map.keys v.items) place
-    nth_found r placed = key_placed v.items end nothing_past place r (here r placed)
+    pub nth_found : (r : Option ℕ) → IsPlaced (λ k. map.contains_key m k) end position r → r ≡ slice_get (map.keys v.items) position
+    nth_found r placed = key_placed v.items end nothing_past position r (here r placed)
 
-    pub nth_there : (n : ℕ) → IsPlaced (λ k. map.contains_key m k) end place (Some n) → map.contains_key v.items n ≡ true
+    pub nth_there : (n : ℕ) → IsPlaced (λ k. map.contains_key m k) end position (Some n) → map.contains_key v.items n ≡ true
     nth_there n placed = (here (Some n) placed).passes
 
-    pub nth_few : IsPlaced (λ k. map.contains_key m k) end place None → map.len v.items ≤ place
+    pub nth_few : IsPlaced (λ k. map.contains_key m k) end position None → map.len v.items ≤ position
     nth_few placed = omega (arith, here None placed, len_counted v.items end nothing_past)
 
   -- what a look-up in the tree found
@@ -122,8 +122,8 @@ module _ {T : Type 0} (items : MarkedMap T) (v : Indexed T) (view_is : array_of 
   pub no_key : (k : ℕ) → map.contains_key v.items k ≡ false
   no_key k = ap is_some (no_item k)
 
-  pub no_nth : (place : ℕ) → None ≡ slice_get (map.keys v.items) place
-  no_nth place = key_placed v.items 0 (λ k le. no_key k) place None (omega (arith, none_in))
+  pub no_nth : (position : ℕ) → None ≡ slice_get (map.keys v.items) position
+  no_nth position = key_placed v.items 0 (λ k le. no_key k) position None (omega (arith, none_in))
     where
       none_in : passing (λ k. map.contains_key v.items k) 0 0 ≡ 0
       none_in = passing-none _ 0 0 (λ r lt. no_key (0 + r))

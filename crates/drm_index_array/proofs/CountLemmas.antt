@@ -4,7 +4,7 @@ use Rattle.std.specs.FinMap as map
 use Rattle.std.proofs.lemmas.List.{get_or-set_same, get_or-set_other, get_or_read}
 use Rattle.std.proofs.lemmas.Nat.{div-add-mod', pow-add, pow_pos}
 use Rattle.std.proofs.Math.Nat.{mod-lt, mul-le-mul_right}
-use Rattle.drm_index_array.specs.Place.{passing, IsAtPlace}
+use Rattle.drm_index_array.specs.Position.{passing, IsAtPosition}
 use Rattle.drm_index_array.specs.Tree.{Tree, width, span}
 use Rattle.drm_index_array.specs.Slots.{Fits as SlotFits, slot, look, below, entries_below, view_of, IsSound, IsNode}
 use Rattle.drm_index_array.specs.declared.words.Words.{Words}
@@ -125,8 +125,8 @@ module _ {T : Type 0} {height : ℕ} {slots : List (Slot T)} {v : Tree T} (words
         (λ within. omega (arith, within, slot_counted height slots at lt, ap (entries_below height) slot_is))
 
     -- an index below it
-    placed_at : (left place n : ℕ) → n < width height → is_some (below t n) ≡ true → passing (λ r. is_some (below t r)) 0 n ≡ left → passing (λ k. map.contains_key v.items k) 0 (at * width v.height) + left ≡ place → IsAtPlace (λ k. map.contains_key v.items k) (span v.height) place (at * width v.height + n)
-    placed_at left place n low there count = subst (λ (v : Tree T). passing (λ k. map.contains_key v.items k) 0 (at * width v.height) + left ≡ place → IsAtPlace (λ k. map.contains_key v.items k) (span v.height) place (at * width v.height + n)) view_is (λ before. record {
+    placed_at : (left position n : ℕ) → n < width height → is_some (below t n) ≡ true → passing (λ r. is_some (below t r)) 0 n ≡ left → passing (λ k. map.contains_key v.items k) 0 (at * width v.height) + left ≡ position → IsAtPosition (λ k. map.contains_key v.items k) (span v.height) position (at * width v.height + n)
+    placed_at left position n low there count = subst (λ (v : Tree T). passing (λ k. map.contains_key v.items k) 0 (at * width v.height) + left ≡ position → IsAtPosition (λ k. map.contains_key v.items k) (span v.height) position (at * width v.height + n)) view_is (λ before. record {
       below = index_in_span height at n lt low;
       passes = ap is_some (value_in height slots at n lt low) ∙ ap (λ s. is_some (below s n)) slot_is ∙ there;
       before = passed before;
@@ -135,7 +135,7 @@ module _ {T : Type 0} {height : ℕ} {slots : List (Slot T)} {v : Tree T} (words
         zero_more : (r : ℕ) → r ≡ 0 + r
         zero_more r = omega arith
 
-        passed : passing (taken height slots) 0 (at * width height) + left ≡ place → passing (taken height slots) 0 (at * width height + n) ≡ place
+        passed : passing (taken height slots) 0 (at * width height) + left ≡ position → passing (taken height slots) 0 (at * width height + n) ≡ position
         passed before =
             let w = width height in
             let start : 0 + at * w ≡ at * w = omega arith in
@@ -148,22 +148,22 @@ module _ {T : Type 0} {height : ℕ} {slots : List (Slot T)} {v : Tree T} (words
 
   module _ (s : Slot T) where
     -- it is the slot's own entry
-    pub value_placed : (e : Entry T) → s ≡ get_or slots at s → s ≡ Value e → (left place base : ℕ) → base ≡ at * width height → left < passing (λ k. map.contains_key v.items k) (at * width v.height) (width v.height) → passing (λ k. map.contains_key v.items k) 0 (at * width v.height) + left ≡ place → IsAtPlace (λ k. map.contains_key v.items k) (span v.height) place base
-    value_placed e read is left place base base_is within before =
+    pub value_placed : (e : Entry T) → s ≡ get_or slots at s → s ≡ Value e → (left position base : ℕ) → base ≡ at * width height → left < passing (λ k. map.contains_key v.items k) (at * width v.height) (width v.height) → passing (λ k. map.contains_key v.items k) 0 (at * width v.height) + left ≡ position → IsAtPosition (λ k. map.contains_key v.items k) (span v.height) position base
+    value_placed e read is left position base base_is within before =
         let low : height ≡ 0 = fits_is s (Value e) read is in
         let one : 1 ≡ entries_below height (Value e) = value_counted e height low in
         let none : 0 ≡ left = omega (arith, one, below_is s (Value e) read is left within) in
         let here : at * width v.height + 0 ≡ base = omega (arith, starts base base_is) in
-        rw here at (placed_at s (Value e) read is left place 0 (pow_pos (6 * height)) refl (passing-none _ 0 0 (λ r lt. absurd (omega arith)) ∙ none) before)
+        rw here at (placed_at s (Value e) read is left position 0 (pow_pos (6 * height)) refl (passing-none _ 0 0 (λ r lt. absurd (omega arith)) ∙ none) before)
 
     module _ (b : Box (Node T) Global) (read : s ≡ get_or slots at s) (is : s ≡ Child b) (left : ℕ) where
       wide : span b.value.height ≡ width height
       wide = child_span b.value.height height (fits_is s (Child b) read is)
 
       -- it is one of the child's
-      pub child_placed : (place base n : ℕ) → base ≡ at * width height → IsAtPlace (λ k. map.contains_key b.value.items k) (span b.value.height) left n → passing (λ k. map.contains_key v.items k) 0 (at * width v.height) + left ≡ place → IsAtPlace (λ k. map.contains_key v.items k) (span v.height) place (base + n)
-      child_placed place base n base_is found before =
-          rw (starts base base_is) (placed_at s (Child b) read is left place n (omega (arith, found.below, wide)) found.passes found.before before)
+      pub child_placed : (position base n : ℕ) → base ≡ at * width height → IsAtPosition (λ k. map.contains_key b.value.items k) (span b.value.height) left n → passing (λ k. map.contains_key v.items k) 0 (at * width v.height) + left ≡ position → IsAtPosition (λ k. map.contains_key v.items k) (span v.height) position (base + n)
+      child_placed position base n base_is found before =
+          rw (starts base base_is) (placed_at s (Child b) read is left position n (omega (arith, found.below, wide)) found.passes found.before before)
 
       -- the child has it
       pub child_missed : left < passing (λ k. map.contains_key v.items k) (at * width v.height) (width v.height) → passing (λ k. map.contains_key b.value.items k) 0 (span b.value.height) ≤ left → ⊥

@@ -10,6 +10,7 @@ use Rattle.std.proofs.lemmas.Bool.{false≢true}
 use Rattle.std.proofs.lemmas.Bool.Decides.{nat_tests}
 use Rattle.drm_index_array.proofs.MarkedLemmas.{get-remove}
 use Rattle.drm_index_array.specs.Rows.{placed, InOrder}
+use Rattle.std.proofs.lemmas.Option.{none-some}
 
 pub left : (a b : Bool) → T (a && b) → T a
 left true b h = tt
@@ -37,9 +38,6 @@ equal Less h = absurd (false≢true h)
 equal Equal h = refl
 equal Greater h = absurd (false≢true h)
 
-pub none_some : {A : Type 0} (x : A) → None ≡ Some x → ⊥
-none_some x e = false≢true (ap is_some e)
-
 lt_back : {K : Type 0} (R : K → K → Ordering) (o : IsTotalOrder R) (x y : K) → T (is_lt (R x y)) → is_lt (R y x) ≡ false
 lt_back R o x y h = ap is_lt (o.antisymm y x ∙ ap ordering_reverse (less (R x y) h))
 
@@ -60,7 +58,7 @@ module _ {K X : Type 0} (R : K → K → Ordering) (o : IsTotalOrder R) where
   pub skip_first : (e : K × X) (es : List (K × X)) → T (is_sorted R (e ∷ es)) → (k : K) (v : X) → find R k es ≡ Some v → find R k (e ∷ es) ≡ Some v
   skip_first e es h k v found =
       elim (eq_by_cmp R k e.0) as (λ b. eq_by_cmp R k e.0 ≡ b → cond b (Some e.1) (find R k es) ≡ Some v) [
-        | true ↦ λ p. absurd (none_some v (sym (find_below e.0 es (left _ _ h)) ∙ find_tied R o k e.0 (equal _ p) es ∙ found))
+        | true ↦ λ p. absurd (none-some v (sym (find_below e.0 es (left _ _ h)) ∙ find_tied R o k e.0 (equal _ p) es ∙ found))
         | false ↦ λ p. found
       ] refl
 
@@ -119,7 +117,7 @@ module _ {K X : Type 0} (R : K → K → Ordering) (o : IsTotalOrder R) where
             | Less ↦ λ p.
                 let below : T (below_all R k (e ∷ es)) = both _ _ (subst (λ r. T (is_lt r)) (sym p) tt) (below_less k e.0 es p (left _ _ h)) in
                 λ i. sym (none_before (k, v) (e ∷ es) below) i ++ x ∷ sym (all_behind (k, v) (e ∷ es) below) i
-            | Equal ↦ λ p. absurd (none_some e.1 (sym none ∙ ap (λ r. cond (is_eq r) (Some e.1) (find R k es)) p))
+            | Equal ↦ λ p. absurd (none-some e.1 (sym none ∙ ap (λ r. cond (is_eq r) (Some e.1) (find R k es)) p))
             | Greater ↦ λ p.
                 let here : before (row e) x ≡ true = is e (k, v) ∙ ap is_lt (o.antisymm e.0 k ∙ ap ordering_reverse p) in
                 ap (λ l. row e ∷ l) (rows_put k v es (right _ _ h) (sym (ap (λ r. cond (is_eq r) (Some e.1) (find R k es)) p) ∙ none))
@@ -138,12 +136,12 @@ module _ {K X : Type 0} (R : K → K → Ordering) (o : IsTotalOrder R) where
 
     -- another value at a key that is there changes that key's row
     pub rows_put_found : (v w : X) → ((e : K × X) → eq_by_cmp R k e.0 ≡ true → e.1 ≡ v → row (e.0, w) ≡ f (row e)) → (es : List (K × X)) → T (is_sorted R es) → find R k es ≡ Some v → map row (put R k w es) ≡ map f (map row es)
-    rows_put_found v w new [] h found = absurd (none_some v found)
+    rows_put_found v w new [] h found = absurd (none-some v found)
     rows_put_found v w new (e ∷ es) h found =
         elim (R k e.0) as (λ r. R k e.0 ≡ r → map row (by_order r ((k, w) ∷ e ∷ es) ((e.0, w) ∷ es) (e ∷ put R k w es)) ≡ map f (map row (e ∷ es))) [
           | Less ↦ λ p.
               let below : T (below_all R k (e ∷ es)) = both _ _ (subst (λ r. T (is_lt r)) (sym p) tt) (below_less k e.0 es p (left _ _ h)) in
-              absurd (none_some v (sym (find_below k (e ∷ es) below) ∙ found))
+              absurd (none-some v (sym (find_below k (e ∷ es) below) ∙ found))
           | Equal ↦ λ p.
               let same : Some e.1 ≡ Some v = sym (ap (λ r. cond (is_eq r) (Some e.1) (find R k es)) p) ∙ found in
               let value : e.1 ≡ v = ap (λ x. unwrap_or x v) same in
@@ -166,7 +164,7 @@ module _ {X Y : Type 0} where
   nth_by_key row (e ∷ es) h (suc i) = later (slice_get (map (λ f. f.0) es) i) (λ k is. key_there es k i is) ∙ nth_by_key row es (right _ _ h) i
     where
       key_there : (fs : List (ℕ × X)) (k i : ℕ) → slice_get (map (λ f. f.0) fs) i ≡ Some k → is_some (find nat_cmp k fs) ≡ true
-      key_there [] k i is = absurd (none_some k is)
+      key_there [] k i is = absurd (none-some k is)
       key_there (f ∷ fs) k zero is =
           ap (λ b. is_some (cond b (Some f.1) (find nat_cmp k fs))) (tied_key k f.0 (sym (ap (λ x. unwrap_or x 0) is)))
       key_there (f ∷ fs) k (suc i) is =

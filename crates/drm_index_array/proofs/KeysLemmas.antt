@@ -9,6 +9,7 @@ use Rattle.std.proofs.lemmas.Bool.Decides.{nat_tests}
 use Rattle.drm_index_array.specs.Least.{least, IsLeast}
 use Rattle.drm_index_array.specs.Keys.{keys_from}
 use Rattle.drm_index_array.proofs.Least.{least_some}
+use Rattle.drm_index_array.proofs.Keyed.{left, right}
 
 abbrev from_on : {X : Type 0} → List (ℕ × X) → ℕ → List ℕ
 from_on es from = filter (λ k. leb from k) (list_map (λ e. e.0) es)
@@ -18,14 +19,6 @@ leb_yes a b le = grind (arith, nat_tests)
 
 leb_no : (a b : ℕ) → b < a → leb a b ≡ false
 leb_no a b lt = grind (arith, nat_tests)
-
-left : (a b : Bool) → T (a && b) → T a
-left true b h = tt
-left false b h = h
-
-right : (a b : Bool) → T (a && b) → T b
-right true b h = h
-right false b h = absurd h
 
 is_less : (x y : ℕ) → T (is_lt (nat_cmp x y)) → x < y
 is_less x y h = grind (arith, nat_tests)

@@ -2,6 +2,7 @@ pub mod Least
 pub mod MarkedLemmas
 pub mod KeysLemmas
 pub mod Keyed
+pub mod Entries
 mod WordLemmas
 mod PlaceLemmas
 mod TableLemmas

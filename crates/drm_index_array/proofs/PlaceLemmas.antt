@@ -6,7 +6,7 @@ use Rattle.std.specs.FinMap as map
 use Rattle.std.proofs.lemmas.List.{length-map}
 use Rattle.std.proofs.lemmas.Option.{slice_get_past}
 use Rattle.drm_index_array.specs.Keys.{keys_from}
-use Rattle.drm_index_array.specs.Place.{passing, IsPlaced}
+use Rattle.drm_index_array.specs.Position.{passing, IsPlaced}
 use Rattle.drm_index_array.proofs.KeysLemmas.{keys_from-least, keys_from-none, keys_from-skip, keys_from-zero}
 
 -- a range in two parts
@@ -82,8 +82,8 @@ module _ {X : Type 0} (m : map.FinMap nat_cmp X) where
     pub len_counted : map.len m ≡ passing there 0 end
     len_counted = map.len-entries m ∙ sym (length-map (map.entries m) (λ e. e.0)) ∙ ap length (sym (keys_from-zero m)) ∙ keys_counted end 0 (λ k le. past k (omega arith))
 
-    pub key_placed : (place : ℕ) (r : Option ℕ) → IsPlaced there end place r → r ≡ slice_get (map.keys m) place
-    key_placed place None few = sym (slice_get_past (map.keys m) place (omega (arith, few, len_counted, map.len-entries m, length-map (map.entries m) (λ e. e.0))))
-    key_placed place (Some k) is =
+    pub key_placed : (position : ℕ) (r : Option ℕ) → IsPlaced there end position r → r ≡ slice_get (map.keys m) position
+    key_placed position None few = sym (slice_get_past (map.keys m) position (omega (arith, few, len_counted, map.len-entries m, length-map (map.entries m) (λ e. e.0))))
+    key_placed position (Some k) is =
         let start : 0 + k ≡ k = omega arith in
-        sym (ap (λ ks. slice_get ks place) (sym (keys_from-zero m)) ∙ ap (slice_get (keys_from m 0)) (sym is.before) ∙ rw start at (key_at k 0 (rw start is.passes)))
+        sym (ap (λ ks. slice_get ks position) (sym (keys_from-zero m)) ∙ ap (slice_get (keys_from m 0)) (sym is.before) ∙ rw start at (key_at k 0 (rw start is.passes)))

@@ -14,6 +14,7 @@ use Rattle.drm_index_array.specs.declared.tree.Slot.{Slot}
 use Rattle.drm_index_array.proofs.Least.{least_some, least_none, least_is_none}
 use Rattle.drm_index_array.proofs.MarkedLemmas.{same_by_gets, get-insert, get-remove}
 use Rattle.drm_index_array.proofs.TableLemmas.{get-table_past, len-table}
+use Rattle.std.proofs.lemmas.Option.{same_Some, none-some}
 
 module _ {T : Type 0} (height : ℕ) (slots : List (Slot T)) (v : Tree T) (view_is : view_of height slots ≡ v) where
   pub view_past : IsPast v (span v.height)
@@ -90,16 +91,6 @@ module _ {T : Type 0} where
       ∙ ap (λ m. get m q) one
       ∙ ap (option_map (λ s. s.value)) (get-lone q (unmarked v) q ∙ ap (λ b. cond b (Some (unmarked v)) None) (eq-eqb q q refl))
 
-pub not_none : {X : Type 0} (x : X) → None ≡ Some x → ⊥
-not_none x e = false≢true (ap is_some e)
-
-pub same_some : {X : Type 0} (x y : X) → Some x ≡ Some y → x ≡ y
-same_some x y e = ap (λ o. or_else o x) e
-  where
-    or_else : {X : Type 0} → Option X → X → X
-    or_else None d = d
-    or_else (Some x) d = x
-
 module _ {T : Type 0} where
   -- an entry taken out of a map
   pub removed_by : (old now : MarkedMap T) (q : ℕ) → ((k : ℕ) → map.get now k ≡ cond (eqb k q) None (map.get old k)) → now ≡ map.remove old q
@@ -117,7 +108,7 @@ module _ {T : Type 0} where
     where
       from : (o : Option (Marked T)) → None ≡ option_map (λ s. s.value) o → o ≡ None
       from None e = refl
-      from (Some s) e = absurd (not_none s.value e)
+      from (Some s) e = absurd (none-some s.value e)
 
   pub kept_unless : (m : MarkedMap T) (q : ℕ) (o : Option T) → o ≡ get m q → IfNone o (map.remove m q ≡ m)
   kept_unless m q None is = remove_none m q (no_value m q is)

@@ -24,28 +24,28 @@ one_test : (n : ℕ) → n ≡ 1 → eqb n 1 ≡ true
 one_test n e = rw e refl
 
 -- the tail is 0: no place from there on has a 1
-pub no_place : (word from : ℕ) → bit_and word (2 ^ 64 - 2 ^ from) ≡ 0 → None ≡ least (has_bit word) from 63
-no_place word from none =
+pub no_position : (word from : ℕ) → bit_and word (2 ^ 64 - 2 ^ from) ≡ 0 → None ≡ least (has_bit word) from 63
+no_position word from none =
     sym (least_is_none (has_bit word) from 63 (λ k ge le. zero_test _ (sym (tail_of word from k ge (omega arith)) ∙ ap (λ n. bit_at n k) none ∙ bit_at-zero k)))
 
 -- else its lowest 1 is the least such place
-pub least_place : (word from : ℕ) → 0 < bit_and word (2 ^ 64 - 2 ^ from) → bit_and word (2 ^ 64 - 2 ^ from) < 2 ^ 64 → Some (trailing_zeros w64 (bit_and word (2 ^ 64 - 2 ^ from))) ≡ least (has_bit word) from 63
-least_place word from some fits =
+pub least_position : (word from : ℕ) → 0 < bit_and word (2 ^ 64 - 2 ^ from) → bit_and word (2 ^ 64 - 2 ^ from) < 2 ^ 64 → Some (trailing_zeros w64 (bit_and word (2 ^ 64 - 2 ^ from))) ≡ least (has_bit word) from 63
+least_position word from some fits =
     let rest = bit_and word (2 ^ 64 - 2 ^ from) in
     let lowest = bit_at-trailing_zeros w64 rest some fits in
-    let place = trailing_zeros w64 rest in
-    let ge : from ≤ place = least_ge word from place lowest.1 in
-    sym (least_is (has_bit word) from 63 place (record {
+    let position = trailing_zeros w64 rest in
+    let ge : from ≤ position = least_ge word from position lowest.1 in
+    sym (least_is (has_bit word) from 63 position (record {
       at_least = ge;
       at_most = omega (arith, lowest.0);
-      passes = one_test _ (sym (tail_of word from place ge lowest.0) ∙ lowest.1);
+      passes = one_test _ (sym (tail_of word from position ge lowest.0) ∙ lowest.1);
       none_below = λ k low lt. zero_test _ (sym (tail_of word from k low (omega (arith, lowest.0))) ∙ lowest.2 k lt);
     }))
   where
-    least_ge : (word from place : ℕ) → bit_at (bit_and word (2 ^ 64 - 2 ^ from)) place ≡ 1 → from ≤ place
-    least_ge word from place one =
-        elim (cases_lt place from) [
-          | inl below ↦ absurd (omega (arith, tail_below word from place below, one))
+    least_ge : (word from position : ℕ) → bit_at (bit_and word (2 ^ 64 - 2 ^ from)) position ≡ 1 → from ≤ position
+    least_ge word from position one =
+        elim (cases_lt position from) [
+          | inl below ↦ absurd (omega (arith, tail_below word from position below, one))
           | inr ge ↦ ge
         ]
 

@@ -3,7 +3,7 @@ use Rattle.std.specs.Prelude.{◌≡◌, ℕ, ◌+◌, ◌-◌, ◌/◌, ◌%◌
 use Rattle.std.specs.FinMap as map
 use Rattle.drm_index_array.specs.Least.{least}
 use Rattle.drm_index_array.specs.Marked.{Marked}
-use Rattle.drm_index_array.specs.Place.{passing}
+use Rattle.drm_index_array.specs.Position.{passing}
 use Rattle.drm_index_array.specs.Word.{tells_of, AreWords}
 use Rattle.drm_index_array.specs.Tree.{Tree, width, span, table, is_sought}
 use Rattle.drm_index_array.specs.declared.words.Sought.{Sought}

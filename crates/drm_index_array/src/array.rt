@@ -19,6 +19,11 @@ use std::marker::Model;
 
 /// A finite map from `u32`, whose entries carry three marks each (as Linux's XArray). Contracts see the map and, for
 /// each mark, the set of the indices whose entry carries it.
+///
+/// ```rust
+/// let mut array: IndexArray<u8> = IndexArray::new(alloc);
+/// let Ok(()) = array.insert(300, 7) else { return };
+/// ```
 #[derive(Drop)]
 pub struct IndexArray<T> {
     alloc: Global,
@@ -49,6 +54,11 @@ impl<T: Drop> IndexArray<T> {
     ghost use Rattle.drm_index_array.specs.declared.marks.Mark.{Mark};
 
     /// An array with no entry, which takes no memory. It keeps the allocator for the entries to come.
+    ///
+    /// ```rust
+    /// let empty: IndexArray<u8> = IndexArray::new(alloc);
+    /// assert!(empty.len() == 0);
+    /// ```
     pub fn new(alloc: Global) -> Self
         ensures { result ≡ empty_array }
     {
@@ -60,6 +70,10 @@ impl<T: Drop> IndexArray<T> {
     }
 
     /// How many entries there are.
+    ///
+    /// ```rust
+    /// assert!(array.len() == 1);
+    /// ```
     pub fn len(&self) -> usize
         ensures len { result ≡ map.len self.now.items }
         ensures bound { (k : ℕ) → IsTrue (map.contains_key self.now.items k) → k ≤ u32.MAX }
@@ -69,6 +83,10 @@ impl<T: Drop> IndexArray<T> {
 
     /// Adds an entry with no mark. Where the index has an entry, or memory is refused, the array stays as it is and the
     /// value comes back.
+    ///
+    /// ```rust
+    /// assert!(array.insert(300, 8) == Err(InsertFault::Taken(8)));
+    /// ```
     pub fn insert(&mut self, index: u32, value: T) -> Result<(), InsertFault<T>>
         ensures ok { OnOk result (self.new ≡ with_item self.old index value) }
         ensures unmarked { OnOk result ((mark : Mark) → set.contains (marked_with self.new mark) index ≡ false) }
@@ -89,6 +107,10 @@ impl<T: Drop> IndexArray<T> {
     }
 
     /// The value at the index, if there is one.
+    ///
+    /// ```rust
+    /// assert!(array.get(300) == Some(&7));
+    /// ```
     pub fn get(&self, index: u32) -> Option<&T>
         ensures value { option_copied result ≡ map.get self.now.items index }
         ensures bound { (k : ℕ) → IsTrue (map.contains_key self.now.items k) → k ≤ u32.MAX }
@@ -103,6 +125,13 @@ impl<T: Drop> IndexArray<T> {
     }
 
     /// The value at the index for writing, if there is one. The entry keeps its marks.
+    ///
+    /// ```rust
+    /// if let Some(value) = array.get_mut(300) {
+    ///     *value = 9;
+    /// }
+    /// assert!(array.get(300) == Some(&9));
+    /// ```
     pub fn get_mut(&mut self, index: u32) -> Option<&mut T>
         ensures* writes_back { sem 𝓛 (lends_get T.row self.entry index result) }
         ensures value { option_copied_mut result ≡ map.get self.old.items index }
@@ -114,6 +143,11 @@ impl<T: Drop> IndexArray<T> {
     }
 
     /// Takes the entry out, with its marks. Where there is none, the array stays as it is.
+    ///
+    /// ```rust
+    /// assert!(array.remove(300) == Some(9));
+    /// assert!(array.get(300).is_none());
+    /// ```
     pub fn remove(&mut self, index: u32) -> Option<T>
         ensures value { result ≡ map.get self.old.items index }
         ensures after { self.new ≡ without_item self.old index }
@@ -129,6 +163,11 @@ impl<T: Drop> IndexArray<T> {
     }
 
     /// Sets the mark of the entry at the index, and says whether there is one.
+    ///
+    /// ```rust
+    /// let Ok(()) = array.insert(40, 1) else { return };
+    /// assert!(array.set_mark(40, Mark::M0));
+    /// ```
     pub fn set_mark(&mut self, index: u32, mark: Mark) -> bool
         ensures result { IsTrue result ↔ IsSome (map.get self.old.items index) }
         ensures present { OnTrue result (self.new ≡ with_mark self.old index mark) }
@@ -138,6 +177,10 @@ impl<T: Drop> IndexArray<T> {
     }
 
     /// Takes the mark from the entry at the index, and says whether there is one.
+    ///
+    /// ```rust
+    /// assert!(array.clear_mark(40, Mark::M0));
+    /// ```
     pub fn clear_mark(&mut self, index: u32, mark: Mark) -> bool
         ensures result { IsTrue result ↔ IsSome (map.get self.old.items index) }
         ensures present { OnTrue result (self.new ≡ without_mark self.old index mark) }
@@ -162,6 +205,10 @@ impl<T: Drop> IndexArray<T> {
     }
 
     /// Whether the index has an entry that carries the mark.
+    ///
+    /// ```rust
+    /// assert!(!array.marked(40, Mark::M0));
+    /// ```
     pub fn marked(&self, index: u32, mark: Mark) -> bool
         ensures marked { result ≡ set.contains (marked_with self.now mark) index }
         ensures present { (k : ℕ) → IsTrue (set.contains (marked_with self.now mark) k) → IsTrue (map.contains_key self.now.items k) }
@@ -176,6 +223,10 @@ impl<T: Drop> IndexArray<T> {
     }
 
     /// The least index not below `from` that has an entry.
+    ///
+    /// ```rust
+    /// assert!(array.next(0) == Some(40));
+    /// ```
     pub fn next(&self, from: u32) -> Option<u32>
         ensures least { result ≡ least (map.contains_key self.now.items) from u32.MAX }
         ensures none_above { IfNone result ((k : ℕ) → from ≤ k → map.contains_key self.now.items k ≡ false) }
@@ -192,22 +243,30 @@ impl<T: Drop> IndexArray<T> {
 
     /// The index at a place of the list of the indices that have an entry, rising, where 0 is the first. Whole subtrees
     /// are passed over, so a late place costs what an early one does.
-    pub fn nth(&self, place: usize) -> Option<u32>
-        ensures nth { result ≡ slice_get (map.keys self.now.items) place }
+    ///
+    /// ```rust
+    /// assert!(array.nth(0) == Some(40) && array.nth(1).is_none());
+    /// ```
+    pub fn nth(&self, position: usize) -> Option<u32>
+        ensures nth { result ≡ slice_get (map.keys self.now.items) position }
         ensures present { IfSome result (λ index. IsTrue (map.contains_key self.now.items index)) }
-        ensures past { IfNone result (map.len self.now.items ≤ place) }
+        ensures past { IfNone result (map.len self.now.items ≤ position) }
         ensures bound { (k : ℕ) → IsTrue (map.contains_key self.now.items k) → k ≤ u32.MAX }
     {
         let Some(root) = &self.root else {
             return None;
         };
-        let Some(found) = root.nth(place) else {
+        let Some(found) = root.nth(position) else {
             return None;
         };
         Some(found as u32)
     }
 
     /// The least index not below `from` whose entry carries the mark.
+    ///
+    /// ```rust
+    /// assert!(array.next_marked(0, Mark::M0).is_none());
+    /// ```
     pub fn next_marked(&self, from: u32, mark: Mark) -> Option<u32>
         ensures least { result ≡ least (set.contains (marked_with self.now mark)) from u32.MAX }
         ensures none_above { IfNone result ((k : ℕ) → from ≤ k → set.contains (marked_with self.now mark) k ≡ false) }
@@ -223,6 +282,10 @@ impl<T: Drop> IndexArray<T> {
     }
 
     /// The least index not below `from` that has no entry.
+    ///
+    /// ```rust
+    /// assert!(array.next_vacant(40) == Some(41));
+    /// ```
     pub fn next_vacant(&self, from: u32) -> Option<u32>
         ensures { result ≡ least (λ i. not (map.contains_key self.now.items i)) from u32.MAX }
     {

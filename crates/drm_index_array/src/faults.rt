@@ -3,6 +3,10 @@
 ghost use Rattle.std.specs.Prelude.{◌≡◌};
 
 /// Why an insertion left the array as it was. Each hands the value back.
+///
+/// ```rust
+/// let taken = InsertFault::Taken(7);
+/// ```
 #[derive(Debug, Drop, PartialEq, Eq)]
 pub enum InsertFault<T> {
     /// The index has an entry already.
@@ -15,6 +19,10 @@ impl<T> InsertFault<T> {
     ghost use Rattle.drm_index_array.specs.InsertFault.{value_of};
 
     /// The value that was not stored.
+    ///
+    /// ```rust
+    /// assert!(taken.into_value() == 7);
+    /// ```
     pub fn into_value(self) -> T
         ensures { result ≡ value_of self }
     {

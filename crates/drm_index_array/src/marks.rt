@@ -1,6 +1,12 @@
 //! The marks.
 
 /// One of the three marks that an entry can carry. What each stands for is the caller's choice.
+///
+/// ```rust
+/// let mut array: IndexArray<u8> = IndexArray::new(alloc);
+/// let Ok(()) = array.insert(5, 1) else { return };
+/// assert!(array.set_mark(5, Mark::M1) && !array.marked(5, Mark::M2));
+/// ```
 #[derive(Debug, Clone, Copy, PartialEq, Eq)]
 pub enum Mark {
     /// The first mark.

@@ -3,7 +3,7 @@
 ghost use Rattle.std.specs.Prelude.{◌≡◌, ℕ, ◌+◌, ◌-◌, ◌*◌, ◌^◌, ◌<◌, ◌≤◌, ◌/◌, ◌%◌, ◌↔◌, ◌==◌, if◌then◌else◌, IsTrue, OnSome, IsSome, is_some, not, nat_lt, option_map, Some, None, option_copied, OnOk, OnErr, IfOk, IfErr, IfSome, IfNone};
 ghost use Rattle.std.specs.FinMap as map;
 ghost use Rattle.drm_index_array.specs.Least.{least, IsLeastFrom};
-ghost use Rattle.drm_index_array.specs.Place.{passing, IsPlaced};
+ghost use Rattle.drm_index_array.specs.Position.{passing, IsPlaced};
 ghost use Rattle.drm_index_array.specs.Word.{has_bit, tells_of, AreWords};
 ghost use Rattle.drm_index_array.specs.Marked.{mark_of, with_mark, unmarked};
 ghost use Rattle.drm_index_array.specs.InsertFault.{value_of, IsTaken};
@@ -328,19 +328,19 @@ impl<T> Node<T> {
 
     /// The index at a place of the list of the indices that have an entry, rising, where 0 is the first. Whole slots are
     /// passed over by how many entries lie below them.
-    pub fn nth(&self, place: usize) -> Option<u64>
-        ensures placed { IsPlaced (map.contains_key self.now.items) (span self.now.height) place result }
+    pub fn nth(&self, position: usize) -> Option<u64>
+        ensures placed { IsPlaced (map.contains_key self.now.items) (span self.now.height) position result }
         ensures past { (k : ℕ) → span self.now.height ≤ k → map.get self.now.items k ≡ None }
     {
         let height = self.height;
-        let Some((at, place)) = self.slot_of(place) else {
+        let Some((at, position)) = self.slot_of(position) else {
             return None;
         };
         let base = start(height, at);
         match &self.slots[at] {
             Slot::Vacant => None,
             Slot::Value(_) => Some(base),
-            Slot::Child(child) => match child.nth(place) {
+            Slot::Child(child) => match child.nth(position) {
                 Some(found) => Some(base + found),
                 None => None,
             },
@@ -348,13 +348,13 @@ impl<T> Node<T> {
     }
 
     /// The slot below which the index at a place lies, and its place among those below that slot.
-    fn slot_of(&self, place: usize) -> Option<(usize, usize)>
+    fn slot_of(&self, position: usize) -> Option<(usize, usize)>
         ensures slot { IfSome result (λ found. found.0 < 64) }
-        ensures before { IfSome result (λ found. passing (map.contains_key self.now.items) 0 (found.0 * width self.now.height) + found.1 ≡ place) }
+        ensures before { IfSome result (λ found. passing (map.contains_key self.now.items) 0 (found.0 * width self.now.height) + found.1 ≡ position) }
         ensures within { IfSome result (λ found. found.1 < passing (map.contains_key self.now.items) (found.0 * width self.now.height) (width self.now.height)) }
-        ensures past { IfNone result (passing (map.contains_key self.now.items) 0 (span self.now.height) ≤ place) }
+        ensures past { IfNone result (passing (map.contains_key self.now.items) 0 (span self.now.height) ≤ position) }
     {
-        let mut left = place;
+        let mut left = position;
         for at in 0..64usize {
             let here = count_below(&self.slots[at]);
             if left < here {

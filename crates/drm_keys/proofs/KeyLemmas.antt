@@ -16,88 +16,38 @@ use Rattle.drm_index_array.specs.Rows.{placed}
 use Rattle.drm_index_array.proofs.Keyed.{left, right, all_rows, rows_put, rows_where, row_at, rows_length, entries_removed}
 use Rattle.drm_index_array.proofs.MarkedLemmas.{get-insert, get-remove}
 use Rattle.drm_keys.specs.Keys.{rows_in, IsKeyed}
-
-less_of : (a b : ℕ) → T (is_lt (nat_cmp a b)) → a < b
-less_of a b h = grind (arith, nat_tests)
-
-same_test : (k n : ℕ) → (n == k) ≡ eq_by_cmp nat_cmp k n
-same_test k n = grind (arith, nat_tests)
-
-before_test : (a b : ℕ) → nat_lt a b ≡ is_lt (nat_cmp a b)
-before_test a b = grind (arith, nat_tests)
-
-same : (a b : ℕ) → a ≡ b → (a == b) ≡ true
-same a b e = grind (arith, nat_tests)
-
-differ : (a b : ℕ) → (a ≡ b → ⊥) → (a == b) ≡ false
-differ a b differs =
-    elim (a == b) as (λ t. (a == b) ≡ t → t ≡ false) [ true ↦ λ e. absurd (differs (eqb-true a b e)) | false ↦ λ e. refl ] refl
-
-apart : (a b : ℕ) → (a == b) ≡ false → a ≡ b → ⊥
-apart a b differs e = false≢true (sym differs ∙ same a b e)
-
-none_some : {X : Type 0} (x : X) → None ≡ Some x → ⊥
-none_some x e = false≢true (ap is_some e)
-
-insert_same : (m : fin.FinMap nat_cmp ℕ) (n k : ℕ) → fin.get (fin.insert m n k) n ≡ Some k
-insert_same m n k = get-insert m n k n ∙ ap (λ t. cond t (Some k) (fin.get m n)) (same n n refl)
-
-insert_other : (m : fin.FinMap nat_cmp ℕ) (n k q : ℕ) → (q ≡ n → ⊥) → fin.get (fin.insert m n k) q ≡ fin.get m q
-insert_other m n k q differs = get-insert m n k q ∙ ap (λ t. cond t (Some k) (fin.get m q)) (differ q n differs)
-
-remove_same : (m : fin.FinMap nat_cmp ℕ) (n : ℕ) → fin.get (fin.remove m n) n ≡ None
-remove_same m n = get-remove m n n ∙ ap (λ t. cond t None (fin.get m n)) (same n n refl)
-
-remove_other : (m : fin.FinMap nat_cmp ℕ) (n q : ℕ) → (q ≡ n → ⊥) → fin.get (fin.remove m n) q ≡ fin.get m q
-remove_other m n q differs = get-remove m n q ∙ ap (λ t. cond t None (fin.get m q)) (differ q n differs)
+use Rattle.std.proofs.lemmas.Option.{none-some}
+use Rattle.drm_index_array.proofs.Entries.{less_of, same_test, before_test, same, differ, apart, insert_same, insert_other, remove_same, remove_other, rows_over, rows_alike}
 
 entries_each : (P : ℕ × ℕ → Type 0) (es : List (ℕ × ℕ)) → T (is_sorted nat_cmp es) → ((b k : ℕ) → find nat_cmp b es ≡ Some k → P (b, k)) → AllByRecursion P es
 entries_each P es h each = all_of_map P (λ e. e) es (all_rows nat_cmp nat_cmp_total (λ e. e) P es h each)
 
-module _ {X : Type 0} (f g : ℕ × ℕ → X) where
-  rows_over : (h : X → X) → (es : List (ℕ × ℕ)) → AllByRecursion (λ e. g e ≡ h (f e)) es → map g es ≡ map h (map f es)
-  rows_over h [] all = refl
-  rows_over h (e ∷ es) all = λ i. all.0 i ∷ rows_over h es all.1 i
-
-  rows_alike : (es : List (ℕ × ℕ)) → AllByRecursion (λ e. g e ≡ f e) es → map g es ≡ map f es
-  rows_alike [] all = refl
-  rows_alike (e ∷ es) all = λ i. all.0 i ∷ rows_alike es all.1 i
-
-  rows_without : (p q : X → Bool) → (es : List (ℕ × ℕ)) → AllByRecursion (λ e. (p (g e) ≡ q (f e)) × (q (f e) ≡ true → g e ≡ f e)) es → filter p (map g es) ≡ filter q (map f es)
-  rows_without p q [] all = refl
-  rows_without p q (e ∷ es) all =
-      ap (λ b. cond b (g e ∷ filter p (map g es)) (filter p (map g es))) all.0.0
-      ∙ elim (q (f e)) as (λ b. (b ≡ true → g e ≡ f e) → cond b (g e ∷ filter p (map g es)) (filter p (map g es)) ≡ cond b (f e ∷ filter q (map f es)) (filter q (map f es))) [
-        | true ↦ λ alike. λ i. alike refl i ∷ rows_without p q es all.1 i
-        | false ↦ λ alike. rows_without p q es all.1
-      ] all.0.1
-
--- the record at a place of a rising list is the only one of its birth
-pub removed_at : {X : Type 0} (birth : X → ℕ) → (xs : List X) (i : ℕ) (x : X) → InOrder (λ x y. birth x < birth y) xs → slice_get xs i ≡ Some x → filter (λ y. not (birth y == birth x)) xs ≡ remove xs i
-removed_at birth [] i x rise at = absurd (none_some x at)
-removed_at {X = X} birth (y ∷ ys) zero x rise at =
+-- the record at a place of a rising list is the only one of its step number
+pub removed_at : {X : Type 0} (step_number : X → ℕ) → (xs : List X) (i : ℕ) (x : X) → InOrder (λ x y. step_number x < step_number y) xs → slice_get xs i ≡ Some x → filter (λ y. not (step_number y == step_number x)) xs ≡ remove xs i
+removed_at step_number [] i x rise at = absurd (none-some x at)
+removed_at {X = X} step_number (y ∷ ys) zero x rise at =
     let is : y ≡ x = let s : Some y ≡ Some x = at in cc in
-    ap (λ b. cond (not b) (y ∷ filter (λ z. not (birth z == birth x)) ys) (filter (λ z. not (birth z == birth x)) ys)) (same (birth y) (birth x) (ap birth is))
-    ∙ all ys (subst (λ z. AllByRecursion (λ u. birth z < birth u) ys) is rise.0)
+    ap (λ b. cond (not b) (y ∷ filter (λ z. not (step_number z == step_number x)) ys) (filter (λ z. not (step_number z == step_number x)) ys)) (same (step_number y) (step_number x) (ap step_number is))
+    ∙ all ys (subst (λ z. AllByRecursion (λ u. step_number z < step_number u) ys) is rise.0)
   where
-    all : (zs : List X) → AllByRecursion (λ u. birth x < birth u) zs → filter (λ z. not (birth z == birth x)) zs ≡ zs
+    all : (zs : List X) → AllByRecursion (λ u. step_number x < step_number u) zs → filter (λ z. not (step_number z == step_number x)) zs ≡ zs
     all [] h = refl
-    all (z ∷ zs) h = ap (λ b. cond (not b) (z ∷ filter (λ z. not (birth z == birth x)) zs) (filter (λ z. not (birth z == birth x)) zs)) (differ (birth z) (birth x) (λ e. omega (arith, e, h.0))) ∙ ap (λ l. z ∷ l) (all zs h.1)
-removed_at {X = X} birth (y ∷ ys) (suc i) x rise at =
-    ap (λ b. cond (not b) (y ∷ filter (λ z. not (birth z == birth x)) ys) (filter (λ z. not (birth z == birth x)) ys)) (differ (birth y) (birth x) (λ e. let lt = above ys i rise.0 at in omega (arith, e, lt)))
-    ∙ ap (λ l. y ∷ l) (removed_at birth ys i x rise.1 at)
+    all (z ∷ zs) h = ap (λ b. cond (not b) (z ∷ filter (λ z. not (step_number z == step_number x)) zs) (filter (λ z. not (step_number z == step_number x)) zs)) (differ (step_number z) (step_number x) (λ e. omega (arith, e, h.0))) ∙ ap (λ l. z ∷ l) (all zs h.1)
+removed_at {X = X} step_number (y ∷ ys) (suc i) x rise at =
+    ap (λ b. cond (not b) (y ∷ filter (λ z. not (step_number z == step_number x)) ys) (filter (λ z. not (step_number z == step_number x)) ys)) (differ (step_number y) (step_number x) (λ e. let lt = above ys i rise.0 at in omega (arith, e, lt)))
+    ∙ ap (λ l. y ∷ l) (removed_at step_number ys i x rise.1 at)
   where
-    above : (zs : List X) (j : ℕ) → AllByRecursion (λ u. birth y < birth u) zs → slice_get zs j ≡ Some x → birth y < birth x
-    above [] j h at = absurd (none_some x at)
-    above (z ∷ zs) zero h at = let is : z ≡ x = let s : Some z ≡ Some x = at in cc in subst (λ u. birth y < birth u) is h.0
+    above : (zs : List X) (j : ℕ) → AllByRecursion (λ u. step_number y < step_number u) zs → slice_get zs j ≡ Some x → step_number y < step_number x
+    above [] j h at = absurd (none-some x at)
+    above (z ∷ zs) zero h at = let is : z ≡ x = let s : Some z ≡ Some x = at in cc in subst (λ u. step_number y < step_number u) is h.0
     above (z ∷ zs) (suc j) h at = above zs j h.1 at
 
-module _ {X : Type 0} (key birth : X → ℕ) (nothing : X) where
+module _ {X : Type 0} (key step_number : X → ℕ) (nothing : X) where
   abbrev row : Slab X → ℕ × ℕ → X
   row slab e = unwrap_or (get slab e.1) nothing
 
   abbrev before : X → X → Bool
-  before x y = nat_lt (birth x) (birth y)
+  before x y = nat_lt (step_number x) (step_number y)
 
   find_absent : (p : X → Bool) (f : ℕ × ℕ → X) (es : List (ℕ × ℕ)) → AllByRecursion (λ e. p (f e) ≡ false) es → find_row p (map f es) ≡ None
   find_absent p f [] all = refl
@@ -105,7 +55,7 @@ module _ {X : Type 0} (key birth : X → ℕ) (nothing : X) where
 
   -- the first that passes, where those that pass are all one
   find_present : (p : X → Bool) (f : ℕ × ℕ → X) (x : X) (b k : ℕ) → (es : List (ℕ × ℕ)) → AllByRecursion (λ e. p (f e) ≡ true → f e ≡ x) es → find nat_cmp b es ≡ Some k → p (f (b, k)) ≡ true → find_row p (map f es) ≡ Some x
-  find_present p f x b k [] all found passes = absurd (none_some k found)
+  find_present p f x b k [] all found passes = absurd (none-some k found)
   find_present p f x b k (e ∷ es) all found passes =
       elim (p (f e)) as (λ t. p (f e) ≡ t → cond t (Some (f e)) (find_row p (map f es)) ≡ Some x) [
         | true ↦ λ is. ap Some (all.0 is)
@@ -125,10 +75,10 @@ module _ {X : Type 0} (key birth : X → ℕ) (nothing : X) where
   none_in_empty slab =
       ap (rows_in nothing slab) (same_entries nat_cmp nat_cmp_total nat_cmp-IsAntisymmetric (fin.entries fin.empty) [] (fin.entries_sorted fin.empty) tt (λ q. sym (fin.get-entries fin.empty q) ∙ fin.get-empty nat_cmp q))
 
-  pub keyed_empty : (slab : Slab X) → ((k : ℕ) → get slab k ≡ None) → IsKeyed key birth fin.empty slab
+  pub keyed_empty : (slab : Slab X) → ((k : ℕ) → get slab k ≡ None) → IsKeyed key step_number fin.empty slab
   keyed_empty slab none = record {
-    record_of = λ b k at. absurd (none_some k (sym (fin.get-empty nat_cmp b) ∙ at));
-    key_of = λ k x at. absurd (none_some x (sym (none k) ∙ at));
+    record_of = λ b k at. absurd (none-some k (sym (fin.get-empty nat_cmp b) ∙ at));
+    key_of = λ k x at. absurd (none-some x (sym (none k) ∙ at));
   }
 
   -- what a slab becomes whose room was made before
@@ -138,7 +88,7 @@ module _ {X : Type 0} (key birth : X → ℕ) (nothing : X) where
     others = λ o differs. up.others o (λ e. differs (e ∙ key)) ∙ ap (λ s. get s o) is;
   }
 
-  module _ (keys : fin.FinMap nat_cmp ℕ) (slab : Slab X) (keyed : IsKeyed key birth keys slab) where
+  module _ (keys : fin.FinMap nat_cmp ℕ) (slab : Slab X) (keyed : IsKeyed key step_number keys slab) where
     abbrev es : List (ℕ × ℕ)
     es = fin.entries keys
 
@@ -148,87 +98,87 @@ module _ {X : Type 0} (key birth : X → ℕ) (nothing : X) where
     by_get : (P : ℕ × ℕ → Type 0) → ((b k : ℕ) → fin.get keys b ≡ Some k → P (b, k)) → AllByRecursion P es
     by_get P each = entries_each P es (fin.entries_sorted keys) (λ b k found. each b k (fin.get-entries keys b ∙ found))
 
-    -- the row of a birth and its key
+    -- the row of a step number and its key
     row_is : (b k : ℕ) → fin.get keys b ≡ Some k → (x : X) → get slab k ≡ Some x → row slab (b, k) ≡ x
     row_is b k at x there = ap (λ o. unwrap_or o nothing) there
 
-    row_birth : (b k : ℕ) → fin.get keys b ≡ Some k → birth (row slab (b, k)) ≡ b
-    row_birth b k at = let w = keyed.record_of b k at in ap birth (row_is b k at w.0 w.1) ∙ w.2
+    row_step_number : (b k : ℕ) → fin.get keys b ≡ Some k → step_number (row slab (b, k)) ≡ b
+    row_step_number b k at = let w = keyed.record_of b k at in ap step_number (row_is b k at w.0 w.1) ∙ w.2
 
     row_key : (b k : ℕ) → fin.get keys b ≡ Some k → key (row slab (b, k)) ≡ k
     row_key b k at = let w = keyed.record_of b k at in ap key (row_is b k at w.0 w.1) ∙ w.3
 
-    -- two births have two keys
-    one_birth : (b c k : ℕ) → fin.get keys b ≡ Some k → fin.get keys c ≡ Some k → b ≡ c
-    one_birth b c k at too = sym (row_birth b k at) ∙ row_birth c k too
+    -- two step numbers have two keys
+    one_step_number : (b c k : ℕ) → fin.get keys b ≡ Some k → fin.get keys c ≡ Some k → b ≡ c
+    one_step_number b c k at too = sym (row_step_number b k at) ∙ row_step_number c k too
 
-    birth_of : (b k : ℕ) (x : X) → fin.get keys b ≡ Some k → get slab k ≡ Some x → birth x ≡ b
-    birth_of b k x at there = sym (ap birth (row_is b k at x there)) ∙ row_birth b k at
+    step_number_of : (b k : ℕ) (x : X) → fin.get keys b ≡ Some k → get slab k ≡ Some x → step_number x ≡ b
+    step_number_of b k x at there = sym (ap step_number (row_is b k at x there)) ∙ row_step_number b k at
 
     abbrev Tells : ℕ × ℕ → Type 0
-    Tells e = (birth (row slab e) ≡ e.0) × (key (row slab e) ≡ e.1) × (fin.get keys e.0 ≡ Some e.1)
+    Tells e = (step_number (row slab e) ≡ e.0) × (key (row slab e) ≡ e.1) × (fin.get keys e.0 ≡ Some e.1)
 
     tells : AllByRecursion Tells es
-    tells = by_get Tells (λ b k at. (row_birth b k at, row_key b k at, at))
+    tells = by_get Tells (λ b k at. (row_step_number b k at, row_key b k at, at))
 
-    in_order : (fs : List (ℕ × ℕ)) → T (is_sorted nat_cmp fs) → AllByRecursion Tells fs → InOrder (λ x y. birth x < birth y) (rows_in nothing slab fs) × InOrder (λ x y. (key x == key y) ≡ false) (rows_in nothing slab fs)
+    in_order : (fs : List (ℕ × ℕ)) → T (is_sorted nat_cmp fs) → AllByRecursion Tells fs → InOrder (λ x y. step_number x < step_number y) (rows_in nothing slab fs) × InOrder (λ x y. (key x == key y) ≡ false) (rows_in nothing slab fs)
     in_order [] h all = (tt, tt)
     in_order (e ∷ fs) h all =
         let more = in_order fs (right _ _ h) all.1 in
-        ((births fs (left _ _ h) all.1, more.0), (others fs (left _ _ h) all.1, more.1))
+        ((step_numbers fs (left _ _ h) all.1, more.0), (others fs (left _ _ h) all.1, more.1))
       where
-        births : (gs : List (ℕ × ℕ)) → T (below_all nat_cmp e.0 gs) → AllByRecursion Tells gs → AllByRecursion (λ y. birth (row slab e) < birth y) (rows_in nothing slab gs)
-        births [] b a = tt
-        births (g ∷ gs) b a = (let lt = less_of e.0 g.0 (left _ _ b) in omega (arith, lt, all.0.0, a.0.0), births gs (right _ _ b) a.1)
+        step_numbers : (gs : List (ℕ × ℕ)) → T (below_all nat_cmp e.0 gs) → AllByRecursion Tells gs → AllByRecursion (λ y. step_number (row slab e) < step_number y) (rows_in nothing slab gs)
+        step_numbers [] b a = tt
+        step_numbers (g ∷ gs) b a = (let lt = less_of e.0 g.0 (left _ _ b) in omega (arith, lt, all.0.0, a.0.0), step_numbers gs (right _ _ b) a.1)
 
         others : (gs : List (ℕ × ℕ)) → T (below_all nat_cmp e.0 gs) → AllByRecursion Tells gs → AllByRecursion (λ y. (key (row slab e) == key y) ≡ false) (rows_in nothing slab gs)
         others [] b a = tt
         others (g ∷ gs) b a = (
           differ (key (row slab e)) (key (row slab g)) (λ is.
               let alike : e.1 ≡ g.1 = sym all.0.1 ∙ is ∙ a.0.1 in
-              let births : e.0 ≡ g.0 = one_birth e.0 g.0 g.1 (all.0.2 ∙ ap Some alike) a.0.2 in
-              let lt = less_of e.0 g.0 (left _ _ b) in omega (arith, births, lt)),
+              let step_numbers : e.0 ≡ g.0 = one_step_number e.0 g.0 g.1 (all.0.2 ∙ ap Some alike) a.0.2 in
+              let lt = less_of e.0 g.0 (left _ _ b) in omega (arith, step_numbers, lt)),
           others gs (right _ _ b) a.1,
         )
 
-    -- births rise, and keys differ
-    pub rise : InOrder (λ x y. birth x < birth y) rows
+    -- step numbers rise, and keys differ
+    pub rise : InOrder (λ x y. step_number x < step_number y) rows
     rise = (in_order es (fin.entries_sorted keys) tells).0
 
     pub keys_differ : InOrder (λ x y. (key x == key y) ≡ false) rows
     keys_differ = (in_order es (fin.entries_sorted keys) tells).1
 
-    -- the record of a key, and that of a birth
+    -- the record of a key, and that of a step number
 
     pub by_key : (k : ℕ) → find_row (λ x. key x == k) rows ≡ get slab k
     by_key k =
         elim (get slab k) as (λ o. get slab k ≡ o → find_row (λ x. key x == k) rows ≡ o) [
           | None ↦ λ none. find_absent (λ x. key x == k) (row slab) es (by_get (λ e. (key (row slab e) == k) ≡ false) (λ b n at. differ (key (row slab (b, n))) k (λ is.
-              let w = keyed.record_of b n at in none_some w.0 (sym none ∙ ap (get slab) (sym (sym (row_key b n at) ∙ is)) ∙ w.1))))
+              let w = keyed.record_of b n at in none-some w.0 (sym none ∙ ap (get slab) (sym (sym (row_key b n at) ∙ is)) ∙ w.1))))
           | Some x ↦ λ some.
               let at = (keyed.key_of k x some).1 in
-              find_present (λ x. key x == k) (row slab) x (birth x) k es
+              find_present (λ x. key x == k) (row slab) x (step_number x) k es
               (by_get (λ e. (key (row slab e) == k) ≡ true → row slab e ≡ x) (λ b n at is. row_is b n at x (ap (get slab) (sym (row_key b n at) ∙ eqb-true _ k is) ∙ some)))
-              (sym (fin.get-entries keys (birth x)) ∙ at) (same _ k (row_key (birth x) k at))
+              (sym (fin.get-entries keys (step_number x)) ∙ at) (same _ k (row_key (step_number x) k at))
         ] refl
 
-    pub by_birth : (b : ℕ) → find_row (λ x. birth x == b) rows ≡ option_and_then (get slab) (fin.get keys b)
-    by_birth b =
-        elim (fin.get keys b) as (λ o. fin.get keys b ≡ o → find_row (λ x. birth x == b) rows ≡ option_and_then (get slab) o) [
-          | None ↦ λ none. find_absent (λ x. birth x == b) (row slab) es (by_get (λ e. (birth (row slab e) == b) ≡ false) (λ c n at. differ (birth (row slab (c, n))) b (λ is.
-              none_some n (sym none ∙ ap (fin.get keys) (sym (sym (row_birth c n at) ∙ is)) ∙ at))))
+    pub by_step_number : (b : ℕ) → find_row (λ x. step_number x == b) rows ≡ option_and_then (get slab) (fin.get keys b)
+    by_step_number b =
+        elim (fin.get keys b) as (λ o. fin.get keys b ≡ o → find_row (λ x. step_number x == b) rows ≡ option_and_then (get slab) o) [
+          | None ↦ λ none. find_absent (λ x. step_number x == b) (row slab) es (by_get (λ e. (step_number (row slab e) == b) ≡ false) (λ c n at. differ (step_number (row slab (c, n))) b (λ is.
+              none-some n (sym none ∙ ap (fin.get keys) (sym (sym (row_step_number c n at) ∙ is)) ∙ at))))
           | Some k ↦ λ at.
               let w = keyed.record_of b k at in
-              find_present (λ x. birth x == b) (row slab) w.0 b k es
-              (by_get (λ e. (birth (row slab e) == b) ≡ true → row slab e ≡ w.0) (λ c n too is.
-              let births : c ≡ b = sym (row_birth c n too) ∙ eqb-true _ b is in
-              let alike : n ≡ k = ap (λ o. unwrap_or o 0) (sym too ∙ ap (fin.get keys) births ∙ at) in
+              find_present (λ x. step_number x == b) (row slab) w.0 b k es
+              (by_get (λ e. (step_number (row slab e) == b) ≡ true → row slab e ≡ w.0) (λ c n too is.
+              let step_numbers : c ≡ b = sym (row_step_number c n too) ∙ eqb-true _ b is in
+              let alike : n ≡ k = ap (λ o. unwrap_or o 0) (sym too ∙ ap (fin.get keys) step_numbers ∙ at) in
               row_is c n too w.0 (ap (get slab) alike ∙ w.1)))
-              (sym (fin.get-entries keys b) ∙ at) (same _ b (row_birth b k at)) ∙ sym w.1
+              (sym (fin.get-entries keys b) ∙ at) (same _ b (row_step_number b k at)) ∙ sym w.1
         ] refl
 
-    pub at_place : (i : ℕ) → option_and_then (λ b. option_and_then (get slab) (fin.get keys b)) (slice_get (fin.keys keys) i) ≡ slice_get rows i
-    at_place i = each (slice_get (fin.keys keys) i) ∙ row_at keys 0 (row slab) i
+    pub at_position : (i : ℕ) → option_and_then (λ b. option_and_then (get slab) (fin.get keys b)) (slice_get (fin.keys keys) i) ≡ slice_get rows i
+    at_position i = each (slice_get (fin.keys keys) i) ∙ row_at keys 0 (row slab) i
       where
         inner : (b : ℕ) (k : Option ℕ) → fin.get keys b ≡ k → option_and_then (get slab) k ≡ option_map (λ n. row slab (b, n)) k
         inner b None at = refl
@@ -241,24 +191,24 @@ module _ {X : Type 0} (key birth : X → ℕ) (nothing : X) where
     pub many : length rows ≡ fin.len keys
     many = rows_length keys 0 (row slab)
 
-    -- a new birth has no key
-    pub vacant : (n : ℕ) → AllByRecursion (λ x. birth x < n) rows → fin.get keys n ≡ None
+    -- a new step number has no key
+    pub vacant : (n : ℕ) → AllByRecursion (λ x. step_number x < n) rows → fin.get keys n ≡ None
     vacant n newest = fin.get-entries keys n ∙ none es tells newest
       where
-        none : (fs : List (ℕ × ℕ)) → AllByRecursion Tells fs → AllByRecursion (λ x. birth x < n) (rows_in nothing slab fs) → find nat_cmp n fs ≡ None
+        none : (fs : List (ℕ × ℕ)) → AllByRecursion Tells fs → AllByRecursion (λ x. step_number x < n) (rows_in nothing slab fs) → find nat_cmp n fs ≡ None
         none [] t h = refl
         none (f ∷ fs) t h = ap (λ b. cond b (Some f.1) (find nat_cmp n fs)) (sym (same_test n f.0) ∙ differ f.0 n (λ e. omega (arith, e, h.0, t.0.0))) ∙ none fs t.1 h.1
 
     -- a new record under a key that had none
-    module _ (n k : ℕ) (x : X) (new : Slab X) (is_birth : birth x ≡ n) (is_key : key x ≡ k) (free : get slab k ≡ None) (up : Updates slab new k (Some x))
-        (newest : AllByRecursion (λ y. birth y < n) rows) where
+    module _ (n k : ℕ) (x : X) (new : Slab X) (is_step_number : step_number x ≡ n) (is_key : key x ≡ k) (free : get slab k ≡ None) (up : Updates slab new k (Some x))
+        (newest : AllByRecursion (λ y. step_number y < n) rows) where
       other_key : (b j : ℕ) → fin.get keys b ≡ Some j → j ≢ k
-      other_key b j at e = let w = keyed.record_of b j at in none_some w.0 (sym free ∙ ap (get slab) (sym e) ∙ w.1)
+      other_key b j at e = let w = keyed.record_of b j at in none-some w.0 (sym free ∙ ap (get slab) (sym e) ∙ w.1)
 
       unmoved : rows_in nothing new es ≡ rows
       unmoved = rows_alike (row slab) (row new) es (by_get (λ e. row new e ≡ row slab e) (λ b j at. ap (λ o. unwrap_or o nothing) (up.others j (other_key b j at))))
 
-      last : (fs : List (ℕ × ℕ)) → AllByRecursion (λ e. (birth (row slab e) < n) × (birth (row slab e) ≡ e.0)) fs → put nat_cmp n k fs ≡ fs ++ (n, k) ∷ []
+      last : (fs : List (ℕ × ℕ)) → AllByRecursion (λ e. (step_number (row slab e) < n) × (step_number (row slab e) ≡ e.0)) fs → put nat_cmp n k fs ≡ fs ++ (n, k) ∷ []
       last [] h = refl
       last (f ∷ fs) h =
           ap (λ r. by_order r ((n, k) ∷ f ∷ fs) ((f.0, k) ∷ fs) (f ∷ put nat_cmp n k fs)) (greater n f.0 (omega (arith, h.0.0, h.0.1)))
@@ -273,7 +223,7 @@ module _ {X : Type 0} (key birth : X → ℕ) (nothing : X) where
           ∙ map_pushed (row new) es (n, k)
           ∙ (λ i. unmoved i ++ unwrap_or (up.changed i) nothing ∷ [])
         where
-          both : (fs : List (ℕ × ℕ)) → AllByRecursion Tells fs → AllByRecursion (λ y. birth y < n) (rows_in nothing slab fs) → AllByRecursion (λ e. (birth (row slab e) < n) × (birth (row slab e) ≡ e.0)) fs
+          both : (fs : List (ℕ × ℕ)) → AllByRecursion Tells fs → AllByRecursion (λ y. step_number y < n) (rows_in nothing slab fs) → AllByRecursion (λ e. (step_number (row slab e) < n) × (step_number (row slab e) ≡ e.0)) fs
           both [] t h = tt
           both (f ∷ fs) t h = ((h.0, t.0.0), both fs t.1 h.1)
 
@@ -281,119 +231,119 @@ module _ {X : Type 0} (key birth : X → ℕ) (nothing : X) where
           map_pushed f [] y = refl
           map_pushed f (z ∷ zs) y = ap (λ l. f z ∷ l) (map_pushed f zs y)
 
-      pub created_keyed : IsKeyed key birth (fin.insert keys n k) new
+      pub created_keyed : IsKeyed key step_number (fin.insert keys n k) new
       created_keyed = record {
         record_of = λ b j at.
-            elim (b == n) as (λ t. (b == n) ≡ t → (y : X) × (get new j ≡ Some y) × (birth y ≡ b) × (key y ≡ j)) [
+            elim (b == n) as (λ t. (b == n) ≡ t → (y : X) × (get new j ≡ Some y) × (step_number y ≡ b) × (key y ≡ j)) [
               | true ↦ λ e.
                   let alike : b ≡ n = eqb-true b n e in
                   let keys_alike : k ≡ j = ap (λ o. unwrap_or o 0) (sym (insert_same keys n k) ∙ ap (fin.get (fin.insert keys n k)) (sym alike) ∙ at) in
-                  (x, ap (get new) (sym keys_alike) ∙ up.changed, is_birth ∙ sym alike, is_key ∙ keys_alike)
+                  (x, ap (get new) (sym keys_alike) ∙ up.changed, is_step_number ∙ sym alike, is_key ∙ keys_alike)
               | false ↦ λ differs.
                   let old : fin.get keys b ≡ Some j = sym (insert_other keys n k b (apart b n differs)) ∙ at in
                   let w = keyed.record_of b j old in
                   (w.0, up.others j (other_key b j old) ∙ w.1, w.2, w.3)
             ] refl;
         key_of = λ j y at.
-            elim (j == k) as (λ t. (j == k) ≡ t → (key y ≡ j) × (fin.get (fin.insert keys n k) (birth y) ≡ Some j)) [
+            elim (j == k) as (λ t. (j == k) ≡ t → (key y ≡ j) × (fin.get (fin.insert keys n k) (step_number y) ≡ Some j)) [
               | true ↦ λ e.
                   let alike : j ≡ k = eqb-true j k e in
                   let is_y : x ≡ y = ap (λ o. unwrap_or o nothing) (sym up.changed ∙ ap (get new) (sym alike) ∙ at) in
-                  (ap key (sym is_y) ∙ is_key ∙ sym alike, ap (fin.get (fin.insert keys n k)) (ap birth (sym is_y) ∙ is_birth) ∙ insert_same keys n k ∙ ap Some (sym alike))
+                  (ap key (sym is_y) ∙ is_key ∙ sym alike, ap (fin.get (fin.insert keys n k)) (ap step_number (sym is_y) ∙ is_step_number) ∙ insert_same keys n k ∙ ap Some (sym alike))
               | false ↦ λ differs.
                   let w = keyed.key_of j y (sym (up.others j (apart j k differs)) ∙ at) in
-                  (w.0, insert_other keys n k (birth y) (λ e. none_some j (sym (vacant n newest) ∙ ap (fin.get keys) (sym e) ∙ w.1)) ∙ w.1)
+                  (w.0, insert_other keys n k (step_number y) (λ e. none-some j (sym (vacant n newest) ∙ ap (fin.get keys) (sym e) ∙ w.1)) ∙ w.1)
             ] refl;
       }
 
-    -- another value in the place of a record, of the same key and birth
-    module _ (k : ℕ) (x : X) (g : X → X) (new : Slab X) (there : get slab k ≡ Some x) (same_birth : birth (g x) ≡ birth x) (same_key : key (g x) ≡ key x) (up : Updates slab new k (Some (g x))) where
+    -- another value in the place of a record, of the same key and step number
+    module _ (k : ℕ) (x : X) (g : X → X) (new : Slab X) (there : get slab k ≡ Some x) (same_step_number : step_number (g x) ≡ step_number x) (same_key : key (g x) ≡ key x) (up : Updates slab new k (Some (g x))) where
       x_key : key x ≡ k
       x_key = (keyed.key_of k x there).0
 
-      x_at : fin.get keys (birth x) ≡ Some k
+      x_at : fin.get keys (step_number x) ≡ Some k
       x_at = (keyed.key_of k x there).1
 
-      pub replaced : rows_in nothing new es ≡ map (λ z. if birth z == birth x then g z else z) rows
-      replaced = rows_over (row slab) (row new) (λ z. if birth z == birth x then g z else z) es (by_get (λ e. row new e ≡ (if birth (row slab e) == birth x then g (row slab e) else row slab e)) each)
+      pub replaced : rows_in nothing new es ≡ map (λ z. if step_number z == step_number x then g z else z) rows
+      replaced = rows_over (row slab) (row new) (λ z. if step_number z == step_number x then g z else z) es (by_get (λ e. row new e ≡ (if step_number (row slab e) == step_number x then g (row slab e) else row slab e)) each)
         where
-          each : (c n : ℕ) → fin.get keys c ≡ Some n → row new (c, n) ≡ (if birth (row slab (c, n)) == birth x then g (row slab (c, n)) else row slab (c, n))
+          each : (c n : ℕ) → fin.get keys c ≡ Some n → row new (c, n) ≡ (if step_number (row slab (c, n)) == step_number x then g (row slab (c, n)) else row slab (c, n))
           each c n at =
-              elim (n == k) as (λ t. (n == k) ≡ t → row new (c, n) ≡ (if birth (row slab (c, n)) == birth x then g (row slab (c, n)) else row slab (c, n))) [
+              elim (n == k) as (λ t. (n == k) ≡ t → row new (c, n) ≡ (if step_number (row slab (c, n)) == step_number x then g (row slab (c, n)) else row slab (c, n))) [
                 | true ↦ λ e.
                     let alike : n ≡ k = eqb-true n k e in
                     let old : row slab (c, n) ≡ x = row_is c n at x (ap (get slab) alike ∙ there) in
                     ap (λ o. unwrap_or o nothing) (ap (get new) alike ∙ up.changed) ∙ ap g (sym old)
-                    ∙ ap (λ t. if t then g (row slab (c, n)) else row slab (c, n)) (sym (same (birth (row slab (c, n))) (birth x) (ap birth old)))
+                    ∙ ap (λ t. if t then g (row slab (c, n)) else row slab (c, n)) (sym (same (step_number (row slab (c, n))) (step_number x) (ap step_number old)))
                 | false ↦ λ differs.
                     ap (λ o. unwrap_or o nothing) (up.others n (apart n k differs))
-                    ∙ ap (λ t. if t then g (row slab (c, n)) else row slab (c, n)) (sym (differ (birth (row slab (c, n))) (birth x) (λ e.
-                    apart n k differs (ap (λ o. unwrap_or o 0) (sym at ∙ ap (fin.get keys) (sym (row_birth c n at) ∙ e) ∙ x_at)))))
+                    ∙ ap (λ t. if t then g (row slab (c, n)) else row slab (c, n)) (sym (differ (step_number (row slab (c, n))) (step_number x) (λ e.
+                    apart n k differs (ap (λ o. unwrap_or o 0) (sym at ∙ ap (fin.get keys) (sym (row_step_number c n at) ∙ e) ∙ x_at)))))
               ] refl
 
-      pub replaced_keyed : IsKeyed key birth keys new
+      pub replaced_keyed : IsKeyed key step_number keys new
       replaced_keyed = record {
         record_of = λ b j at.
-            elim (j == k) as (λ t. (j == k) ≡ t → (y : X) × (get new j ≡ Some y) × (birth y ≡ b) × (key y ≡ j)) [
+            elim (j == k) as (λ t. (j == k) ≡ t → (y : X) × (get new j ≡ Some y) × (step_number y ≡ b) × (key y ≡ j)) [
               | true ↦ λ e.
                   let alike : j ≡ k = eqb-true j k e in
-                  (g x, ap (get new) alike ∙ up.changed, same_birth ∙ birth_of b j x at (ap (get slab) alike ∙ there), same_key ∙ x_key ∙ sym alike)
+                  (g x, ap (get new) alike ∙ up.changed, same_step_number ∙ step_number_of b j x at (ap (get slab) alike ∙ there), same_key ∙ x_key ∙ sym alike)
               | false ↦ λ differs. let w = keyed.record_of b j at in (w.0, up.others j (apart j k differs) ∙ w.1, w.2, w.3)
             ] refl;
         key_of = λ j y at.
-            elim (j == k) as (λ t. (j == k) ≡ t → (key y ≡ j) × (fin.get keys (birth y) ≡ Some j)) [
+            elim (j == k) as (λ t. (j == k) ≡ t → (key y ≡ j) × (fin.get keys (step_number y) ≡ Some j)) [
               | true ↦ λ e.
                   let alike : j ≡ k = eqb-true j k e in
                   let is_y : g x ≡ y = ap (λ o. unwrap_or o nothing) (sym up.changed ∙ ap (get new) (sym alike) ∙ at) in
-                  (ap key (sym is_y) ∙ same_key ∙ x_key ∙ sym alike, ap (fin.get keys) (ap birth (sym is_y) ∙ same_birth) ∙ x_at ∙ ap Some (sym alike))
+                  (ap key (sym is_y) ∙ same_key ∙ x_key ∙ sym alike, ap (fin.get keys) (ap step_number (sym is_y) ∙ same_step_number) ∙ x_at ∙ ap Some (sym alike))
               | false ↦ λ differs. keyed.key_of j y (sym (up.others j (apart j k differs)) ∙ at)
             ] refl;
       }
 
-    -- a record goes, with the key of its birth
+    -- a record goes, with the key of its step number
     module _ (k : ℕ) (x : X) (new : Slab X) (there : get slab k ≡ Some x) (up : Updates slab new k None) where
-      gone_at : fin.get keys (birth x) ≡ Some k
+      gone_at : fin.get keys (step_number x) ≡ Some k
       gone_at = (keyed.key_of k x there).1
 
       abbrev Fact : ℕ × ℕ → Type 0
-      Fact e = (birth (row slab e) ≡ e.0) × ((e.0 ≡ birth x → ⊥) → row new e ≡ row slab e)
+      Fact e = (step_number (row slab e) ≡ e.0) × ((e.0 ≡ step_number x → ⊥) → row new e ≡ row slab e)
 
-      key_is : (c n : ℕ) → fin.get keys c ≡ Some n → c ≡ birth x → n ≡ k
+      key_is : (c n : ℕ) → fin.get keys c ≡ Some n → c ≡ step_number x → n ≡ k
       key_is c n at e = ap (λ o. unwrap_or o 0) (sym at ∙ ap (fin.get keys) e ∙ gone_at)
 
-      pub removed : rows_in nothing new (fin.entries (fin.remove keys (birth x))) ≡ filter (λ z. not (birth z == birth x)) rows
-      removed = ap (rows_in nothing new) (entries_removed keys (birth x)) ∙ by_list es (by_get Fact each)
+      pub removed : rows_in nothing new (fin.entries (fin.remove keys (step_number x))) ≡ filter (λ z. not (step_number z == step_number x)) rows
+      removed = ap (rows_in nothing new) (entries_removed keys (step_number x)) ∙ by_list es (by_get Fact each)
         where
           each : (c n : ℕ) → fin.get keys c ≡ Some n → Fact (c, n)
-          each c n at = (row_birth c n at, λ other. ap (λ o. unwrap_or o nothing) (up.others n (λ e. other (sym (birth_of c n x at (ap (get slab) e ∙ there))))))
+          each c n at = (row_step_number c n at, λ other. ap (λ o. unwrap_or o nothing) (up.others n (λ e. other (sym (step_number_of c n x at (ap (get slab) e ∙ there))))))
 
-          by_list : (fs : List (ℕ × ℕ)) → AllByRecursion Fact fs → map (row new) (where_key nat_cmp (λ q. not (eq_by_cmp nat_cmp (birth x) q)) fs) ≡ filter (λ z. not (birth z == birth x)) (map (row slab) fs)
+          by_list : (fs : List (ℕ × ℕ)) → AllByRecursion Fact fs → map (row new) (where_key nat_cmp (λ q. not (eq_by_cmp nat_cmp (step_number x) q)) fs) ≡ filter (λ z. not (step_number z == step_number x)) (map (row slab) fs)
           by_list [] h = refl
           by_list (f ∷ fs) h =
-              let kept = where_key nat_cmp (λ q. not (eq_by_cmp nat_cmp (birth x) q)) fs in
-              let stay = filter (λ z. not (birth z == birth x)) (map (row slab) fs) in
-              ap (λ t. map (row new) (cond (not t) (f ∷ kept) kept)) (sym (same_test (birth x) f.0))
-              ∙ elim (f.0 == birth x) as (λ t. (f.0 == birth x) ≡ t → map (row new) (cond (not t) (f ∷ kept) kept) ≡ cond (not t) (row slab f ∷ stay) stay) [
+              let kept = where_key nat_cmp (λ q. not (eq_by_cmp nat_cmp (step_number x) q)) fs in
+              let stay = filter (λ z. not (step_number z == step_number x)) (map (row slab) fs) in
+              ap (λ t. map (row new) (cond (not t) (f ∷ kept) kept)) (sym (same_test (step_number x) f.0))
+              ∙ elim (f.0 == step_number x) as (λ t. (f.0 == step_number x) ≡ t → map (row new) (cond (not t) (f ∷ kept) kept) ≡ cond (not t) (row slab f ∷ stay) stay) [
                 | true ↦ λ e. by_list fs h.1
-                | false ↦ λ differs. λ i. h.0.1 (apart f.0 (birth x) differs) i ∷ by_list fs h.1 i
+                | false ↦ λ differs. λ i. h.0.1 (apart f.0 (step_number x) differs) i ∷ by_list fs h.1 i
               ] refl
-              ∙ ap (λ n. cond (not (n == birth x)) (row slab f ∷ stay) stay) (sym h.0.0)
+              ∙ ap (λ n. cond (not (n == step_number x)) (row slab f ∷ stay) stay) (sym h.0.0)
 
-      pub removed_keyed : IsKeyed key birth (fin.remove keys (birth x)) new
+      pub removed_keyed : IsKeyed key step_number (fin.remove keys (step_number x)) new
       removed_keyed = record {
         record_of = λ b j at.
-            elim (b == birth x) as (λ t. (b == birth x) ≡ t → (y : X) × (get new j ≡ Some y) × (birth y ≡ b) × (key y ≡ j)) [
-              | true ↦ λ e. absurd (none_some j (sym (remove_same keys (birth x)) ∙ ap (fin.get (fin.remove keys (birth x))) (sym (eqb-true b (birth x) e)) ∙ at))
+            elim (b == step_number x) as (λ t. (b == step_number x) ≡ t → (y : X) × (get new j ≡ Some y) × (step_number y ≡ b) × (key y ≡ j)) [
+              | true ↦ λ e. absurd (none-some j (sym (remove_same keys (step_number x)) ∙ ap (fin.get (fin.remove keys (step_number x))) (sym (eqb-true b (step_number x) e)) ∙ at))
               | false ↦ λ differs.
-                  let old : fin.get keys b ≡ Some j = sym (remove_other keys (birth x) b (apart b (birth x) differs)) ∙ at in
+                  let old : fin.get keys b ≡ Some j = sym (remove_other keys (step_number x) b (apart b (step_number x) differs)) ∙ at in
                   let w = keyed.record_of b j old in
-                  (w.0, up.others j (λ e. apart b (birth x) differs (sym (birth_of b j x old (ap (get slab) e ∙ there)))) ∙ w.1, w.2, w.3)
+                  (w.0, up.others j (λ e. apart b (step_number x) differs (sym (step_number_of b j x old (ap (get slab) e ∙ there)))) ∙ w.1, w.2, w.3)
             ] refl;
         key_of = λ j y at.
-            elim (j == k) as (λ t. (j == k) ≡ t → (key y ≡ j) × (fin.get (fin.remove keys (birth x)) (birth y) ≡ Some j)) [
-              | true ↦ λ e. absurd (none_some y (sym up.changed ∙ ap (get new) (sym (eqb-true j k e)) ∙ at))
+            elim (j == k) as (λ t. (j == k) ≡ t → (key y ≡ j) × (fin.get (fin.remove keys (step_number x)) (step_number y) ≡ Some j)) [
+              | true ↦ λ e. absurd (none-some y (sym up.changed ∙ ap (get new) (sym (eqb-true j k e)) ∙ at))
               | false ↦ λ differs.
                   let w = keyed.key_of j y (sym (up.others j (apart j k differs)) ∙ at) in
-                  (w.0, remove_other keys (birth x) (birth y) (λ e. apart j k differs (key_is (birth y) j w.1 e)) ∙ w.1)
+                  (w.0, remove_other keys (step_number x) (step_number y) (λ e. apart j k differs (key_is (step_number y) j w.1 e)) ∙ w.1)
             ] refl;
       }

@@ -10,17 +10,18 @@ use Rattle.drm_lists.specs.Chains.{top_of, depth_of}
 use Rattle.drm_lists.proofs.Lists.{all_each, all_both, list_any-map, list_any_gives, some_passing}
 use Rattle.drm_lists.proofs.Orders.{same-any}
 use Rattle.drm_lists.proofs.Rising.{found, any_found, all_found}
-use Rattle.drm_files.specs.Files.{is_present}
+use Rattle.drm_files.specs.Files.{is_open_client}
 use Rattle.drm_table.specs.declared.calls.Call.TheVariants.{CreateLease}
 use Rattle.drm_table.specs.declared.events.Event.TheVariants.{Ask}
 use Rattle.drm_table.specs.declared.rules.Rule.TheVariants.{SubLease, NoModeObject, NotLeasable, Repeated, LeaseShape, LeasedOut, Full}
 use Rattle.drm_table.specs.Permit.{check, first_failing}
+use Rattle.drm_modes.specs.LeaseRules.{last_depth}
 use Rattle.drm_modes.specs.Topology.{is_encoder, kind_of, planes_of}
 use Rattle.drm_modes.specs.Modes.{has_framebuffer}
 use Rattle.drm_masters.specs.declared.rows.Master.{Master}
 use Rattle.drm_masters.specs.declared.rows.Member.{Member}
 use Rattle.drm_masters.specs.Masters as masters
-use Rattle.drm_masters.specs.Masters.{is_birth, member_of, is_option}
+use Rattle.drm_masters.specs.Masters.{is_step_number, member_of, is_option}
 use Rattle.drm_leases.specs.declared.rows.Grant.{Grant}
 use Rattle.drm_leases.specs.declared.rows.LeaseToken.{LeaseToken}
 use Rattle.drm_leases.specs.Leases as leases
@@ -29,20 +30,20 @@ use Rattle.drm_leases.specs.Rules as rules
 use Rattle.drm_leases.specs.Rules.{lease_checks}
 use Rattle.drm_model.specs.Rows.{Rows, MasterRow, GrantRow}
 use Rattle.drm_model.specs.Masters.{lessor_of, owner_of}
-use Rattle.drm_model.specs.Magics.{own_master}
+use Rattle.drm_model.specs.Magics.{caller_master}
 use Rattle.drm_model.specs.Leases as model
 use Rattle.drm_model.specs.Sees.{controls}
 use Rattle.drm_model.specs.Calls.{meaning}
 use Rattle.drm_model.specs.Verdict.{admission_checks, verdict}
 use Rattle.drm_state.specs.declared.state.State.{State}
 use Rattle.drm_state.specs.Parts.{master_row_of, masters_of, grant_row_of, grants_of}
-use Rattle.drm_state.specs.Ties.{IsTied, AreOfLessees}
+use Rattle.drm_state.specs.Invariants.{MeetsInvariants, AreOfLessees}
 use Rattle.drm_state.specs.Refinement.{Represents}
 use Rattle.drm_state.specs.Seeing.{has_universal}
 use Rattle.drm_state.proofs.Represented.{bounds_are, masters_are, grants_are, last_lease_token_is, leases_so, tokens_of_lessees}
 use Rattle.drm_state.proofs.Living.{above_is}
 use Rattle.drm_state.proofs.Framing.{framebuffer_is}
-use Rattle.drm_state.proofs.Outcomes.{call_verdict}
+use Rattle.drm_state.proofs.Refinements.{call_verdict}
 use Rattle.drm_state.proofs.Seeing.{topology_is, controls_is, universal_is, seen_is}
 use Rattle.drm_state.proofs.SharedLookups.{or_else_is}
 
@@ -50,30 +51,30 @@ use Rattle.drm_state.proofs.SharedLookups.{or_else_is}
 
 -- a master has the token open where an open token has the number
 token_open : (tokens : List LeaseToken) (ms : List Master) → AreOfLessees tokens ms → AllByRecursion (λ (row : LeaseToken). find (is_token_of row.master) tokens ≡ Some row) tokens → (t : ℕ) →
-    list_any (λ (x : Master). is_option t (token_of tokens x.birth)) ms ≡ list_any (is_token t) tokens
-token_open tokens ms of found_all t = both_ways (list_any (λ (x : Master). is_option t (token_of tokens x.birth)) ms) (list_any (is_token t) tokens) down up
+    list_any (λ (x : Master). is_option t (token_of tokens x.step_number)) ms ≡ list_any (is_token t) tokens
+token_open tokens ms of found_all t = both_ways (list_any (λ (x : Master). is_option t (token_of tokens x.step_number)) ms) (list_any (is_token t) tokens) down up
   where
     by_token : (m : ℕ) (o : Option LeaseToken) → find (is_token_of m) tokens ≡ o → is_option t (option_map (λ (row : LeaseToken). row.token) o) ≡ true → list_any (is_token t) tokens ≡ true
     by_token m None e k = absurd (let n : false ≡ true = k in cc)
     by_token m (Some row) e k = any_found (is_token_of m) (is_token t) row tokens e k
 
-    down : list_any (λ (x : Master). is_option t (token_of tokens x.birth)) ms ≡ true → list_any (is_token t) tokens ≡ true
-    down = list_any_gives (λ (x : Master). is_option t (token_of tokens x.birth)) (list_any (is_token t) tokens) (λ x e. by_token x.birth (find (is_token_of x.birth) tokens) refl e) ms
+    down : list_any (λ (x : Master). is_option t (token_of tokens x.step_number)) ms ≡ true → list_any (is_token t) tokens ≡ true
+    down = list_any_gives (λ (x : Master). is_option t (token_of tokens x.step_number)) (list_any (is_token t) tokens) (λ x e. by_token x.step_number (find (is_token_of x.step_number) tokens) refl e) ms
 
-    by_master : (row : LeaseToken) → find (is_token_of row.master) tokens ≡ Some row → is_token t row ≡ true → (o : Option Master) → find (is_birth row.master) ms ≡ o → is_some (option_and_then (λ (x : Master). x.lessor) o) ≡ true →
-        list_any (λ (x : Master). is_option t (token_of tokens x.birth)) ms ≡ true
+    by_master : (row : LeaseToken) → find (is_token_of row.master) tokens ≡ Some row → is_token t row ≡ true → (o : Option Master) → find (is_step_number row.master) ms ≡ o → is_some (option_and_then (λ (x : Master). x.lessor) o) ≡ true →
+        list_any (λ (x : Master). is_option t (token_of tokens x.step_number)) ms ≡ true
     by_master row its is None e k = absurd (let n : false ≡ true = k in cc)
     by_master row its is (Some x) e k =
-        let num : x.birth ≡ row.master = eqb-true x.birth row.master (found (is_birth row.master) (λ _. Unit {0}) x ms (all_each (λ _. Unit {0}) (λ _. tt) ms) e).0 in
-        any_found (is_birth row.master) (λ (x : Master). is_option t (token_of tokens x.birth)) x ms e (ap (λ n. is_option t (token_of tokens n)) num ∙ ap (λ o. is_option t (option_map (λ (row : LeaseToken). row.token) o)) its ∙ is)
+        let num : x.step_number ≡ row.master = eqb-true x.step_number row.master (found (is_step_number row.master) (λ _. Unit {0}) x ms (all_each (λ _. Unit {0}) (λ _. tt) ms) e).0 in
+        any_found (is_step_number row.master) (λ (x : Master). is_option t (token_of tokens x.step_number)) x ms e (ap (λ n. is_option t (token_of tokens n)) num ∙ ap (λ o. is_option t (option_map (λ (row : LeaseToken). row.token) o)) its ∙ is)
 
-    up : list_any (is_token t) tokens ≡ true → list_any (λ (x : Master). is_option t (token_of tokens x.birth)) ms ≡ true
+    up : list_any (is_token t) tokens ≡ true → list_any (λ (x : Master). is_option t (token_of tokens x.step_number)) ms ≡ true
     up e =
         let it = some_passing (is_token t) (λ (row : LeaseToken). (masters.is_lessee ms row.master ≡ true) × (find (is_token_of row.master) tokens ≡ Some row)) tokens
         (all_both (λ (row : LeaseToken). masters.is_lessee ms row.master ≡ true) (λ (row : LeaseToken). find (is_token_of row.master) tokens ≡ Some row) (λ (row : LeaseToken). (masters.is_lessee ms row.master ≡ true) × (find (is_token_of row.master) tokens ≡ Some row)) (λ row a b. (a, b)) tokens of found_all) e in
-        by_master it.0 it.2.1 it.1 (find (is_birth it.0.master) ms) refl it.2.0
+        by_master it.0 it.2.1 it.1 (find (is_step_number it.0.master) ms) refl it.2.0
 
-module _ (s : State) (w : Rows) (t : IsTied s) (h : Represents s w) where
+module _ (s : State) (w : Rows) (t : MeetsInvariants s) (h : Represents s w) where
   abbrev ms : List Master
   ms = s.masters.masters
 
@@ -96,7 +97,7 @@ module _ (s : State) (w : Rows) (t : IsTied s) (h : Represents s w) where
   lessee_of_is owner id =
       ap (λ rows. list_any (model.is_lessee_of rows owner id) rows) (masters_are s w h)
       ∙ list_any-map (model.is_lessee_of (masters_of s) owner id) (master_row_of s.leases.tokens) ms
-      ∙ (λ i. list_any (λ (x : Master). is_some x.lessor && (x.lessee_id == id) && (top_of (above_is s.leases.tokens ms i) x.birth == owner)) ms)
+      ∙ (λ i. list_any (λ (x : Master). is_some x.lessor && (x.lessee_id == id) && (top_of (above_is s.leases.tokens ms i) x.step_number == owner)) ms)
 
   owner_is : (m : ℕ) → owner_of w.masters m ≡ masters.owner_of ms m
   owner_is m = (λ i. owner_of (masters_are s w h i) m) ∙ (λ i. top_of (above_is s.leases.tokens ms i) m)
@@ -109,22 +110,22 @@ module _ (s : State) (w : Rows) (t : IsTied s) (h : Represents s w) where
   -- ---- how deep a master is
 
   may_lease_is : (m : ℕ) → model.may_lease w.masters m ≡ rules.may_lease ms m
-  may_lease_is m = (λ i. model.may_lease (masters_are s w h i) m) ∙ (λ i. nat_lt (depth_of (above_is s.leases.tokens ms i) m) rules.last_depth)
+  may_lease_is m = (λ i. model.may_lease (masters_are s w h i) m) ∙ (λ i. nat_lt (depth_of (above_is s.leases.tokens ms i) m) last_depth)
 
   -- ---- the ids
 
-  module _ (c : ℕ) (x : Member) (present : is_present s.files c ≡ true) (look : member_of s.masters.members c ≡ Some x) where
+  module _ (c : ℕ) (x : Member) (open_client : is_open_client s.files c ≡ true) (look : member_of s.masters.members c ≡ Some x) where
     seen_here : (k : ℕ) → model.is_seen w c k ≡ rules.is_seen s.leases.grants ms s.modes x.master (has_universal s c) k
     seen_here k =
-        (λ i. (is_some (kind_of (topology_is s w h i) k) && seen_is s w c present h k i) || framebuffer_is s w t h k i)
+        (λ i. (is_some (kind_of (topology_is s w h i) k) && seen_is s w c open_client h k i) || framebuffer_is s w t h k i)
         ∙ ap (λ o. (is_some (kind_of s.modes.topology k) && (is_encoder s.modes.topology k || (option_map_or (λ (y : Member). leases.controls s.leases.grants ms y.master k) o false && rules.is_shown s.modes.topology (has_universal s c) k))) || has_framebuffer s.modes k) look
 
     controlled_here : (k : ℕ) → controls w c k ≡ leases.controls s.leases.grants ms x.master k
-    controlled_here k = controls_is s w c present h k ∙ ap (λ o. option_map_or (λ (y : Member). leases.controls s.leases.grants ms y.master k) o false) look
+    controlled_here k = controls_is s w c open_client h k ∙ ap (λ o. option_map_or (λ (y : Member). leases.controls s.leases.grants ms y.master k) o false) look
 
     -- what is listed, and what comes along
     pub leased_is : (ids : List ℕ) → model.leased w c ids ≡ rules.leased s.leases s.masters s.modes x.master (has_universal s c) ids
-    leased_is ids = λ i. ids ++ (if universal_is s w c present h i then [] else filter (λ k. controlled_here k i) (planes_of (topology_is s w h i) ids))
+    leased_is ids = λ i. ids ++ (if universal_is s w c open_client h i then [] else filter (λ k. controlled_here k i) (planes_of (topology_is s w h i) ids))
 
     leasable_is : (k : ℕ) → model.is_leasable w k ≡ rules.is_leasable s.modes k
     leasable_is k = λ i. not (is_encoder (topology_is s w h i) k || framebuffer_is s w t h k i)
@@ -137,7 +138,7 @@ module _ (s : State) (w : Rows) (t : IsTied s) (h : Represents s w) where
         ∙ (λ i. list_any (λ (g : Grant). (g.mode_object == k) && is_option m (above_is s.leases.tokens ms i g.master)) s.leases.grants)
 
     -- what is asked of the caller and of the ids
-    pub create_verdict : (ids : List ℕ) → own_master w c ≡ x.master → first_failing (admission_checks w c (CreateLease ids)) ≡ None →
+    pub create_verdict : (ids : List ℕ) → caller_master w c ≡ x.master → first_failing (admission_checks w c (CreateLease ids)) ≡ None →
         verdict w (Ask c (CreateLease ids)) ≡ first_failing (lease_checks s.leases s.masters s.modes x.master (has_universal s c) ids)
     unfolding meaning lease_checks
     create_verdict ids own admitted =
@@ -148,7 +149,7 @@ module _ (s : State) (w : Rows) (t : IsTied s) (h : Represents s w) where
         ∷ check NoModeObject (list_all (λ k. seen_here k i) ids)
         ∷ check NotLeasable (list_all (λ k. leasable_is k i) ids)
         ∷ check Repeated (list_all (rules.stands_once ids) ids)
-        ∷ check LeaseShape (rules.is_lease (topology_is s w h i) (universal_is s w c present h i) ids)
+        ∷ check LeaseShape (rules.is_lease (topology_is s w h i) (universal_is s w c open_client h i) ids)
         ∷ check LeasedOut (not (list_any (λ k. leased_out_is x.master k i) (leased_is ids i)))
         ∷ check Full (is_some (free_lessee_is x.master i) && is_some (next_is i))
         ∷ []))

@@ -10,8 +10,8 @@ use Rattle.drm_lists.proofs.Numbers.{less-differ, flipped}
 use Rattle.drm_lists.proofs.Orders.{same-map}
 use Rattle.drm_lists.proofs.Rising.{find_more}
 use Rattle.drm_masters.specs.declared.rows.Master.{Master}
-use Rattle.drm_masters.specs.Masters.{AreMasters, is_birth, is_lessee}
-use Rattle.drm_masters.specs.Calls.{IsNewBirth, lessee, with_master}
+use Rattle.drm_masters.specs.Masters.{AreMasters, is_step_number, is_lessee}
+use Rattle.drm_masters.specs.Calls.{IsNewStepNumber, lessee, with_master}
 use Rattle.drm_leases.specs.declared.rows.LeaseToken.{LeaseToken}
 use Rattle.drm_leases.specs.Leases.{AreLeases, is_token_of, token_of}
 use Rattle.drm_leases.specs.Calls as leases
@@ -22,8 +22,8 @@ use Rattle.drm_model.specs.Leases as model
 use Rattle.drm_model.specs.Parts.{Part, Masters, Grants, LastLeaseToken}
 use Rattle.drm_state.specs.declared.state.State.{State}
 use Rattle.drm_state.specs.Parts.{master_row_of, masters_of, grant_row_of, grants_of}
-use Rattle.drm_state.specs.Ties.{Tie, MastersAre, LeasesAre, TokensOfLessees, KeptHaveTokens, LeasesAgree, is_tied, IsTied}
-use Rattle.drm_state.specs.Refinement.{stands_for, Represents}
+use Rattle.drm_state.specs.Invariants.{Invariant, MastersAre, LeasesAre, TokensOfLessees, KeptHaveTokens, LeasesAgree, meets_invariant, MeetsInvariants}
+use Rattle.drm_state.specs.Refinement.{represents_part, Represents}
 use Rattle.drm_state.proofs.Represented.{masters_are, grants_are, tokens_of_lessees, kept_have_tokens, leases_agree}
 use Rattle.drm_state.proofs.Ended.{of_lessees_more}
 
@@ -49,7 +49,7 @@ module _ (s : State) (key b m id token : ℕ) (objects : List ℕ) where
   token_yet : (n : ℕ) → (b == n) ≡ false → token_of tokens_now n ≡ token_of s.leases.tokens n
   token_yet n other = ap (option_map (λ (row : LeaseToken). row.token)) (find_more (λ (row : LeaseToken). row.master) (lease_token token b) n other s.leases.tokens)
 
-  module _ (new : IsNewBirth s.masters b) (fresh : IsNewLessee s.leases b) where
+  module _ (new : IsNewStepNumber s.masters b) (fresh : IsNewLessee s.leases b) where
     its_token : token_of tokens_now b ≡ Some token
     its_token =
         ap (option_map (λ (row : LeaseToken). row.token))
@@ -58,26 +58,26 @@ module _ (s : State) (key b m id token : ℕ) (objects : List ℕ) where
     its_lessor : is_lessee leased.masters.masters b ≡ true
     its_lessor =
         ap (λ o. is_some (option_and_then (λ (x : Master). x.lessor) o))
-        (find_last (is_birth b) (lessee key b m id) (eq-eqb b b refl) s.masters.masters (all_weaker (λ (x : Master). x.birth < b) (λ (x : Master). is_birth b x ≡ false) (λ x lt. less-differ x.birth b lt) s.masters.masters new))
+        (find_last (is_step_number b) (lessee key b m id) (eq-eqb b b refl) s.masters.masters (all_weaker (λ (x : Master). x.step_number < b) (λ (x : Master). is_step_number b x ≡ false) (λ x lt. less-differ x.step_number b lt) s.masters.masters new))
 
-    pub leased_tied : IsTied s → AreMasters leased.masters → AreLeases leased.leases → (tie : Tie) → is_tied tie leased
-    unfolding is_tied
-    leased_tied t are leases_are MastersAre = are
-    leased_tied t are leases_are LeasesAre = leases_are
-    leased_tied t are leases_are TokensOfLessees =
+    pub leased_invariants : MeetsInvariants s → AreMasters leased.masters → AreLeases leased.leases → (invariant : Invariant) → meets_invariant invariant leased
+    unfolding meets_invariant
+    leased_invariants t are leases_are MastersAre = are
+    leased_invariants t are leases_are LeasesAre = leases_are
+    leased_invariants t are leases_are TokensOfLessees =
         all_append (λ (row : LeaseToken). is_lessee leased.masters.masters row.master ≡ true) s.leases.tokens (lease_token token b ∷ []) (of_lessees_more s.leases.tokens s.masters.masters (lessee key b m id) (tokens_of_lessees s t)) (its_lessor, tt)
-    leased_tied t are leases_are KeptHaveTokens =
-        all_append (λ (x : Master). x.kept ≡ is_some (token_of tokens_now x.birth)) s.masters.masters (lessee key b m id ∷ [])
-        (all_both (λ (x : Master). x.birth < b) (λ (x : Master). x.kept ≡ is_some (token_of s.leases.tokens x.birth)) (λ (x : Master). x.kept ≡ is_some (token_of tokens_now x.birth))
-        (λ x lt e. e ∙ sym (ap is_some (token_yet x.birth (flipped x.birth b (less-differ x.birth b lt))))) s.masters.masters new (kept_have_tokens s t))
+    leased_invariants t are leases_are KeptHaveTokens =
+        all_append (λ (x : Master). x.kept ≡ is_some (token_of tokens_now x.step_number)) s.masters.masters (lessee key b m id ∷ [])
+        (all_both (λ (x : Master). x.step_number < b) (λ (x : Master). x.kept ≡ is_some (token_of s.leases.tokens x.step_number)) (λ (x : Master). x.kept ≡ is_some (token_of tokens_now x.step_number))
+        (λ x lt e. e ∙ sym (ap is_some (token_yet x.step_number (flipped x.step_number b (less-differ x.step_number b lt))))) s.masters.masters new (kept_have_tokens s t))
         (sym (ap is_some its_token), tt)
-    leased_tied t are leases_are LeasesAgree = agreed_lent s.masters.members s.masters.masters key b m id s.leases.lendings new (leases_agree s t)
-    leased_tied t are leases_are tie = t tie
+    leased_invariants t are leases_are LeasesAgree = agreed_lent s.masters.members s.masters.masters key b m id s.leases.lendings new (leases_agree s t)
+    leased_invariants t are leases_are invariant = t invariant
 
-    rows_yet : (ms : List Master) → AllByRecursion (λ (x : Master). x.birth < b) ms → map (master_row_of s.leases.tokens) ms ≡ map (master_row_of tokens_now) ms
+    rows_yet : (ms : List Master) → AllByRecursion (λ (x : Master). x.step_number < b) ms → map (master_row_of s.leases.tokens) ms ≡ map (master_row_of tokens_now) ms
     rows_yet [] h = refl
     rows_yet (x ∷ xs) h =
-        λ i. record { master = x.birth; lessor = x.lessor; lessee_id = x.lessee_id; lease_token = sym (token_yet x.birth (flipped x.birth b (less-differ x.birth b h.0))) i } ∷ rows_yet xs h.1 i
+        λ i. record { master = x.step_number; lessor = x.lessor; lessee_id = x.lessee_id; lease_token = sym (token_yet x.step_number (flipped x.step_number b (less-differ x.step_number b h.0))) i } ∷ rows_yet xs h.1 i
 
     module _ (w : Rows) (h : Represents s w) (ids : List ℕ) (same : SameRows ids objects) where
       masters_now : (leased_rows w m b id token ids).masters ≡ masters_of leased
@@ -91,8 +91,8 @@ module _ (s : State) (key b m id token : ℕ) (objects : List ℕ) where
           (ap (λ l. grants_of s ++ l) (sym (map-map grant_row_of (leases.grant b) objects)) ∙ sym (map-append grant_row_of s.leases.grants (map (leases.grant b) objects)))
           (same_append w.grants (grants_of s) (map (model.grant b) ids) (map (model.grant b) objects) (grants_are s w h) (same-map (model.grant b) ids objects same))
 
-      pub leased_represents : (part : Part) → stands_for part leased (leased_rows w m b id token ids)
-      unfolding stands_for
+      pub leased_represents : (part : Part) → represents_part part leased (leased_rows w m b id token ids)
+      unfolding represents_part
       leased_represents Masters = masters_now
       leased_represents Grants = grants_now
       leased_represents LastLeaseToken = refl

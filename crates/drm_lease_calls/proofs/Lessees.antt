@@ -20,7 +20,7 @@ use Rattle.drm_model.specs.Numbers.{rising}
 use Rattle.drm_model.specs.Rows.{Rows, MasterRow, GrantRow}
 use Rattle.drm_model.specs.Masters.{master_row, owner_of}
 use Rattle.drm_model.specs.Leases as model
-use Rattle.drm_model.specs.Magics.{own_master}
+use Rattle.drm_model.specs.Magics.{caller_master}
 use Rattle.drm_model.specs.Calls.{meaning}
 use Rattle.drm_model.specs.Verdict.{admission_checks, verdict}
 use Rattle.drm_table.specs.declared.calls.Call.TheVariants.{RevokeLease}
@@ -29,11 +29,11 @@ use Rattle.drm_table.specs.declared.rules.Rule.TheVariants.{NoLessee, NotYourLes
 use Rattle.drm_table.specs.Permit.{check, first_failing}
 use Rattle.drm_state.specs.declared.state.State.{State}
 use Rattle.drm_state.specs.Parts.{master_row_of, masters_of, grant_row_of, grants_of}
-use Rattle.drm_state.specs.Ties.{IsTied}
+use Rattle.drm_state.specs.Invariants.{MeetsInvariants}
 use Rattle.drm_state.specs.Refinement.{Represents}
 use Rattle.drm_state.proofs.Represented.{bounds_are, masters_are, grants_are, leases_so}
 use Rattle.drm_state.proofs.Living.{above_is}
-use Rattle.drm_state.proofs.Outcomes.{call_verdict}
+use Rattle.drm_state.proofs.Refinements.{call_verdict}
 
 module _ (s : State) (w : Rows) (h : Represents s w) where
   -- ---- the ids of lessees
@@ -72,7 +72,7 @@ module _ (s : State) (w : Rows) (h : Represents s w) where
       each [] is all = tt
       each (k ∷ ks) is all = (less k is.0 all.0, each ks is.1 all.1)
 
-  pub lease_listed : (t : IsTied s) (m : ℕ) → rising (model.granted_of w m) ≡ granted_objects s.leases.grants m
+  pub lease_listed : (t : MeetsInvariants s) (m : ℕ) → rising (model.granted_of w m) ≡ granted_objects s.leases.grants m
   lease_listed t m =
       let its = λ (row : GrantRow). row.master == m in
       let object = λ (row : GrantRow). row.mode_object in
@@ -93,13 +93,13 @@ module _ (s : State) (w : Rows) (h : Represents s w) where
   lessee_found m id =
       (λ i. find (model.is_lessee_of (masters_are s w h i) (owner_of (masters_are s w h i) m) id) (masters_are s w h i))
       ∙ find-map (model.is_lessee_of (masters_of s) (owner_of (masters_of s) m) id) (master_row_of s.leases.tokens) s.masters.masters
-      ∙ (λ i. option_map (master_row_of s.leases.tokens) (find (λ (x : Master). is_some x.lessor && (x.lessee_id == id) && (owner_is x.birth i == owner_is m i)) s.masters.masters))
+      ∙ (λ i. option_map (master_row_of s.leases.tokens) (find (λ (x : Master). is_some x.lessor && (x.lessee_id == id) && (owner_is x.step_number i == owner_is m i)) s.masters.masters))
 
-  pub lessee_birth : (m id : ℕ) (x : Master) → find (masters.is_lessee_of s.masters.masters (masters.owner_of s.masters.masters m) id) s.masters.masters ≡ Some x → model.lessee_master w m id ≡ x.birth
-  lessee_birth m id x e = ap (λ o. unwrap_or (option_map (λ (row : MasterRow). row.master) o) 0) (lessee_found m id ∙ ap (option_map (master_row_of s.leases.tokens)) e)
+  pub lessee_step_number : (m id : ℕ) (x : Master) → find (masters.is_lessee_of s.masters.masters (masters.owner_of s.masters.masters m) id) s.masters.masters ≡ Some x → model.lessee_master w m id ≡ x.step_number
+  lessee_step_number m id x e = ap (λ o. unwrap_or (option_map (λ (row : MasterRow). row.master) o) 0) (lessee_found m id ∙ ap (option_map (master_row_of s.leases.tokens)) e)
 
   -- what REVOKE_LEASE comes to, by what is found
-  pub revoke_verdict : (c m id : ℕ) (o : Option Master) → own_master w c ≡ m → first_failing (admission_checks w c (RevokeLease id)) ≡ None → find (masters.is_lessee_of s.masters.masters (masters.owner_of s.masters.masters m) id) s.masters.masters ≡ o →
+  pub revoke_verdict : (c m id : ℕ) (o : Option Master) → caller_master w c ≡ m → first_failing (admission_checks w c (RevokeLease id)) ≡ None → find (masters.is_lessee_of s.masters.masters (masters.owner_of s.masters.masters m) id) s.masters.masters ≡ o →
       verdict w (Ask c (RevokeLease id)) ≡ first_failing (check NoLessee (is_some o) ∷ check NotYourLessee (option_map_or (λ (x : Master). masters.is_option m x.lessor) o false) ∷ [])
   unfolding meaning
   revoke_verdict c m id o own admitted e =

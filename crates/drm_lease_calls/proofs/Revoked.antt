@@ -12,8 +12,8 @@ use Rattle.drm_model.specs.Change.{swept}
 use Rattle.drm_model.specs.Parts.{Part, Masters, Objects, Names, Shown}
 use Rattle.drm_state.specs.declared.state.State.{State}
 use Rattle.drm_state.specs.Parts.{released, is_below, clients_of}
-use Rattle.drm_state.specs.Ties.{Tie, MastersAre, LeasesAre, TokensOfLessees, KeptHaveTokens, LeasesAgree, is_tied, IsTied, AreKeptBy}
-use Rattle.drm_state.specs.Refinement.{stands_for, Represents}
+use Rattle.drm_state.specs.Invariants.{Invariant, MastersAre, LeasesAre, TokensOfLessees, KeptHaveTokens, LeasesAgree, meets_invariant, MeetsInvariants, AreKeptBy}
+use Rattle.drm_state.specs.Refinement.{represents_part, Represents}
 use Rattle.drm_state.proofs.Represented.{clients_are, masters_are, tokens_of_lessees, kept_have_tokens, leases_agree}
 use Rattle.drm_state.proofs.Ended.{kept_ended, of_lessees_ended, kept_swept, of_lessees_swept}
 use Rattle.drm_state.proofs.Living.{swept_masters}
@@ -26,18 +26,18 @@ module _ (s : State) (top : ℕ) where
   abbrev below : ℕ → Bool
   below = is_below (Some top) s.masters.masters
 
-  module _ (t : IsTied s) (are : AreMasters revoked.masters) (leases_are : AreLeases revoked.leases) where
+  module _ (t : MeetsInvariants s) (are : AreMasters revoked.masters) (leases_are : AreLeases revoked.leases) where
     kept : AreKeptBy revoked.leases.tokens (released below s.masters.masters)
     kept = kept_ended below s.leases.tokens s.masters.masters (kept_have_tokens s t)
 
-    pub revoked_tied : (tie : Tie) → is_tied tie revoked
-    unfolding is_tied
-    revoked_tied MastersAre = are
-    revoked_tied LeasesAre = leases_are
-    revoked_tied TokensOfLessees = of_lessees_swept s.masters.members revoked.leases.tokens (released below s.masters.masters) kept (of_lessees_ended below s.leases.tokens s.masters.masters (tokens_of_lessees s t))
-    revoked_tied KeptHaveTokens = kept_swept s.masters.members revoked.leases.tokens (released below s.masters.masters) kept
-    revoked_tied LeasesAgree = agreed_released below s.masters.members s.masters.masters s.leases.lendings (leases_agree s t)
-    revoked_tied tie = t tie
+    pub revoked_invariants : (invariant : Invariant) → meets_invariant invariant revoked
+    unfolding meets_invariant
+    revoked_invariants MastersAre = are
+    revoked_invariants LeasesAre = leases_are
+    revoked_invariants TokensOfLessees = of_lessees_swept s.masters.members revoked.leases.tokens (released below s.masters.masters) kept (of_lessees_ended below s.leases.tokens s.masters.masters (tokens_of_lessees s t))
+    revoked_invariants KeptHaveTokens = kept_swept s.masters.members revoked.leases.tokens (released below s.masters.masters) kept
+    revoked_invariants LeasesAgree = agreed_released below s.masters.members s.masters.masters s.leases.lendings (leases_agree s t)
+    revoked_invariants invariant = t invariant
 
     module _ (w : Rows) (h : Represents s w) where
       before : Represents (with_ended s below s.masters.device_master) (ended w top)
@@ -47,11 +47,11 @@ module _ (s : State) (top : ℕ) where
       unfolding ended
       clients_yet = clients_are s w h
 
-      pub revoked_represents : (part : Part) → stands_for part revoked (swept (ended w top))
-      unfolding stands_for swept ended
+      pub revoked_represents : (part : Part) → represents_part part revoked (swept (ended w top))
+      unfolding represents_part swept ended
       revoked_represents Masters =
           swept_masters (ended w top) revoked.leases.tokens (released below s.masters.masters) s.masters.members (masters_are (with_ended s below s.masters.device_master) (ended w top) before) kept
-          (named_by_clients (ended w top) revoked revoked_tied clients_yet)
+          (named_by_clients (ended w top) revoked revoked_invariants clients_yet)
       revoked_represents Objects = unswept s w t h Objects
       revoked_represents Names = unswept s w t h Names
       revoked_represents Shown = unswept s w t h Shown

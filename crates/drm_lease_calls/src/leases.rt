@@ -1,11 +1,11 @@
 //! Leases that are made and revoked.
 
 ghost use Rattle.std.specs.Prelude.{◌≡◌, true};
-ghost use Rattle.drm_files.specs.Files.{is_present};
+ghost use Rattle.drm_files.specs.Files.{is_open_client};
 ghost use Rattle.drm_masters.specs.Masters.{is_option};
 ghost use Rattle.drm_table.specs.declared.calls.Call.TheVariants.{CreateLease, RevokeLease};
-ghost use Rattle.drm_state.specs.Ties.{IsTied, IsReady};
-ghost use Rattle.drm_state.specs.Refinement.{OwesCall, OwesReply};
+ghost use Rattle.drm_state.specs.Invariants.{MeetsInvariants, StepPrecondition};
+ghost use Rattle.drm_state.specs.Refinement.{RefinesCall, RefinesReply};
 
 use drm_leases::LeaseFault;
 use drm_state::{State, has_universal};
@@ -18,14 +18,14 @@ use std::alloc::AllocError;
 /// changes.
 pub fn create_lease(
     state: &mut State,
-    birth: u32,
+    step_number: u32,
     client: u32,
     ids: &IdList,
 ) -> Result<Answer, AllocError>
-    requires ready { IsReady state.old birth }
-    requires present { is_present state.old.files client ≡ true }
-    ensures owes { OwesCall state.old birth client (CreateLease ids.now) result state.new }
-    ensures tied { IsTied state.new }
+    requires precondition { StepPrecondition state.old step_number }
+    requires open_client { is_open_client state.old.files client ≡ true }
+    ensures refines { RefinesCall state.old step_number client (CreateLease ids.now) result state.new }
+    ensures invariants { MeetsInvariants state.new }
 {
     let Some(_member) = state.masters.member(client) else {
         // a render client, whose call is not admitted
@@ -38,7 +38,7 @@ pub fn create_lease(
         client,
         universal,
         ids.ids(),
-        birth,
+        step_number,
     ) {
         Ok(made) => {
             state.masters.laws();
@@ -56,10 +56,10 @@ pub fn create_lease(
 /// MODE_REVOKE_LEASE (drm-uapi, leases; that a lessee which nobody redeemed goes is own): the lease of a direct lessee of the
 /// caller's master ends, and all that was lent from it. It takes no memory.
 pub fn revoke_lease(state: &mut State, client: u32, lessee: u32) -> Answer
-    requires tied { IsTied state.old }
-    requires present { is_present state.old.files client ≡ true }
-    ensures owes { OwesReply state.old client (RevokeLease lessee) result state.new }
-    ensures tied { IsTied state.new }
+    requires invariants { MeetsInvariants state.old }
+    requires open_client { is_open_client state.old.files client ≡ true }
+    ensures refines { RefinesReply state.old client (RevokeLease lessee) result state.new }
+    ensures invariants { MeetsInvariants state.new }
 {
     let Some(member) = state.masters.member(client) else {
         // a render client, whose call is not admitted
@@ -74,7 +74,7 @@ pub fn revoke_lease(state: &mut State, client: u32, lessee: u32) -> Answer
     if !is_lent_by(found.lessor, member.master) {
         return Answer::Denied(Rule::NotYourLessee);
     }
-    state.leases.revoke(&mut state.masters, found.birth);
+    state.leases.revoke(&mut state.masters, found.step_number);
     state.masters.laws();
     state.leases.laws();
     Answer::Done

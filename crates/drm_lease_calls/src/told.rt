@@ -1,11 +1,11 @@
 //! What leases there are.
 
 ghost use Rattle.std.specs.Prelude.{◌≡◌, ◌≤◌, ◌+◌, ◌++◌, true, length};
-ghost use Rattle.drm_files.specs.Files.{is_present};
+ghost use Rattle.drm_files.specs.Files.{is_open_client};
 ghost use Rattle.drm_table.specs.declared.calls.Call.TheVariants.{ListLessees, GetLease};
 ghost use Rattle.drm_model.specs.Leases.{leasable_ids};
-ghost use Rattle.drm_state.specs.Ties.{IsTied};
-ghost use Rattle.drm_state.specs.Refinement.{OwesReply};
+ghost use Rattle.drm_state.specs.Invariants.{MeetsInvariants};
+ghost use Rattle.drm_state.specs.Refinement.{RefinesReply};
 
 use drm_modes::{Kind, Modes};
 use drm_state::State;
@@ -14,9 +14,9 @@ use drm_table::{Answer, Rule, ShownList};
 /// MODE_LIST_LESSEES (drm-uapi, leases; that they rise is own): the ids of the direct lessees of the caller's master whose
 /// lease isn't empty. It takes no memory.
 pub fn list_lessees(state: &State, client: u32) -> Answer
-    requires tied { IsTied state.now }
-    requires present { is_present state.now.files client ≡ true }
-    ensures { OwesReply state.now client ListLessees result state.now }
+    requires invariants { MeetsInvariants state.now }
+    requires open_client { is_open_client state.now.files client ≡ true }
+    ensures { RefinesReply state.now client ListLessees result state.now }
 {
     let Some(member) = state.masters.member(client) else {
         // a render client, whose call is not admitted
@@ -30,9 +30,9 @@ pub fn list_lessees(state: &State, client: u32) -> Answer
 /// MODE_GET_LEASE (drm-uapi, leases; that an owner has a lease of all is own): the mode objects in the lease of the caller's
 /// master, rising; all CRTCs, planes and connectors where it is no lessee. It takes no memory.
 pub fn get_lease(state: &State, client: u32) -> Answer
-    requires tied { IsTied state.now }
-    requires present { is_present state.now.files client ≡ true }
-    ensures { OwesReply state.now client GetLease result state.now }
+    requires invariants { MeetsInvariants state.now }
+    requires open_client { is_open_client state.now.files client ≡ true }
+    ensures { RefinesReply state.now client GetLease result state.now }
 {
     let Some(member) = state.masters.member(client) else {
         // a render client, whose call is not admitted

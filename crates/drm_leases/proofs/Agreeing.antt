@@ -13,8 +13,8 @@ use Rattle.drm_lists.proofs.Numbers.{less-differ}
 use Rattle.drm_lists.proofs.Rising.{found, find_where, any_found, any_left, all_found}
 use Rattle.drm_masters.specs.declared.rows.Master.{Master}
 use Rattle.drm_masters.specs.declared.rows.Member.{Member}
-use Rattle.drm_masters.specs.Masters.{MasterSet, is_client, is_birth, is_option, member_of, master_at, lessor_of, is_held, is_living}
-use Rattle.drm_masters.specs.Calls.{lessee, redeemer, kept_as, closed_own, redeemed}
+use Rattle.drm_masters.specs.Masters.{MasterSet, is_client, is_step_number, is_option, member_of, master_at, lessor_of, is_held, is_living}
+use Rattle.drm_masters.specs.Calls.{lessee, lease_client, kept_as, closed_own, redeemed}
 use Rattle.drm_leases.specs.declared.rows.Grant.{Grant}
 use Rattle.drm_leases.specs.declared.rows.Lease.{Lease}
 use Rattle.drm_leases.specs.Leases.{Lending, is_leased_out}
@@ -30,7 +30,7 @@ owns m y = y.is_master && (y.master == m)
 module _ (members members2 : List Member) (ms ms2 : List Master) (x : Lending) where
   -- a lessee that is there yet, by the same lessor, and kept or a client's own
   abbrev Stays : Type 0
-  Stays = (y : Master) → master_at ms x.lessee ≡ Some y → (y.birth ≡ x.lessee) → is_owned members y ≡ true → (z : Master) × (master_at ms2 x.lessee ≡ Some z) × (z.lessor ≡ y.lessor) × (is_owned members2 z ≡ true)
+  Stays = (y : Master) → master_at ms x.lessee ≡ Some y → (y.step_number ≡ x.lessee) → is_owned members y ≡ true → (z : Master) × (master_at ms2 x.lessee ≡ Some z) × (z.lessor ≡ y.lessor) × (is_owned members2 z ≡ true)
 
   pub still_agreed : Stays → IsAgreed members ms x → IsAgreed members2 ms2 x
   still_agreed stays h = by_row (master_at ms x.lessee) refl h.0 h.1
@@ -38,7 +38,7 @@ module _ (members members2 : List Member) (ms ms2 : List Master) (x : Lending) w
       by_row : (o : Option Master) → master_at ms x.lessee ≡ o → option_and_then (λ (y : Master). y.lessor) o ≡ Some x.lessor → option_map_or (is_owned members) o false ≡ true → IsAgreed members2 ms2 x
       by_row None e l k = absurd (false≢true k)
       by_row (Some y) e l k =
-          let is : y.birth ≡ x.lessee = eqb-true y.birth x.lessee (found (is_birth x.lessee) (λ _. Unit {0}) y ms (all_each (λ _. Unit {0}) (λ _. tt) ms) e).0 in
+          let is : y.step_number ≡ x.lessee = eqb-true y.step_number x.lessee (found (is_step_number x.lessee) (λ _. Unit {0}) y ms (all_each (λ _. Unit {0}) (λ _. tt) ms) e).0 in
           let w = stays y e is k in (ap (option_and_then (λ (y : Master). y.lessor)) w.1 ∙ w.2 ∙ l, ap (λ o. option_map_or (is_owned members2) o false) w.1 ∙ w.3)
 
 -- ---- of one lease
@@ -49,56 +49,56 @@ found_more p y x (z ∷ zs) e = elim (p z) as (λ b. cond b (Some z) (find p zs)
 
 -- one more master
 one_more : (members : List Member) (ms : List Master) (z : Master) (x : Lending) → IsAgreed members ms x → IsAgreed members (ms ++ z ∷ []) x
-one_more members ms z x = still_agreed members members ms (ms ++ z ∷ []) x (λ y e is k. (y, found_more (is_birth x.lessee) z y ms e, refl, k))
+one_more members ms z x = still_agreed members members ms (ms ++ z ∷ []) x (λ y e is k. (y, found_more (is_step_number x.lessee) z y ms e, refl, k))
 
-owned_yet : (members members2 : List Member) (y : Master) → (list_any (owns y.birth) members ≡ true → list_any (owns y.birth) members2 ≡ true) → is_owned members y ≡ true → is_owned members2 y ≡ true
+owned_yet : (members members2 : List Member) (y : Master) → (list_any (owns y.step_number) members ≡ true → list_any (owns y.step_number) members2 ≡ true) → is_owned members y ≡ true → is_owned members2 y ≡ true
 owned_yet members members2 y own k =
-    elim y.kept as (λ b. (b || list_any (owns y.birth) members) ≡ true → (b || list_any (owns y.birth) members2) ≡ true) [ true ↦ λ h. refl | false ↦ λ h. own h ] k
+    elim y.kept as (λ b. (b || list_any (owns y.step_number) members) ≡ true → (b || list_any (owns y.step_number) members2) ≡ true) [ true ↦ λ h. refl | false ↦ λ h. own h ] k
 
 other_members : (members members2 : List Member) (ms : List Master) (x : Lending) → (list_any (owns x.lessee) members ≡ true → list_any (owns x.lessee) members2 ≡ true) → IsAgreed members ms x → IsAgreed members2 ms x
 other_members members members2 ms x own = still_agreed members members2 ms ms x (λ y e is k. (y, e, refl, owned_yet members members2 y (subst (λ n. list_any (owns n) members ≡ true → list_any (owns n) members2 ≡ true) (sym is) own) k))
 
 held_of : (members : List Member) (y : Master) → is_owned members y ≡ true → is_held members y ≡ true
-held_of members y k = elim y.kept as (λ b. (b || list_any (owns y.birth) members) ≡ true → (b || list_any (λ (z : Member). z.master == y.birth) members) ≡ true) [ true ↦ λ h. refl | false ↦ λ h. named members h ] k
+held_of members y k = elim y.kept as (λ b. (b || list_any (owns y.step_number) members) ≡ true → (b || list_any (λ (z : Member). z.master == y.step_number) members) ≡ true) [ true ↦ λ h. refl | false ↦ λ h. named members h ] k
   where
-    named : (zs : List Member) → list_any (owns y.birth) zs ≡ true → list_any (λ (z : Member). z.master == y.birth) zs ≡ true
+    named : (zs : List Member) → list_any (owns y.step_number) zs ≡ true → list_any (λ (z : Member). z.master == y.step_number) zs ≡ true
     named [] h = absurd (false≢true h)
     named (z ∷ zs) h =
-        elim z.is_master as (λ b. ((b && (z.master == y.birth)) || list_any (owns y.birth) zs) ≡ true → ((z.master == y.birth) || list_any (λ (z : Member). z.master == y.birth) zs) ≡ true) [
-          | true ↦ elim (z.master == y.birth) as (λ b. (b || list_any (owns y.birth) zs) ≡ true → (b || list_any (λ (z : Member). z.master == y.birth) zs) ≡ true) [ true ↦ λ k. refl | false ↦ λ k. named zs k ]
-          | false ↦ λ k. or_right (z.master == y.birth) (list_any (λ (z : Member). z.master == y.birth) zs) (named zs k)
+        elim z.is_master as (λ b. ((b && (z.master == y.step_number)) || list_any (owns y.step_number) zs) ≡ true → ((z.master == y.step_number) || list_any (λ (z : Member). z.master == y.step_number) zs) ≡ true) [
+          | true ↦ elim (z.master == y.step_number) as (λ b. (b || list_any (owns y.step_number) zs) ≡ true → (b || list_any (λ (z : Member). z.master == y.step_number) zs) ≡ true) [ true ↦ λ k. refl | false ↦ λ k. named zs k ]
+          | false ↦ λ k. or_right (z.master == y.step_number) (list_any (λ (z : Member). z.master == y.step_number) zs) (named zs k)
         ] h
 
 -- those stay of a sweep
-after_sweep : (members : List Member) (ms : List Master) (x : Lending) → IsAgreed members ms x → IsAgreed members (filter (λ (y : Master). is_living members ms y.birth) ms) x
+after_sweep : (members : List Member) (ms : List Master) (x : Lending) → IsAgreed members ms x → IsAgreed members (filter (λ (y : Master). is_living members ms y.step_number) ms) x
 after_sweep members ms x =
-    still_agreed members members ms (filter (λ (y : Master). is_living members ms y.birth) ms) x (λ y e is k.
-    let top : is_under (lessor_of ms) x.lessee y.birth ≡ true = ap (is_under (lessor_of ms) x.lessee) is ∙ itself (lessor_of ms) x.lessee x.lessee in
+    still_agreed members members ms (filter (λ (y : Master). is_living members ms y.step_number) ms) x (λ y e is k.
+    let top : is_under (lessor_of ms) x.lessee y.step_number ≡ true = ap (is_under (lessor_of ms) x.lessee) is ∙ itself (lessor_of ms) x.lessee x.lessee in
     let lives : is_living members ms x.lessee ≡ true =
-    any_found (is_birth x.lessee) (λ (z : Master). is_held members z && is_under (lessor_of ms) x.lessee z.birth) y ms e (λ i. held_of members y k i && top i) in
-    (y, find_where (λ (z : Master). z.birth) (is_living members ms) x.lessee ms ∙ ap (λ b. cond b (master_at ms x.lessee) None) lives ∙ e, refl, k))
+    any_found (is_step_number x.lessee) (λ (z : Master). is_held members z && is_under (lessor_of ms) x.lessee z.step_number) y ms e (λ i. held_of members y k i && top i) in
+    (y, find_where (λ (z : Master). z.step_number) (is_living members ms) x.lessee ms ∙ ap (λ b. cond b (master_at ms x.lessee) None) lives ∙ e, refl, k))
 
 -- masters that are kept, or not any more
-module _ (change : Master → Master) (births : (y : Master) → (change y).birth ≡ y.birth) (lessors : (y : Master) → (change y).lessor ≡ y.lessor) where
+module _ (change : Master → Master) (step_numbers : (y : Master) → (change y).step_number ≡ y.step_number) (lessors : (y : Master) → (change y).lessor ≡ y.lessor) where
   at_changed : (ms : List Master) (n : ℕ) (y : Master) → master_at ms n ≡ Some y → master_at (map change ms) n ≡ Some (change y)
-  at_changed ms n y e = find-map (is_birth n) change ms ∙ ap (λ (p : Master → Bool). option_map change (find p ms)) (λ i z. births z i == n) ∙ ap (option_map change) e
+  at_changed ms n y e = find-map (is_step_number n) change ms ∙ ap (λ (p : Master → Bool). option_map change (find p ms)) (λ i z. step_numbers z i == n) ∙ ap (option_map change) e
 
-  others_kept : (members members2 : List Member) (ms : List Master) (x : Lending) → ((y : Master) → y.birth ≡ x.lessee → is_owned members y ≡ true → is_owned members2 (change y) ≡ true) → IsAgreed members ms x → IsAgreed members2 (map change ms) x
+  others_kept : (members members2 : List Member) (ms : List Master) (x : Lending) → ((y : Master) → y.step_number ≡ x.lessee → is_owned members y ≡ true → is_owned members2 (change y) ≡ true) → IsAgreed members ms x → IsAgreed members2 (map change ms) x
   others_kept members members2 ms x owned = still_agreed members members2 ms (map change ms) x (λ y e is k. (change y, at_changed ms x.lessee y e, lessors y, owned y is k))
 
 abbrev released : (ℕ → Bool) → Master → Master
-released below y = if below y.birth then kept_as false y else y
+released below y = if below y.step_number then kept_as false y else y
 
-released_birth : (below : ℕ → Bool) (y : Master) → (released below y).birth ≡ y.birth
-released_birth below y = elim (below y.birth) as (λ b. (if b then kept_as false y else y).birth ≡ y.birth) [ true ↦ refl | false ↦ refl ]
+released_step_number : (below : ℕ → Bool) (y : Master) → (released below y).step_number ≡ y.step_number
+released_step_number below y = elim (below y.step_number) as (λ b. (if b then kept_as false y else y).step_number ≡ y.step_number) [ true ↦ refl | false ↦ refl ]
 
 released_lessor : (below : ℕ → Bool) (y : Master) → (released below y).lessor ≡ y.lessor
-released_lessor below y = elim (below y.birth) as (λ b. (if b then kept_as false y else y).lessor ≡ y.lessor) [ true ↦ refl | false ↦ refl ]
+released_lessor below y = elim (below y.step_number) as (λ b. (if b then kept_as false y else y).lessor ≡ y.lessor) [ true ↦ refl | false ↦ refl ]
 
 -- those that aren't released
 unreleased : (below : ℕ → Bool) (members : List Member) (ms : List Master) (x : Lending) → below x.lessee ≡ false → IsAgreed members ms x → IsAgreed members (map (released below) ms) x
 unreleased below members ms x out =
-    others_kept (released below) (released_birth below) (released_lessor below) members members ms x (λ y is k. ap (λ b. is_owned members (if b then kept_as false y else y)) (ap below is ∙ out) ∙ k)
+    others_kept (released below) (released_step_number below) (released_lessor below) members members ms x (λ y is k. ap (λ b. is_owned members (if b then kept_as false y else y)) (ap below is ∙ out) ∙ k)
 
 -- ---- of all leases
 
@@ -107,13 +107,13 @@ each {P = P} {Q = Q} xs f h = all_weaker P Q f xs h
 
 -- the leases that do not end agree with the masters that are left
 pub agreed_released : (below : ℕ → Bool) (members : List Member) (ms : List Master) (xs : List Lending) → AllByRecursion (IsAgreed members ms) xs →
-    AllByRecursion (IsAgreed members (filter (λ (y : Master). is_living members (map (λ (y : Master). if below y.birth then kept_as false y else y) ms) y.birth) (map (λ (y : Master). if below y.birth then kept_as false y else y) ms))) (filter (λ (x : Lending). not (below x.lessee)) xs)
+    AllByRecursion (IsAgreed members (filter (λ (y : Master). is_living members (map (λ (y : Master). if below y.step_number then kept_as false y else y) ms) y.step_number) (map (λ (y : Master). if below y.step_number then kept_as false y else y) ms))) (filter (λ (x : Lending). not (below x.lessee)) xs)
 agreed_released below members ms [] h = tt
 agreed_released below members ms (x ∷ xs) h =
     let rest = filter (λ (x : Lending). not (below x.lessee)) xs in
     let now = map (released below) ms in
     let more = agreed_released below members ms xs h.1 in
-    elim (below x.lessee) as (λ b. below x.lessee ≡ b → AllByRecursion (IsAgreed members (filter (λ (y : Master). is_living members now y.birth) now)) (cond (not b) (x ∷ rest) rest)) [
+    elim (below x.lessee) as (λ b. below x.lessee ≡ b → AllByRecursion (IsAgreed members (filter (λ (y : Master). is_living members now y.step_number) now)) (cond (not b) (x ∷ rest) rest)) [
       | true ↦ λ e. more
       | false ↦ λ e. (after_sweep members now x (unreleased below members ms x e h.0), more)
     ] refl
@@ -123,15 +123,15 @@ pub agreed_more : (members : List Member) (ms : List Master) (z : Master) (xs : 
 agreed_more members ms z xs h = each xs (one_more members ms z) h
 
 -- one more lease
-pub agreed_lent : (members : List Member) (ms : List Master) (key birth m id : ℕ) (xs : List Lending) → AllByRecursion (λ (y : Master). y.birth < birth) ms → AllByRecursion (IsAgreed members ms) xs → AllByRecursion (IsAgreed members (ms ++ lessee key birth m id ∷ [])) (xs ++ lending birth m ∷ [])
-agreed_lent members ms key birth m id xs newest h =
-    let z = lessee key birth m id in
-    let at : master_at (ms ++ z ∷ []) birth ≡ Some z = find_last (is_birth birth) z (eq-eqb birth birth refl) ms (all_weaker (λ (y : Master). y.birth < birth) (λ (y : Master). is_birth birth y ≡ false) (λ y lt. less-differ y.birth birth lt) ms newest) in
-    all_append (IsAgreed members (ms ++ z ∷ [])) xs (lending birth m ∷ []) (agreed_more members ms z xs h)
+pub agreed_lent : (members : List Member) (ms : List Master) (key step_number m id : ℕ) (xs : List Lending) → AllByRecursion (λ (y : Master). y.step_number < step_number) ms → AllByRecursion (IsAgreed members ms) xs → AllByRecursion (IsAgreed members (ms ++ lessee key step_number m id ∷ [])) (xs ++ lending step_number m ∷ [])
+agreed_lent members ms key step_number m id xs newest h =
+    let z = lessee key step_number m id in
+    let at : master_at (ms ++ z ∷ []) step_number ≡ Some z = find_last (is_step_number step_number) z (eq-eqb step_number step_number refl) ms (all_weaker (λ (y : Master). y.step_number < step_number) (λ (y : Master). is_step_number step_number y ≡ false) (λ y lt. less-differ y.step_number step_number lt) ms newest) in
+    all_append (IsAgreed members (ms ++ z ∷ [])) xs (lending step_number m ∷ []) (agreed_more members ms z xs h)
     ((ap (option_and_then (λ (y : Master). y.lessor)) at, ap (λ o. option_map_or (is_owned members) o false) at), tt)
 
 -- a sweep
-pub agreed_swept : (members : List Member) (ms : List Master) (xs : List Lending) → AllByRecursion (IsAgreed members ms) xs → AllByRecursion (IsAgreed members (filter (λ (y : Master). is_living members ms y.birth) ms)) xs
+pub agreed_swept : (members : List Member) (ms : List Master) (xs : List Lending) → AllByRecursion (IsAgreed members ms) xs → AllByRecursion (IsAgreed members (filter (λ (y : Master). is_living members ms y.step_number) ms)) xs
 agreed_swept members ms xs h = each xs (after_sweep members ms) h
 
 -- ---- clients come, go and change
@@ -142,13 +142,13 @@ agreed_joined members c ms xs h = each xs (λ x. other_members members (members 
 
 -- one of a lessee that was kept
 pub agreed_redeemed : (c m : ℕ) (v : MasterSet) (xs : List Lending) → AllByRecursion (IsAgreed v.members v.masters) xs → AllByRecursion (IsAgreed (redeemed c m v).members (redeemed c m v).masters) xs
-agreed_redeemed c m v xs h = each xs (λ x. others_kept (released (λ n. n == m)) (released_birth (λ n. n == m)) (released_lessor (λ n. n == m)) v.members (v.members ++ redeemer c m ∷ []) v.masters x (λ y is. owned y)) h
+agreed_redeemed c m v xs h = each xs (λ x. others_kept (released (λ n. n == m)) (released_step_number (λ n. n == m)) (released_lessor (λ n. n == m)) v.members (v.members ++ lease_client c m ∷ []) v.masters x (λ y is. owned y)) h
   where
-    owned : (y : Master) → is_owned v.members y ≡ true → is_owned (v.members ++ redeemer c m ∷ []) (released (λ n. n == m) y) ≡ true
+    owned : (y : Master) → is_owned v.members y ≡ true → is_owned (v.members ++ lease_client c m ∷ []) (released (λ n. n == m) y) ≡ true
     owned y k =
-        elim (y.birth == m) as (λ b. (y.birth == m) ≡ b → is_owned (v.members ++ redeemer c m ∷ []) (if b then kept_as false y else y) ≡ true) [
-          | true ↦ λ e. list_any_right (owns y.birth) v.members (redeemer c m ∷ []) (ap (λ b. b || false) (eq-eqb m y.birth (sym (eqb-true y.birth m e))))
-          | false ↦ λ e. owned_yet v.members (v.members ++ redeemer c m ∷ []) y (list_any_left (owns y.birth) v.members (redeemer c m ∷ [])) k
+        elim (y.step_number == m) as (λ b. (y.step_number == m) ≡ b → is_owned (v.members ++ lease_client c m ∷ []) (if b then kept_as false y else y) ≡ true) [
+          | true ↦ λ e. list_any_right (owns y.step_number) v.members (lease_client c m ∷ []) (ap (λ b. b || false) (eq-eqb m y.step_number (sym (eqb-true y.step_number m e))))
+          | false ↦ λ e. owned_yet v.members (v.members ++ lease_client c m ∷ []) y (list_any_left (owns y.step_number) v.members (lease_client c m ∷ [])) k
         ] refl
 
 -- a client owns nothing but its own
@@ -188,26 +188,26 @@ agreed_left members c ms below (x ∷ xs) rise own h =
 
 -- one whose own master is kept
 pub agreed_closed_own : (v : MasterSet) (c : ℕ) (x : Member) (xs : List Lending) → Rise v.members → member_of v.members c ≡ Some x → AllByRecursion (IsAgreed v.members v.masters) xs → AllByRecursion (IsAgreed (closed_own c x.master v).members (closed_own c x.master v).masters) xs
-agreed_closed_own v c x xs rise look h = each xs (λ a. others_kept change births lessors v.members left v.masters a (λ y is. owned y)) h
+agreed_closed_own v c x xs rise look h = each xs (λ a. others_kept change step_numbers lessors v.members left v.masters a (λ y is. owned y)) h
   where
     left : List Member
     left = filter (λ (z : Member). not (is_client c z)) v.members
 
     change : Master → Master
-    change y = if is_birth x.master y then kept_as true y else y
+    change y = if is_step_number x.master y then kept_as true y else y
 
-    births : (y : Master) → (change y).birth ≡ y.birth
-    births y = elim (is_birth x.master y) as (λ b. (if b then kept_as true y else y).birth ≡ y.birth) [ true ↦ refl | false ↦ refl ]
+    step_numbers : (y : Master) → (change y).step_number ≡ y.step_number
+    step_numbers y = elim (is_step_number x.master y) as (λ b. (if b then kept_as true y else y).step_number ≡ y.step_number) [ true ↦ refl | false ↦ refl ]
 
     lessors : (y : Master) → (change y).lessor ≡ y.lessor
-    lessors y = elim (is_birth x.master y) as (λ b. (if b then kept_as true y else y).lessor ≡ y.lessor) [ true ↦ refl | false ↦ refl ]
+    lessors y = elim (is_step_number x.master y) as (λ b. (if b then kept_as true y else y).lessor ≡ y.lessor) [ true ↦ refl | false ↦ refl ]
 
-    other : (y : Master) → is_birth x.master y ≡ false → (z : Member) → member_of v.members c ≡ Some z → owns y.birth z ≡ false
+    other : (y : Master) → is_step_number x.master y ≡ false → (z : Member) → member_of v.members c ≡ Some z → owns y.step_number z ≡ false
     other y e z here =
-        elim z.is_master as (λ b. (b && (z.master == y.birth)) ≡ false) [
+        elim z.is_master as (λ b. (b && (z.master == y.step_number)) ≡ false) [
           | true ↦
-              elim (z.master == y.birth) as (λ b. (z.master == y.birth) ≡ b → b ≡ false) [
-                | true ↦ λ k. absurd (false≢true (sym e ∙ eq-eqb y.birth x.master (sym (eqb-true z.master y.birth k) ∙ ap (λ (u : Member). u.master) (same_member v.members c x z look here))))
+              elim (z.master == y.step_number) as (λ b. (z.master == y.step_number) ≡ b → b ≡ false) [
+                | true ↦ λ k. absurd (false≢true (sym e ∙ eq-eqb y.step_number x.master (sym (eqb-true z.master y.step_number k) ∙ ap (λ (u : Member). u.master) (same_member v.members c x z look here))))
                 | false ↦ λ k. refl
               ] refl
           | false ↦ refl
@@ -215,9 +215,9 @@ agreed_closed_own v c x xs rise look h = each xs (λ a. others_kept change birth
 
     owned : (y : Master) → is_owned v.members y ≡ true → is_owned left (change y) ≡ true
     owned y k =
-        elim (is_birth x.master y) as (λ b. is_birth x.master y ≡ b → is_owned left (if b then kept_as true y else y) ≡ true) [
+        elim (is_step_number x.master y) as (λ b. is_step_number x.master y ≡ b → is_owned left (if b then kept_as true y else y) ≡ true) [
           | true ↦ λ e. refl
-          | false ↦ λ e. owned_yet v.members left y (own_left v.members c y.birth rise (other y e)) k
+          | false ↦ λ e. owned_yet v.members left y (own_left v.members c y.step_number rise (other y e)) k
         ] refl
 
 -- another row of a client, which owns what it owned

@@ -14,7 +14,7 @@ use Rattle.drm_lists.proofs.Found.{all_at}
 use Rattle.drm_lists.proofs.Orders.{in_order_filter, in_order_map}
 use Rattle.drm_lists.proofs.Rising.{found, any_found, all_found}
 use Rattle.drm_masters.specs.declared.rows.Master.{Master}
-use Rattle.drm_masters.specs.Masters.{MasterSet, AreMasters, HasOlderLessor, is_birth, is_option, master_at, lessor_of, lessees_of, is_below}
+use Rattle.drm_masters.specs.Masters.{MasterSet, AreMasters, HasOlderLessor, is_step_number, is_option, master_at, lessor_of, lessees_of, is_below}
 use Rattle.drm_masters.proofs.Looked.{any_pushed}
 use Rattle.drm_leases.specs.declared.rows.Lease.{Lease}
 
@@ -94,8 +94,8 @@ lessee_of ms n l e = by_row (master_at ms n) refl e
 falls : (ms : List Master) → AllByRecursion (HasOlderLessor ms) ms → IsFalling (lessor_of ms)
 falls ms older n l e =
     let w = lessee_of ms n l e in
-    let is = found (is_birth n) (HasOlderLessor ms) w.0 ms older w.1 in
-    subst (λ m. l < m) (eqb-true w.0.birth n is.0) (is.1 l w.2).1
+    let is = found (is_step_number n) (HasOlderLessor ms) w.0 ms older w.1 in
+    subst (λ m. l < m) (eqb-true w.0.step_number n is.0) (is.1 l w.2).1
 
 module _ (v : MasterSet) (are : AreMasters v) where
   abbrev above : ℕ → Option ℕ
@@ -107,9 +107,9 @@ module _ (v : MasterSet) (are : AreMasters v) where
   lessees_are : (m : ℕ) → AllByRecursion (λ n. above n ≡ Some m) (lessees_of v.masters m)
   lessees_are m =
       let q = λ (x : Master). is_option m x.lessor in
-      all_mapped (λ n. above n ≡ Some m) (λ (x : Master). x.birth) (filter q v.masters)
-      (all_both (λ (x : Master). master_at v.masters x.birth ≡ Some x) (λ (x : Master). q x ≡ true) (λ (x : Master). above x.birth ≡ Some m) (λ x at is. ap (option_and_then (λ (y : Master). y.lessor)) at ∙ named x.lessor is) (filter q v.masters)
-      (all_filter (λ (x : Master). master_at v.masters x.birth ≡ Some x) q v.masters (all_found (λ (x : Master). x.birth) v.masters are.masters_rise)) (filter_true q v.masters))
+      all_mapped (λ n. above n ≡ Some m) (λ (x : Master). x.step_number) (filter q v.masters)
+      (all_both (λ (x : Master). master_at v.masters x.step_number ≡ Some x) (λ (x : Master). q x ≡ true) (λ (x : Master). above x.step_number ≡ Some m) (λ x at is. ap (option_and_then (λ (y : Master). y.lessor)) at ∙ named x.lessor is) (filter q v.masters)
+      (all_filter (λ (x : Master). master_at v.masters x.step_number ≡ Some x) q v.masters (all_found (λ (x : Master). x.step_number) v.masters are.masters_rise)) (filter_true q v.masters))
     where
       named : (o : Option ℕ) → is_option m o ≡ true → o ≡ Some m
       named None e = absurd (false≢true e)
@@ -119,7 +119,7 @@ module _ (v : MasterSet) (are : AreMasters v) where
   pub its_lessee : (m i n : ℕ) → slice_get (lessees_of v.masters m) i ≡ Some n → (m < n) × (i ≤ n)
   its_lessee m i n at =
       let q = λ (x : Master). is_option m x.lessor in
-      let rise = in_order_map (λ x y. x < y) (λ (x : Master). x.birth) (filter q v.masters) (in_order_filter (λ (x y : Master). x.birth < y.birth) q v.masters are.masters_rise) in
+      let rise = in_order_map (λ x y. x < y) (λ (x : Master). x.step_number) (filter q v.masters) (in_order_filter (λ (x y : Master). x.step_number < y.step_number) q v.masters are.masters_rise) in
       let le = risen 0 (lessees_of v.masters m) i n (all_each (λ x. 0 ≤ x) (λ x. omega arith) (lessees_of v.masters m)) rise at in (
         falling n m (all_at (λ n. above n ≡ Some m) (lessees_of v.masters m) i n (lessees_are m) at),
         omega (arith, le),
@@ -132,10 +132,10 @@ module _ (v : MasterSet) (are : AreMasters v) where
       listed y e under =
           let w = lessee_of v.masters y m e in
           let q = λ (x : Master). is_option m x.lessor in
-          let is : w.0.birth ≡ y = eqb-true w.0.birth y (found (is_birth y) (λ _. Unit {0}) w.0 v.masters (all_each (λ _. Unit {0}) (λ _. tt) v.masters) w.1).0 in
+          let is : w.0.step_number ≡ y = eqb-true w.0.step_number y (found (is_step_number y) (λ _. Unit {0}) w.0 v.masters (all_each (λ _. Unit {0}) (λ _. tt) v.masters) w.1).0 in
           let lent : q w.0 ≡ true = ap (is_option m) w.2 ∙ eq-eqb m m refl in
-          list_any-map (λ y. is_under above y n) (λ (x : Master). x.birth) (filter q v.masters)
-          ∙ any_where (λ (x : Master). is_under above x.birth n) q v.masters (any_found (is_birth y) (λ (x : Master). q x && is_under above x.birth n) w.0 v.masters w.1 (λ i. lent i && (ap (λ k. is_under above k n) is ∙ under) i))
+          list_any-map (λ y. is_under above y n) (λ (x : Master). x.step_number) (filter q v.masters)
+          ∙ any_where (λ (x : Master). is_under above x.step_number n) q v.masters (any_found (is_step_number y) (λ (x : Master). q x && is_under above x.step_number n) w.0 v.masters w.1 (λ i. lent i && (ap (λ k. is_under above k n) is ∙ under) i))
 
       down : is_below v.masters m n ≡ true → list_any (λ y. is_under above y n) (lessees_of v.masters m) ≡ true
       down h =
@@ -201,5 +201,5 @@ one_ended v m i n at old before mid e f =
     neither false true = refl
     neither false false = refl
 
-pub place_within : (xs : List ℕ) (i n : ℕ) → slice_get xs i ≡ Some n → i < length xs
-place_within xs i n at = slice_get_within xs i n at
+pub position_within : (xs : List ℕ) (i n : ℕ) → slice_get xs i ≡ Some n → i < length xs
+position_within xs i n at = slice_get_within xs i n at

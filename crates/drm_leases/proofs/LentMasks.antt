@@ -22,15 +22,6 @@ or_false false = refl
 pub lent_added : (rows : List Lease) (a : Lease) (m x : ℕ) → is_lent (rows ++ a ∷ []) m x ≡ (is_lent rows m x || lends m x a)
 lent_added rows a m x = list_any-append (lends m x) rows (a ∷ []) ∙ ap (λ b. is_lent rows m x || b) (or_false (lends m x a))
 
--- what each lends, all lend
-none_lent : (m x : ℕ) → (rows : List Lease) → is_lent rows m x ≡ false → AllByRecursion (λ (b : Lease). lends m x b ≡ false) rows
-none_lent m x [] h = tt
-none_lent m x (b ∷ rows) h =
-    elim (lends m x b) as (λ t. lends m x b ≡ t → (t || is_lent rows m x) ≡ false → AllByRecursion (λ (b : Lease). lends m x b ≡ false) (b ∷ rows)) [
-      | true ↦ λ e k. absurd (false≢true (sym k))
-      | false ↦ λ e k. (e, none_lent m x rows k)
-    ] refl h
-
 -- a lease of what its lessor hasn't lent is apart from all
 pub apart_added : (rows : List Lease) (a : Lease) → InOrder AreApart rows → ((x : ℕ) → has_object a.objects x ≡ true → is_lent rows a.lessor x ≡ false) → InOrder AreApart (rows ++ a ∷ [])
 apart_added rows a apart unlent = in_order_append AreApart rows a apart (each rows unlent)
@@ -186,11 +177,3 @@ module _ (masks : fin.FinMap nat_cmp ℕ) (m : ℕ) where
           | true ↦ λ e. ap (λ k. has_object k x) (sym empty) ∙ is x ∙ ap (λ k. has_object (mask_at masks k) x && not (has_object objects x)) (eqb-true m n e)
           | false ↦ λ e. and_all (has_object (mask_at masks n) x)
         ] refl
-
-  -- who has no mask has lent nothing
-  pub lent_never : (objects : ℕ) → fin.get masks m ≡ None → (n x : ℕ) → has_object (mask_at masks n) x ≡ (has_object (mask_at masks n) x && not ((m == n) && has_object objects x))
-  lent_never objects none n x =
-      elim (m == n) as (λ b. (m == n) ≡ b → has_object (mask_at masks n) x ≡ (has_object (mask_at masks n) x && not (b && has_object objects x))) [
-        | true ↦ λ e. let empty = ap (λ k. has_object (mask_at masks k) x) (sym (eqb-true m n e)) ∙ ap (λ o. has_object (unwrap_or o 0) x) none ∙ empty_mask x in empty ∙ sym (ap (λ b. b && not (has_object objects x)) empty)
-        | false ↦ λ e. and_all (has_object (mask_at masks n) x)
-      ] refl

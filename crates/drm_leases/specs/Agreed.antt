@@ -9,7 +9,7 @@ use Rattle.drm_leases.specs.Leases.{LeaseSet, Lending}
 
 -- whether the master is kept, or a client's own
 abbrev pub is_owned : List Member → Master → Bool
-is_owned members x = x.kept || list_any (λ (y : Member). y.is_master && (y.master == x.birth)) members
+is_owned members x = x.kept || list_any (λ (y : Member). y.is_master && (y.master == x.step_number)) members
 
 -- who lent a lease is its lessee's lessor, and the lessee is kept or a client's own
 abbrev pub IsAgreed : List Member → List Master → Lending → Type 0

@@ -19,9 +19,9 @@ use Rattle.drm_leases.specs.Leases.{LeaseSet, Lending, is_token, next_token}
 use Rattle.drm_leases.specs.Rules.{lease_checks, leased}
 
 -- each lessee that has a token or a grant is older
-pub record IsNewLessee (l : LeaseSet) (birth : ℕ) : Type 0 where
-  pub tokens : AllByRecursion (λ (row : LeaseToken). row.master < birth) l.tokens
-  pub grants : AllByRecursion (λ (g : Grant). g.master < birth) l.grants
+pub record IsNewLessee (l : LeaseSet) (step_number : ℕ) : Type 0 where
+  pub tokens : AllByRecursion (λ (row : LeaseToken). row.master < step_number) l.tokens
+  pub grants : AllByRecursion (λ (g : Grant). g.master < step_number) l.grants
 
 abbrev pub grant : ℕ → ℕ → Grant
 grant m x = record { master = m; mode_object = x }
@@ -66,11 +66,11 @@ ended_below masters top l = record l {
 
 -- what making a lease of a master comes to
 abbrev pub Created : LeaseSet → MasterSet → ModeSet → ℕ → Bool → List ℕ → ℕ → Result Leased LeaseFault → LeaseSet → MasterSet → Type 0
-Created l v s m universal ids birth (Ok made) l2 v2 =
+Created l v s m universal ids step_number (Ok made) l2 v2 =
     (first_failing (lease_checks l v s m universal ids) ≡ None)
     × (free_lessee v m ≡ Some made.id)
     × (next_token l ≡ Some made.token)
-    × (l2 ≡ with_lease made.token birth m (listed_objects s.topology (leased l v s m universal ids)) l)
-    × ((key : ℕ) × IsFreeKey v key × (v2 ≡ with_master (lessee key birth m made.id) v) × (made.master ≡ key))
-Created l v s m universal ids birth (Err (Denied rule)) l2 v2 = (first_failing (lease_checks l v s m universal ids) ≡ Some rule) × (l2 ≡ l) × (v2 ≡ v)
-Created l v s m universal ids birth (Err NoMemory) l2 v2 = (first_failing (lease_checks l v s m universal ids) ≡ None) × (l2 ≡ l) × (v2 ≡ v)
+    × (l2 ≡ with_lease made.token step_number m (listed_objects s.topology (leased l v s m universal ids)) l)
+    × ((key : ℕ) × IsFreeKey v key × (v2 ≡ with_master (lessee key step_number m made.id) v) × (made.master ≡ key))
+Created l v s m universal ids step_number (Err (Denied rule)) l2 v2 = (first_failing (lease_checks l v s m universal ids) ≡ Some rule) × (l2 ≡ l) × (v2 ≡ v)
+Created l v s m universal ids step_number (Err NoMemory) l2 v2 = (first_failing (lease_checks l v s m universal ids) ≡ None) × (l2 ≡ l) × (v2 ≡ v)

@@ -16,7 +16,7 @@ pub record Lending : Type 0 where
   pub lessee : ℕ
   pub lessor : ℕ
 
--- tokens run from 1 to `last`, of which `last_given` is the last one given, if any was. A lessee is named by its birth; tokens,
+-- tokens run from 1 to `last`, of which `last_given` is the last one given, if any was. A lessee is named by its step number; tokens,
 -- grants and leases stand in the order of their lessees
 pub record LeaseSet : Type 0 where
   pub last : ℕ

@@ -27,7 +27,7 @@ is_empty (x ∷ xs) = false
 
 -- leases
 
--- in the order of their lessees' births
+-- in the order of their lessees' step numbers
 pub record LeaseRows : Type 0 where
   pub rows : List Lease
 

@@ -20,10 +20,10 @@ pub fn end_leases_below(granted: &mut Granted, masters: &Masters, top: u32)
     ensures { granted.new.rows ≡ filter (λ x. not (masters_sets.is_below masters.now.masters top x.lessee)) granted.old.rows }
 {
     masters.laws();
-    let mut place = 0;
-    while let Some(lessee) = masters.nth_lessee(top, place) {
+    let mut position = 0;
+    while let Some(lessee) = masters.nth_lessee(top, position) {
         granted.remove(lessee);
         end_leases_below(granted, masters, lessee);
-        place += 1;
+        position += 1;
     }
 }

@@ -3,6 +3,15 @@
 use drm_table::Rule;
 
 /// Why no lease was made. All is as it was.
+///
+/// ```rust
+/// let Some(topology) = Topology::new(2, &[1, 2], &[3, 2], &[5, 6]) else { return };
+/// let modes = Modes::new(alloc, topology, 4);
+/// let mut masters = Masters::new(alloc, 4, 4);
+/// let Ok(_first) = masters.on_open(1, 1) else { return };
+/// let shape = Leases::new(alloc, 8).create(&mut masters, &modes, 1, true, &[1], 2);
+/// assert!(shape == Err(LeaseFault::Denied(Rule::LeaseShape)));
+/// ```
 #[derive(Clone, Copy, PartialEq, Eq, Debug)]
 pub enum LeaseFault {
     /// A rule denies it.

@@ -15,7 +15,7 @@ use drm_table::ShownList;
 use std::alloc::Global;
 use std::marker::Model;
 
-/// The leases, by the births of the lessees, and what each lessor has lent by them; a lease without a mode object is none, and
+/// The leases, by the step numbers of the lessees, and what each lessor has lent by them; a lease without a mode object is none, and
 /// no lessor lends a mode object twice. Contracts see a flat list, in the order of the lessees.
 #[derive(Drop)]
 pub struct Granted {
@@ -61,11 +61,11 @@ impl Granted {
         self.leases.len()
     }
 
-    /// The lease at a place, from 0, in the order of the lessees' births; none past the last.
-    pub fn nth(&self, place: usize) -> Option<Lease>
-        ensures { result ≡ slice_get self.now.rows place }
+    /// The lease at a place, from 0, in the order of the lessees' step numbers; none past the last.
+    pub fn nth(&self, position: usize) -> Option<Lease>
+        ensures { result ≡ slice_get self.now.rows position }
     {
-        let lessee = self.leases.nth(place)?;
+        let lessee = self.leases.nth(position)?;
         let kept = *self.leases.get(lessee)?;
         Some(lease_of(lessee, kept))
     }

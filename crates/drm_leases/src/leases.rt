@@ -27,6 +27,15 @@ use std::marker::Model;
 
 /// What lessees control, and the open lease tokens (drm-uapi, leases; tokens are own). A lessee is named by the number of the
 /// step that made it, since a key may be given again. Contracts see flat lists, in the order of the lessees.
+///
+/// ```rust
+/// let Some(topology) = Topology::new(2, &[1, 2], &[3, 2], &[5, 6]) else { return };
+/// let modes = Modes::new(alloc, topology, 4);
+/// let mut masters = Masters::new(alloc, 4, 4);
+/// let Ok(_first) = masters.on_open(1, 1) else { return };
+/// let mut leases = Leases::new(alloc, 8);
+/// let Ok(leased) = leases.create(&mut masters, &modes, 1, true, &[1, 3, 7], 2) else { return };
+/// ```
 pub struct Leases {
     granted: Granted,
     tokens: Vec<LeaseToken>,
@@ -62,6 +71,10 @@ impl Model for Leases {
 
 impl Leases {
     /// No lease. Tokens from 1 to `last` may be given. It takes no memory.
+    ///
+    /// ```rust
+    /// assert!(Leases::new(alloc, 8).last_given().is_none());
+    /// ```
     pub fn new(alloc: Global, last: u32) -> Leases
         ensures { result ≡ sets.no_leases last }
     {
@@ -84,6 +97,10 @@ impl Leases {
     /// mode objects, and the token that opens it. Where the client has universal planes off, each listed CRTC brings along its
     /// primary and its cursor plane, if the master controls it (own). Rules deny it in the order 35, 30 to 34, 43, each over all
     /// ids, and 34 over what comes along too. A refusal changes nothing.
+    ///
+    /// ```rust
+    /// assert!(leased.id == 1 && leased.token == 1);
+    /// ```
     pub fn create(
         &mut self,
         masters: &mut Masters,
@@ -91,13 +108,13 @@ impl Leases {
         client: u32,
         universal: bool,
         ids: &[u32],
-        birth: u32,
+        step_number: u32,
     ) -> Result<Leased, LeaseFault>
-        requires present { is_some (masters_sets.member_of masters.old.members client) ≡ true }
-        requires new_birth { masters_calls.IsNewBirth masters.old birth }
-        requires new_lessee { calls.IsNewLessee self.old birth }
+        requires open_client { is_some (masters_sets.member_of masters.old.members client) ≡ true }
+        requires new_step_number { masters_calls.IsNewStepNumber masters.old step_number }
+        requires new_lessee { calls.IsNewLessee self.old step_number }
         requires agreed { AreAgreed self.old masters.old }
-        ensures created { IfSome (masters_sets.member_of masters.old.members client) (λ x. calls.Created self.old masters.old modes.now x.master universal ids.now birth result self.new masters.new) }
+        ensures created { IfSome (masters_sets.member_of masters.old.members client) (λ x. calls.Created self.old masters.old modes.now x.master universal ids.now step_number result self.new masters.new) }
         ensures err { OnErr result ((self.new ≡ self.old) × (masters.new ≡ masters.old)) }
         ensures agreed { AreAgreed self.new masters.new }
     {
@@ -120,16 +137,16 @@ impl Leases {
             return Err(LeaseFault::NoMemory);
         }
         self.granted.laws();
-        if let Err(NoMemory) = self.granted.add(birth, member.master, objects) {
+        if let Err(NoMemory) = self.granted.add(step_number, member.master, objects) {
             return Err(LeaseFault::NoMemory);
         }
-        let Ok(made) = masters.make_lessee(lessor.key, birth) else {
-            self.granted.remove(birth);
+        let Ok(made) = masters.make_lessee(lessor.key, step_number) else {
+            self.granted.remove(step_number);
             return Err(LeaseFault::NoMemory);
         };
         self.tokens.push_reserved(LeaseToken {
             token,
-            master: birth,
+            master: step_number,
         });
         self.last_given = Some(token);
         Ok(Leased {
@@ -140,6 +157,10 @@ impl Leases {
     }
 
     /// Whether the lease of a lessee has a mode object. It takes no memory.
+    ///
+    /// ```rust
+    /// assert!(leases.holds(2, 1) && !leases.holds(2, 2));
+    /// ```
     pub fn holds(&self, master: u32, mode_object: u32) -> bool
         ensures { result ≡ sets.is_granted self.now.grants master mode_object }
     {
@@ -147,6 +168,10 @@ impl Leases {
     }
 
     /// Whether the lease of a direct lessee of the master has a mode object. It takes no memory.
+    ///
+    /// ```rust
+    /// assert!(leases.leased_out(&masters, 1, 3));
+    /// ```
     pub fn leased_out(&self, masters: &Masters, master: u32, mode_object: u32) -> bool
         requires { AreAgreed self.now masters.now }
         ensures { result ≡ sets.is_leased_out self.now.grants masters.now.masters master mode_object }
@@ -156,6 +181,10 @@ impl Leases {
 
     /// The ids of the direct lessees of the master whose lease isn't empty, rising (drm-uapi, leases; that they rise is own). It
     /// takes no memory.
+    ///
+    /// ```rust
+    /// assert!(leases.list(&masters, 1).ids() == [1].as_slice());
+    /// ```
     pub fn list(&self, masters: &Masters, master: u32) -> ShownList
         requires { masters.now.last_lessee ≤ 64 }
         ensures { result ≡ sets.lessee_ids self.now.grants masters.now.masters masters.now.last_lessee master }
@@ -171,6 +200,10 @@ impl Leases {
     }
 
     /// The mode objects in the lease of a lessee, rising. It takes no memory.
+    ///
+    /// ```rust
+    /// assert!(leases.objects_of(2).ids() == [1, 3, 7].as_slice());
+    /// ```
     pub fn objects_of(&self, master: u32) -> ShownList
         ensures { result ≡ sets.granted_objects self.now.grants master }
     {
@@ -178,6 +211,10 @@ impl Leases {
     }
 
     /// The lessee that a token opens, if the token is open. It takes no memory.
+    ///
+    /// ```rust
+    /// assert!(leases.token_master(leased.token) == Some(2));
+    /// ```
     pub fn token_master(&self, token: u32) -> Option<u32>
         ensures { result ≡ sets.token_master self.now.tokens token }
     {
@@ -185,6 +222,10 @@ impl Leases {
     }
 
     /// The open token of a lessee, if it has one. It takes no memory.
+    ///
+    /// ```rust
+    /// assert!(leases.token_of(2) == Some(leased.token));
+    /// ```
     pub fn token_of(&self, master: u32) -> Option<u32>
         ensures { result ≡ sets.token_of self.now.tokens master }
     {
@@ -192,6 +233,11 @@ impl Leases {
     }
 
     /// Spends an open token, and gives the lessee that it opens. Where the token isn't open nothing changes. It takes no memory.
+    ///
+    /// ```rust
+    /// assert!(leases.redeem(leased.token) == Some(2));
+    /// assert!(leases.token_of(2).is_none());
+    /// ```
     pub fn redeem(&mut self, token: u32) -> Option<u32>
         ensures master { result ≡ sets.token_master self.old.tokens token }
         ensures spent { self.new ≡ calls.without_token token self.old }
@@ -204,6 +250,11 @@ impl Leases {
 
     /// Empties the lease of a master and of all below it, takes their open tokens, and releases them: a lessee that nobody
     /// redeemed goes, and a master that was kept (drm-uapi, leases; what comes of tokens is own). It takes no memory.
+    ///
+    /// ```rust
+    /// leases.revoke(&mut masters, 2);
+    /// assert!(leases.objects_of(2).ids().is_empty());
+    /// ```
     pub fn revoke(&mut self, masters: &mut Masters, master: u32)
         requires { AreAgreed self.old masters.old }
         ensures leases { self.new ≡ calls.ended masters.old.masters master self.old }
@@ -218,6 +269,11 @@ impl Leases {
     /// Empties the leases of all below a master, takes their open tokens, and releases them. Its own lease, open token and stay
     /// remain; it goes only where nothing but what was below it held it (drm-uapi, leases; what comes of tokens is own). It takes
     /// no memory.
+    ///
+    /// ```rust
+    /// leases.revoke_below(&mut masters, 1);
+    /// assert!(leases.list(&masters, 1).ids().is_empty());
+    /// ```
     pub fn revoke_below(&mut self, masters: &mut Masters, master: u32)
         requires { AreAgreed self.old masters.old }
         ensures leases { self.new ≡ calls.ended_below masters.old.masters master self.old }
@@ -230,6 +286,10 @@ impl Leases {
     }
 
     /// The last token given; none before the first.
+    ///
+    /// ```rust
+    /// assert!(leases.last_given() == Some(leased.token));
+    /// ```
     pub fn last_given(&self) -> Option<u32>
         ensures { result ≡ self.now.last_given }
     {
@@ -237,10 +297,14 @@ impl Leases {
     }
 
     /// The grant at a place, from 0, in the order of lessees and of ids in a lease; none past the last. It takes no memory.
-    pub fn nth_grant(&self, place: usize) -> Option<Grant>
-        ensures { result ≡ slice_get self.now.grants place }
+    ///
+    /// ```rust
+    /// assert!(leases.nth_grant(0).is_none());
+    /// ```
+    pub fn nth_grant(&self, position: usize) -> Option<Grant>
+        ensures { result ≡ slice_get self.now.grants position }
     {
-        nth_grant(&self.granted, place)
+        nth_grant(&self.granted, position)
     }
 
     // the planes that come along with the CRTCs of a lease

@@ -8,7 +8,7 @@ use drm_index_array::IndexArray;
 use drm_masters::NoMemory;
 use std::alloc::Global;
 
-/// For each lessor a mask of what it has lent, by its birth; who has none has lent nothing.
+/// For each lessor a mask of what it has lent, by its step number; who has none has lent nothing.
 #[derive(Drop)]
 pub struct Lent {
     pub(crate) masks: IndexArray<u64>,

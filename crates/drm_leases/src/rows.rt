@@ -3,6 +3,16 @@
 use drm_masters::MasterKey;
 
 /// A fixed mode object in the lease of a lessee (drm-uapi, leases).
+///
+/// ```rust
+/// let Some(topology) = Topology::new(2, &[1, 2], &[3, 2], &[5, 6]) else { return };
+/// let modes = Modes::new(alloc, topology, 4);
+/// let mut masters = Masters::new(alloc, 4, 4);
+/// let Ok(_first) = masters.on_open(1, 1) else { return };
+/// let mut leases = Leases::new(alloc, 8);
+/// let Ok(leased) = leases.create(&mut masters, &modes, 1, true, &[1, 3, 7], 2) else { return };
+/// assert!(leases.nth_grant(0) == Some(Grant { master: 2, mode_object: 1 }));
+/// ```
 #[derive(Clone, Copy, PartialEq, Eq, Debug)]
 pub struct Grant {
     /// The lessee, by the number of the step that made it.
@@ -12,6 +22,11 @@ pub struct Grant {
 }
 
 /// An open token, which opens one client of a lessee (own: it stands for the file descriptor of a lease).
+///
+/// ```rust
+/// let token = LeaseToken { token: 1, master: 2 };
+/// assert!(leases.token_of(token.master) == Some(token.token));
+/// ```
 #[derive(Clone, Copy, PartialEq, Eq, Debug)]
 pub struct LeaseToken {
     /// The token, a number from 1.
@@ -36,6 +51,11 @@ pub struct LeaseRecord {
 }
 
 /// A lease that was made.
+///
+/// ```rust
+/// let Leased { master, id, token } = leased;
+/// assert!(id == 1 && token == 1 && masters.master(2).is_some_and(|row| row.key == master));
+/// ```
 #[derive(Clone, Copy, PartialEq, Eq, Debug)]
 pub struct Leased {
     /// The lessee.

@@ -91,10 +91,10 @@ pub fn is_leased_out(granted: &Granted, masters: &Masters, master: u32, mode_obj
 }
 
 /// The grant at a place, from 0, in the order of lessees and of ids in a lease; none past the last.
-pub fn nth_grant(granted: &Granted, place: usize) -> Option<Grant>
-    ensures { result ≡ slice_get (grants_in granted.now.rows) place }
+pub fn nth_grant(granted: &Granted, position: usize) -> Option<Grant>
+    ensures { result ≡ slice_get (grants_in granted.now.rows) position }
 {
-    let mut left = place;
+    let mut left = position;
     for at in 0..granted.len() {
         let Some(lease) = granted.nth(at) else {
             unreachable!()
@@ -126,8 +126,8 @@ pub fn has_lease(granted: &Granted, masters: &Masters, master: u32, id: u32) -> 
     ensures { result ≡ sets.has_lease (grants_in granted.now.rows) masters.now.masters master id }
 {
     granted.laws();
-    for place in 0..granted.len() {
-        let Some(lease) = granted.nth(place) else {
+    for position in 0..granted.len() {
+        let Some(lease) = granted.nth(position) else {
             unreachable!()
         };
         if is_direct_lessee(masters, master, id, lease.lessee) {

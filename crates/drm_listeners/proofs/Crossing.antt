@@ -2,13 +2,13 @@
 use denote.Struct.Declared.{shape}
 use denote.Param.Send.{IsSend, recorded_send, struct_send}
 use Rattle.std.proofs.Crossing.{Vec-send}
-use Rattle.drm_turns.proofs.Crossing.{seat_send}
+use Rattle.drm_turns.proofs.Crossing.{participant_send}
 use Rattle.drm_sessions.proofs.end.Session.TheSendSync as session
 use Rattle.drm_sessions.specs.contracts.through.Served as served
 use Rattle.drm_listeners.specs.contracts.connections.ServedListener as listener
 
 pub served_send : IsSend served.the_row
-served_send = recorded_send _ _ _ served.the_type.to_one (struct_send (shape served.the_type) (session.the_field_send, (seat_send, tt)))
+served_send = recorded_send _ _ _ served.the_type.to_one (struct_send (shape served.the_type) (session.the_field_send, (participant_send, tt)))
 
 pub listener_send : IsSend listener.the_row
-listener_send = recorded_send _ _ _ listener.the_type.to_one (struct_send (shape listener.the_type) (Vec-send _ session.the_send, (seat_send, tt)))
+listener_send = recorded_send _ _ _ listener.the_type.to_one (struct_send (shape listener.the_type) (Vec-send _ session.the_send, (participant_send, tt)))

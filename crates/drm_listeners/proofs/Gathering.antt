@@ -1,4 +1,4 @@
--- The sessions of three listeners, and their seats.
+-- The sessions of three listeners, and their participants.
 use Rattle.std.proofs.Common.{◌≡◌, ℕ, suc, ◌+◌, List, [], ◌∷◌, ◌++◌, All, length, refl, sym, ap, ◌∙◌, subst, arith, append_assoc, length-append, inl, inr}
 use Rattle.std.specs.List.{AllByRecursion}
 use Rattle.std.specs.Prelude.{map, take, drop, Result, Ok, Err, IfOk, OnOk}
@@ -6,7 +6,7 @@ use Rattle.std.proofs.Math.Seq.{drop-append-add, drop-append_seam, take-append_s
 use Rattle.std.proofs.lemmas.List.Elements.{All-append, All-cons, All-head, All-nil, All-same, All-tail}
 use Rattle.drm_turns.specs.declared.history.Entry.{Entry}
 use Rattle.drm_turns.specs.History.{AllDiffer, Has, StartsWith}
-use Rattle.drm_turns.specs.Seats.{HasSeen, Standing, numbers_of}
+use Rattle.drm_turns.specs.Participants.{HasSeen, ParticipantView, numbers_of}
 use Rattle.drm_turns.proofs.Taken.{all-seen-more, starts_on}
 use Rattle.drm_sessions.specs.declared.class.Class.{Class}
 use Rattle.drm_sessions.specs.declared.class.Class.TheVariants.{Card, Render, Root}
@@ -15,13 +15,13 @@ use Rattle.drm_sessions.specs.Serving.{all_steps}
 use Rattle.drm_listeners.specs.declared.connections.ServedListener.{ServedListener}
 use Rattle.drm_listeners.specs.declared.counts.Counts.{Counts}
 use Rattle.drm_listeners.specs.declared.listeners.ByClass.{ByClass}
-use Rattle.drm_listeners.specs.Connections.{IsServed, IsSessionBy, IsSessionOf, Sitting, seats_in, sessions_in}
+use Rattle.drm_listeners.specs.Connections.{IsServed, IsSessionBy, IsSessionOf, SessionState, participants_in, sessions_in}
 use Rattle.drm_listeners.specs.Listeners.{AreServed}
 use Rattle.drm_listeners.specs.Serving.{AreSessionsOf, HaveSat, IsTold, card_sessions, render_sessions, root_sessions}
 
 -- ---- lists
 
-pub length-sessions : (sittings : List Sitting) → length (sessions_in sittings) ≡ length sittings
+pub length-sessions : (sittings : List SessionState) → length (sessions_in sittings) ≡ length sittings
 length-sessions [] = refl
 length-sessions (s ∷ sittings) = ap suc (length-sessions sittings)
 
@@ -64,14 +64,14 @@ differ-without (x ∷ xs) y ys d = (λ h. d.0 (has-beside x xs y ys h), differ-w
 
 -- ---- the sessions by their classes
 
-of-class : (class : Class) (sittings : List Sitting) → All (λ (s : Sitting). IsSessionBy class s.seat s.session) sittings → All (IsSessionOf class) (sessions_in sittings)
+of-class : (class : Class) (sittings : List SessionState) → All (λ (s : SessionState). IsSessionBy class s.participant s.session) sittings → All (IsSessionOf class) (sessions_in sittings)
 of-class class [] h = All-nil (IsSessionOf class)
 of-class class (s ∷ sittings) h =
-    All-cons (IsSessionOf class) s.session (sessions_in sittings) (s.seat, All-head (λ (x : Sitting). IsSessionBy class x.seat x.session) s sittings h)
-    (of-class class sittings (All-tail (λ (x : Sitting). IsSessionBy class x.seat x.session) s sittings h))
+    All-cons (IsSessionOf class) s.session (sessions_in sittings) (s.participant, All-head (λ (x : SessionState). IsSessionBy class x.participant x.session) s sittings h)
+    (of-class class sittings (All-tail (λ (x : SessionState). IsSessionBy class x.participant x.session) s sittings h))
 
-of-listener : (class : Class) (count : ℕ) (seat : Standing) (served : ServedListener) → IsServed class count seat served → All (IsSessionOf class) served.sessions.items
-of-listener class count seat served h = subst (λ (l : List Session). All (IsSessionOf class) l) (sym h.sessions) (of-class class h.sittings h.of_class)
+of-listener : (class : Class) (count : ℕ) (participant : ParticipantView) (served : ServedListener) → IsServed class count participant served → All (IsSessionOf class) served.sessions.items
+of-listener class count participant served h = subst (λ (l : List Session). All (IsSessionOf class) l) (sym h.sessions) (of-class class h.sittings h.of_class)
 
 parted : (counts : Counts) (cards renders roots : List Session) → length cards ≡ counts.cards → length renders ≡ counts.renders → length roots ≡ counts.roots
     → All (IsSessionOf Card) cards → All (IsSessionOf Render) renders → All (IsSessionOf Root) roots → AreSessionsOf counts (cards ++ (renders ++ roots))
@@ -88,59 +88,59 @@ parted counts cards renders roots c r o of_cards of_renders of_roots =
           (ap (λ (n : ℕ). drop (n + counts.renders) all) (sym c) ∙ drop-append-add cards later counts.renders ∙ ap (λ (n : ℕ). drop n later) (sym r) ∙ drop-append_seam renders roots) of_roots;
     }
 
-pub are-sessions : (counts : Counts) (seats : ByClass Standing) (served : ByClass ServedListener) → AreServed counts seats served
+pub are-sessions : (counts : Counts) (participants : ByClass ParticipantView) (served : ByClass ServedListener) → AreServed counts participants served
     → AreSessionsOf counts (served.card.sessions.items ++ (served.render.sessions.items ++ served.root.sessions.items))
-are-sessions counts seats served h = parted counts _ _ _ h.card.number h.render.number h.root.number (of-listener _ _ _ _ h.card) (of-listener _ _ _ _ h.render) (of-listener _ _ _ _ h.root)
+are-sessions counts participants served h = parted counts _ _ _ h.card.number h.render.number h.root.number (of-listener _ _ _ _ h.card) (of-listener _ _ _ _ h.render) (of-listener _ _ _ _ h.root)
 
--- ---- the seats of all
+-- ---- the participants of all
 
-some-class : (class : Class) (sittings : List Sitting) → All (λ (s : Sitting). IsSessionBy class s.seat s.session) sittings → All (λ (s : Sitting). (c : Class) × IsSessionBy c s.seat s.session) sittings
+some-class : (class : Class) (sittings : List SessionState) → All (λ (s : SessionState). IsSessionBy class s.participant s.session) sittings → All (λ (s : SessionState). (c : Class) × IsSessionBy c s.participant s.session) sittings
 some-class class sittings h = λ k d within. (class, h k d within)
 
-numbers-three : (xs ys zs : List Sitting) → numbers_of (seats_in (xs ++ (ys ++ zs))) ≡ numbers_of (seats_in xs) ++ (numbers_of (seats_in ys) ++ numbers_of (seats_in zs))
-numbers-three xs ys zs = ap numbers_of (map-three (λ (s : Sitting). s.seat) xs ys zs) ∙ map-three (λ (s : Standing). s.number) (seats_in xs) (seats_in ys) (seats_in zs)
+numbers-three : (xs ys zs : List SessionState) → numbers_of (participants_in (xs ++ (ys ++ zs))) ≡ numbers_of (participants_in xs) ++ (numbers_of (participants_in ys) ++ numbers_of (participants_in zs))
+numbers-three xs ys zs = ap numbers_of (map-three (λ (s : SessionState). s.participant) xs ys zs) ∙ map-three (λ (s : ParticipantView). s.number) (participants_in xs) (participants_in ys) (participants_in zs)
 
-pub have-sat : (counts : Counts) (seats : ByClass Standing) (served : ByClass ServedListener) (old new : Standing) (sessions : List Session) → AreServed counts seats served
-    → StartsWith new.seen served.card.seat.seen × StartsWith new.seen served.render.seat.seen × StartsWith new.seen served.root.seat.seen
-    → old.joined ≡ [] → new.joined ≡ ((old.joined ++ served.card.seat.number ∷ served.card.seat.joined) ++ served.render.seat.number ∷ served.render.seat.joined) ++ served.root.seat.number ∷ served.root.seat.joined
-    → AllDiffer new.joined → sessions ≡ served.card.sessions.items ++ (served.render.sessions.items ++ served.root.sessions.items) → HaveSat new sessions
-have-sat counts seats served old new sessions h seen none joined differ is =
-    let cards : List Sitting = h.card.sittings in
-    let renders : List Sitting = h.render.sittings in
-    let roots : List Sitting = h.root.sittings in
-    let card : List ℕ = served.card.seat.joined in
-    let render : List ℕ = served.render.seat.joined in
-    let root : List ℕ = served.root.seat.joined in
-    let begun : List ℕ = old.joined ++ served.card.seat.number ∷ card in
-    let without_root : AllDiffer ((begun ++ served.render.seat.number ∷ render) ++ root) = differ-without (begun ++ served.render.seat.number ∷ render) served.root.seat.number root (subst AllDiffer joined differ) in
-    let without_render : AllDiffer (begun ++ (render ++ root)) = differ-without begun served.render.seat.number (render ++ root) (subst AllDiffer (append_assoc begun (served.render.seat.number ∷ render) root) without_root) in
-    let without_card : AllDiffer (old.joined ++ (card ++ (render ++ root))) = differ-without old.joined served.card.seat.number (card ++ (render ++ root)) (subst AllDiffer (append_assoc old.joined (served.card.seat.number ∷ card) (render ++ root)) without_render) in
-    let numbers : card ++ (render ++ root) ≡ numbers_of (seats_in (cards ++ (renders ++ roots))) =
-    (λ i. h.card.taken.joined i ++ (h.render.taken.joined i ++ h.root.taken.joined i)) ∙ sym (numbers-three cards renders roots) in
+pub have-sat : (counts : Counts) (participants : ByClass ParticipantView) (served : ByClass ServedListener) (old new : ParticipantView) (sessions : List Session) → AreServed counts participants served
+    → StartsWith new.seen served.card.participant.seen × StartsWith new.seen served.render.participant.seen × StartsWith new.seen served.root.participant.seen
+    → old.merged ≡ [] → new.merged ≡ ((old.merged ++ served.card.participant.number ∷ served.card.participant.merged) ++ served.render.participant.number ∷ served.render.participant.merged) ++ served.root.participant.number ∷ served.root.participant.merged
+    → AllDiffer new.merged → sessions ≡ served.card.sessions.items ++ (served.render.sessions.items ++ served.root.sessions.items) → HaveSat new sessions
+have-sat counts participants served old new sessions h seen none merged differ is =
+    let cards : List SessionState = h.card.sittings in
+    let renders : List SessionState = h.render.sittings in
+    let roots : List SessionState = h.root.sittings in
+    let card : List ℕ = served.card.participant.merged in
+    let render : List ℕ = served.render.participant.merged in
+    let root : List ℕ = served.root.participant.merged in
+    let begun : List ℕ = old.merged ++ served.card.participant.number ∷ card in
+    let without_root : AllDiffer ((begun ++ served.render.participant.number ∷ render) ++ root) = differ-without (begun ++ served.render.participant.number ∷ render) served.root.participant.number root (subst AllDiffer merged differ) in
+    let without_render : AllDiffer (begun ++ (render ++ root)) = differ-without begun served.render.participant.number (render ++ root) (subst AllDiffer (append_assoc begun (served.render.participant.number ∷ render) root) without_root) in
+    let without_card : AllDiffer (old.merged ++ (card ++ (render ++ root))) = differ-without old.merged served.card.participant.number (card ++ (render ++ root)) (subst AllDiffer (append_assoc old.merged (served.card.participant.number ∷ card) (render ++ root)) without_render) in
+    let numbers : card ++ (render ++ root) ≡ numbers_of (participants_in (cards ++ (renders ++ roots))) =
+    (λ i. h.card.taken.merged i ++ (h.render.taken.merged i ++ h.root.taken.merged i)) ∙ sym (numbers-three cards renders roots) in
     record {
       sittings = cards ++ (renders ++ roots);
-      are = is ∙ (λ i. h.card.sessions i ++ (h.render.sessions i ++ h.root.sessions i)) ∙ sym (map-three (λ (s : Sitting). s.session) cards renders roots);
-      by = All-append (λ (s : Sitting). (c : Class) × IsSessionBy c s.seat s.session) cards (renders ++ roots) (some-class Card cards h.card.of_class)
-          (All-append (λ (s : Sitting). (c : Class) × IsSessionBy c s.seat s.session) renders roots (some-class Render renders h.render.of_class) (some-class Root roots h.root.of_class));
-      seen = subst (λ (l : List Standing). AllByRecursion (HasSeen new) l) (sym (map-three (λ (s : Sitting). s.seat) cards renders roots))
-          (all-both (HasSeen new) (seats_in cards) (seats_in renders ++ seats_in roots) (all-seen-more served.card.seat new seen.0 (seats_in cards) h.card.taken.seen)
-          (all-both (HasSeen new) (seats_in renders) (seats_in roots) (all-seen-more served.render.seat new seen.1 (seats_in renders) h.render.taken.seen) (all-seen-more served.root.seat new seen.2 (seats_in roots) h.root.taken.seen)));
+      are = is ∙ (λ i. h.card.sessions i ++ (h.render.sessions i ++ h.root.sessions i)) ∙ sym (map-three (λ (s : SessionState). s.session) cards renders roots);
+      by = All-append (λ (s : SessionState). (c : Class) × IsSessionBy c s.participant s.session) cards (renders ++ roots) (some-class Card cards h.card.of_class)
+          (All-append (λ (s : SessionState). (c : Class) × IsSessionBy c s.participant s.session) renders roots (some-class Render renders h.render.of_class) (some-class Root roots h.root.of_class));
+      seen = subst (λ (l : List ParticipantView). AllByRecursion (HasSeen new) l) (sym (map-three (λ (s : SessionState). s.participant) cards renders roots))
+          (all-both (HasSeen new) (participants_in cards) (participants_in renders ++ participants_in roots) (all-seen-more served.card.participant new seen.0 (participants_in cards) h.card.taken.seen)
+          (all-both (HasSeen new) (participants_in renders) (participants_in roots) (all-seen-more served.render.participant new seen.1 (participants_in renders) h.render.taken.seen) (all-seen-more served.root.participant new seen.2 (participants_in roots) h.root.taken.seen)));
       differ = subst AllDiffer numbers (subst (λ (l : List ℕ). AllDiffer (l ++ (card ++ (render ++ root)))) none without_card);
     }
 
 -- ---- the history
 
-pub all-told : (log : List Entry) (seat : Standing) → StartsWith log seat.seen → (sittings : List Sitting) → All (λ (s : Sitting). (c : Class) × IsSessionBy c s.seat s.session) sittings
-    → AllByRecursion (HasSeen seat) (seats_in sittings) → All (IsTold log) sittings
-all-told log seat more [] by seen = All-nil (IsTold log)
-all-told log seat more (s ∷ sittings) by seen =
-    let one = All-head (λ (x : Sitting). (c : Class) × IsSessionBy c x.seat x.session) s sittings by in
+pub all-told : (log : List Entry) (participant : ParticipantView) → StartsWith log participant.seen → (sittings : List SessionState) → All (λ (s : SessionState). (c : Class) × IsSessionBy c s.participant s.session) sittings
+    → AllByRecursion (HasSeen participant) (participants_in sittings) → All (IsTold log) sittings
+all-told log participant more [] by seen = All-nil (IsTold log)
+all-told log participant more (s ∷ sittings) by seen =
+    let one = All-head (λ (x : SessionState). (c : Class) × IsSessionBy c x.participant x.session) s sittings by in
     All-cons (IsTold log) s sittings
     record {
       class = one.0;
       by = one.1;
-      seen = starts_on log seat.seen s.seat.seen more seen.0.seen;
+      seen = starts_on log participant.seen s.participant.seen more seen.0.seen;
       own = seen.0.own;
       steps = (let own = ap (λ (l : List Entry). length l) seen.0.own in let made = one.1.serves.steps in let none = ap (λ (l : List Entry). length l) one.1.nothing_made in omega (arith, own, made, none));
     }
-    (all-told log seat more sittings (All-tail (λ (x : Sitting). (c : Class) × IsSessionBy c x.seat x.session) s sittings by) seen.1)
+    (all-told log participant more sittings (All-tail (λ (x : SessionState). (c : Class) × IsSessionBy c x.participant x.session) s sittings by) seen.1)

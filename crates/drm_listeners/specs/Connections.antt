@@ -2,8 +2,8 @@
 use Rattle.std.specs.Prelude.{◌≡◌, ℕ, ◌≤◌, All, List, [], Vec, length, map, Result, Ok, Err, ⊤}
 use Rattle.std.specs.Vec.{vec_capacity}
 use Rattle.atomic_table.specs.Seated.{TableId}
-use Rattle.drm_turns.specs.Seats.{HasTakenIn, Same, Standing, Stays}
-use Rattle.drm_streams.specs.Streams.{SourceAccount, SinkAccount, no_calls}
+use Rattle.drm_turns.specs.Participants.{HasTakenIn, Same, ParticipantView, Unchanged}
+use Rattle.drm_streams.specs.Streams.{SourceTrace, SinkTrace, no_calls}
 use Rattle.drm_sessions.specs.declared.class.Class.{Class}
 use Rattle.drm_sessions.specs.declared.end.Session.{Session}
 use Rattle.drm_sessions.specs.Serving.{Costs, all_steps}
@@ -17,38 +17,38 @@ abbrev pub connection_turns : ℕ
 connection_turns = 1000000
 
 -- A session of a connection on a listener of this class, from a source and into a sink that nobody had asked before: through
--- a seat of the shared device that had made nothing, and is left as `seat`.
-pub record IsSessionBy (class : Class) (seat : Standing) (session : Session) : Type 0 where
-  pub in0 : SourceAccount
-  pub in1 : SourceAccount
-  pub out0 : SinkAccount
-  pub out1 : SinkAccount
-  pub own : Standing
+-- a participant of the shared device that had made nothing, and is left as `participant`.
+pub record IsSessionBy (class : Class) (participant : ParticipantView) (session : Session) : Type 0 where
+  pub in0 : SourceTrace
+  pub in1 : SourceTrace
+  pub out0 : SinkTrace
+  pub out1 : SinkTrace
+  pub own : ParticipantView
   pub unread : in0.counts ≡ no_calls
   pub unwritten : out0.counts ≡ no_calls
   pub nothing_made : own.mine ≡ []
-  pub nothing_noted : own.noted ≡ 0
-  pub serves : ServesShared class own seat in0 in1 out0 out1 session
+  pub nothing_journaled : own.journaled ≡ 0
+  pub serves : ServesShared class own participant in0 in1 out0 out1 session
   pub costs : Costs in0 in1 out0 out1 connection_turns session.end
 
--- the same, through some seat
+-- the same, through some participant
 abbrev pub IsSessionOf : Class → Session → Type 0
-IsSessionOf class session = (seat : Standing) × IsSessionBy class seat session
+IsSessionOf class session = (participant : ParticipantView) × IsSessionBy class participant session
 
--- a session, and its seat as the session left it
-pub record Sitting : Type 0 where
-  pub seat : Standing
+-- a session, and its participant as the session left it
+pub record SessionState : Type 0 where
+  pub participant : ParticipantView
   pub session : Session
 
-abbrev pub seats_in : List Sitting → List Standing
-seats_in sittings = map (λ sitting. sitting.seat) sittings
+abbrev pub participants_in : List SessionState → List ParticipantView
+participants_in sittings = map (λ sitting. sitting.participant) sittings
 
-abbrev pub sessions_in : List Sitting → List Session
+abbrev pub sessions_in : List SessionState → List Session
 sessions_in sittings = map (λ sitting. sitting.session) sittings
 
--- a seat of this shared device that has made nothing and taken in no other
-abbrev pub IsFresh : TableId → Standing → Type 0
-IsFresh table seat = (seat.table ≡ table) × (seat.mine ≡ []) × (seat.joined ≡ []) × (seat.noted ≡ 0)
+-- a participant of this shared device that has made nothing and taken in no other
+abbrev pub IsFresh : TableId → ParticipantView → Type 0
+IsFresh table participant = (participant.table ≡ table) × (participant.mine ≡ []) × (participant.merged ≡ []) × (participant.journaled ≡ 0)
 
 -- an empty list with room for so many sessions
 abbrev pub IsRoomFor : {A : Type 0} → ℕ → Vec Session A → Type 0
@@ -61,19 +61,19 @@ IsFaultOf class faults.NoThread = ⊤
 IsFaultOf class faults.NoMemory = ⊥
 IsFaultOf class faults.TurnOut = ⊥
 
--- The sessions of so many connections, all of one class, and the listener's seat, which has taken in that of each and made
+-- The sessions of so many connections, all of one class, and the listener's participant, which has taken in that of each and made
 -- nothing itself.
-pub record IsServed (class : Class) (count : ℕ) (seat : Standing) (served : ServedListener) : Type 0 where
+pub record IsServed (class : Class) (count : ℕ) (participant : ParticipantView) (served : ServedListener) : Type 0 where
   pub number : length served.sessions.items ≡ count
-  pub same : Same seat served.seat
-  pub stays : Stays seat served.seat
-  pub sittings : List Sitting
+  pub same : Same participant served.participant
+  pub unchanged : Unchanged participant served.participant
+  pub sittings : List SessionState
   pub sessions : served.sessions.items ≡ sessions_in sittings
-  pub of_class : All (λ sitting. IsSessionBy class sitting.seat sitting.session) sittings
-  pub taken : HasTakenIn served.seat (seats_in sittings)
-  pub noted : served.seat.noted ≡ all_steps served.sessions.items
+  pub of_class : All (λ sitting. IsSessionBy class sitting.participant sitting.session) sittings
+  pub taken : HasTakenIn served.participant (participants_in sittings)
+  pub journaled : served.participant.journaled ≡ all_steps served.sessions.items
 
--- what came of a listener that was to accept so many connections, through a seat of its own
-abbrev pub Serves : Class → ℕ → Standing → Result ServedListener ServeFault → Type 0
-Serves class count seat (Ok served) = IsServed class count seat served
-Serves class count seat (Err fault) = IsFaultOf class fault
+-- what came of a listener that was to accept so many connections, through a participant of its own
+abbrev pub Serves : Class → ℕ → ParticipantView → Result ServedListener ServeFault → Type 0
+Serves class count participant (Ok served) = IsServed class count participant served
+Serves class count participant (Err fault) = IsFaultOf class fault

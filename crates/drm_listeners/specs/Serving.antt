@@ -1,15 +1,15 @@
 -- The sessions of three listeners.
 use Rattle.std.specs.Prelude.{◌≡◌, ℕ, ◌+◌, All, List, length, take, drop}
 use Rattle.std.specs.List.{AllByRecursion}
-use Rattle.drm_model.specs.Run.{History}
+use Rattle.drm_model.specs.Run.{DeviceValue}
 use Rattle.drm_turns.specs.declared.history.Entry.{Entry}
-use Rattle.drm_turns.specs.History.{AllDiffer, IsLegal, StartsWith, calls_by, device_at, noted_before}
-use Rattle.drm_turns.specs.Seats.{HasSeen, Standing, numbers_of}
+use Rattle.drm_turns.specs.History.{AllDiffer, IsLegal, StartsWith, calls_by, device_at, journaled_before}
+use Rattle.drm_turns.specs.Participants.{HasSeen, ParticipantView, numbers_of}
 use Rattle.drm_sessions.specs.declared.class.Class.{Class}
 use Rattle.drm_sessions.specs.declared.end.Session.{Session}
 use Rattle.drm_sessions.specs.declared.class.Class.TheVariants.{Card, Render, Root}
 use Rattle.drm_listeners.specs.declared.counts.Counts.{Counts}
-use Rattle.drm_listeners.specs.Connections.{IsSessionBy, IsSessionOf, Sitting, seats_in, sessions_in}
+use Rattle.drm_listeners.specs.Connections.{IsSessionBy, IsSessionOf, SessionState, participants_in, sessions_in}
 
 -- how many connections there are in all
 abbrev pub connections : Counts → ℕ
@@ -34,30 +34,30 @@ pub record AreSessionsOf (counts : Counts) (sessions : List Session) : Type 0 wh
 
 -- ---- the history of all sessions
 
--- Each session had a seat of a number of its own, and this seat has seen what that had seen.
-pub record HaveSat (seat : Standing) (sessions : List Session) : Type 0 where
-  pub sittings : List Sitting
+-- Each session had a participant of a number of its own, and this participant has seen what that had seen.
+pub record HaveSat (participant : ParticipantView) (sessions : List Session) : Type 0 where
+  pub sittings : List SessionState
   pub are : sessions ≡ sessions_in sittings
-  pub by : All (λ sitting. (class : Class) × IsSessionBy class sitting.seat sitting.session) sittings
-  pub seen : AllByRecursion (HasSeen seat) (seats_in sittings)
-  pub differ : AllDiffer (numbers_of (seats_in sittings))
+  pub by : All (λ sitting. (class : Class) × IsSessionBy class sitting.participant sitting.session) sittings
+  pub seen : AllByRecursion (HasSeen participant) (participants_in sittings)
+  pub differ : AllDiffer (numbers_of (participants_in sittings))
 
--- The history has the steps of the session, as the entries of its seat's number in what that had seen.
-pub record IsTold (log : List Entry) (sitting : Sitting) : Type 0 where
+-- The history has the steps of the session, as the entries of its participant's number in what that had seen.
+pub record IsTold (log : List Entry) (sitting : SessionState) : Type 0 where
   pub class : Class
-  pub by : IsSessionBy class sitting.seat sitting.session
-  pub seen : StartsWith log sitting.seat.seen
-  pub own : calls_by sitting.seat.number sitting.seat.seen ≡ sitting.seat.mine
-  pub steps : length (calls_by sitting.seat.number sitting.seat.seen) ≡ sitting.session.steps
+  pub by : IsSessionBy class sitting.participant sitting.session
+  pub seen : StartsWith log sitting.participant.seen
+  pub own : calls_by sitting.participant.number sitting.participant.seen ≡ sitting.participant.mine
+  pub steps : length (calls_by sitting.participant.number sitting.participant.seen) ≡ sitting.session.steps
 
 -- One legal history, of which the device has the events: it begins with what the device had noted before, and tells each
 -- session, under numbers that differ.
-pub record IsHistoryOf (before after : History) (sessions : List Session) : Type 0 where
+pub record IsHistoryOf (before after : DeviceValue) (sessions : List Session) : Type 0 where
   pub log : List Entry
   pub device : after ≡ device_at before log
   pub legal : IsLegal before log
-  pub begins : StartsWith log (noted_before before)
-  pub sittings : List Sitting
+  pub begins : StartsWith log (journaled_before before)
+  pub sittings : List SessionState
   pub are : sessions ≡ sessions_in sittings
   pub told : All (IsTold log) sittings
-  pub differ : AllDiffer (numbers_of (seats_in sittings))
+  pub differ : AllDiffer (numbers_of (participants_in sittings))

@@ -3,12 +3,12 @@
 ghost use Rattle.std.specs.Prelude.{◌≡◌, ◌+◌, ◌-◌, ◌≤◌, [], All, List, IfOk, IfErr, IsSomeAnd, vec_len};
 ghost use Rattle.std.specs.Vec.{vec_capacity};
 ghost use Rattle.arrayvec.specs.ArrayVec.{array_vec_len};
-ghost use Rattle.drm_turns.specs.Seats.{HasTakenIn, IsChild, Same, Stays, with_out};
+ghost use Rattle.drm_turns.specs.Participants.{HasTakenIn, IsChild, Same, Unchanged, with_outstanding};
 ghost use Rattle.drm_streams.specs.Streams.{no_calls};
 ghost use Rattle.drm_sessions.specs.Matched.{Matched};
 ghost use Rattle.drm_sessions.specs.Serving.{Costs, all_steps};
 ghost use Rattle.drm_sessions.specs.Shared.{ServesShared};
-ghost use Rattle.drm_listeners.specs.Connections.{IsFaultOf, IsFresh, IsRoomFor, IsSessionBy, Serves, Sitting, connection_turns, seats_in, sessions_in};
+ghost use Rattle.drm_listeners.specs.Connections.{IsFaultOf, IsFresh, IsRoomFor, IsSessionBy, Serves, SessionState, connection_turns, participants_in, sessions_in};
 
 use crate::accepting::{accept_next, note_beyond};
 use crate::classes::class_word;
@@ -40,23 +40,23 @@ pub(crate) struct Listener {
     pub(crate) count: u8,
 }
 
-/// The sessions of a listener's connections in the order in which they were accepted, and a seat that took in theirs.
+/// The sessions of a listener's connections in the order in which they were accepted, and a participant that took in theirs.
 #[derive(Drop)]
 pub(crate) struct ServedListener {
     pub(crate) sessions: Vec<Session>,
-    pub(crate) seat: Seat,
+    pub(crate) participant: Seat,
 }
 
-/// That a thread serves a connection of this class through the seat, and gives that back.
+/// That a thread serves a connection of this class through the participant, and gives that back.
 #[derive(Drop)]
 struct ConnectionServed {
     class: Class,
-    seat: Snapshot<Seat>,
+    participant: Snapshot<Seat>,
 }
 
 impl Promise<Served> for ConnectionServed {
-    ghost kept_by = { λ promise served. IsSessionBy promise.class served.seat served.session
-        × Same promise.seat.value served.seat × (served.seat.joined ≡ []) × Stays promise.seat.value served.seat };
+    ghost kept_by = { λ promise served. IsSessionBy promise.class served.participant served.session
+        × Same promise.participant.value served.participant × (served.participant.merged ≡ []) × Unchanged promise.participant.value served.participant };
 }
 
 /// A thread that serves a connection.
@@ -70,24 +70,24 @@ type ConnectionHandles = ArrayVec<Option<ConnectionHandle>, MOST>;
 fn serve_sides<R: Wait, D: Sharing, S: Source, K: Sink>(
     rt: &R,
     shared: &D,
-    seat: Seat,
+    participant: Seat,
     class: Class,
     source: &mut S,
     sink: &mut K,
 ) -> Served
-    requires own { seat.table ≡ D.table shared.now }
-    requires unread { (S.account source.old).counts ≡ no_calls }
-    requires unwritten { (K.account sink.old).counts ≡ no_calls }
-    ensures serves { ServesShared class seat result.seat
-        (S.account source.old) (S.account source.new) (K.account sink.old) (K.account sink.new)
+    requires own { participant.table ≡ D.table shared.now }
+    requires unread { (S.trace source.old).counts ≡ no_calls }
+    requires unwritten { (K.trace sink.old).counts ≡ no_calls }
+    ensures serves { ServesShared class participant result.participant
+        (S.trace source.old) (S.trace source.new) (K.trace sink.old) (K.trace sink.new)
         result.session }
-    ensures costs { Costs (S.account source.old) (S.account source.new)
-        (K.account sink.old) (K.account sink.new) connection_turns result.session.end }
+    ensures costs { Costs (S.trace source.old) (S.trace source.new)
+        (K.trace sink.old) (K.trace sink.new) connection_turns result.session.end }
 {
     serve_through(
         rt,
         shared.device(),
-        seat,
+        participant,
         &mut NoGate,
         class,
         source,
@@ -101,20 +101,20 @@ fn serve_sides<R: Wait, D: Sharing, S: Source, K: Sink>(
 fn serve_connection<R: Wait + Log, D: Gathering>(
     rt: &R,
     shared: &D,
-    seat: Seat,
+    participant: Seat,
     class: Class,
     stream: UnixStream,
 ) -> Served
-    requires { IsFresh (D.table shared.now) seat }
-    ensures session { IsSessionBy class result.seat result.session }
-    ensures same { Same seat result.seat }
-    ensures joined { result.seat.joined ≡ [] }
-    ensures stays { Stays seat result.seat }
+    requires { IsFresh (D.table shared.now) participant }
+    ensures session { IsSessionBy class result.participant result.session }
+    ensures same { Same participant result.participant }
+    ensures merged { result.participant.merged ≡ [] }
+    ensures unchanged { Unchanged participant result.participant }
 {
     let attendance = shared.open().attend(rt, stream.as_raw_fd());
     let mut source = FromRead::new(Greeting::new(&stream, &attendance));
     let mut sink = ToWrite::new(&stream);
-    let served = serve_sides(rt, shared, seat, class, &mut source, &mut sink);
+    let served = serve_sides(rt, shared, participant, class, &mut source, &mut sink);
     if !shared.open().has_ended(rt) {
         note_session(rt, class, &served.session);
     }
@@ -127,12 +127,12 @@ fn start_connection<'s, E: 's, R: Wait + Threads + Log + Sync, D: Gathering + Sy
     scope: &Scope<'s, E>,
     rt: &'s R,
     shared: &'s D,
-    seat: Seat,
+    participant: Seat,
     listener: &Listener,
 ) -> Result<ConnectionHandle, ServeFault>
-    requires { IsFresh (D.table shared.now) seat }
+    requires { IsFresh (D.table shared.now) participant }
     ensures class { IfOk result (λ handle. handle.promise.class ≡ listener.now.class) }
-    ensures seat { IfOk result (λ handle. handle.promise.seat.value ≡ seat) }
+    ensures participant { IfOk result (λ handle. handle.promise.participant.value ≡ participant) }
     ensures fault { IfErr result (λ fault. IsFaultOf listener.now.class fault) }
 {
     let class = listener.class;
@@ -145,18 +145,18 @@ fn start_connection<'s, E: 's, R: Wait + Threads + Log + Sync, D: Gathering + Sy
     };
     let promise = ConnectionServed {
         class,
-        seat: Snapshot::of(&seat),
+        participant: Snapshot::of(&participant),
     };
     match scope.spawn_with(
         promise,
-        move || serve_connection(rt, shared, seat, class, stream),
+        move || serve_connection(rt, shared, participant, class, stream),
     ) {
         Ok(handle) => Ok(handle),
         Err(_) => Err(ServeFault::NoThread),
     }
 }
 
-// Starts a thread for each connection, with a seat of its own. The listener is closed once the last connection was accepted, or
+// Starts a thread for each connection, with a participant of its own. The listener is closed once the last connection was accepted, or
 // one couldn't be served.
 fn start_connections<'s, E: 's, R: Wait + Threads + Log + Sync, D: Gathering + Sync>(
     scope: &Scope<'s, E>,
@@ -169,26 +169,26 @@ fn start_connections<'s, E: 's, R: Wait + Threads + Log + Sync, D: Gathering + S
     ensures count { IfOk result (λ handles. array_vec_len handles ≡ listener.count) }
     ensures class { IfOk result (λ handles. All (λ started. IsSomeAnd started (λ handle.
         handle.promise.class ≡ listener.class)) handles.items) }
-    ensures seats { IfOk result (λ handles. All (λ started. IsSomeAnd started (λ handle.
-        handle.promise.seat.value.table ≡ own.old.table)) handles.items) }
+    ensures participants { IfOk result (λ handles. All (λ started. IsSomeAnd started (λ handle.
+        handle.promise.participant.value.table ≡ own.old.table)) handles.items) }
     ensures children { IfOk result (λ handles. All (λ started. IsSomeAnd started (λ handle.
-        IsChild own.old handle.promise.seat.value)) handles.items) }
+        IsChild own.old handle.promise.participant.value)) handles.items) }
     ensures fault { IfErr result (λ fault. IsFaultOf listener.class fault) }
-    ensures own { own.new ≡ with_out own.old own.new.out }
-    ensures out { IfOk result (λ handles. own.new.out ≡ own.old.out + array_vec_len handles) }
+    ensures own { own.new ≡ with_outstanding own.old own.new.outstanding }
+    ensures outstanding { IfOk result (λ handles. own.new.outstanding ≡ own.old.outstanding + array_vec_len handles) }
 {
     let mut handles = ConnectionHandles::new();
     let _attendance = shared.open().attend(rt, listener.socket.as_raw_fd());
     for _ in 0..listener.count {
-        let seat = shared.device().split(own);
-        let handle = start_connection(scope, rt, shared, seat, &listener)?;
+        let participant = shared.device().split(own);
+        let handle = start_connection(scope, rt, shared, participant, &listener)?;
         handles.push(Some(handle));
     }
     note_beyond(rt, &listener.socket, listener.class);
     Ok(handles)
 }
 
-// Waits for the threads in their order, and takes in their seats.
+// Waits for the threads in their order, and takes in their participants.
 fn join_connections<R: Threads>(
     rt: &R,
     shared: &SharedDevice,
@@ -197,28 +197,31 @@ fn join_connections<R: Threads>(
     sessions: Vec<Session>,
 ) -> Vec<Session>
     requires own { own.old.table ≡ shared.now }
-    requires joined { own.old.joined ≡ [] }
-    requires seats { All (λ started. IsSomeAnd started (λ handle.
-        handle.promise.seat.value.table ≡ own.old.table)) handles.items }
-    requires children { All (λ started. IsSomeAnd started (λ handle. IsChild own.old handle.promise.seat.value)) handles.items }
+    requires merged { own.old.merged ≡ [] }
+    requires participants { All (λ started. IsSomeAnd started (λ handle.
+        handle.promise.participant.value.table ≡ own.old.table)) handles.items }
+    requires children { All (λ started. IsSomeAnd started (λ handle. IsChild own.old handle.promise.participant.value)) handles.items }
     requires empty { sessions.items ≡ [] }
     requires reserved { array_vec_len handles ≤ vec_capacity sessions }
-    ensures sessions { (sittings : List Sitting) × (result.items ≡ sessions_in sittings)
+    ensures sessions { (sittings : List SessionState) × (result.items ≡ sessions_in sittings)
         × Matched (λ started sitting. IsSomeAnd started (λ handle.
-        IsSessionBy handle.promise.class sitting.seat sitting.session)) handles.items sittings
-        × HasTakenIn own.new (seats_in sittings) }
+        IsSessionBy handle.promise.class sitting.participant sitting.session)) handles.items sittings
+        × HasTakenIn own.new (participants_in sittings) }
     ensures same { Same own.old own.new }
     ensures parent { own.new.parent ≡ own.old.parent }
-    ensures out { own.new.out ≡ own.old.out - vec_len result }
-    ensures noted { own.new.noted ≡ own.old.noted + all_steps result.items }
+    ensures outstanding { own.new.outstanding ≡ own.old.outstanding - vec_len result }
+    ensures journaled { own.new.journaled ≡ own.old.journaled + all_steps result.items }
 {
     let mut sessions = sessions;
     for started in handles {
         let Some(handle) = started else {
             unreachable!()
         };
-        let Served { session, seat } = handle.join(rt);
-        shared.join(own, seat);
+        let Served {
+            session,
+            participant,
+        } = handle.join(rt);
+        shared.join(own, participant);
         sessions.push_reserved(session);
     }
     sessions
@@ -229,18 +232,21 @@ fn serve_in_scope<'s, E: 's, R: Wait + Threads + Log + Sync, D: Gathering + Sync
     scope: &Scope<'s, E>,
     rt: &'s R,
     shared: &'s D,
-    seat: Seat,
+    participant: Seat,
     listener: Listener,
     sessions: Vec<Session>,
 ) -> Result<ServedListener, ServeFault>
-    requires fresh { IsFresh (D.table shared.now) seat }
+    requires fresh { IsFresh (D.table shared.now) participant }
     requires room { IsRoomFor listener.count sessions }
-    ensures { Serves listener.class listener.count seat result }
+    ensures { Serves listener.class listener.count participant result }
 {
-    let mut seat = seat;
-    let handles = start_connections(scope, rt, shared, &mut seat, listener)?;
-    let sessions = join_connections(rt, shared.device(), &mut seat, handles, sessions);
-    Ok(ServedListener { sessions, seat })
+    let mut participant = participant;
+    let handles = start_connections(scope, rt, shared, &mut participant, listener)?;
+    let sessions = join_connections(rt, shared.device(), &mut participant, handles, sessions);
+    Ok(ServedListener {
+        sessions,
+        participant,
+    })
 }
 
 /// Accepts the connections of a listener and serves each in a thread of its own, until all have ended. It may wait.
@@ -250,21 +256,21 @@ fn serve_in_scope<'s, E: 's, R: Wait + Threads + Log + Sync, D: Gathering + Sync
 pub(crate) fn serve_listener<R: Wait + Threads + Log + Sync, D: Gathering + Sync>(
     rt: &R,
     shared: &D,
-    seat: Seat,
+    participant: Seat,
     listener: Listener,
     sessions: Vec<Session>,
 ) -> Result<ServedListener, ServeFault>
-    requires fresh { IsFresh (D.table shared.now) seat }
+    requires fresh { IsFresh (D.table shared.now) participant }
     requires room { IsRoomFor listener.count sessions }
-    ensures { Serves listener.class listener.count seat result }
+    ensures { Serves listener.class listener.count participant result }
 {
     thread::scope(
         thread::scope_env(),
         rt,
         move |scope| -> Result<ServedListener, ServeFault>
-            requires fresh { IsFresh (D.table shared.now) seat }
+            requires fresh { IsFresh (D.table shared.now) participant }
             requires room { IsRoomFor listener.count sessions }
-            ensures { Serves listener.class listener.count seat result }
-        { serve_in_scope(scope, rt, shared, seat, listener, sessions) },
+            ensures { Serves listener.class listener.count participant result }
+        { serve_in_scope(scope, rt, shared, participant, listener, sessions) },
     )
 }

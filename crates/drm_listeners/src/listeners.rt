@@ -26,16 +26,16 @@ pub(crate) struct ByClass<T> {
     pub(crate) root: T,
 }
 
-/// That a thread serves a listener of this class through the seat, with so many connections.
+/// That a thread serves a listener of this class through the participant, with so many connections.
 #[derive(Drop)]
 struct ListenerServed {
     class: Class,
     count: u8,
-    seat: Snapshot<Seat>,
+    participant: Snapshot<Seat>,
 }
 
 impl Promise<Result<ServedListener, ServeFault>> for ListenerServed {
-    ghost kept_by = { λ promise served. Serves promise.class promise.count promise.seat.value served };
+    ghost kept_by = { λ promise served. Serves promise.class promise.count promise.participant.value served };
 }
 
 /// A thread that serves a listener.
@@ -46,29 +46,29 @@ fn start_listener<'s, E: 's, R: Wait + Threads + Log + Sync, D: Gathering + Sync
     scope: &Scope<'s, E>,
     rt: &'s R,
     shared: &'s D,
-    seat: Seat,
+    participant: Seat,
     listener: Listener,
     sessions: Vec<Session>,
 ) -> Result<ListenerHandle, ServeFault>
-    requires fresh { IsFresh (D.table shared.now) seat }
+    requires fresh { IsFresh (D.table shared.now) participant }
     requires room { IsRoomFor listener.count sessions }
     ensures class { IfOk result (λ handle. handle.promise.class ≡ listener.class) }
     ensures count { IfOk result (λ handle. handle.promise.count ≡ listener.count) }
-    ensures seat { IfOk result (λ handle. handle.promise.seat.value ≡ seat) }
+    ensures participant { IfOk result (λ handle. handle.promise.participant.value ≡ participant) }
     ensures fault { IfErr result (λ fault. fault ≡ NoThread) }
 {
     let promise = ListenerServed {
         class: listener.class,
         count: listener.count,
-        seat: Snapshot::of(&seat),
+        participant: Snapshot::of(&participant),
     };
     let served = scope.spawn_with(
         promise,
         move || -> Result<ServedListener, ServeFault>
-            requires fresh { IsFresh (D.table shared.now) seat }
+            requires fresh { IsFresh (D.table shared.now) participant }
             requires room { IsRoomFor listener.count sessions }
-            ensures { Serves listener.class listener.count seat result }
-        { serve_listener(rt, shared, seat, listener, sessions) },
+            ensures { Serves listener.class listener.count participant result }
+        { serve_listener(rt, shared, participant, listener, sessions) },
     );
     match served {
         Ok(handle) => Ok(handle),
@@ -81,14 +81,14 @@ fn serve_in_scope<'s, E: 's, R: Wait + Threads + Log + Sync, D: Gathering + Sync
     scope: &Scope<'s, E>,
     rt: &'s R,
     shared: &'s D,
-    seats: ByClass<Seat>,
+    participants: ByClass<Seat>,
     sockets: ByClass<UnixListener>,
     counts: Counts,
     rooms: ByClass<Vec<Session>>,
 ) -> Result<ByClass<ServedListener>, ServeFault>
-    requires fresh { AreFresh (D.table shared.now) seats }
+    requires fresh { AreFresh (D.table shared.now) participants }
     requires rooms { AreRooms counts rooms }
-    ensures served { IfOk result (λ served. AreServed counts seats served) }
+    ensures served { IfOk result (λ served. AreServed counts participants served) }
     ensures turn { result ≢ Err TurnOut }
     ensures memory { result ≢ Err NoMemory }
 {
@@ -107,9 +107,9 @@ fn serve_in_scope<'s, E: 's, R: Wait + Threads + Log + Sync, D: Gathering + Sync
         class: Class::Root,
         count: counts.roots,
     };
-    let card = start_listener(scope, rt, shared, seats.card, card, rooms.card)?;
-    let render = start_listener(scope, rt, shared, seats.render, render, rooms.render)?;
-    let root = start_listener(scope, rt, shared, seats.root, root, rooms.root)?;
+    let card = start_listener(scope, rt, shared, participants.card, card, rooms.card)?;
+    let render = start_listener(scope, rt, shared, participants.render, render, rooms.render)?;
+    let root = start_listener(scope, rt, shared, participants.root, root, rooms.root)?;
     let (card, render, root) = (card.join(rt), render.join(rt), root.join(rt));
     Ok(ByClass {
         card: card?,
@@ -125,14 +125,14 @@ fn serve_in_scope<'s, E: 's, R: Wait + Threads + Log + Sync, D: Gathering + Sync
 pub(crate) fn serve_listeners<R: Wait + Threads + Log + Sync, D: Gathering + Sync>(
     rt: &R,
     shared: &D,
-    seats: ByClass<Seat>,
+    participants: ByClass<Seat>,
     sockets: ByClass<UnixListener>,
     counts: Counts,
     rooms: ByClass<Vec<Session>>,
 ) -> Result<ByClass<ServedListener>, ServeFault>
-    requires fresh { AreFresh (D.table shared.now) seats }
+    requires fresh { AreFresh (D.table shared.now) participants }
     requires rooms { AreRooms counts rooms }
-    ensures served { IfOk result (λ served. AreServed counts seats served) }
+    ensures served { IfOk result (λ served. AreServed counts participants served) }
     ensures turn { result ≢ Err TurnOut }
     ensures memory { result ≢ Err NoMemory }
 {
@@ -140,10 +140,10 @@ pub(crate) fn serve_listeners<R: Wait + Threads + Log + Sync, D: Gathering + Syn
         thread::scope_env(),
         rt,
         move |scope| -> Result<ByClass<ServedListener>, ServeFault>
-            requires fresh { AreFresh (D.table shared.now) seats }
+            requires fresh { AreFresh (D.table shared.now) participants }
             requires rooms { AreRooms counts rooms }
-            ensures { IfOk result (λ served. AreServed counts seats served) × (result ≢ Err TurnOut)
+            ensures { IfOk result (λ served. AreServed counts participants served) × (result ≢ Err TurnOut)
                 × (result ≢ Err NoMemory) }
-        { serve_in_scope(scope, rt, shared, seats, sockets, counts, rooms) },
+        { serve_in_scope(scope, rt, shared, participants, sockets, counts, rooms) },
     )
 }

@@ -3,7 +3,7 @@
 ghost use Rattle.std.specs.Prelude.{◌≡◌, ◌≢◌, ◌+◌, ◌-◌, ◌≤◌, ◌∷◌, ◌++◌, [], Err, All, IfErr, IfOk, OnOk, length, vec_len};
 ghost use Rattle.std.specs.Vec.{vec_capacity};
 ghost use Rattle.drm_turns.specs.History.{AllDiffer, StartsWith};
-ghost use Rattle.drm_turns.specs.Seats.{Same};
+ghost use Rattle.drm_turns.specs.Participants.{Same};
 ghost use Rattle.drm_sessions.specs.Serving.{all_steps};
 ghost use Rattle.drm_sessions.specs.declared.class.Class.TheVariants.{Card, Render, Root};
 ghost use Rattle.drm_listeners.specs.declared.serve_faults.ServeFault.TheVariants.{NoMemory, TurnOut};
@@ -39,36 +39,36 @@ fn put_behind(sessions: &mut Vec<Session>, more: Vec<Session>)
     }
 }
 
-// Takes in the seats of the listeners, and gives their sessions one behind another. It takes no memory.
+// Takes in the participants of the listeners, and gives their sessions one behind another. It takes no memory.
 fn gather(
     shared: &SharedDevice,
-    seat: &mut Seat,
+    participant: &mut Seat,
     served: ByClass<ServedListener>,
     sessions: Vec<Session>,
 ) -> Vec<Session>
-    requires own { seat.old.table ≡ shared.now }
-    requires cards { served.card.seat.table ≡ shared.now }
-    requires renders { served.render.seat.table ≡ shared.now }
-    requires roots { served.root.seat.table ≡ shared.now }
-    requires children { AreChildren seat.old served }
+    requires own { participant.old.table ≡ shared.now }
+    requires cards { served.card.participant.table ≡ shared.now }
+    requires renders { served.render.participant.table ≡ shared.now }
+    requires roots { served.root.participant.table ≡ shared.now }
+    requires children { AreChildren participant.old served }
     requires empty { sessions.items ≡ [] }
     requires reserved { vec_len served.card.sessions + vec_len served.render.sessions + vec_len served.root.sessions
         ≤ vec_capacity sessions }
     ensures sessions { result.items
         ≡ served.card.sessions.items ++ (served.render.sessions.items ++ served.root.sessions.items) }
-    ensures same { Same seat.old seat.new × StartsWith seat.new.seen seat.old.seen }
-    ensures seen { StartsWith seat.new.seen served.card.seat.seen × StartsWith seat.new.seen served.render.seat.seen
-        × StartsWith seat.new.seen served.root.seat.seen }
-    ensures joined { seat.new.joined ≡ ((seat.old.joined ++ served.card.seat.number ∷ served.card.seat.joined)
-        ++ served.render.seat.number ∷ served.render.seat.joined) ++ served.root.seat.number ∷ served.root.seat.joined }
-    ensures differ { AllDiffer seat.new.joined }
-    ensures out { seat.new.out ≡ seat.old.out - 3 }
-    ensures noted { seat.new.noted ≡ seat.old.noted + (served.card.seat.noted + (served.render.seat.noted + served.root.seat.noted)) }
+    ensures same { Same participant.old participant.new × StartsWith participant.new.seen participant.old.seen }
+    ensures seen { StartsWith participant.new.seen served.card.participant.seen × StartsWith participant.new.seen served.render.participant.seen
+        × StartsWith participant.new.seen served.root.participant.seen }
+    ensures merged { participant.new.merged ≡ ((participant.old.merged ++ served.card.participant.number ∷ served.card.participant.merged)
+        ++ served.render.participant.number ∷ served.render.participant.merged) ++ served.root.participant.number ∷ served.root.participant.merged }
+    ensures differ { AllDiffer participant.new.merged }
+    ensures outstanding { participant.new.outstanding ≡ participant.old.outstanding - 3 }
+    ensures journaled { participant.new.journaled ≡ participant.old.journaled + (served.card.participant.journaled + (served.render.participant.journaled + served.root.participant.journaled)) }
 {
     let ByClass { card, render, root } = served;
-    shared.join(seat, card.seat);
-    shared.join(seat, render.seat);
-    shared.join(seat, root.seat);
+    shared.join(participant, card.participant);
+    shared.join(participant, render.participant);
+    shared.join(participant, root.participant);
     let mut sessions = sessions;
     put_behind(&mut sessions, card.sessions);
     put_behind(&mut sessions, render.sessions);
@@ -100,41 +100,41 @@ fn reserve_each(alloc: Global, counts: Counts) -> Result<ByClass<Vec<Session>>, 
     })
 }
 
-// Serves the listeners through seats that are split off and joined again. Room for all sessions, and for those of each listener, is
-// reserved before: where memory for it is wanting no seat was split off, so that no thread was started.
+// Serves the listeners through participants that are split off and joined again. Room for all sessions, and for those of each listener, is
+// reserved before: where memory for it is wanting no participant was split off, so that no thread was started.
 fn serve_shared<R: Wait + Threads + Log + Sync>(
     rt: &R,
     alloc: Global,
     shared: &SharedDevice,
     open: &OpenConnections,
-    seat: &mut Seat,
+    participant: &mut Seat,
     sockets: ByClass<UnixListener>,
     counts: Counts,
 ) -> Result<Vec<Session>, ServeFault>
-    requires own { seat.old.table ≡ shared.now }
-    requires joined { seat.old.joined ≡ [] }
+    requires own { participant.old.table ≡ shared.now }
+    requires merged { participant.old.merged ≡ [] }
     ensures sessions { IfOk result (λ sessions. AreSessionsOf counts sessions.items) }
-    ensures seats { IfOk result (λ sessions. HaveSat seat.new sessions.items) }
-    ensures same { Same seat.old seat.new × StartsWith seat.new.seen seat.old.seen }
-    ensures out { OnOk result (seat.new.out ≡ seat.old.out) }
-    ensures noted { IfOk result (λ sessions. seat.new.noted ≡ seat.old.noted + all_steps sessions.items) }
+    ensures participants { IfOk result (λ sessions. HaveSat participant.new sessions.items) }
+    ensures same { Same participant.old participant.new × StartsWith participant.new.seen participant.old.seen }
+    ensures outstanding { OnOk result (participant.new.outstanding ≡ participant.old.outstanding) }
+    ensures journaled { IfOk result (λ sessions. participant.new.journaled ≡ participant.old.journaled + all_steps sessions.items) }
     ensures turn { result ≢ Err TurnOut }
-    ensures memory { IfErr result (λ fault. fault ≡ NoMemory → seat.new ≡ seat.old) }
+    ensures memory { IfErr result (λ fault. fault ≡ NoMemory → participant.new ≡ participant.old) }
 {
     let count = usize::from(counts.cards) + usize::from(counts.renders) + usize::from(counts.roots);
     let sessions = reserve(alloc, count)?;
     let rooms = reserve_each(alloc, counts)?;
-    let seats = ByClass {
-        card: shared.split(seat),
-        render: shared.split(seat),
-        root: shared.split(seat),
+    let participants = ByClass {
+        card: shared.split(participant),
+        render: shared.split(participant),
+        root: shared.split(participant),
     };
     let hall = Hall {
         device: shared,
         open,
     };
-    let served = serve_listeners(rt, &hall, seats, sockets, counts, rooms)?;
-    Ok(gather(shared, seat, served, sessions))
+    let served = serve_listeners(rt, &hall, participants, sockets, counts, rooms)?;
+    Ok(gather(shared, participant, served, sessions))
 }
 
 /// Accepts so many connections on the three listeners and serves each in a thread of its own, on one device that they
@@ -145,7 +145,7 @@ fn serve_shared<R: Wait + Threads + Log + Sync>(
 /// connection is closed as it ends. However a session ends, the others go on.
 ///
 /// The device has the events of one legal history, which begins with what it had noted before. Each session's steps stand
-/// there as the entries of its seat, whose number no other session's has, and nothing else was noted.
+/// there as the entries of its participant, whose number no other session's has, and nothing else was noted.
 ///
 /// A listener is closed once it has accepted its last connection, or couldn't accept one, while sessions go on: whoever
 /// connects later is refused. One that accepts none is closed at once. Where the system lacks descriptors or memory for a connection,
@@ -177,15 +177,15 @@ pub fn serve_until_told<R: Wait + Threads + Log + Sync>(
     ensures renders { IfOk result (λ served. All (IsSessionOf Render) (render_sessions counts served.1.items)) }
     ensures roots { IfOk result (λ served. All (IsSessionOf Root) (root_sessions counts served.1.items)) }
     ensures history { IfOk result (λ served. IsHistoryOf device served.0 served.1.items) }
-    ensures noted { IfOk result (λ served. length served.0.journal ≡ length device.journal + all_steps served.1.items) }
+    ensures journaled { IfOk result (λ served. length served.0.journal ≡ length device.journal + all_steps served.1.items) }
     ensures turn { result ≢ Err TurnOut }
 {
-    let Ok((shared, mut seat)) = SharedDevice::new(alloc, device) else {
+    let Ok((shared, mut participant)) = SharedDevice::new(alloc, device) else {
         return Err(ServeFault::NoMemory);
     };
     let sockets = ByClass { card, render, root };
-    let sessions = serve_shared(rt, alloc, &shared, open, &mut seat, sockets, counts)?;
-    let Ok(device) = shared.close(seat) else {
+    let sessions = serve_shared(rt, alloc, &shared, open, &mut participant, sockets, counts)?;
+    let Ok(device) = shared.close(participant) else {
         return Err(ServeFault::TurnOut);
     };
     Ok((device, sessions))
@@ -206,7 +206,7 @@ pub fn serve_all<R: Wait + Threads + Log + Sync>(
     ensures renders { IfOk result (λ served. All (IsSessionOf Render) (render_sessions counts served.1.items)) }
     ensures roots { IfOk result (λ served. All (IsSessionOf Root) (root_sessions counts served.1.items)) }
     ensures history { IfOk result (λ served. IsHistoryOf device served.0 served.1.items) }
-    ensures noted { IfOk result (λ served. length served.0.journal ≡ length device.journal + all_steps served.1.items) }
+    ensures journaled { IfOk result (λ served. length served.0.journal ≡ length device.journal + all_steps served.1.items) }
     ensures turn { result ≢ Err TurnOut }
 {
     let open = OpenConnections::new(alloc, counts, None).map_err(|_| ServeFault::NoMemory)?;

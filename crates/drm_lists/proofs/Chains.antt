@@ -4,6 +4,7 @@ use Rattle.std.proofs.lemmas.Bool.{eqb-true}
 use Rattle.drm_lists.specs.Numbers.{is_among}
 use Rattle.drm_lists.specs.Chains.{chain_within, last_of, top_of, is_under, depth_of}
 use Rattle.drm_lists.proofs.Numbers.{among-first, among-more}
+use Rattle.std.proofs.Math.Bool.{or-false}
 
 -- what stands above a number is less
 abbrev pub IsFalling : (ℕ → Option ℕ) → Type 0
@@ -108,15 +109,11 @@ top_some above falls (suc n) m e =
     let lt = falls (suc n) m e in
     last_of_chain above m m (suc n) m ∙ ap (last_of (suc n)) (enough above falls m n m (omega arith) (omega (arith, lt))) ∙ ap (λ o. last_of (suc n) (rest n above o)) (sym e)
 
-or_nothing : (b : Bool) → (b || false) ≡ b
-or_nothing true = refl
-or_nothing false = refl
-
 -- what has nothing above is under itself alone
 pub under_none : (above : ℕ → Option ℕ) (top n : ℕ) → above n ≡ None → is_under above top n ≡ (n == top)
 unfolding chain_within
-under_none above top zero e = or_nothing (0 == top)
-under_none above top (suc n) e = ap (λ o. (suc n == top) || is_among (rest n above o) top) e ∙ or_nothing (suc n == top)
+under_none above top zero e = or-false (0 == top)
+under_none above top (suc n) e = ap (λ o. (suc n == top) || is_among (rest n above o) top) e ∙ or-false (suc n == top)
 
 -- anything else is under itself, and under all that what is above it is under
 pub under_some : (above : ℕ → Option ℕ) → IsFalling above → (top n m : ℕ) → above n ≡ Some m → is_under above top n ≡ (n == top || is_under above top m)

@@ -6,3 +6,4 @@ pub mod Numbers
 pub mod Pages
 pub mod Chains
 pub mod Rising
+pub mod Edits

@@ -20,7 +20,7 @@ less-differ a b h = grind (arith, nat_tests)
 pub other_number : (m n k : ℕ) → (m == k) ≡ true → (n == k) ≡ false → (m == n) ≡ false
 other_number m n k h e = grind (arith, nat_tests)
 
-same_either : (m n : ℕ) → (m == n) ≡ (n == m)
+pub same_either : (m n : ℕ) → (m == n) ≡ (n == m)
 same_either m n = grind (arith, nat_tests)
 
 -- ---- a number among others

@@ -1,12 +1,10 @@
 -- Lists that rise by a number of their elements, each of which is found by it.
-use Rattle.std.proofs.Common.{◌≡◌, ℕ, zero, suc, ◌<◌, ◌==◌, Bool, true, false, not, cond, ◌||◌, List, [], ◌∷◌, ◌++◌, map, filter, find, None, Some, refl, sym, ap, subst, ◌∙◌, eq-eqb}
-use Rattle.std.specs.Prelude.{slice_get, slice_set, if◌then◌else◌}
+use Rattle.std.proofs.Common.{◌≡◌, ℕ, ◌<◌, ◌==◌, Bool, true, false, not, cond, ◌||◌, List, [], ◌∷◌, ◌++◌, map, filter, find, None, Some, refl, sym, ap, subst, ◌∙◌, eq-eqb}
 use Rattle.std.specs.List.{list_any, AllByRecursion}
 use Rattle.std.proofs.lemmas.Bool.{eqb-true, or_right}
 use Rattle.drm_lists.specs.Orders.{InOrder}
 use Rattle.drm_lists.proofs.Lists.{all_both, all_weaker, all_mapped}
-use Rattle.drm_lists.proofs.Numbers.{less-differ, flipped}
-use Rattle.drm_lists.proofs.Found.{all_at}
+use Rattle.drm_lists.proofs.Numbers.{less-differ}
 use Rattle.drm_lists.proofs.Orders.{in_order_map, in_order_weaker}
 
 -- what is found passes, and is as all are
@@ -117,23 +115,3 @@ module _ {X : Type 0} (f : X → ℕ) where
   pub find_more : (y : X) (n : ℕ) → (f y == n) ≡ false → (xs : List X) → find (is_at n) (xs ++ y ∷ []) ≡ find (is_at n) xs
   find_more y n h [] = ap (λ b. cond b (Some y) None) h
   find_more y n h (x ∷ xs) = ap (λ r. cond (f x == n) (Some x) r) (find_more y n h xs)
-
-  -- the elements of other numbers stay
-  map_others : (n : ℕ) (g : X → X) → (xs : List X) → AllByRecursion (λ x. (f x == n) ≡ false) xs → map (λ x. if f x == n then g x else x) xs ≡ xs
-  map_others n g [] h = refl
-  map_others n g (x ∷ xs) h = ap (λ b. (if b then g x else x) ∷ map (λ x. if f x == n then g x else x) xs) h.0 ∙ ap (λ l. x ∷ l) (map_others n g xs h.1)
-
-  later_differ : (x : X) (n : ℕ) → f x ≡ n → (xs : List X) → AllByRecursion (λ y. f x < f y) xs → AllByRecursion (λ y. (f y == n) ≡ false) xs
-  later_differ x n e xs h = all_weaker (λ y. f x < f y) (λ y. (f y == n) ≡ false) (λ y lt. flipped n (f y) (ap (λ m. m == f y) (sym e) ∙ less-differ (f x) (f y) lt)) xs h
-
-  -- the element of a number is written over
-  pub set_at : (n : ℕ) (g : X → X) → (xs : List X) (i : ℕ) (x : X) → Rising xs → slice_get xs i ≡ Some x → f x ≡ n → slice_set xs i (g x) ≡ map (λ y. if f y == n then g y else y) xs
-  set_at n g [] i x h here e = absurd (let s : None ≡ Some x = here in cc)
-  set_at n g (y ∷ ys) zero x h here e =
-      let same : y ≡ x = let s : Some y ≡ Some x = here in cc in
-      let is : (f y == n) ≡ true = eq-eqb (f y) n (ap f same ∙ e) in
-      ap (λ z. g z ∷ ys) (sym same) ∙ ap (λ b. (if b then g y else y) ∷ ys) (sym is) ∙ ap (λ l. (if f y == n then g y else y) ∷ l) (sym (map_others n g ys (later_differ y n (ap f same ∙ e) ys h.0)))
-  set_at n g (y ∷ ys) (suc i) x h here e =
-      let before : AllByRecursion (λ z. f y < f z) ys = h.0 in
-      let lt : f y < f x = all_at (λ z. f y < f z) ys i x before here in
-      ap (λ l. y ∷ l) (set_at n g ys i x h.1 here e) ∙ ap (λ b. (if b then g y else y) ∷ map (λ z. if f z == n then g z else z) ys) (sym (less-differ (f y) n (subst (λ m. f y < m) e lt)))

@@ -9,7 +9,7 @@ use Rattle.drm_lists.proofs.Found.{find-map, find-same, is_some-map}
 use Rattle.drm_lists.proofs.Rising.{found}
 use Rattle.drm_files.specs.declared.rows.FileClient.{FileClient}
 use Rattle.drm_files.specs.Files as files
-use Rattle.drm_files.specs.Files.{FileLists, is_present, authenticated, with_authenticated}
+use Rattle.drm_files.specs.Files.{FileLists, is_open_client, authenticated, with_authenticated}
 use Rattle.drm_masters.specs.declared.rows.Member.{Member}
 use Rattle.drm_masters.specs.Masters.{MasterSet, AreMasters, is_client, member_of}
 use Rattle.drm_masters.specs.Calls.{changed_member}
@@ -17,7 +17,7 @@ use Rattle.drm_model.specs.Rows.{ClientRow}
 use Rattle.drm_state.specs.declared.state.State.{State}
 use Rattle.drm_state.specs.Parts.{client_row_by, client_row_of}
 use Rattle.drm_leases.specs.Agreed.{AreAgreed}
-use Rattle.drm_state.specs.Ties.{Tie, MembersOpen, ClientsHave, MastersAre, MagicsSuffice, LesseesFew, TokensOfLessees, KeptHaveTokens, LeasesAgree, HasMaster, AreOfLessees, AreKeptBy, is_tied, IsTied}
+use Rattle.drm_state.specs.Invariants.{Invariant, MembersOpen, ClientsHave, MastersAre, MagicsSuffice, LesseesFew, TokensOfLessees, KeptHaveTokens, LeasesAgree, HasMaster, AreOfLessees, AreKeptBy, meets_invariant, MeetsInvariants}
 use Rattle.drm_state.proofs.Represented.{members_open, clients_have, magics_suffice, lessees_few}
 
 -- ---- a client that stands to masters otherwise
@@ -32,20 +32,20 @@ put_client y z = (elim (z.client == y.client) as (λ b. (z.client == y.client) �
 pub found_yet : (y : Member) (xs : List Member) (c : ℕ) → member_of (map (put y) xs) c ≡ option_map (put y) (member_of xs c)
 found_yet y xs c = find-map (is_client c) (put y) xs ∙ ap (option_map (put y)) (find-same (λ z. is_client c (put y z)) (is_client c) xs (all_each (λ z. is_client c (put y z) ≡ is_client c z) (λ z. ap (λ n. n == c) (put_client y z)) xs))
 
--- the ties, among other masters too
-pub changed_tied : (s : State) (y : Member) (set : MasterSet) → IsTied s → set.members ≡ (changed_member y s.masters).members → AreMasters set → AreOfLessees s.leases.tokens set.masters → AreKeptBy s.leases.tokens set.masters → AreAgreed s.leases set → set.last_magic ≡ s.masters.last_magic → set.last_lessee ≡ s.masters.last_lessee → (tie : Tie) → is_tied tie (record s { masters = set })
-unfolding is_tied
-changed_tied s y set t e are lessees kept agreed last ids MembersOpen =
-    subst (AllByRecursion (λ (x : Member). is_present s.files x.client ≡ true)) (sym e)
-    (all_mapped (λ (z : Member). is_present s.files z.client ≡ true) (put y) s.masters.members (all_weaker (λ (z : Member). is_present s.files z.client ≡ true) (λ z. is_present s.files (put y z).client ≡ true) (λ z h. ap (is_present s.files) (put_client y z) ∙ h) s.masters.members (members_open s t)))
-changed_tied s y set t e are lessees kept agreed last ids ClientsHave = all_weaker (HasMaster s.masters) (HasMaster set) (λ f h. ap (λ b. f.flags.render || b) (ap (λ l. is_some (member_of l f.client)) e ∙ ap is_some (found_yet y s.masters.members f.client) ∙ is_some-map (put y) (member_of s.masters.members f.client)) ∙ h) s.files.clients (clients_have s t)
-changed_tied s y set t e are lessees kept agreed last ids MastersAre = are
-changed_tied s y set t e are lessees kept agreed last ids MagicsSuffice = last ∙ magics_suffice s t
-changed_tied s y set t e are lessees kept agreed last ids LesseesFew = subst (λ n. n ≤ 64) (sym ids) (lessees_few s t)
-changed_tied s y set t e are lessees kept agreed last ids TokensOfLessees = lessees
-changed_tied s y set t e are lessees kept agreed last ids KeptHaveTokens = kept
-changed_tied s y set t e are lessees kept agreed last ids LeasesAgree = agreed
-changed_tied s y set t e are lessees kept agreed last ids tie = t tie
+-- the invariants, among other masters too
+pub changed_invariants : (s : State) (y : Member) (set : MasterSet) → MeetsInvariants s → set.members ≡ (changed_member y s.masters).members → AreMasters set → AreOfLessees s.leases.tokens set.masters → AreKeptBy s.leases.tokens set.masters → AreAgreed s.leases set → set.last_magic ≡ s.masters.last_magic → set.last_lessee ≡ s.masters.last_lessee → (invariant : Invariant) → meets_invariant invariant (record s { masters = set })
+unfolding meets_invariant
+changed_invariants s y set t e are lessees kept agreed last ids MembersOpen =
+    subst (AllByRecursion (λ (x : Member). is_open_client s.files x.client ≡ true)) (sym e)
+    (all_mapped (λ (z : Member). is_open_client s.files z.client ≡ true) (put y) s.masters.members (all_weaker (λ (z : Member). is_open_client s.files z.client ≡ true) (λ z. is_open_client s.files (put y z).client ≡ true) (λ z h. ap (is_open_client s.files) (put_client y z) ∙ h) s.masters.members (members_open s t)))
+changed_invariants s y set t e are lessees kept agreed last ids ClientsHave = all_weaker (HasMaster s.masters) (HasMaster set) (λ f h. ap (λ b. f.flags.render || b) (ap (λ l. is_some (member_of l f.client)) e ∙ ap is_some (found_yet y s.masters.members f.client) ∙ is_some-map (put y) (member_of s.masters.members f.client)) ∙ h) s.files.clients (clients_have s t)
+changed_invariants s y set t e are lessees kept agreed last ids MastersAre = are
+changed_invariants s y set t e are lessees kept agreed last ids MagicsSuffice = last ∙ magics_suffice s t
+changed_invariants s y set t e are lessees kept agreed last ids LesseesFew = subst (λ n. n ≤ 64) (sym ids) (lessees_few s t)
+changed_invariants s y set t e are lessees kept agreed last ids TokensOfLessees = lessees
+changed_invariants s y set t e are lessees kept agreed last ids KeptHaveTokens = kept
+changed_invariants s y set t e are lessees kept agreed last ids LeasesAgree = agreed
+changed_invariants s y set t e are lessees kept agreed last ids invariant = t invariant
 
 -- ---- one that is authenticated
 
@@ -55,18 +55,18 @@ known c f = if files.is_client c f then authenticated f else f
 known_client : (c : ℕ) (f : FileClient) → (known c f).client ≡ f.client
 known_client c f = elim (f.client == c) as (λ b. (if b then authenticated f else f).client ≡ f.client) [ true ↦ refl | false ↦ refl ]
 
-present_yet : (fs : FileLists) (c n : ℕ) → is_present (with_authenticated fs c) n ≡ is_present fs n
-present_yet fs c n =
+open_client_yet : (fs : FileLists) (c n : ℕ) → is_open_client (with_authenticated fs c) n ≡ is_open_client fs n
+open_client_yet fs c n =
     ap is_some (find-map (files.is_client n) (known c) fs.clients ∙ ap (option_map (known c)) (find-same (λ f. files.is_client n (known c f)) (files.is_client n) fs.clients (all_each (λ f. files.is_client n (known c f) ≡ files.is_client n f) (λ f. ap (λ m. m == n) (known_client c f)) fs.clients)))
     ∙ is_some-map (known c) (find (files.is_client n) fs.clients)
 
-pub authenticated_tied : (s : State) (c : ℕ) → IsTied s → (tie : Tie) → is_tied tie (record s { files = with_authenticated s.files c })
-unfolding is_tied
-authenticated_tied s c t MembersOpen = all_weaker (λ (z : Member). is_present s.files z.client ≡ true) (λ (z : Member). is_present (with_authenticated s.files c) z.client ≡ true) (λ z e. present_yet s.files c z.client ∙ e) s.masters.members (members_open s t)
-authenticated_tied s c t ClientsHave =
+pub authenticated_invariants : (s : State) (c : ℕ) → MeetsInvariants s → (invariant : Invariant) → meets_invariant invariant (record s { files = with_authenticated s.files c })
+unfolding meets_invariant
+authenticated_invariants s c t MembersOpen = all_weaker (λ (z : Member). is_open_client s.files z.client ≡ true) (λ (z : Member). is_open_client (with_authenticated s.files c) z.client ≡ true) (λ z e. open_client_yet s.files c z.client ∙ e) s.masters.members (members_open s t)
+authenticated_invariants s c t ClientsHave =
     all_mapped (HasMaster s.masters) (known c) s.files.clients
     (all_weaker (HasMaster s.masters) (λ f. HasMaster s.masters (known c f)) (λ f h. elim (f.client == c) as (λ b. HasMaster s.masters (if b then authenticated f else f)) [ true ↦ h | false ↦ h ]) s.files.clients (clients_have s t))
-authenticated_tied s c t tie = t tie
+authenticated_invariants s c t invariant = t invariant
 
 -- ---- their rows
 

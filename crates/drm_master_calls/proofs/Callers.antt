@@ -12,7 +12,7 @@ use Rattle.drm_masters.specs.Masters.{member_of, is_current, is_current_member}
 use Rattle.drm_masters.specs.Calls as calls
 use Rattle.drm_masters.specs.Calls.{drop_checks, set_checks}
 use Rattle.drm_table.specs.declared.rules.Rule.TheVariants.{MasterPerm, MasterBusy, NotCurrent, IsLessee}
-use Rattle.drm_table.specs.declared.permits.Standing.{Standing}
+use Rattle.drm_table.specs.declared.permits.Credentials.{Credentials}
 use Rattle.std.specs.List.{list_any}
 use Rattle.std.proofs.Math.Bool.{and-false}
 use Rattle.drm_index_array.specs.Least.{least}
@@ -26,30 +26,30 @@ use Rattle.drm_state.proofs.Magics.{any-filter_map}
 use Rattle.drm_state.proofs.Represented.{bounds_are, magics_are}
 use Rattle.drm_model.specs.Magics.{magics_under, free_magic, is_open_magic, magic_client, may_be_master, is_master, drop_master, set_master}
 use Rattle.drm_model.specs.Rows.{Rows, ClientRow}
-use Rattle.drm_model.specs.Masters.{standing_of, standing_in}
+use Rattle.drm_model.specs.Masters.{credentials_of, credentials_in}
 use Rattle.drm_table.specs.declared.calls.Call.TheVariants.{SetMaster, DropMaster}
 use Rattle.drm_table.specs.declared.events.Event.TheVariants.{Ask}
 use Rattle.drm_model.specs.Calls.{meaning}
 use Rattle.drm_model.specs.Verdict.{admission_checks, verdict}
-use Rattle.drm_state.proofs.Outcomes.{call_verdict}
+use Rattle.drm_state.proofs.Refinements.{call_verdict}
 use Rattle.drm_state.specs.declared.state.State.{State}
 use Rattle.drm_state.specs.Parts.{root_of}
 use Rattle.drm_state.specs.Refinement.{Represents}
 use Rattle.drm_state.proofs.Represented.{device_master_is}
-use Rattle.drm_state.proofs.Lookups.{standing_is}
+use Rattle.drm_state.proofs.Lookups.{credentials_is}
 use Rattle.drm_state.proofs.Callers.{row_is, caller_row, lessee_is}
 
 -- ---- what is asked of a caller that stands to a master
 
 module _ (s : State) (w : Rows) (c : ℕ) (flags : FileFlags) (x : Member) (h : Represents s w) (file : find (files.is_client c) s.files.clients ≡ Some (record { client = c; flags = flags })) (look : member_of s.masters.members c ≡ Some x) where
-  stands : standing_of w c ≡ record { root = flags.root; render = flags.render; authenticated = flags.authenticated; current = is_current s.masters c }
-  stands = ap (standing_in w) (row_is s w c flags h file) ∙ standing_is s w h c flags
+  stands : credentials_of w c ≡ record { root = flags.root; render = flags.render; authenticated = flags.authenticated; current = is_current s.masters c }
+  stands = ap (credentials_in w) (row_is s w c flags h file) ∙ credentials_is s w h c flags
 
-  pub current_is : (standing_of w c).current ≡ is_current_member s.masters x
-  current_is = ap (λ (t : Standing). t.current) stands ∙ ap (λ o. option_map_or (is_current_member s.masters) o false) look
+  pub current_is : (credentials_of w c).current ≡ is_current_member s.masters x
+  current_is = ap (λ (t : Credentials). t.current) stands ∙ ap (λ o. option_map_or (is_current_member s.masters) o false) look
 
-  root_is : (standing_of w c).root ≡ root_of s c
-  root_is = ap (λ (t : Standing). t.root) stands ∙ sym (ap (λ o. option_map_or (λ (f : FileClient). f.flags.root) o false) file)
+  root_is : (credentials_of w c).root ≡ root_of s c
+  root_is = ap (λ (t : Credentials). t.root) stands ∙ sym (ap (λ o. option_map_or (λ (f : FileClient). f.flags.root) o false) file)
 
   pub may_be : may_be_master w c ≡ (x.once_master || root_of s c)
   may_be = λ i. option_map_or (λ (row : ClientRow). row.once_master) (caller_row s w c flags x h file look i) false || root_is i

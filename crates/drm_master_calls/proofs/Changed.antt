@@ -7,7 +7,7 @@ use Rattle.drm_lists.proofs.Lists.{all_weaker, all_each, all_mapped}
 use Rattle.drm_lists.proofs.Numbers.{flipped, less-differ}
 use Rattle.drm_lists.proofs.Found.{find-map, find-same, is_some-map}
 use Rattle.drm_files.specs.declared.rows.FileClient.{FileClient}
-use Rattle.drm_files.specs.Files.{is_present}
+use Rattle.drm_files.specs.Files.{is_open_client}
 use Rattle.drm_masters.specs.declared.rows.Member.{Member}
 use Rattle.std.specs.List.{filter_map, cons_option, AllByRecursion}
 use Rattle.drm_lists.specs.Orders.{SameRows, InOrder}
@@ -20,26 +20,26 @@ use Rattle.drm_model.specs.Rows.{Rows, MagicRow}
 use Rattle.drm_state.specs.Parts.{client_row_by, client_row_of, magic_row_of}
 use Rattle.drm_model.specs.Parts.{Part, DeviceMaster, Clients, Magics}
 use Rattle.drm_state.specs.declared.state.State.{State}
-use Rattle.drm_state.specs.Ties.{Tie, MembersOpen, ClientsHave, MastersAre, LeasesAgree, HasMaster, is_tied, IsTied}
-use Rattle.drm_state.specs.Refinement.{stands_for, Represents}
+use Rattle.drm_state.specs.Invariants.{Invariant, MembersOpen, ClientsHave, MastersAre, LeasesAgree, HasMaster, meets_invariant, MeetsInvariants}
+use Rattle.drm_state.specs.Refinement.{represents_part, Represents}
 use Rattle.drm_state.proofs.Represented.{members_open, clients_have, clients_are, magics_are, masters_so, leases_agree}
 
 -- another master of the device, or none
-pub device_tied : (s : State) (d : Option ℕ) → IsTied s → AreMasters (with_device d s.masters) → (tie : Tie) → is_tied tie (record s { masters = with_device d s.masters })
-unfolding is_tied
-device_tied s d t are MembersOpen = t MembersOpen
-device_tied s d t are MastersAre = are
-device_tied s d t are tie = t tie
+pub device_invariants : (s : State) (d : Option ℕ) → MeetsInvariants s → AreMasters (with_device d s.masters) → (invariant : Invariant) → meets_invariant invariant (record s { masters = with_device d s.masters })
+unfolding meets_invariant
+device_invariants s d t are MembersOpen = t MembersOpen
+device_invariants s d t are MastersAre = are
+device_invariants s d t are invariant = t invariant
 
-pub device_represents : (s : State) (w : Rows) (d : Option ℕ) → Represents s w → (part : Part) → stands_for part (record s { masters = with_device d s.masters }) (record w { device_master = d })
-unfolding stands_for
+pub device_represents : (s : State) (w : Rows) (d : Option ℕ) → Represents s w → (part : Part) → represents_part part (record s { masters = with_device d s.masters }) (record w { device_master = d })
+unfolding represents_part
 device_represents s w d h Clients = h Clients
 device_represents s w d h DeviceMaster = refl
 device_represents s w d h part = h part
 
 -- ---- another row of a client
 
--- the rows of clients and the ties, where a client has another magic
+-- the rows of clients and the invariants, where a client has another magic
 module _ (s : State) (x y : Member) (look : member_of s.masters.members x.client ≡ Some x) (client : y.client ≡ x.client) (once : y.once_master ≡ x.once_master) (own : y.is_master ≡ x.is_master) (master : y.master ≡ x.master) where
   abbrev put : Member → Member
   put z = if is_client y.client z then y else z
@@ -51,14 +51,14 @@ module _ (s : State) (x y : Member) (look : member_of s.masters.members x.client
   pub found_yet : (c : ℕ) → member_of (map put s.masters.members) c ≡ option_map put (member_of s.masters.members c)
   found_yet c = find-map (is_client c) put s.masters.members ∙ ap (option_map put) (find-same (λ z. is_client c (put z)) (is_client c) s.masters.members (all_each (λ z. is_client c (put z) ≡ is_client c z) (λ z. ap (λ n. n == c) (put_client z)) s.masters.members))
 
-  pub magic_tied : IsTied s → AreMasters (changed_member y s.masters) → (tie : Tie) → is_tied tie (record s { masters = changed_member y s.masters })
-  unfolding is_tied
-  magic_tied t are MembersOpen = all_mapped (λ (z : Member). is_present s.files z.client ≡ true) put s.masters.members (all_weaker (λ (z : Member). is_present s.files z.client ≡ true) (λ z. is_present s.files (put z).client ≡ true) (λ z e. ap (is_present s.files) (put_client z) ∙ e) s.masters.members (members_open s t))
-  magic_tied t are ClientsHave = all_weaker (HasMaster s.masters) (HasMaster (changed_member y s.masters)) (λ f h. ap (λ b. f.flags.render || b) (ap is_some (found_yet f.client) ∙ is_some-map put (member_of s.masters.members f.client)) ∙ h) s.files.clients (clients_have s t)
-  magic_tied t are MastersAre = are
-  magic_tied t are LeasesAgree =
+  pub magic_invariants : MeetsInvariants s → AreMasters (changed_member y s.masters) → (invariant : Invariant) → meets_invariant invariant (record s { masters = changed_member y s.masters })
+  unfolding meets_invariant
+  magic_invariants t are MembersOpen = all_mapped (λ (z : Member). is_open_client s.files z.client ≡ true) put s.masters.members (all_weaker (λ (z : Member). is_open_client s.files z.client ≡ true) (λ z. is_open_client s.files (put z).client ≡ true) (λ z e. ap (is_open_client s.files) (put_client z) ∙ e) s.masters.members (members_open s t))
+  magic_invariants t are ClientsHave = all_weaker (HasMaster s.masters) (HasMaster (changed_member y s.masters)) (λ f h. ap (λ b. f.flags.render || b) (ap is_some (found_yet f.client) ∙ is_some-map put (member_of s.masters.members f.client)) ∙ h) s.files.clients (clients_have s t)
+  magic_invariants t are MastersAre = are
+  magic_invariants t are LeasesAgree =
       agreed_changed s.masters.members x y s.masters.masters s.leases.lendings (masters_so s t).members_rise (ap (member_of s.masters.members) client ∙ look) (λ n its. (λ i. own i && (master i == n)) ∙ its) (leases_agree s t)
-  magic_tied t are tie = t tie
+  magic_invariants t are invariant = t invariant
 
   -- of what is told of the client in its row nothing changes
   row_yet : (f : FileClient) (o : Option Member) → member_of s.masters.members f.client ≡ o → client_row_by f (option_map put o) ≡ client_row_by f o
@@ -123,8 +123,8 @@ same_more r xs ys h = same-trans (xs ++ r ∷ []) (r ∷ xs) (ys ++ r ∷ []) (l
 
 -- the state stands for the rows with one magic more
 pub given_represents : (s : State) (w : Rows) (x y : Member) (r : MagicRow) (look : member_of s.masters.members x.client ≡ Some x) (client : y.client ≡ x.client) (once : y.once_master ≡ x.once_master) (own : y.is_master ≡ x.is_master) (master : y.master ≡ x.master) → magic_row_of x ≡ None → magic_row_of y ≡ Some r → AreMasters s.masters → Represents s w →
-    (part : Part) → stands_for part (record s { masters = changed_member y s.masters }) (record w { magics = w.magics ++ r ∷ [] })
-unfolding stands_for
+    (part : Part) → represents_part part (record s { masters = changed_member y s.masters }) (record w { magics = w.magics ++ r ∷ [] })
+unfolding represents_part
 given_represents s w x y r look client once own master none new are h Clients = clients_are s w h ∙ sym (clients_yet s x y look client once own master s.files.clients)
 given_represents s w x y r look client once own master none new are h Magics =
     same-trans (w.magics ++ r ∷ []) (filter_map magic_row_of s.masters.members ++ r ∷ []) (filter_map magic_row_of (changed_member y s.masters).members)

@@ -10,7 +10,7 @@ use Rattle.drm_masters.specs.declared.rows.Master.{Master}
 use Rattle.drm_masters.specs.declared.rows.Member.{Member}
 use Rattle.drm_leases.specs.declared.rows.LeaseToken.{LeaseToken}
 use Rattle.drm_masters.specs.Masters.{AreMasters, is_client, member_of}
-use Rattle.drm_masters.specs.Calls.{owner, own_master, with_master, remade}
+use Rattle.drm_masters.specs.Calls.{owner, founded_master, with_master, remade}
 use Rattle.drm_leases.proofs.Agreeing.{owns, agreed_swept, agreed_more, agreed_changed}
 use Rattle.drm_model.specs.Rows.{Rows, ClientRow, MasterRow, MagicRow, without}
 use Rattle.drm_model.specs.Masters.{new_master}
@@ -20,13 +20,13 @@ use Rattle.drm_model.specs.Change.{swept}
 use Rattle.drm_model.specs.Parts.{Part, Clients, Masters, Magics, Objects, Names, Shown, DeviceMaster}
 use Rattle.drm_state.specs.declared.state.State.{State}
 use Rattle.drm_state.specs.Parts.{clients_of, masters_of, magics_of, magic_row_of, master_row_of}
-use Rattle.drm_state.specs.Ties.{IsTied, AreKeptBy}
-use Rattle.drm_state.specs.Refinement.{stands_for, Represents}
+use Rattle.drm_state.specs.Invariants.{MeetsInvariants, AreKeptBy}
+use Rattle.drm_state.specs.Refinement.{represents_part, Represents}
 use Rattle.drm_state.proofs.Living.{swept_masters}
 use Rattle.drm_state.proofs.Represented.{clients_are, masters_are, magics_are, masters_so, tokens_of_lessees, kept_have_tokens, leases_agree}
 use Rattle.drm_state.proofs.Ended.{fresh_token, kept_more, kept_swept, of_lessees_more, of_lessees_swept}
 use Rattle.drm_state.proofs.Sweeps.{named_by_clients, magics_left, unswept}
-use Rattle.drm_master_calls.proofs.Authenticated.{put, changed_clients, changed_tied, authenticated_tied}
+use Rattle.drm_master_calls.proofs.Authenticated.{put, changed_clients, changed_invariants, authenticated_invariants}
 
 -- who has no magic now is as one that is gone, where magics are told
 magics_put : (y : Member) → magic_row_of y ≡ None → (xs : List Member) → filter_map magic_row_of (filter (λ (z : Member). not (is_client y.client z)) xs) ≡ filter_map magic_row_of (map (put y) xs)
@@ -38,7 +38,7 @@ magics_put y none (z ∷ zs) =
       | false ↦ ap (cons_option (magic_row_of z)) (magics_put y none zs)
     ]
 
--- the rows where a client has the master of this birth, its own
+-- the rows where a client has the master of this step number, its own
 abbrev pub own_rows : Rows → ℕ → ℕ → Rows
 own_rows w c b = record w {
   clients = model.with_master c b w.clients;
@@ -48,31 +48,31 @@ own_rows w c b = record w {
 }
 
 -- the state where it has it, and what it stands for
-module _ (s : State) (x : Member) (key b : ℕ) (t : IsTied s) (new : AllByRecursion (λ (row : LeaseToken). row.master < b) s.leases.tokens) (are : AreMasters (remade x.client key b s.masters)) (look : member_of s.masters.members x.client ≡ Some x) (guest : x.is_master ≡ false) where
+module _ (s : State) (x : Member) (key b : ℕ) (t : MeetsInvariants s) (new : AllByRecursion (λ (row : LeaseToken). row.master < b) s.leases.tokens) (are : AreMasters (remade x.client key b s.masters)) (look : member_of s.masters.members x.client ≡ Some x) (non_master : x.is_master ≡ false) where
   abbrev remade_state : State
   remade_state = record s { files = with_authenticated s.files x.client; masters = remade x.client key b s.masters }
 
   abbrev all_masters : List Master
-  all_masters = (with_master (own_master key b) s.masters).masters
+  all_masters = (with_master (founded_master key b) s.masters).masters
 
   abbrev all_members : List Member
   all_members = map (put (owner x.client b)) s.masters.members
 
   kept : AreKeptBy s.leases.tokens all_masters
-  kept = kept_more s.leases.tokens s.masters.masters (own_master key b) (kept_have_tokens s t) refl new
+  kept = kept_more s.leases.tokens s.masters.masters (founded_master key b) (kept_have_tokens s t) refl new
 
   -- it owned nothing before
-  guest_owns : (n : ℕ) → owns n x ≡ true → ⊥
-  guest_owns n its = let no : false ≡ true = sym (ap (λ b. b && (x.master == n)) guest) ∙ its in cc
+  non_master_owns : (n : ℕ) → owns n x ≡ true → ⊥
+  non_master_owns n its = let no : false ≡ true = sym (ap (λ b. b && (x.master == n)) non_master) ∙ its in cc
 
-  pub remade_tied : IsTied remade_state
-  remade_tied =
-      authenticated_tied (record s { masters = remade x.client key b s.masters }) x.client
-      (changed_tied s (owner x.client b) (remade x.client key b s.masters) t refl are
-      (of_lessees_swept all_members s.leases.tokens all_masters kept (of_lessees_more s.leases.tokens s.masters.masters (own_master key b) (tokens_of_lessees s t))) (kept_swept all_members s.leases.tokens all_masters kept)
+  pub remade_invariants : MeetsInvariants remade_state
+  remade_invariants =
+      authenticated_invariants (record s { masters = remade x.client key b s.masters }) x.client
+      (changed_invariants s (owner x.client b) (remade x.client key b s.masters) t refl are
+      (of_lessees_swept all_members s.leases.tokens all_masters kept (of_lessees_more s.leases.tokens s.masters.masters (founded_master key b) (tokens_of_lessees s t))) (kept_swept all_members s.leases.tokens all_masters kept)
       (agreed_swept all_members all_masters s.leases.lendings
-      (agreed_more all_members s.masters.masters (own_master key b) s.leases.lendings
-      (agreed_changed s.masters.members x (owner x.client b) s.masters.masters s.leases.lendings (masters_so s t).members_rise look (λ n its. absurd (guest_owns n its)) (leases_agree s t)))) refl refl)
+      (agreed_more all_members s.masters.masters (founded_master key b) s.leases.lendings
+      (agreed_changed s.masters.members x (owner x.client b) s.masters.masters s.leases.lendings (masters_so s t).members_rise look (λ n its. absurd (non_master_owns n its)) (leases_agree s t)))) refl refl)
 
   module _ (w : Rows) (h : Represents s w) where
     abbrev remade_rows : Rows
@@ -88,16 +88,16 @@ module _ (s : State) (x : Member) (key b : ℕ) (t : IsTied s) (new : AllByRecur
     masters_now =
         swept_masters remade_rows s.leases.tokens all_masters all_members
         (ap (λ l. l ++ new_master b ∷ []) (masters_are s w h) ∙ ap (λ o. masters_of s ++ record { master = b; lessor = None; lessee_id = 0; lease_token = o } ∷ []) (sym (fresh_token b s.leases.tokens new))
-        ∙ sym (map-append (master_row_of s.leases.tokens) s.masters.masters (own_master key b ∷ []))) kept
-        (named_by_clients remade_rows remade_state remade_tied clients_now)
+        ∙ sym (map-append (master_row_of s.leases.tokens) s.masters.masters (founded_master key b ∷ []))) kept
+        (named_by_clients remade_rows remade_state remade_invariants clients_now)
 
     magics_now : SameRows remade_rows.magics (magics_of remade_state)
     magics_now =
         subst (SameRows remade_rows.magics) (magics_left x.client s.masters.members ∙ magics_put (owner x.client b) refl s.masters.members)
         (same-filter (λ (row : MagicRow). not (row.client == x.client)) w.magics (magics_of s) (magics_are s w h))
 
-    pub remade_represents : (part : Part) → stands_for part remade_state (swept remade_rows)
-    unfolding stands_for swept
+    pub remade_represents : (part : Part) → represents_part part remade_state (swept remade_rows)
+    unfolding represents_part swept
     remade_represents Clients = clients_now
     remade_represents Masters = masters_now
     remade_represents Magics = magics_now

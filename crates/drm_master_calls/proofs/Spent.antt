@@ -3,10 +3,10 @@ use Rattle.std.proofs.Common.{◌≡◌, ℕ, ◌==◌, ◌&&◌, Bool, true, fa
 use Rattle.std.specs.Prelude.{if◌then◌else◌}
 use Rattle.std.specs.Option.{option_map, option_map_or, option_and_then}
 use Rattle.std.specs.List.{filter_map, cons_option, AllByRecursion}
-use Rattle.std.proofs.lemmas.Bool.{eqb-true}
+use Rattle.std.proofs.lemmas.Bool.{eqb-true, and_parts}
 use Rattle.drm_lists.specs.Orders.{SameRows, InOrder}
 use Rattle.drm_lists.proofs.Lists.{all_weaker, all_both, all_each}
-use Rattle.drm_lists.proofs.Numbers.{flipped}
+use Rattle.drm_lists.proofs.Numbers.{same_either}
 use Rattle.drm_lists.proofs.Orders.{same-map}
 use Rattle.drm_lists.proofs.Rising.{found, all_found}
 use Rattle.drm_masters.specs.declared.rows.Magic.{Magic}
@@ -19,15 +19,13 @@ use Rattle.drm_model.specs.Magics.{is_open_magic, magic_client, with_spent, with
 use Rattle.drm_model.specs.Parts.{Part, Clients, Magics}
 use Rattle.drm_state.specs.declared.state.State.{State}
 use Rattle.drm_state.specs.Parts.{magic_row_of, magics_of, clients_of}
-use Rattle.drm_state.specs.Ties.{IsTied}
-use Rattle.drm_state.specs.Refinement.{stands_for, Represents}
+use Rattle.drm_state.specs.Invariants.{MeetsInvariants}
+use Rattle.drm_state.specs.Refinement.{represents_part, Represents}
 use Rattle.drm_state.proofs.Represented.{clients_are, magics_are, masters_so}
 use Rattle.drm_state.proofs.Magics.{find-filter_map, all-filter_map, found_in_any_order, OnlyIt}
 use Rattle.drm_master_calls.proofs.Callers.{open_is}
 use Rattle.drm_master_calls.proofs.Authenticated.{put, changed_clients}
-
-value : {X : Type 0} (a b : X) → Some a ≡ Some b → a ≡ b
-value a b e = cc
+use Rattle.std.proofs.lemmas.Option.{same_Some}
 
 -- a number that a client does not have it does not have unspent either
 narrower : (a b c : Bool) → (a && b) ≡ false → (a && (b && c)) ≡ false
@@ -42,11 +40,6 @@ not_open m n z h = by_magic z.magic h
     by_magic None e = e
     by_magic (Some d) e = narrower (z.master == m) (d.number == n) (not d.spent) e
 
-both_of : (a b : Bool) → (a && b) ≡ true → (a ≡ true) × (b ≡ true)
-both_of true true e = (refl, refl)
-both_of true false e = absurd (let k : false ≡ true = e in cc)
-both_of false b e = absurd (let k : false ≡ true = e in cc)
-
 clash : (b : Bool) → b ≡ false → b ≡ true → ⊥
 clash b e k = cc
 
@@ -58,10 +51,10 @@ module _ (m n : ℕ) (y : Member) where
   its_magic h = by_magic y.magic refl h
     where
       by_magic : (g : Option Magic) → y.magic ≡ g → ((y.master == m) && option_map_or (λ (d : Magic). (d.number == n) && not d.spent) g false) ≡ true → (y.master ≡ m) × (d : Magic) × (y.magic ≡ Some d) × (d.number ≡ n)
-      by_magic None e k = absurd (clash false refl (both_of (y.master == m) false k).1)
+      by_magic None e k = absurd (clash false refl (and_parts (y.master == m) false k).1)
       by_magic (Some d) e k =
-          let b = both_of (y.master == m) ((d.number == n) && not d.spent) k in
-          (eqb-true y.master m b.0, d, e, eqb-true d.number n (both_of (d.number == n) (not d.spent) b.1).0)
+          let b = and_parts (y.master == m) ((d.number == n) && not d.spent) k in
+          (eqb-true y.master m b.0, d, e, eqb-true d.number n (and_parts (d.number == n) (not d.spent) b.1).0)
 
   has_it : has_open_magic m n y ≡ true → has_magic y.master n y ≡ true
   has_it h =
@@ -74,7 +67,7 @@ module _ (m n : ℕ) (y : Member) where
   one_open (z ∷ zs) rise e =
       (elim (has_open_magic m n z) as (λ b. has_open_magic m n z ≡ b → cond b (Some z) (find (has_open_magic m n) zs) ≡ Some y → AllByRecursion (λ (u : Member). has_open_magic m n u ≡ true → u ≡ y) (z ∷ zs)) [
         | true ↦ λ k j.
-            let same : z ≡ y = value z y j in
+            let same : z ≡ y = same_Some z y j in
             (λ _. same, all_weaker (λ (u : Member). HaveOtherMagics z u) (λ (u : Member). has_open_magic m n u ≡ true → u ≡ y) (λ u others o. absurd (clash (has_open_magic m n u) (not_open m n u (others_have u (subst (λ v. HaveOtherMagics v u) same others) (ap (has_open_magic m n) (sym same) ∙ k))) o)) zs rise.0)
         | false ↦ λ k j. (λ o. absurd (clash (has_open_magic m n z) k o), one_open zs rise.1 j)
       ]) refl e
@@ -127,7 +120,7 @@ module _ (m n : ℕ) (y : Member) where
     one u only at =
         (elim (u.client == y.client) as (λ b. (u.client == y.client) ≡ b → option_map spend (magic_row_of u) ≡ magic_row_of (if b then with_magic n true y else u)) [
           | true ↦ λ k.
-              let same : u ≡ y = value u y (sym at ∙ ap (member_of v.members) (eqb-true u.client y.client k) ∙ member_is) in
+              let same : u ≡ y = same_Some u y (sym at ∙ ap (member_of v.members) (eqb-true u.client y.client k) ∙ member_is) in
               ap (λ z. option_map spend (magic_row_of z)) same ∙ row_spent opens
           | false ↦ λ k. row_stays u (closed u k only)
         ]) refl
@@ -146,7 +139,7 @@ module _ (m n : ℕ) (y : Member) where
         all-filter_map (λ (z : MagicRow). is_open_magic m n z ≡ true → z ≡ r) magic_row_of v.members
         (all_weaker (λ (u : Member). has_open_magic m n u ≡ true → u ≡ y) (λ (u : Member). (z : MagicRow) → magic_row_of u ≡ Some z → is_open_magic m n z ≡ true → z ≡ r) (λ u only z k o.
         let open_u : has_open_magic m n u ≡ true = sym (open_is m n u) ∙ ap (λ q. option_map_or (is_open_magic m n) q false) k ∙ o in
-        value z r (sym k ∙ ap magic_row_of (only open_u) ∙ sym row_found ∙ f)) v.members (one_open v.members are.magics_differ e))
+        same_Some z r (sym k ∙ ap magic_row_of (only open_u) ∙ sym row_found ∙ f)) v.members (one_open v.members are.magics_differ e))
       where
         row_found : find (is_open_magic m n) (filter_map magic_row_of v.members) ≡ magic_row_of y
         row_found = find-filter_map (is_open_magic m n) magic_row_of v.members ∙ ap (λ (test : Member → Bool). option_and_then magic_row_of (find test v.members)) (λ i u. open_is m n u i) ∙ ap (option_and_then magic_row_of) e
@@ -158,17 +151,14 @@ module _ (m n : ℕ) (y : Member) where
         ∙ ap (λ (g : Option Magic). option_map (λ (row : MagicRow). row.client) (option_map (λ (d : Magic). record { master = y.master; number = d.number; client = y.client; spent = d.spent }) g)) (its_magic opens).2
 
 -- the state stands for the rows where the magic is spent and its client is authenticated
-module _ (s : State) (w : Rows) (m n : ℕ) (y : Member) (t : IsTied s) (e : find (has_open_magic m n) s.masters.members ≡ Some y) (h : Represents s w) where
+module _ (s : State) (w : Rows) (m n : ℕ) (y : Member) (t : MeetsInvariants s) (e : find (has_open_magic m n) s.masters.members ≡ Some y) (h : Represents s w) where
   abbrev pub authenticated_rows : Rows
   authenticated_rows = record w { clients = with_authenticated (Some y.client) w.clients; magics = with_spent m n w.magics }
-
-  turned : (a b : ℕ) → (a == b) ≡ (b == a)
-  turned a b = (elim (a == b) as (λ k. (a == b) ≡ k → k ≡ (b == a)) [ true ↦ λ k. sym (eq-eqb b a (sym (eqb-true a b k))) | false ↦ λ k. sym (flipped a b k) ]) refl
 
   clients_now : with_authenticated (Some y.client) w.clients ≡ clients_of (record s { files = files.with_authenticated s.files y.client; masters = changed_member (with_magic n true y) s.masters })
   unfolding with_authenticated
   clients_now =
-      (λ i. map (λ (row : ClientRow). if turned y.client row.client i then record row { authenticated = true } else row) (clients_are s w h i))
+      (λ i. map (λ (row : ClientRow). if same_either y.client row.client i then record row { authenticated = true } else row) (clients_are s w h i))
       ∙ sym (changed_clients y (with_magic n true y) (λ (row : ClientRow). record row { authenticated = true }) s.masters.members (member_is m n y s.masters (masters_so s t) e) refl (λ f. refl) s.files.clients)
 
   magics_now : SameRows (with_spent m n w.magics) (magics_of (record s { masters = changed_member (with_magic n true y) s.masters }))
@@ -177,8 +167,8 @@ module _ (s : State) (w : Rows) (m n : ℕ) (y : Member) (t : IsTied s) (e : fin
       subst (SameRows (map (λ (row : MagicRow). if is_open_magic m n row then record row { spent = true } else row) w.magics)) (spent_rows m n y s.masters (masters_so s t) e)
       (same-map (λ (row : MagicRow). if is_open_magic m n row then record row { spent = true } else row) w.magics (magics_of s) (magics_are s w h))
 
-  pub spent_represents : (part : Part) → stands_for part (record s { files = files.with_authenticated s.files y.client; masters = changed_member (with_magic n true y) s.masters }) authenticated_rows
-  unfolding stands_for
+  pub spent_represents : (part : Part) → represents_part part (record s { files = files.with_authenticated s.files y.client; masters = changed_member (with_magic n true y) s.masters }) authenticated_rows
+  unfolding represents_part
   spent_represents Clients = clients_now
   spent_represents Magics = magics_now
   spent_represents part = h part

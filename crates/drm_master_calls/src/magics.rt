@@ -1,20 +1,20 @@
 //! Magics: a client's number under its master, and what it is used for.
 
 ghost use Rattle.std.specs.Prelude.{◌≡◌, true};
-ghost use Rattle.drm_files.specs.Files.{is_present};
+ghost use Rattle.drm_files.specs.Files.{is_open_client};
 ghost use Rattle.drm_table.specs.declared.calls.Call.TheVariants.{AuthMagic, GetMagic};
-ghost use Rattle.drm_state.specs.Ties.{IsTied};
-ghost use Rattle.drm_state.specs.Refinement.{OwesReply};
+ghost use Rattle.drm_state.specs.Invariants.{MeetsInvariants};
+ghost use Rattle.drm_state.specs.Refinement.{RefinesReply};
 
 use drm_state::State;
 use drm_table::{Answer, Rule};
 
 /// GET_MAGIC: the caller's number under its master, and where it has none the least free one. It takes no memory.
 pub fn get_magic(state: &mut State, client: u32) -> Answer
-    requires tied { IsTied state.old }
-    requires present { is_present state.old.files client ≡ true }
-    ensures owes { OwesReply state.old client GetMagic result state.new }
-    ensures tied { IsTied state.new }
+    requires invariants { MeetsInvariants state.old }
+    requires open_client { is_open_client state.old.files client ≡ true }
+    ensures refines { RefinesReply state.old client GetMagic result state.new }
+    ensures invariants { MeetsInvariants state.new }
 {
     let Some(_member) = state.masters.member(client) else {
         // a render client, whose call is not admitted
@@ -32,10 +32,10 @@ pub fn get_magic(state: &mut State, client: u32) -> Answer
 /// AUTH_MAGIC: the client that has this number under the caller's master is authenticated, and the number is spent. It takes
 /// no memory.
 pub fn auth_magic(state: &mut State, client: u32, number: u32) -> Answer
-    requires tied { IsTied state.old }
-    requires present { is_present state.old.files client ≡ true }
-    ensures owes { OwesReply state.old client (AuthMagic number) result state.new }
-    ensures tied { IsTied state.new }
+    requires invariants { MeetsInvariants state.old }
+    requires open_client { is_open_client state.old.files client ≡ true }
+    ensures refines { RefinesReply state.old client (AuthMagic number) result state.new }
+    ensures invariants { MeetsInvariants state.new }
 {
     let Some(_member) = state.masters.member(client) else {
         // a render client, whose call is not admitted

@@ -12,7 +12,7 @@ use Rattle.drm_lists.proofs.Chains.{IsFalling, itself, child, under_none, under_
 use Rattle.drm_lists.proofs.Rising.{all_found, any_found}
 use Rattle.drm_masters.specs.declared.rows.Member.{Member}
 use Rattle.drm_masters.specs.declared.rows.Master.{Master}
-use Rattle.drm_masters.specs.Masters.{is_birth, is_option, master_at, lessor_of, is_held, is_used}
+use Rattle.drm_masters.specs.Masters.{is_step_number, is_option, master_at, lessor_of, is_held, is_used}
 use Rattle.drm_masters.proofs.Living.{Rise, Older, lessor_there, lessee_of}
 
 pub named_is : (m : ℕ) (o : Option ℕ) → is_option m o ≡ true → o ≡ Some m
@@ -91,9 +91,6 @@ module _ (above : ℕ → Option ℕ) (falling : IsFalling above) where
 abbrev pub IsFewer : List Master → List Master → Type 0
 IsFewer ms left = (n : ℕ) → (master_at left n ≡ master_at ms n) ⊎ (master_at left n ≡ None)
 
-there_is : (o : Option Master) (x : Master) → o ≡ Some x → is_some o ≡ true
-there_is o x e = ap is_some e
-
 module _ (ms left : List Master) (fewer : IsFewer ms left) where
   -- what is there is as it was
   pub was_there : (n : ℕ) (x : Master) → master_at left n ≡ Some x → master_at ms n ≡ Some x
@@ -129,11 +126,11 @@ module _ (ms left : List Master) (fewer : IsFewer ms left) where
     ]
 
 -- a master is used yet where those are there yet that name it
-pub used_yet : (members : List Member) (ms left : List Master) → Rise ms → (x : Master) → ((z : Master) → master_at ms z.birth ≡ Some z → is_option x.birth z.lessor ≡ true → master_at left z.birth ≡ Some z) → is_used members ms x ≡ true → is_used members left x ≡ true
+pub used_yet : (members : List Member) (ms left : List Master) → Rise ms → (x : Master) → ((z : Master) → master_at ms z.step_number ≡ Some z → is_option x.step_number z.lessor ≡ true → master_at left z.step_number ≡ Some z) → is_used members ms x ≡ true → is_used members left x ≡ true
 used_yet members ms left rise x stays h = by_held (is_held members x) refl h
   where
-    by_held : (b : Bool) → is_held members x ≡ b → (b || list_any (λ (y : Master). is_option x.birth y.lessor) ms) ≡ true → (is_held members x || list_any (λ (y : Master). is_option x.birth y.lessor) left) ≡ true
-    by_held true e k = ap (λ b. b || list_any (λ (y : Master). is_option x.birth y.lessor) left) e
+    by_held : (b : Bool) → is_held members x ≡ b → (b || list_any (λ (y : Master). is_option x.step_number y.lessor) ms) ≡ true → (is_held members x || list_any (λ (y : Master). is_option x.step_number y.lessor) left) ≡ true
+    by_held true e k = ap (λ b. b || list_any (λ (y : Master). is_option x.step_number y.lessor) left) e
     by_held false e k =
-        let w = some_passing (λ (y : Master). is_option x.birth y.lessor) (λ (y : Master). master_at ms y.birth ≡ Some y) ms (all_found (λ (y : Master). y.birth) ms rise) k in
-        or_right (is_held members x) (list_any (λ (y : Master). is_option x.birth y.lessor) left) (any_found (is_birth w.0.birth) (λ (y : Master). is_option x.birth y.lessor) w.0 left (stays w.0 w.2 w.1) w.1)
+        let w = some_passing (λ (y : Master). is_option x.step_number y.lessor) (λ (y : Master). master_at ms y.step_number ≡ Some y) ms (all_found (λ (y : Master). y.step_number) ms rise) k in
+        or_right (is_held members x) (list_any (λ (y : Master). is_option x.step_number y.lessor) left) (any_found (is_step_number w.0.step_number) (λ (y : Master). is_option x.step_number y.lessor) w.0 left (stays w.0 w.2 w.1) w.1)

@@ -118,8 +118,8 @@ one_changed members x y ms device here same own of_one c =
 -- ---- a walk over the clients
 
 -- each client is found by its number
-pub at_place : (members : List Member) → InOrder (λ (x y : Member). x.client < y.client) members → (i : ℕ) (x : Member) → slice_get members i ≡ Some x → member_of members x.client ≡ Some x
-at_place members rise i x e = all_at (λ (y : Member). member_of members y.client ≡ Some y) members i x (all_found (λ (y : Member). y.client) members rise) e
+pub at_position : (members : List Member) → InOrder (λ (x y : Member). x.client < y.client) members → (i : ℕ) (x : Member) → slice_get members i ≡ Some x → member_of members x.client ≡ Some x
+at_position members rise i x e = all_at (λ (y : Member). member_of members y.client ≡ Some y) members i x (all_found (λ (y : Member). y.client) members rise) e
 
 -- some client of a number passes where the client of the number does
 pub any_is : (q : Member → Bool) (c : ℕ) → (members : List Member) → InOrder (λ (x y : Member). x.client < y.client) members → list_any (λ (x : Member). (c == x.client) && q x) members ≡ option_map_or q (member_of members c) false

@@ -34,11 +34,11 @@ module _ (m : IdMap) (o : ℕ) where
   here r is p q same = ap (λ k. id_at m k q) (eqb-true p o same) ∙ ap (λ s. id_in s q) is
 
   -- an owner's ids are the same but for one
-  pub set_one : (r : Option (Indexed ℕ)) (y : Indexed ℕ) (i : ℕ) (birth : Option ℕ) → fin.get m o ≡ r → ((q : ℕ) → fin.get y.items q ≡ cond (q == i) birth (id_in r q)) → IsSet (id_at m) o i birth (id_at (fin.insert m o y))
-  set_one r y i birth is own p q =
+  pub set_one : (r : Option (Indexed ℕ)) (y : Indexed ℕ) (i : ℕ) (step_number : Option ℕ) → fin.get m o ≡ r → ((q : ℕ) → fin.get y.items q ≡ cond (q == i) step_number (id_in r q)) → IsSet (id_at m) o i step_number (id_at (fin.insert m o y))
+  set_one r y i step_number is own p q =
       inserted y p q
-      ∙ elim (p == o) as (λ s. (p == o) ≡ s → cond s (fin.get y.items q) (id_at m p q) ≡ (if s && (q == i) then birth else id_at m p q)) [
-        | true ↦ λ same. own q ∙ as_if (q == i) birth (id_in r q) ∙ ap (λ n. if q == i then birth else n) (sym (here r is p q same))
+      ∙ elim (p == o) as (λ s. (p == o) ≡ s → cond s (fin.get y.items q) (id_at m p q) ≡ (if s && (q == i) then step_number else id_at m p q)) [
+        | true ↦ λ same. own q ∙ as_if (q == i) step_number (id_in r q) ∙ ap (λ n. if q == i then step_number else n) (sym (here r is p q same))
         | false ↦ λ apart. refl
       ] refl
 
@@ -65,11 +65,11 @@ set_last m o a y i is own none p q =
 
 -- ---- one owner's
 
-pub item_more : (a b : Indexed ℕ) (i birth : ℕ) → b ≡ with_item a i birth → (q : ℕ) → fin.get b.items q ≡ cond (q == i) (Some birth) (fin.get a.items q)
-item_more a b i birth new q = ap (λ (x : Indexed ℕ). fin.get x.items q) new ∙ get-insert a.items i birth q
+pub item_more : (a b : Indexed ℕ) (i step_number : ℕ) → b ≡ with_item a i step_number → (q : ℕ) → fin.get b.items q ≡ cond (q == i) (Some step_number) (fin.get a.items q)
+item_more a b i step_number new q = ap (λ (x : Indexed ℕ). fin.get x.items q) new ∙ get-insert a.items i step_number q
 
-pub item_first : (a b : Indexed ℕ) (i birth : ℕ) → a ≡ empty_array → b ≡ with_item a i birth → (q : ℕ) → fin.get b.items q ≡ cond (q == i) (Some birth) None
-item_first a b i birth none new q = item_more a b i birth new q ∙ ap (cond (q == i) (Some birth)) (ap (λ (x : Indexed ℕ). fin.get x.items q) none ∙ fin.get-empty nat_cmp q)
+pub item_first : (a b : Indexed ℕ) (i step_number : ℕ) → a ≡ empty_array → b ≡ with_item a i step_number → (q : ℕ) → fin.get b.items q ≡ cond (q == i) (Some step_number) None
+item_first a b i step_number none new q = item_more a b i step_number new q ∙ ap (cond (q == i) (Some step_number)) (ap (λ (x : Indexed ℕ). fin.get x.items q) none ∙ fin.get-empty nat_cmp q)
 
 pub item_less : (a b : Indexed ℕ) (i : ℕ) → b ≡ without_item a i → (q : ℕ) → fin.get b.items q ≡ cond (q == i) None (fin.get a.items q)
 item_less a b i new q = ap (λ (x : Indexed ℕ). fin.get x.items q) new ∙ get-remove a.items i q

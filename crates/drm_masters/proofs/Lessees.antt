@@ -21,10 +21,11 @@ use Rattle.drm_lists.proofs.Found.{find_none}
 use Rattle.drm_lists.proofs.Numbers.{less-differ, flipped}
 use Rattle.drm_lists.proofs.Rising.{any_found, all_found, find_more, find_where}
 use Rattle.drm_masters.specs.declared.rows.Master.{Master}
-use Rattle.drm_masters.specs.Masters.{is_birth, is_option, master_at, lessor_of, lessees_of}
+use Rattle.drm_masters.specs.Masters.{is_step_number, is_option, master_at, lessor_of, lessees_of}
 use Rattle.drm_masters.specs.Tables.{AreLesseesOf, IsListed, IsUnlisted}
 use Rattle.drm_masters.proofs.Living.{Rise}
 use Rattle.drm_masters.proofs.Pushed.{new_lessor}
+use Rattle.drm_index_array.proofs.Entries.{less_of}
 
 none_more : (a b : Bool) → (a || (b && false)) ≡ a
 none_more true b = refl
@@ -45,28 +46,28 @@ itself_gone true = refl
 itself_gone false = refl
 
 module _ (ms : List Master) (x : Master) where
-  module _ (newest : AllByRecursion (λ (y : Master). y.birth < x.birth) ms) where
-    none_yet : lessor_of ms x.birth ≡ None
-    none_yet = ap (option_and_then (λ (y : Master). y.lessor)) (find_none (is_birth x.birth) ms (all_weaker (λ (y : Master). y.birth < x.birth) (λ (y : Master). is_birth x.birth y ≡ false) (λ y lt. less-differ y.birth x.birth lt) ms newest))
+  module _ (newest : AllByRecursion (λ (y : Master). y.step_number < x.step_number) ms) where
+    none_yet : lessor_of ms x.step_number ≡ None
+    none_yet = ap (option_and_then (λ (y : Master). y.lessor)) (find_none (is_step_number x.step_number) ms (all_weaker (λ (y : Master). y.step_number < x.step_number) (λ (y : Master). is_step_number x.step_number y ≡ false) (λ y lt. less-differ y.step_number x.step_number lt) ms newest))
 
-    pub listed : (old new : Groups) → AreLesseesOf ms old → IsListed old x.lessor x.birth new → AreLesseesOf (ms ++ x ∷ []) new
+    pub listed : (old new : Groups) → AreLesseesOf ms old → IsListed old x.lessor x.step_number new → AreLesseesOf (ms ++ x ∷ []) new
     listed old new are added m n =
         added m n
-        ∙ elim (n == x.birth) as (λ b. (n == x.birth) ≡ b → (old m n || (is_option m x.lessor && b)) ≡ is_option m (lessor_of (ms ++ x ∷ []) n)) [
+        ∙ elim (n == x.step_number) as (λ b. (n == x.step_number) ≡ b → (old m n || (is_option m x.lessor && b)) ≡ is_option m (lessor_of (ms ++ x ∷ []) n)) [
           | true ↦ λ e.
-              let same : n ≡ x.birth = eqb-true n x.birth e in
+              let same : n ≡ x.step_number = eqb-true n x.step_number e in
               ap (λ b. b || (is_option m x.lessor && true)) (are m n ∙ ap (is_option m) (ap (lessor_of ms) same ∙ none_yet))
               ∙ one_more (is_option m x.lessor) ∙ sym (ap (is_option m) (ap (lessor_of (ms ++ x ∷ [])) same ∙ new_lessor ms x newest))
-          | false ↦ λ e. none_more (old m n) (is_option m x.lessor) ∙ are m n ∙ sym (ap (λ o. is_option m (option_and_then (λ (y : Master). y.lessor) o)) (find_more (λ (y : Master). y.birth) x n (flipped n x.birth e) ms))
+          | false ↦ λ e. none_more (old m n) (is_option m x.lessor) ∙ are m n ∙ sym (ap (λ o. is_option m (option_and_then (λ (y : Master). y.lessor) o)) (find_more (λ (y : Master). y.step_number) x n (flipped n x.step_number e) ms))
         ] refl
 
     -- one that was listed and is not any more
-    pub back : (old mid new : Groups) → AreLesseesOf ms old → IsListed old x.lessor x.birth mid → IsUnlisted mid x.lessor x.birth new → AreLesseesOf ms new
+    pub back : (old mid new : Groups) → AreLesseesOf ms old → IsListed old x.lessor x.step_number mid → IsUnlisted mid x.lessor x.step_number new → AreLesseesOf ms new
     back old mid new are added taken m n =
-        taken m n ∙ ap (λ b. b && not (is_option m x.lessor && (n == x.birth))) (added m n)
-        ∙ elim (n == x.birth) as (λ b. (n == x.birth) ≡ b → ((old m n || (is_option m x.lessor && b)) && not (is_option m x.lessor && b)) ≡ is_option m (lessor_of ms n)) [
+        taken m n ∙ ap (λ b. b && not (is_option m x.lessor && (n == x.step_number))) (added m n)
+        ∙ elim (n == x.step_number) as (λ b. (n == x.step_number) ≡ b → ((old m n || (is_option m x.lessor && b)) && not (is_option m x.lessor && b)) ≡ is_option m (lessor_of ms n)) [
           | true ↦ λ e.
-              let same : n ≡ x.birth = eqb-true n x.birth e in
+              let same : n ≡ x.step_number = eqb-true n x.step_number e in
               let none = are m n ∙ ap (is_option m) (ap (lessor_of ms) same ∙ none_yet) in
               ap (λ b. (b || (is_option m x.lessor && true)) && not (is_option m x.lessor && true)) none ∙ gone (is_option m x.lessor) ∙ sym (ap (is_option m) (ap (lessor_of ms) same ∙ none_yet))
           | false ↦ λ e. none_fewer (old m n || (is_option m x.lessor && false)) (is_option m x.lessor) ∙ none_more (old m n) (is_option m x.lessor) ∙ are m n
@@ -76,16 +77,16 @@ module _ (ms : List Master) (x : Master) where
         gone true = refl
         gone false = refl
 
-  pub unlisted : master_at ms x.birth ≡ Some x → (old new : Groups) → AreLesseesOf ms old → IsUnlisted old x.lessor x.birth new → AreLesseesOf (filter (λ (y : Master). not (is_birth x.birth y)) ms) new
+  pub unlisted : master_at ms x.step_number ≡ Some x → (old new : Groups) → AreLesseesOf ms old → IsUnlisted old x.lessor x.step_number new → AreLesseesOf (filter (λ (y : Master). not (is_step_number x.step_number y)) ms) new
   unlisted here old new are taken m n =
       taken m n
-      ∙ elim (n == x.birth) as (λ b. (n == x.birth) ≡ b → (old m n && not (is_option m x.lessor && b)) ≡ is_option m (option_and_then (λ (y : Master). y.lessor) (cond (not b) (master_at ms n) None))) [
+      ∙ elim (n == x.step_number) as (λ b. (n == x.step_number) ≡ b → (old m n && not (is_option m x.lessor && b)) ≡ is_option m (option_and_then (λ (y : Master). y.lessor) (cond (not b) (master_at ms n) None))) [
         | true ↦ λ e.
-            let same : n ≡ x.birth = eqb-true n x.birth e in
+            let same : n ≡ x.step_number = eqb-true n x.step_number e in
             ap (λ b. b && not (is_option m x.lessor && true)) (are m n ∙ ap (λ o. is_option m (option_and_then (λ (y : Master). y.lessor) o)) (ap (master_at ms) same ∙ here)) ∙ itself_gone (is_option m x.lessor)
         | false ↦ λ e. none_fewer (old m n) (is_option m x.lessor) ∙ are m n
       ] refl
-      ∙ sym (ap (λ o. is_option m (option_and_then (λ (y : Master). y.lessor) o)) (find_where (λ (y : Master). y.birth) (λ k. not (k == x.birth)) n ms))
+      ∙ sym (ap (λ o. is_option m (option_and_then (λ (y : Master). y.lessor) o)) (find_where (λ (y : Master). y.step_number) (λ k. not (k == x.step_number)) n ms))
 
 -- masters of the same lessors
 pub same_lessees : (ms others : List Master) → ((n : ℕ) → lessor_of others n ≡ lessor_of ms n) → (groups : Groups) → AreLesseesOf ms groups → AreLesseesOf others groups
@@ -94,23 +95,20 @@ same_lessees ms others same groups are m n = are m n ∙ ap (is_option m) (sym (
 -- ---- what the groups answer
 
 module _ (ms : List Master) (rise : Rise ms) (groups : GroupMap) (are : AreLesseesOf ms (has groups)) (m : ℕ) where
-  row_is : AllByRecursion (λ (x : Master). is_option m x.lessor ≡ has groups m x.birth) ms
-  row_is = all_weaker (λ (x : Master). master_at ms x.birth ≡ Some x) (λ (x : Master). is_option m x.lessor ≡ has groups m x.birth) (λ x at. sym (are m x.birth ∙ ap (λ o. is_option m (option_and_then (λ (y : Master). y.lessor) o)) at)) ms (all_found (λ (x : Master). x.birth) ms rise)
+  row_is : AllByRecursion (λ (x : Master). is_option m x.lessor ≡ has groups m x.step_number) ms
+  row_is = all_weaker (λ (x : Master). master_at ms x.step_number ≡ Some x) (λ (x : Master). is_option m x.lessor ≡ has groups m x.step_number) (λ x at. sym (are m x.step_number ∙ ap (λ o. is_option m (option_and_then (λ (y : Master). y.lessor) o)) at)) ms (all_found (λ (x : Master). x.step_number) ms rise)
 
   pub any_lessee : (o : Option ℕ) → o ≡ least (has groups m) 0 4294967295 → IfNone o ((n : ℕ) → 0 ≤ n → has groups m n ≡ false) → is_some o ≡ list_any (λ (x : Master). is_option m x.lessor) ms
   any_lessee None e none = sym (all ms row_is)
     where
-      all : (xs : List Master) → AllByRecursion (λ (x : Master). is_option m x.lessor ≡ has groups m x.birth) xs → list_any (λ (x : Master). is_option m x.lessor) xs ≡ false
+      all : (xs : List Master) → AllByRecursion (λ (x : Master). is_option m x.lessor ≡ has groups m x.step_number) xs → list_any (λ (x : Master). is_option m x.lessor) xs ≡ false
       all [] h = refl
-      all (x ∷ xs) h = ap (λ b. b || list_any (λ (y : Master). is_option m y.lessor) xs) (h.0 ∙ none x.birth (omega arith)) ∙ all xs h.1
+      all (x ∷ xs) h = ap (λ b. b || list_any (λ (y : Master). is_option m y.lessor) xs) (h.0 ∙ none x.step_number (omega arith)) ∙ all xs h.1
   any_lessee (Some n) e none = by_row (master_at ms n) refl (sym (are m n) ∙ (least_some (has groups m) 0 4294967295 n (sym e)).passes)
     where
       by_row : (o : Option Master) → master_at ms n ≡ o → is_option m (option_and_then (λ (y : Master). y.lessor) o) ≡ true → true ≡ list_any (λ (x : Master). is_option m x.lessor) ms
       by_row None at h = absurd (false≢true h)
-      by_row (Some x) at h = sym (any_found (is_birth n) (λ (y : Master). is_option m y.lessor) x ms at h)
-
-  pub lessees_from : (from : ℕ) → least (has groups m) from 4294967295 ≡ least (λ n. is_option m (lessor_of ms n)) from 4294967295
-  lessees_from from = least-same _ _ from 4294967295 (λ k low high. are m k)
+      by_row (Some x) at h = sym (any_found (is_step_number n) (λ (y : Master). is_option m y.lessor) x ms at h)
 
 -- ---- two lists that rise and have the same numbers are one
 
@@ -152,9 +150,6 @@ same_up (x ∷ xs) (y ∷ ys) hx hy same = (λ i. head i ∷ same_up xs ys hx.1 
 
 -- ---- the numbers of a group are the lessees
 
-less_of : (a b : ℕ) → T (is_lt (nat_cmp a b)) → a < b
-less_of a b h = grind (arith, nat_tests)
-
 keys_up : (m : fin.FinMap nat_cmp (Unit {0})) → Up (fin.keys m)
 keys_up m = up (fin.entries m) (fin.entries_sorted m)
   where
@@ -170,37 +165,37 @@ numbers_up : (o : Option (Indexed (Unit {0}))) → Up (option_map_or (λ (a : In
 numbers_up None = tt
 numbers_up (Some a) = keys_up a.items
 
-births_up : (m : ℕ) (ms : List Master) → Rise ms → Up (lessees_of ms m)
-births_up m [] h = tt
-births_up m (x ∷ xs) h =
-    elim (is_option m x.lessor) as (λ b. Up (map (λ (y : Master). y.birth) (cond b (x ∷ filter (λ (y : Master). is_option m y.lessor) xs) (filter (λ (y : Master). is_option m y.lessor) xs)))) [
-      | true ↦ (all_mapped (λ n. x.birth < n) (λ (y : Master). y.birth) (filter (λ (y : Master). is_option m y.lessor) xs) (all_filter (λ (y : Master). x.birth < y.birth) (λ (y : Master). is_option m y.lessor) xs h.0), births_up m xs h.1)
-      | false ↦ births_up m xs h.1
+step_numbers_up : (m : ℕ) (ms : List Master) → Rise ms → Up (lessees_of ms m)
+step_numbers_up m [] h = tt
+step_numbers_up m (x ∷ xs) h =
+    elim (is_option m x.lessor) as (λ b. Up (map (λ (y : Master). y.step_number) (cond b (x ∷ filter (λ (y : Master). is_option m y.lessor) xs) (filter (λ (y : Master). is_option m y.lessor) xs)))) [
+      | true ↦ (all_mapped (λ n. x.step_number < n) (λ (y : Master). y.step_number) (filter (λ (y : Master). is_option m y.lessor) xs) (all_filter (λ (y : Master). x.step_number < y.step_number) (λ (y : Master). is_option m y.lessor) xs h.0), step_numbers_up m xs h.1)
+      | false ↦ step_numbers_up m xs h.1
     ]
 
-births_among : (m n : ℕ) (ms : List Master) → Rise ms → is_among (lessees_of ms m) n ≡ is_option m (lessor_of ms n)
-births_among m n [] h = refl
-births_among m n (x ∷ xs) h =
-    elim (x.birth == n) as (λ b. (x.birth == n) ≡ b → is_among (lessees_of (x ∷ xs) m) n ≡ is_option m (option_and_then (λ (y : Master). y.lessor) (cond b (Some x) (master_at xs n)))) [
+step_numbers_among : (m n : ℕ) (ms : List Master) → Rise ms → is_among (lessees_of ms m) n ≡ is_option m (lessor_of ms n)
+step_numbers_among m n [] h = refl
+step_numbers_among m n (x ∷ xs) h =
+    elim (x.step_number == n) as (λ b. (x.step_number == n) ≡ b → is_among (lessees_of (x ∷ xs) m) n ≡ is_option m (option_and_then (λ (y : Master). y.lessor) (cond b (Some x) (master_at xs n)))) [
       | true ↦ λ e.
-          let s = eqb-true x.birth n e in
-          let none = below_none x.birth n (lessees_of xs m) (all_mapped (λ k. x.birth < k) (λ (y : Master). y.birth) (filter (λ (y : Master). is_option m y.lessor) xs) (all_filter (λ (y : Master). x.birth < y.birth) (λ (y : Master). is_option m y.lessor) xs h.0)) (omega (arith, s)) in
-          elim (is_option m x.lessor) as (λ b. is_among (map (λ (y : Master). y.birth) (cond b (x ∷ filter (λ (y : Master). is_option m y.lessor) xs) (filter (λ (y : Master). is_option m y.lessor) xs))) n ≡ b) [
+          let s = eqb-true x.step_number n e in
+          let none = below_none x.step_number n (lessees_of xs m) (all_mapped (λ k. x.step_number < k) (λ (y : Master). y.step_number) (filter (λ (y : Master). is_option m y.lessor) xs) (all_filter (λ (y : Master). x.step_number < y.step_number) (λ (y : Master). is_option m y.lessor) xs h.0)) (omega (arith, s)) in
+          elim (is_option m x.lessor) as (λ b. is_among (map (λ (y : Master). y.step_number) (cond b (x ∷ filter (λ (y : Master). is_option m y.lessor) xs) (filter (λ (y : Master). is_option m y.lessor) xs))) n ≡ b) [
             | true ↦ ap (λ b. b || is_among (lessees_of xs m) n) e
             | false ↦ none
           ]
       | false ↦ λ e.
-          elim (is_option m x.lessor) as (λ b. is_among (map (λ (y : Master). y.birth) (cond b (x ∷ filter (λ (y : Master). is_option m y.lessor) xs) (filter (λ (y : Master). is_option m y.lessor) xs))) n ≡ is_option m (lessor_of xs n)) [
-            | true ↦ ap (λ b. b || is_among (lessees_of xs m) n) e ∙ births_among m n xs h.1
-            | false ↦ births_among m n xs h.1
+          elim (is_option m x.lessor) as (λ b. is_among (map (λ (y : Master). y.step_number) (cond b (x ∷ filter (λ (y : Master). is_option m y.lessor) xs) (filter (λ (y : Master). is_option m y.lessor) xs))) n ≡ is_option m (lessor_of xs n)) [
+            | true ↦ ap (λ b. b || is_among (lessees_of xs m) n) e ∙ step_numbers_among m n xs h.1
+            | false ↦ step_numbers_among m n xs h.1
           ]
     ] refl
 
 pub numbers_are : (ms : List Master) → Rise ms → (groups : GroupMap) → AreLesseesOf ms (has groups) → (m : ℕ) → numbers_of groups m ≡ lessees_of ms m
 numbers_are ms rise groups are m =
-    same_up (numbers_of groups m) (lessees_of ms m) (numbers_up (fin.get groups m)) (births_up m ms rise)
-    (λ n. among_numbers groups m n ∙ are m n ∙ sym (births_among m n ms rise))
+    same_up (numbers_of groups m) (lessees_of ms m) (numbers_up (fin.get groups m)) (step_numbers_up m ms rise)
+    (λ n. among_numbers groups m n ∙ are m n ∙ sym (step_numbers_among m n ms rise))
 
--- no birth is past the last number
-pub none_past : (ms : List Master) → AllByRecursion (λ (x : Master). x.birth ≤ 4294967295) ms → (m n : ℕ) → 4294967295 < n → is_option m (lessor_of ms n) ≡ false
-none_past ms fits m n past = ap (λ o. is_option m (option_and_then (λ (y : Master). y.lessor) o)) (find_none (is_birth n) ms (all_weaker (λ (x : Master). x.birth ≤ 4294967295) (λ (x : Master). is_birth n x ≡ false) (λ x le. ne_eqb x.birth n (λ same. omega (arith, le, same, past))) ms fits))
+-- no step number is past the last number
+pub none_past : (ms : List Master) → AllByRecursion (λ (x : Master). x.step_number ≤ 4294967295) ms → (m n : ℕ) → 4294967295 < n → is_option m (lessor_of ms n) ≡ false
+none_past ms fits m n past = ap (λ o. is_option m (option_and_then (λ (y : Master). y.lessor) o)) (find_none (is_step_number n) ms (all_weaker (λ (x : Master). x.step_number ≤ 4294967295) (λ (x : Master). is_step_number n x ≡ false) (λ x le. ne_eqb x.step_number n (λ same. omega (arith, le, same, past))) ms fits))

@@ -16,18 +16,13 @@ use Rattle.drm_masters.specs.declared.members.Membership.{Membership}
 use Rattle.drm_masters.specs.declared.rows.Member.{Member}
 use Rattle.drm_masters.specs.Masters.{is_client, member_of}
 use Rattle.drm_masters.specs.Tables.{member_row, members_in}
+use Rattle.drm_index_array.proofs.Entries.{same_test, less_of}
 
 abbrev pub Clients : Type 0
 Clients = fin.FinMap nat_cmp Membership
 
-same_test : (c k : ℕ) → (k == c) ≡ eq_by_cmp nat_cmp c k
-same_test c k = grind (arith, nat_tests)
-
 tied_test : (c k : ℕ) → eq_by_cmp nat_cmp c k ≡ true → k ≡ c
 tied_test c k e = grind (arith, nat_tests)
-
-less_of : (a b : ℕ) → T (is_lt (nat_cmp a b)) → a < b
-less_of a b h = grind (arith, nat_tests)
 
 greater : (a b : ℕ) → b < a → nat_cmp a b ≡ Greater
 greater a b lt = grind (arith, nat_tests)

@@ -2,7 +2,7 @@
 use Rattle.std.proofs.Common.{◌≡◌, ℕ, ◌<◌, Bool, true, false, not, ◌&&◌, ◌||◌, inl, inr, List, Option, None, Some, refl, sym, ap, subst, ◌∙◌, eq-eqb, arith}
 use Rattle.std.specs.List.{list_any, AllByRecursion}
 use Rattle.std.specs.Option.{is_some, option_and_then}
-use Rattle.std.proofs.lemmas.Bool.{eqb-true, or_left, or_right}
+use Rattle.std.proofs.lemmas.Bool.{eqb-true, or_left, or_right, not-true, and_parts, and_from}
 use Rattle.drm_lists.specs.Orders.{InOrder}
 use Rattle.drm_lists.specs.Chains.{is_under}
 use Rattle.drm_lists.proofs.Lists.{some_passing}
@@ -10,31 +10,20 @@ use Rattle.drm_lists.proofs.Chains.{IsFalling, itself, child, above_too}
 use Rattle.drm_lists.proofs.Rising.{found, any_found, all_found}
 use Rattle.drm_masters.specs.declared.rows.Member.{Member}
 use Rattle.drm_masters.specs.declared.rows.Master.{Master}
-use Rattle.drm_masters.specs.Masters.{is_option, is_birth, master_at, lessor_of, is_held, is_living, HasOlderLessor}
+use Rattle.drm_masters.specs.Masters.{is_option, is_step_number, master_at, lessor_of, is_held, is_living, HasOlderLessor}
 
-pub birth_of : Master → ℕ
-birth_of x = x.birth
+pub step_number_of : Master → ℕ
+step_number_of x = x.step_number
 
 abbrev pub Rise : List Master → Type 0
-Rise ms = InOrder (λ (x y : Master). x.birth < y.birth) ms
+Rise ms = InOrder (λ (x y : Master). x.step_number < y.step_number) ms
 
 abbrev pub Older : List Master → Type 0
 Older ms = AllByRecursion (HasOlderLessor ms) ms
 
-pub both_true : (a b : Bool) → (a && b) ≡ true → (a ≡ true) × (b ≡ true)
-both_true true b h = (refl, h)
-both_true false b h = absurd (let e : false ≡ true = h in cc)
-
-pub not_true : (b : Bool) → not b ≡ true → b ≡ false
-not_true true h = absurd (let e : false ≡ true = h in cc)
-not_true false h = refl
-
 pub not_false : (b : Bool) → not b ≡ false → b ≡ true
 not_false true h = refl
 not_false false h = absurd (let e : true ≡ false = h in cc)
-
-pub and_true : (a b : Bool) → a ≡ true → b ≡ true → (a && b) ≡ true
-and_true a b h k = ap (λ c. c && b) h ∙ k
 
 -- what is found where a master has a lessor
 lessor_found : (o : Option Master) (l : ℕ) → option_and_then (λ (x : Master). x.lessor) o ≡ Some l → (x : Master) × (o ≡ Some x) × (x.lessor ≡ Some l)
@@ -51,26 +40,26 @@ module _ (ms : List Master) where
     pub lessor_there : (n l : ℕ) → lessor_of ms n ≡ Some l → (is_some (master_at ms l) ≡ true) × (l < n)
     lessor_there n l e =
         let w = lessee_of n l e in
-        let is = found (is_birth n) (HasOlderLessor ms) w.0 ms older w.1 in
+        let is = found (is_step_number n) (HasOlderLessor ms) w.0 ms older w.1 in
         let known = is.1 l w.2 in
-        (known.0, subst (λ m. l < m) (eqb-true w.0.birth n is.0) known.1)
+        (known.0, subst (λ m. l < m) (eqb-true w.0.step_number n is.0) known.1)
 
     pub falls : IsFalling (lessor_of ms)
     falls n l e = (lessor_there n l e).1
 
   module _ (members : List Member) where
     -- a master under which one is held
-    pub living_by : (b : ℕ) (z : Master) → master_at ms z.birth ≡ Some z → is_held members z ≡ true → is_under (lessor_of ms) b z.birth ≡ true → is_living members ms b ≡ true
-    living_by b z here held under = any_found (is_birth z.birth) (λ (x : Master). is_held members x && is_under (lessor_of ms) b x.birth) z ms here (and_true (is_held members z) (is_under (lessor_of ms) b z.birth) held under)
+    pub living_by : (b : ℕ) (z : Master) → master_at ms z.step_number ≡ Some z → is_held members z ≡ true → is_under (lessor_of ms) b z.step_number ≡ true → is_living members ms b ≡ true
+    living_by b z here held under = any_found (is_step_number z.step_number) (λ (x : Master). is_held members x && is_under (lessor_of ms) b x.step_number) z ms here (and_from (is_held members z) (is_under (lessor_of ms) b z.step_number) held under)
 
     module _ (rise : Rise ms) where
-      each_found : AllByRecursion (λ (x : Master). master_at ms x.birth ≡ Some x) ms
-      each_found = all_found (λ (x : Master). x.birth) ms rise
+      each_found : AllByRecursion (λ (x : Master). master_at ms x.step_number ≡ Some x) ms
+      each_found = all_found (λ (x : Master). x.step_number) ms rise
 
-      pub held_below : (b : ℕ) → is_living members ms b ≡ true → (z : Master) × (master_at ms z.birth ≡ Some z) × (is_held members z ≡ true) × (is_under (lessor_of ms) b z.birth ≡ true)
+      pub held_below : (b : ℕ) → is_living members ms b ≡ true → (z : Master) × (master_at ms z.step_number ≡ Some z) × (is_held members z ≡ true) × (is_under (lessor_of ms) b z.step_number ≡ true)
       held_below b h =
-          let w = some_passing (λ (x : Master). is_held members x && is_under (lessor_of ms) b x.birth) (λ (x : Master). master_at ms x.birth ≡ Some x) ms each_found h in
-          let t = both_true (is_held members w.0) (is_under (lessor_of ms) b w.0.birth) w.1 in
+          let w = some_passing (λ (x : Master). is_held members x && is_under (lessor_of ms) b x.step_number) (λ (x : Master). master_at ms x.step_number ≡ Some x) ms each_found h in
+          let t = and_parts (is_held members w.0) (is_under (lessor_of ms) b w.0.step_number) w.1 in
           (w.0, w.2, t.0, t.1)
 
       module _ (older : Older ms) where
@@ -78,51 +67,51 @@ module _ (ms : List Master) where
         pub lessor_lives : (y l : ℕ) → is_living members ms y ≡ true → lessor_of ms y ≡ Some l → is_living members ms l ≡ true
         lessor_lives y l h e =
             let w = held_below y h in
-            let n = w.0.birth in
+            let n = w.0.step_number in
             living_by l w.0 w.1 w.2 (above_too (lessor_of ms) (falls older) n y n l (omega arith) e w.3)
 
         -- a master stays that is held, or that one which stays names as its lessor
-        pub living_is : (x : Master) → master_at ms x.birth ≡ Some x → is_living members ms x.birth ≡ (is_held members x || list_any (λ (y : Master). is_living members ms y.birth && is_option x.birth y.lessor) ms)
-        living_is x here = same_bool (is_living members ms x.birth) (is_held members x || list_any q ms) forth back
+        pub living_is : (x : Master) → master_at ms x.step_number ≡ Some x → is_living members ms x.step_number ≡ (is_held members x || list_any (λ (y : Master). is_living members ms y.step_number && is_option x.step_number y.lessor) ms)
+        living_is x here = same_bool (is_living members ms x.step_number) (is_held members x || list_any q ms) forth back
           where
             q : Master → Bool
-            q y = is_living members ms y.birth && is_option x.birth y.lessor
+            q y = is_living members ms y.step_number && is_option x.step_number y.lessor
 
             same_bool : (a b : Bool) → (a ≡ true → b ≡ true) → (b ≡ true → a ≡ true) → a ≡ b
             same_bool true b f g = sym (f refl)
             same_bool false true f g = g refl
             same_bool false false f g = refl
 
-            forth : is_living members ms x.birth ≡ true → (is_held members x || list_any q ms) ≡ true
+            forth : is_living members ms x.step_number ≡ true → (is_held members x || list_any q ms) ≡ true
             forth h =
-                let w = held_below x.birth h in
-                elim (child (lessor_of ms) w.0.birth x.birth w.0.birth w.3) [
+                let w = held_below x.step_number h in
+                elim (child (lessor_of ms) w.0.step_number x.step_number w.0.step_number w.3) [
                   | inl same ↦
                       let s : Some x ≡ Some w.0 = sym here ∙ ap (master_at ms) same ∙ w.1 in
                       let t : x ≡ w.0 = cc in
                       or_left (is_held members x) (list_any q ms) (ap (is_held members) t ∙ w.2)
                   | inr up ↦
-                      let y = lessee_of up.0 x.birth up.1 in
-                      let is = found (is_birth up.0) (λ (z : Master). master_at ms z.birth ≡ Some z) y.0 ms each_found y.1 in
-                      let num : y.0.birth ≡ up.0 = eqb-true y.0.birth up.0 is.0 in
-                      let lives : is_living members ms y.0.birth ≡ true = ap (is_living members ms) num ∙ living_by up.0 w.0 w.1 w.2 up.2 in
-                      let names : is_option x.birth y.0.lessor ≡ true = ap (is_option x.birth) y.2 ∙ eq-eqb x.birth x.birth refl in
-                      or_right (is_held members x) (list_any q ms) (any_found (is_birth up.0) q y.0 ms y.1 (and_true (is_living members ms y.0.birth) (is_option x.birth y.0.lessor) lives names))
+                      let y = lessee_of up.0 x.step_number up.1 in
+                      let is = found (is_step_number up.0) (λ (z : Master). master_at ms z.step_number ≡ Some z) y.0 ms each_found y.1 in
+                      let num : y.0.step_number ≡ up.0 = eqb-true y.0.step_number up.0 is.0 in
+                      let lives : is_living members ms y.0.step_number ≡ true = ap (is_living members ms) num ∙ living_by up.0 w.0 w.1 w.2 up.2 in
+                      let names : is_option x.step_number y.0.lessor ≡ true = ap (is_option x.step_number) y.2 ∙ eq-eqb x.step_number x.step_number refl in
+                      or_right (is_held members x) (list_any q ms) (any_found (is_step_number up.0) q y.0 ms y.1 (and_from (is_living members ms y.0.step_number) (is_option x.step_number y.0.lessor) lives names))
                 ]
 
-            by_lessee : list_any q ms ≡ true → is_living members ms x.birth ≡ true
+            by_lessee : list_any q ms ≡ true → is_living members ms x.step_number ≡ true
             by_lessee k =
-                let y = some_passing q (λ (z : Master). master_at ms z.birth ≡ Some z) ms each_found k in
-                let t = both_true (is_living members ms y.0.birth) (is_option x.birth y.0.lessor) y.1 in
-                lessor_lives y.0.birth x.birth t.0 (ap (option_and_then (λ (z : Master). z.lessor)) y.2 ∙ named y.0.lessor t.1)
+                let y = some_passing q (λ (z : Master). master_at ms z.step_number ≡ Some z) ms each_found k in
+                let t = and_parts (is_living members ms y.0.step_number) (is_option x.step_number y.0.lessor) y.1 in
+                lessor_lives y.0.step_number x.step_number t.0 (ap (option_and_then (λ (z : Master). z.lessor)) y.2 ∙ named y.0.lessor t.1)
               where
-                named : (o : Option ℕ) → is_option x.birth o ≡ true → o ≡ Some x.birth
+                named : (o : Option ℕ) → is_option x.step_number o ≡ true → o ≡ Some x.step_number
                 named None e = absurd (let n : false ≡ true = e in cc)
-                named (Some l) e = ap Some (eqb-true l x.birth e)
+                named (Some l) e = ap Some (eqb-true l x.step_number e)
 
-            back : (is_held members x || list_any q ms) ≡ true → is_living members ms x.birth ≡ true
+            back : (is_held members x || list_any q ms) ≡ true → is_living members ms x.step_number ≡ true
             back h =
-                (elim (is_held members x) as (λ b. is_held members x ≡ b → (b || list_any q ms) ≡ true → is_living members ms x.birth ≡ true) [
-                  | true ↦ λ e k. living_by x.birth x here e (itself (lessor_of ms) x.birth x.birth)
+                (elim (is_held members x) as (λ b. is_held members x ≡ b → (b || list_any q ms) ≡ true → is_living members ms x.step_number ≡ true) [
+                  | true ↦ λ e k. living_by x.step_number x here e (itself (lessor_of ms) x.step_number x.step_number)
                   | false ↦ λ e k. by_lessee k
                 ]) refl h

@@ -9,10 +9,9 @@ use Rattle.drm_index_array.specs.Least.{least}
 use Rattle.drm_index_array.proofs.Least.{least_some}
 use Rattle.drm_id_alloc.specs.Groups.{Groups, GroupMap, has, AreGroupsOf, IsAdded, IsTaken}
 use Rattle.drm_index_array.proofs.MarkedLemmas.{get-insert}
-use Rattle.drm_id_alloc.proofs.GroupLemmas.{turned}
 use Rattle.drm_lists.proofs.Lists.{all_weaker}
 use Rattle.drm_lists.proofs.Found.{find_none}
-use Rattle.drm_lists.proofs.Numbers.{less-differ}
+use Rattle.drm_lists.proofs.Numbers.{less-differ, same_either}
 use Rattle.drm_lists.proofs.Rising.{any_found, all_found}
 use Rattle.drm_masters.specs.declared.members.Membership.{Membership}
 use Rattle.drm_masters.specs.declared.rows.Member.{Member}
@@ -89,7 +88,7 @@ named_moved m old mid new are n x y g h there gx hy apart added taken d u =
     same false false c = refl
 
     moved : (((g == d) || ((d == h) && true)) && not ((d == g) && true)) ≡ (h == d)
-    moved = by_both (g == d) (d == h) (d == g) (h == d) (turned g d) (turned d h) (λ e k. false≢true (sym apart ∙ eq-eqb g h (eqb-true g d e ∙ sym (eqb-true h d k))))
+    moved = by_both (g == d) (d == h) (d == g) (h == d) (same_either g d) (same_either d h) (λ e k. false≢true (sym apart ∙ eq-eqb g h (eqb-true g d e ∙ sym (eqb-true h d k))))
       where
         by_both : (a b c f : Bool) → a ≡ c → b ≡ f → (a ≡ true → f ≡ true → ⊥) → ((a || (b && true)) && not (c && true)) ≡ f
         by_both true b true true e k never = absurd (never refl refl)

@@ -6,7 +6,7 @@ use Rattle.std.specs.Option.{is_some, option_map, option_map_or}
 use Rattle.std.specs.FinSet as set
 use Rattle.std.proofs.Math.Bool.{and-false}
 use Rattle.std.proofs.lemmas.List.{length-map}
-use Rattle.std.proofs.lemmas.Bool.{eqb-true, false≢true, or_left, or_right}
+use Rattle.std.proofs.lemmas.Bool.{eqb-true, false≢true, or_left, or_right, and_parts, and_from}
 use Rattle.drm_lists.specs.Orders.{InOrder}
 use Rattle.drm_lists.specs.Chains.{is_under}
 use Rattle.drm_lists.proofs.Lists.{all_weaker, all_both, all_each, all_append, all_filter, all_mapped, filter-shorter, list_any-map, list_any_agree, list_any_left, list_any_right, some_passing}
@@ -16,13 +16,12 @@ use Rattle.drm_lists.proofs.Rising.{found, any_found, any_more, any_left, all_fo
 use Rattle.drm_masters.specs.declared.rows.Magic.{Magic}
 use Rattle.drm_masters.specs.declared.rows.Member.{Member}
 use Rattle.drm_masters.specs.declared.rows.Master.{Master}
-use Rattle.drm_masters.specs.Masters.{MasterSet, AreMasters, HaveOtherMagics, HasOlderLessor, is_client, is_birth, is_key, is_option, IsKeyOf, birth_at, member_of, master_at, lessor_of, owner_of, is_held, is_used, is_living, is_current, has_magic, has_open_magic, swept}
+use Rattle.drm_masters.specs.Masters.{MasterSet, AreMasters, HaveOtherMagics, HasOlderLessor, is_client, is_step_number, is_key, is_option, IsKeyOf, step_number_at, member_of, master_at, lessor_of, owner_of, is_held, is_used, is_living, is_current, has_magic, has_open_magic, swept}
 use Rattle.drm_masters.specs.declared.masters.Masters.TheInside.{Inside}
 use Rattle.drm_masters.specs.Fields.{set_of, IsSound}
 use Rattle.drm_masters.specs.Calls.{with_member, with_master, with_device, without_member, changed_member, with_kept, with_magic, closed_own}
-use Rattle.drm_masters.proofs.Living.{both_true, and_true}
-use Rattle.drm_masters.proofs.Pushed.{birth_stays, lessor_stays, kept_at, kept_there, kept_rise, kept_older, kept_used, same_used, there_too, new_there, pushed_older, pushed_used, over_there, over_lessors, over_rise, over_older, over_keyed, kept_lessors, pushed_owner, pushed_lessor, new_lessor}
-use Rattle.drm_masters.proofs.Released.{marked, marked_birth, marked_lessor, marked_key}
+use Rattle.drm_masters.proofs.Pushed.{step_number_stays, lessor_stays, kept_at, kept_there, kept_rise, kept_older, kept_used, same_used, there_too, new_there, pushed_older, pushed_used, over_there, over_lessors, over_rise, over_older, over_keyed, kept_lessors, pushed_owner, pushed_lessor, new_lessor}
+use Rattle.drm_masters.proofs.Released.{marked, marked_step_number, marked_lessor, marked_key}
 use Rattle.drm_masters.proofs.Upward.{OthersUsed, all_living_used}
 use Rattle.drm_masters.proofs.Flagged.{same_owners, under_same, one_more}
 use Rattle.drm_masters.proofs.Swept.{none_left, swept_older, swept_used, swept_owner, named_lives, named_there}
@@ -44,7 +43,7 @@ freed under v = record v { masters = map (marked under) v.masters }
 -- all of it but that each master is used
 pub record AreTied (v : MasterSet) : Type 0 where
   pub members_rise : InOrder (λ (x y : Member). x.client < y.client) v.members
-  pub masters_rise : InOrder (λ (x y : Master). x.birth < y.birth) v.masters
+  pub masters_rise : InOrder (λ (x y : Master). x.step_number < y.step_number) v.masters
   pub lessors_older : AllByRecursion (HasOlderLessor v.masters) v.masters
   pub masters_there : AllByRecursion (λ (x : Member). is_some (master_at v.masters x.master) ≡ true) v.members
   pub device_own : (m : ℕ) → v.device_master ≡ Some m → list_any (λ (x : Member). x.is_master && (x.master == m)) v.members ≡ true
@@ -54,32 +53,32 @@ pub record AreTied (v : MasterSet) : Type 0 where
   pub few : length v.members ≤ v.last_magic
 
 -- a client that is no master stands to one without a lessor
-abbrev IsGuest : List Master → Member → Type 0
-IsGuest ms x = x.is_master ≡ false → lessor_of ms x.master ≡ None
+abbrev IsNonMaster : List Master → Member → Type 0
+IsNonMaster ms x = x.is_master ≡ false → lessor_of ms x.master ≡ None
 
-guests_over : (ms others : List Master) → ((n : ℕ) → lessor_of others n ≡ lessor_of ms n) → (xs : List Member) → AllByRecursion (IsGuest ms) xs → AllByRecursion (IsGuest others) xs
-guests_over ms others same xs h = all_weaker (IsGuest ms) (IsGuest others) (λ x g own. same x.master ∙ g own) xs h
+guests_over : (ms others : List Master) → ((n : ℕ) → lessor_of others n ≡ lessor_of ms n) → (xs : List Member) → AllByRecursion (IsNonMaster ms) xs → AllByRecursion (IsNonMaster others) xs
+guests_over ms others same xs h = all_weaker (IsNonMaster ms) (IsNonMaster others) (λ x g own. same x.master ∙ g own) xs h
 
-guests_pushed : (ms : List Master) (z : Master) → AllByRecursion (λ (x : Master). x.birth < z.birth) ms → (xs : List Member) → AllByRecursion (λ (x : Member). is_some (master_at ms x.master) ≡ true) xs → AllByRecursion (IsGuest ms) xs →
-    AllByRecursion (IsGuest (ms ++ z ∷ [])) xs
-guests_pushed ms z newest xs there h = all_both (λ (x : Member). is_some (master_at ms x.master) ≡ true) (IsGuest ms) (IsGuest (ms ++ z ∷ [])) (λ x t g own. pushed_lessor ms z newest x.master t ∙ g own) xs there h
+guests_pushed : (ms : List Master) (z : Master) → AllByRecursion (λ (x : Master). x.step_number < z.step_number) ms → (xs : List Member) → AllByRecursion (λ (x : Member). is_some (master_at ms x.master) ≡ true) xs → AllByRecursion (IsNonMaster ms) xs →
+    AllByRecursion (IsNonMaster (ms ++ z ∷ [])) xs
+guests_pushed ms z newest xs there h = all_both (λ (x : Member). is_some (master_at ms x.master) ≡ true) (IsNonMaster ms) (IsNonMaster (ms ++ z ∷ [])) (λ x t g own. pushed_lessor ms z newest x.master t ∙ g own) xs there h
 
 -- a new master without a lessor is the device's
-new_owner : (ms : List Master) (z : Master) → AllByRecursion (λ (x : Master). x.birth < z.birth) ms → z.lessor ≡ None → (m : ℕ) → Some z.birth ≡ Some m → lessor_of (ms ++ z ∷ []) m ≡ None
-new_owner ms z newest top m e = subst (λ n. lessor_of (ms ++ z ∷ []) n ≡ None) (let s : z.birth ≡ m = cc in s) (new_lessor ms z newest ∙ top)
+new_owner : (ms : List Master) (z : Master) → AllByRecursion (λ (x : Master). x.step_number < z.step_number) ms → z.lessor ≡ None → (m : ℕ) → Some z.step_number ≡ Some m → lessor_of (ms ++ z ∷ []) m ≡ None
+new_owner ms z newest top m e = subst (λ n. lessor_of (ms ++ z ∷ []) n ≡ None) (let s : z.step_number ≡ m = cc in s) (new_lessor ms z newest ∙ top)
 
 -- a sweep makes each used
 pub swept_are : (v : MasterSet) → AreTied v → AreMasters (swept v)
 swept_are v t = record {
   members_rise = t.members_rise;
-  masters_rise = in_order_filter (λ (x y : Master). x.birth < y.birth) (λ (x : Master). is_living v.members v.masters x.birth) v.masters t.masters_rise;
+  masters_rise = in_order_filter (λ (x y : Master). x.step_number < y.step_number) (λ (x : Master). is_living v.members v.masters x.step_number) v.masters t.masters_rise;
   lessors_older = swept_older v.members v.masters t.masters_rise t.lessors_older;
   masters_there =
       all_both (λ (x : Member). is_some (master_at v.masters x.master) ≡ true) (λ (x : Member). list_any (λ (y : Member). y.master == x.master) v.members ≡ true) (λ (x : Member). is_some (master_at (swept v).masters x.master) ≡ true)
       (λ x there named. named_there v.members v.masters t.masters_rise t.lessors_older x there named) v.members t.masters_there (each_is_there (λ (x : Member). x.master) v.members);
   device_own = t.device_own;
   device_owner = λ m e. none_left v.members v.masters t.masters_rise t.lessors_older m (t.device_owner m e);
-  guests_of_owners = all_weaker (IsGuest v.masters) (IsGuest (swept v).masters) (λ x g own. none_left v.members v.masters t.masters_rise t.lessors_older x.master (g own)) v.members t.guests_of_owners;
+  guests_of_owners = all_weaker (IsNonMaster v.masters) (IsNonMaster (swept v).masters) (λ x g own. none_left v.members v.masters t.masters_rise t.lessors_older x.master (g own)) v.members t.guests_of_owners;
   used = swept_used v.members v.masters t.masters_rise t.lessors_older;
   magics_differ = t.magics_differ;
   few = t.few;
@@ -92,7 +91,7 @@ or_more true b c f h = refl
 or_more false b c f h = f h
 
 held_more : (members : List Member) (y : Member) (x : Master) → is_held members x ≡ true → is_held (members ++ y ∷ []) x ≡ true
-held_more members y x h = or_more x.kept (list_any (λ (z : Member). z.master == x.birth) members) (list_any (λ (z : Member). z.master == x.birth) (members ++ y ∷ [])) (λ e. list_any_left (λ (z : Member). z.master == x.birth) members (y ∷ []) e) h
+held_more members y x h = or_more x.kept (list_any (λ (z : Member). z.master == x.step_number) members) (list_any (λ (z : Member). z.master == x.step_number) (members ++ y ∷ [])) (λ e. list_any_left (λ (z : Member). z.master == x.step_number) members (y ∷ []) e) h
 
 few_more : (xs : List Member) (y : Member) (last : ℕ) → length xs < last → length (xs ++ y ∷ []) ≤ last
 few_more xs y last lt = let e = length-append xs (y ∷ []) in omega (arith, e, lt)
@@ -109,7 +108,7 @@ module _ (v : MasterSet) (a : AreMasters v) where
   pub device_there : (m : ℕ) → v.device_master ≡ Some m → is_some (master_at v.masters m) ≡ true
   device_there m e =
       let w = some_passing (λ (x : Member). x.is_master && (x.master == m)) (λ (x : Member). is_some (master_at v.masters x.master) ≡ true) v.members a.masters_there (a.device_own m e) in
-      subst (λ n. is_some (master_at v.masters n) ≡ true) (eqb-true w.0.master m (both_true w.0.is_master (w.0.master == m) w.1).1) w.2
+      subst (λ n. is_some (master_at v.masters n) ≡ true) (eqb-true w.0.master m (and_parts w.0.is_master (w.0.master == m) w.1).1) w.2
 
   -- a client comes that has no number
   module _ (y : Member) (new : AllByRecursion (λ (x : Member). x.client < y.client) v.members) (room : length v.members < v.last_magic) (none : y.magic ≡ None) where
@@ -119,33 +118,33 @@ module _ (v : MasterSet) (a : AreMasters v) where
     come_differ : InOrder HaveOtherMagics (v.members ++ y ∷ [])
     come_differ = in_order_append HaveOtherMagics v.members y a.magics_differ (all_each (λ x. HaveOtherMagics x y) (λ x. other_none y none x) v.members)
 
-    pub guest_are : is_some (master_at v.masters y.master) ≡ true → IsGuest v.masters y → AreMasters (with_member y v)
-    guest_are there guest = record {
+    pub non_master_are : is_some (master_at v.masters y.master) ≡ true → IsNonMaster v.masters y → AreMasters (with_member y v)
+    non_master_are there non_master = record {
       members_rise = come_rise;
       masters_rise = a.masters_rise;
       lessors_older = a.lessors_older;
       masters_there = all_append (λ (x : Member). is_some (master_at v.masters x.master) ≡ true) v.members (y ∷ []) a.masters_there (there, tt);
       device_own = λ m e. list_any_left (λ (x : Member). x.is_master && (x.master == m)) v.members (y ∷ []) (a.device_own m e);
       device_owner = a.device_owner;
-      guests_of_owners = all_append (IsGuest v.masters) v.members (y ∷ []) a.guests_of_owners (guest, tt);
+      guests_of_owners = all_append (IsNonMaster v.masters) v.members (y ∷ []) a.guests_of_owners (non_master, tt);
       used = same_used v.members (v.members ++ y ∷ []) v.masters (held_more v.members y) a.used;
       magics_differ = come_differ;
       few = few_more v.members y v.last_magic room;
     }
 
-    pub founder_are : (z : Master) → z.lessor ≡ None → y.master ≡ z.birth → y.is_master ≡ true → AllByRecursion (λ (x : Master). x.birth < z.birth) v.masters → AreMasters (with_device (Some z.birth) (with_member y (with_master z v)))
-    founder_are z top own is_own newest = record {
+    pub opener_are : (z : Master) → z.lessor ≡ None → y.master ≡ z.step_number → y.is_master ≡ true → AllByRecursion (λ (x : Master). x.step_number < z.step_number) v.masters → AreMasters (with_device (Some z.step_number) (with_member y (with_master z v)))
+    opener_are z top own is_own newest = record {
       members_rise = come_rise;
-      masters_rise = in_order_append (λ (x u : Master). x.birth < u.birth) v.masters z a.masters_rise newest;
+      masters_rise = in_order_append (λ (x u : Master). x.step_number < u.step_number) v.masters z a.masters_rise newest;
       lessors_older = pushed_older v.masters z newest (λ l e. absurd (let n : None ≡ Some l = sym top ∙ e in cc)) a.lessors_older;
       masters_there =
           all_append (λ (x : Member). is_some (master_at (v.masters ++ z ∷ []) x.master) ≡ true) v.members (y ∷ [])
           (all_weaker (λ (x : Member). is_some (master_at v.masters x.master) ≡ true) (λ (x : Member). is_some (master_at (v.masters ++ z ∷ []) x.master) ≡ true) (λ x e. there_too v.masters z newest x.master e) v.members a.masters_there)
           (ap (λ n. is_some (master_at (v.masters ++ z ∷ []) n)) own ∙ new_there v.masters z newest, tt);
-      device_own = λ m e. list_any_right (λ (x : Member). x.is_master && (x.master == m)) v.members (y ∷ []) (or_left (y.is_master && (y.master == m)) false (and_true y.is_master (y.master == m) is_own (eq-eqb y.master m (own ∙ (let s : Some z.birth ≡ Some m = e in cc)))));
+      device_own = λ m e. list_any_right (λ (x : Member). x.is_master && (x.master == m)) v.members (y ∷ []) (or_left (y.is_master && (y.master == m)) false (and_from y.is_master (y.master == m) is_own (eq-eqb y.master m (own ∙ (let s : Some z.step_number ≡ Some m = e in cc)))));
       device_owner = new_owner v.masters z newest top;
-      guests_of_owners = all_append (IsGuest (v.masters ++ z ∷ [])) v.members (y ∷ []) (guests_pushed v.masters z newest v.members a.masters_there a.guests_of_owners) ((λ g. absurd (let j : true ≡ false = sym is_own ∙ g in cc)), tt);
-      used = pushed_used v.masters z newest v.members (v.members ++ y ∷ []) a.lessors_older (held_more v.members y) (or_right z.kept (list_any (λ (x : Member). x.master == z.birth) (v.members ++ y ∷ [])) (names_last v.members y z.birth own)) a.used;
+      guests_of_owners = all_append (IsNonMaster (v.masters ++ z ∷ [])) v.members (y ∷ []) (guests_pushed v.masters z newest v.members a.masters_there a.guests_of_owners) ((λ g. absurd (let j : true ≡ false = sym is_own ∙ g in cc)), tt);
+      used = pushed_used v.masters z newest v.members (v.members ++ y ∷ []) a.lessors_older (held_more v.members y) (or_right z.kept (list_any (λ (x : Member). x.master == z.step_number) (v.members ++ y ∷ [])) (names_last v.members y z.step_number own)) a.used;
       magics_differ = come_differ;
       few = few_more v.members y v.last_magic room;
     }
@@ -162,7 +161,7 @@ module _ (v : MasterSet) (a : AreMasters v) where
       device_own = λ m e. list_any_left (λ (x : Member). x.is_master && (x.master == m)) v.members (y ∷ []) (a.device_own m e);
       device_owner = λ m e. kept_lessors y.master false v.masters m ∙ a.device_owner m e;
       guests_of_owners =
-          all_append (IsGuest (map (kept_at y.master false) v.masters)) v.members (y ∷ []) (guests_over v.masters (map (kept_at y.master false) v.masters) (kept_lessors y.master false v.masters) v.members a.guests_of_owners)
+          all_append (IsNonMaster (map (kept_at y.master false) v.masters)) v.members (y ∷ []) (guests_over v.masters (map (kept_at y.master false) v.masters) (kept_lessors y.master false v.masters) v.members a.guests_of_owners)
           ((λ g. absurd (let j : true ≡ false = sym is_own ∙ g in cc)), tt);
       used = kept_used y.master false v.masters v.members (v.members ++ y ∷ []) held a.used;
       magics_differ = come_differ;
@@ -171,8 +170,8 @@ module _ (v : MasterSet) (a : AreMasters v) where
       where
         held : (x : Master) → is_held v.members x ≡ true → is_held (v.members ++ y ∷ []) (kept_at y.master false x) ≡ true
         held x h =
-            (elim (x.birth == y.master) as (λ b. (x.birth == y.master) ≡ b → is_held (v.members ++ y ∷ []) (if b then record x { kept = false } else x) ≡ true) [
-              | true ↦ λ e. names_last v.members y x.birth (sym (eqb-true x.birth y.master e))
+            (elim (x.step_number == y.master) as (λ b. (x.step_number == y.master) ≡ b → is_held (v.members ++ y ∷ []) (if b then record x { kept = false } else x) ≡ true) [
+              | true ↦ λ e. names_last v.members y x.step_number (sym (eqb-true x.step_number y.master e))
               | false ↦ λ e. held_more v.members y x h
             ]) refl
 
@@ -180,16 +179,16 @@ module _ (v : MasterSet) (a : AreMasters v) where
   device_are d own top = record { members_rise = a.members_rise; masters_rise = a.masters_rise; lessors_older = a.lessors_older; masters_there = a.masters_there; device_own = own; device_owner = top; guests_of_owners = a.guests_of_owners; used = a.used; magics_differ = a.magics_differ; few = a.few }
 
   -- a new master that is kept
-  pub lessee_are : (z : Master) → z.kept ≡ true → ((l : ℕ) → z.lessor ≡ Some l → is_some (master_at v.masters l) ≡ true) → AllByRecursion (λ (x : Master). x.birth < z.birth) v.masters → AreMasters (with_master z v)
+  pub lessee_are : (z : Master) → z.kept ≡ true → ((l : ℕ) → z.lessor ≡ Some l → is_some (master_at v.masters l) ≡ true) → AllByRecursion (λ (x : Master). x.step_number < z.step_number) v.masters → AreMasters (with_master z v)
   lessee_are z kept there newest = record {
     members_rise = a.members_rise;
-    masters_rise = in_order_append (λ (x u : Master). x.birth < u.birth) v.masters z a.masters_rise newest;
+    masters_rise = in_order_append (λ (x u : Master). x.step_number < u.step_number) v.masters z a.masters_rise newest;
     lessors_older = pushed_older v.masters z newest there a.lessors_older;
     masters_there = all_weaker (λ (x : Member). is_some (master_at v.masters x.master) ≡ true) (λ (x : Member). is_some (master_at (v.masters ++ z ∷ []) x.master) ≡ true) (λ x e. there_too v.masters z newest x.master e) v.members a.masters_there;
     device_own = a.device_own;
     device_owner = λ m e. pushed_lessor v.masters z newest m (device_there m e) ∙ a.device_owner m e;
     guests_of_owners = guests_pushed v.masters z newest v.members a.masters_there a.guests_of_owners;
-    used = pushed_used v.masters z newest v.members v.members a.lessors_older (λ x h. h) (or_left z.kept (list_any (λ (x : Member). x.master == z.birth) v.members) kept) a.used;
+    used = pushed_used v.masters z newest v.members v.members a.lessors_older (λ x h. h) (or_left z.kept (list_any (λ (x : Member). x.master == z.step_number) v.members) kept) a.used;
     magics_differ = a.magics_differ;
     few = a.few;
   }
@@ -212,16 +211,16 @@ module _ (v : MasterSet) (a : AreMasters v) where
   pub freed_ties : (under : ℕ → Bool) → AreTied (freed under v)
   freed_ties under =
       let g = marked under in
-      let births = marked_birth under in
+      let step_numbers = marked_step_number under in
       let lessors = marked_lessor under in
       record {
         members_rise = a.members_rise;
-        masters_rise = over_rise g births lessors v.masters a.masters_rise;
-        lessors_older = over_older g births lessors v.masters a.lessors_older;
-        masters_there = all_weaker (λ (x : Member). is_some (master_at v.masters x.master) ≡ true) (λ (x : Member). is_some (master_at (map g v.masters) x.master) ≡ true) (λ x e. over_there g births lessors v.masters x.master ∙ e) v.members a.masters_there;
+        masters_rise = over_rise g step_numbers lessors v.masters a.masters_rise;
+        lessors_older = over_older g step_numbers lessors v.masters a.lessors_older;
+        masters_there = all_weaker (λ (x : Member). is_some (master_at v.masters x.master) ≡ true) (λ (x : Member). is_some (master_at (map g v.masters) x.master) ≡ true) (λ x e. over_there g step_numbers lessors v.masters x.master ∙ e) v.members a.masters_there;
         device_own = a.device_own;
-        device_owner = λ n e. over_lessors g births lessors v.masters n ∙ a.device_owner n e;
-        guests_of_owners = guests_over v.masters (map g v.masters) (over_lessors g births lessors v.masters) v.members a.guests_of_owners;
+        device_owner = λ n e. over_lessors g step_numbers lessors v.masters n ∙ a.device_owner n e;
+        guests_of_owners = guests_over v.masters (map g v.masters) (over_lessors g step_numbers lessors v.masters) v.members a.guests_of_owners;
         magics_differ = a.magics_differ;
         few = a.few;
       }
@@ -264,7 +263,7 @@ module _ (v : MasterSet) (a : AreMasters v) where
       masters_there = all_filter (λ (y : Member). is_some (master_at v.masters y.master) ≡ true) (λ (y : Member). not (is_client x.client y)) v.members a.masters_there;
       device_own = λ m e. still_there (λ (y : Member). y.is_master && (y.master == m)) (ap (λ b. b && (x.master == m)) not_own) (a.device_own m e);
       device_owner = a.device_owner;
-      guests_of_owners = all_filter (IsGuest v.masters) (λ (y : Member). not (is_client x.client y)) v.members a.guests_of_owners;
+      guests_of_owners = all_filter (IsNonMaster v.masters) (λ (y : Member). not (is_client x.client y)) v.members a.guests_of_owners;
       magics_differ = gone_differ;
       few = gone_few;
     }
@@ -272,7 +271,7 @@ module _ (v : MasterSet) (a : AreMasters v) where
     -- all masters are used yet, but it may be its own
     pub gone_used : OthersUsed (filter (λ (y : Member). not (is_client x.client y)) v.members) v.masters x.master
     gone_used =
-        all_weaker (λ (z : Master). is_used v.members v.masters z ≡ true) (λ (z : Master). (z.birth == x.master) ≡ false → is_used (filter (λ (y : Member). not (is_client x.client y)) v.members) v.masters z ≡ true)
+        all_weaker (λ (z : Master). is_used v.members v.masters z ≡ true) (λ (z : Master). (z.step_number == x.master) ≡ false → is_used (filter (λ (y : Member). not (is_client x.client y)) v.members) v.masters z ≡ true)
         (λ z used differs. still_used z differs used) v.masters (all_living_used v.members v.masters a.masters_rise a.lessors_older a.used)
       where
         flipped : (m n : ℕ) → (m == n) ≡ false → (n == m) ≡ false
@@ -283,10 +282,10 @@ module _ (v : MasterSet) (a : AreMasters v) where
         either false true c d f h = ap (λ e. e || c) (f refl)
         either false false c d f h = or_right d c h
 
-        still_used : (z : Master) → (z.birth == x.master) ≡ false → is_used v.members v.masters z ≡ true → is_used (filter (λ (y : Member). not (is_client x.client y)) v.members) v.masters z ≡ true
+        still_used : (z : Master) → (z.step_number == x.master) ≡ false → is_used v.members v.masters z ≡ true → is_used (filter (λ (y : Member). not (is_client x.client y)) v.members) v.masters z ≡ true
         still_used z differs used =
-            either z.kept (list_any (λ (y : Member). y.master == z.birth) v.members) (list_any (λ (y : Master). is_option z.birth y.lessor) v.masters) (list_any (λ (y : Member). y.master == z.birth) (filter (λ (y : Member). not (is_client x.client y)) v.members))
-            (still_there (λ (y : Member). y.master == z.birth) (flipped z.birth x.master differs)) used
+            either z.kept (list_any (λ (y : Member). y.master == z.step_number) v.members) (list_any (λ (y : Master). is_option z.step_number y.lessor) v.masters) (list_any (λ (y : Member). y.master == z.step_number) (filter (λ (y : Member). not (is_client x.client y)) v.members))
+            (still_there (λ (y : Member). y.master == z.step_number) (flipped z.step_number x.master differs)) used
 
     -- whose own master stays
     pub own_are : AreMasters (closed_own x.client x.master v)
@@ -299,7 +298,7 @@ module _ (v : MasterSet) (a : AreMasters v) where
           (all_weaker (λ (y : Member). is_some (master_at v.masters y.master) ≡ true) (λ (y : Member). is_some (master_at (map (kept_at x.master true) v.masters) y.master) ≡ true) (λ y e. kept_there x.master true v.masters y.master ∙ e) v.members a.masters_there);
       device_own = λ m e. of_device m v.device_master refl e;
       device_owner = λ m e. kept_lessors x.master true v.masters m ∙ a.device_owner m (still_device v.device_master e);
-      guests_of_owners = all_filter (IsGuest (map (kept_at x.master true) v.masters)) (λ (y : Member). not (is_client x.client y)) v.members (guests_over v.masters (map (kept_at x.master true) v.masters) (kept_lessors x.master true v.masters) v.members a.guests_of_owners);
+      guests_of_owners = all_filter (IsNonMaster (map (kept_at x.master true) v.masters)) (λ (y : Member). not (is_client x.client y)) v.members (guests_over v.masters (map (kept_at x.master true) v.masters) (kept_lessors x.master true v.masters) v.members a.guests_of_owners);
       used = kept_used x.master true v.masters v.members (filter (λ (y : Member). not (is_client x.client y)) v.members) held a.used;
       magics_differ = gone_differ;
       few = gone_few;
@@ -323,9 +322,9 @@ module _ (v : MasterSet) (a : AreMasters v) where
 
         held : (z : Master) → is_held v.members z ≡ true → is_held (filter (λ (y : Member). not (is_client x.client y)) v.members) (kept_at x.master true z) ≡ true
         held z h =
-            (elim (z.birth == x.master) as (λ b. (z.birth == x.master) ≡ b → is_held (filter (λ (y : Member). not (is_client x.client y)) v.members) (if b then record z { kept = true } else z) ≡ true) [
+            (elim (z.step_number == x.master) as (λ b. (z.step_number == x.master) ≡ b → is_held (filter (λ (y : Member). not (is_client x.client y)) v.members) (if b then record z { kept = true } else z) ≡ true) [
               | true ↦ λ e. refl
-              | false ↦ λ e. or_more z.kept (list_any (λ (y : Member). y.master == z.birth) v.members) (list_any (λ (y : Member). y.master == z.birth) (filter (λ (y : Member). not (is_client x.client y)) v.members)) (still_there (λ (y : Member). y.master == z.birth) (others z.birth e)) h
+              | false ↦ λ e. or_more z.kept (list_any (λ (y : Member). y.master == z.step_number) v.members) (list_any (λ (y : Member). y.master == z.step_number) (filter (λ (y : Member). not (is_client x.client y)) v.members)) (still_there (λ (y : Member). y.master == z.step_number) (others z.step_number e)) h
             ]) refl
 
   -- a client's row is another now
@@ -369,39 +368,39 @@ module _ (v : MasterSet) (a : AreMasters v) where
       device_own = λ m e. put_any (λ (z : Member). z.is_master && (z.master == m)) (ap (λ b. b && (y.master == m)) is ∙ ap (λ n. x.is_master && (n == m)) of_one) (a.device_own m e);
       device_owner = a.device_owner;
       guests_of_owners =
-          all_mapped (IsGuest v.masters) put v.members
-          (all_both (λ (z : Member). member_of v.members z.client ≡ Some z) (IsGuest v.masters) (λ z. IsGuest v.masters (put z))
-          (λ z at h. by_row (IsGuest v.masters) z at (λ zx own. ap (lessor_of v.masters) (of_one ∙ ap (λ (u : Member). u.master) (sym zx)) ∙ h (ap (λ (u : Member). u.is_master) zx ∙ sym is ∙ own)) h) v.members clients_found a.guests_of_owners);
-      used = same_used v.members (map put v.members) v.masters (λ z h. or_more z.kept (list_any (λ (u : Member). u.master == z.birth) v.members) (list_any (λ (u : Member). u.master == z.birth) (map put v.members)) (put_any (λ (u : Member). u.master == z.birth) (ap (λ n. n == z.birth) of_one)) h) a.used;
+          all_mapped (IsNonMaster v.masters) put v.members
+          (all_both (λ (z : Member). member_of v.members z.client ≡ Some z) (IsNonMaster v.masters) (λ z. IsNonMaster v.masters (put z))
+          (λ z at h. by_row (IsNonMaster v.masters) z at (λ zx own. ap (lessor_of v.masters) (of_one ∙ ap (λ (u : Member). u.master) (sym zx)) ∙ h (ap (λ (u : Member). u.is_master) zx ∙ sym is ∙ own)) h) v.members clients_found a.guests_of_owners);
+      used = same_used v.members (map put v.members) v.masters (λ z h. or_more z.kept (list_any (λ (u : Member). u.master == z.step_number) v.members) (list_any (λ (u : Member). u.master == z.step_number) (map put v.members)) (put_any (λ (u : Member). u.master == z.step_number) (ap (λ n. n == z.step_number) of_one)) h) a.used;
       magics_differ = differ;
       few = few_put;
     }
 
     -- of a new master of its own
-    pub remade_ties : (z : Master) → z.lessor ≡ None → y.master ≡ z.birth → y.is_master ≡ true → y.magic ≡ None → AllByRecursion (λ (u : Master). u.birth < z.birth) v.masters → AreTied (with_device (Some z.birth) (changed_member y (with_master z v)))
+    pub remade_ties : (z : Master) → z.lessor ≡ None → y.master ≡ z.step_number → y.is_master ≡ true → y.magic ≡ None → AllByRecursion (λ (u : Master). u.step_number < z.step_number) v.masters → AreTied (with_device (Some z.step_number) (changed_member y (with_master z v)))
     remade_ties z top own is_own none newest = record {
       members_rise = put_rise;
-      masters_rise = in_order_append (λ (u w : Master). u.birth < w.birth) v.masters z a.masters_rise newest;
+      masters_rise = in_order_append (λ (u w : Master). u.step_number < w.step_number) v.masters z a.masters_rise newest;
       lessors_older = pushed_older v.masters z newest (λ l e. absurd (let n : None ≡ Some l = sym top ∙ e in cc)) a.lessors_older;
       masters_there =
           all_mapped (λ (u : Member). is_some (master_at (v.masters ++ z ∷ []) u.master) ≡ true) put v.members
           (all_both (λ (u : Member). member_of v.members u.client ≡ Some u) (λ (u : Member). is_some (master_at v.masters u.master) ≡ true) (λ u. is_some (master_at (v.masters ++ z ∷ []) (put u).master) ≡ true)
           (λ u at there. by_row (λ w. is_some (master_at (v.masters ++ z ∷ []) w.master) ≡ true) u at (λ ux. ap (λ n. is_some (master_at (v.masters ++ z ∷ []) n)) own ∙ new_there v.masters z newest) (there_too v.masters z newest u.master there)) v.members clients_found a.masters_there);
-      device_own = λ m e. is_device m (let s : Some z.birth ≡ Some m = e in cc);
+      device_own = λ m e. is_device m (let s : Some z.step_number ≡ Some m = e in cc);
       device_owner = new_owner v.masters z newest top;
       guests_of_owners =
-          all_mapped (IsGuest (v.masters ++ z ∷ [])) put v.members
-          (all_both (λ (u : Member). member_of v.members u.client ≡ Some u) (IsGuest (v.masters ++ z ∷ [])) (λ u. IsGuest (v.masters ++ z ∷ []) (put u))
-          (λ u at h. by_row (IsGuest (v.masters ++ z ∷ [])) u at (λ ux g. absurd (let j : true ≡ false = sym is_own ∙ g in cc)) h) v.members clients_found (guests_pushed v.masters z newest v.members a.masters_there a.guests_of_owners));
+          all_mapped (IsNonMaster (v.masters ++ z ∷ [])) put v.members
+          (all_both (λ (u : Member). member_of v.members u.client ≡ Some u) (IsNonMaster (v.masters ++ z ∷ [])) (λ u. IsNonMaster (v.masters ++ z ∷ []) (put u))
+          (λ u at h. by_row (IsNonMaster (v.masters ++ z ∷ [])) u at (λ ux g. absurd (let j : true ≡ false = sym is_own ∙ g in cc)) h) v.members clients_found (guests_pushed v.masters z newest v.members a.masters_there a.guests_of_owners));
       magics_differ = in_order_mapped (λ (u : Member). member_of v.members u.client ≡ Some u) HaveOtherMagics HaveOtherMagics put (λ u w at au h. differ u w at au h) v.members clients_found a.magics_differ;
       few = few_put;
     }
       where
-        is_device : (m : ℕ) → z.birth ≡ m → list_any (λ (u : Member). u.is_master && (u.master == m)) (map put v.members) ≡ true
+        is_device : (m : ℕ) → z.step_number ≡ m → list_any (λ (u : Member). u.is_master && (u.master == m)) (map put v.members) ≡ true
         is_device m e =
             let q = λ (u : Member). u.is_master && (u.master == m) in
             list_any-map q put v.members
-            ∙ any_found (is_client x.client) (λ u. q (put u)) x v.members here (ap (λ b. q (if b then y else x)) (eq-eqb x.client y.client (sym same)) ∙ and_true y.is_master (y.master == m) is_own (eq-eqb y.master m (own ∙ e)))
+            ∙ any_found (is_client x.client) (λ u. q (put u)) x v.members here (ap (λ b. q (if b then y else x)) (eq-eqb x.client y.client (sym same)) ∙ and_from y.is_master (y.master == m) is_own (eq-eqb y.master m (own ∙ e)))
 
         differ : (u w : Member) → member_of v.members u.client ≡ Some u → member_of v.members w.client ≡ Some w → HaveOtherMagics u w → HaveOtherMagics (put u) (put w)
         differ u w at aw h =
@@ -409,33 +408,33 @@ module _ (v : MasterSet) (a : AreMasters v) where
             (by_row (λ b. HaveOtherMagics u b) w aw (λ wx. other_none y none u) h)
 
     -- all are used then but the master that it had
-    pub remade_used : (z : Master) → y.master ≡ z.birth → OthersUsed (map put v.members) (v.masters ++ z ∷ []) x.master
+    pub remade_used : (z : Master) → y.master ≡ z.step_number → OthersUsed (map put v.members) (v.masters ++ z ∷ []) x.master
     remade_used z own =
-        all_append (λ (u : Master). (u.birth == x.master) ≡ false → is_used (map put v.members) (v.masters ++ z ∷ []) u ≡ true) v.masters (z ∷ [])
-        (all_weaker (λ (u : Master). is_used v.members v.masters u ≡ true) (λ (u : Master). (u.birth == x.master) ≡ false → is_used (map put v.members) (v.masters ++ z ∷ []) u ≡ true) each v.masters (all_living_used v.members v.masters a.masters_rise a.lessors_older a.used))
-        ((λ _. or_left (is_held (map put v.members) z) (list_any (λ (w : Master). is_option z.birth w.lessor) (v.masters ++ z ∷ [])) (or_right z.kept (list_any (λ (u : Member). u.master == z.birth) (map put v.members)) named)), tt)
+        all_append (λ (u : Master). (u.step_number == x.master) ≡ false → is_used (map put v.members) (v.masters ++ z ∷ []) u ≡ true) v.masters (z ∷ [])
+        (all_weaker (λ (u : Master). is_used v.members v.masters u ≡ true) (λ (u : Master). (u.step_number == x.master) ≡ false → is_used (map put v.members) (v.masters ++ z ∷ []) u ≡ true) each v.masters (all_living_used v.members v.masters a.masters_rise a.lessors_older a.used))
+        ((λ _. or_left (is_held (map put v.members) z) (list_any (λ (w : Master). is_option z.step_number w.lessor) (v.masters ++ z ∷ [])) (or_right z.kept (list_any (λ (u : Member). u.master == z.step_number) (map put v.members)) named)), tt)
       where
-        named : list_any (λ (u : Member). u.master == z.birth) (map put v.members) ≡ true
+        named : list_any (λ (u : Member). u.master == z.step_number) (map put v.members) ≡ true
         named =
-            list_any-map (λ (u : Member). u.master == z.birth) put v.members
-            ∙ any_found (is_client x.client) (λ u. (put u).master == z.birth) x v.members here (ap (λ b. (if b then y else x).master == z.birth) (eq-eqb x.client y.client (sym same)) ∙ eq-eqb y.master z.birth own)
+            list_any-map (λ (u : Member). u.master == z.step_number) put v.members
+            ∙ any_found (is_client x.client) (λ u. (put u).master == z.step_number) x v.members here (ap (λ b. (if b then y else x).master == z.step_number) (eq-eqb x.client y.client (sym same)) ∙ eq-eqb y.master z.step_number own)
 
         either : (k b c d e : Bool) → (b ≡ true → d ≡ true) → (c ≡ true → e ≡ true) → ((k || b) || c) ≡ true → ((k || d) || e) ≡ true
         either true b c d e f g h = refl
         either false true c d e f g h = or_left d e (f refl)
         either false false c d e f g h = or_right d e (g h)
 
-        each : (u : Master) → is_used v.members v.masters u ≡ true → (u.birth == x.master) ≡ false → is_used (map put v.members) (v.masters ++ z ∷ []) u ≡ true
+        each : (u : Master) → is_used v.members v.masters u ≡ true → (u.step_number == x.master) ≡ false → is_used (map put v.members) (v.masters ++ z ∷ []) u ≡ true
         each u used differs =
-            either u.kept (list_any (λ (w : Member). w.master == u.birth) v.members) (list_any (λ (w : Master). is_option u.birth w.lessor) v.masters) (list_any (λ (w : Member). w.master == u.birth) (map put v.members)) (list_any (λ (w : Master). is_option u.birth w.lessor) (v.masters ++ z ∷ []))
-            still (list_any_left (λ (w : Master). is_option u.birth w.lessor) v.masters (z ∷ [])) used
+            either u.kept (list_any (λ (w : Member). w.master == u.step_number) v.members) (list_any (λ (w : Master). is_option u.step_number w.lessor) v.masters) (list_any (λ (w : Member). w.master == u.step_number) (map put v.members)) (list_any (λ (w : Master). is_option u.step_number w.lessor) (v.masters ++ z ∷ []))
+            still (list_any_left (λ (w : Master). is_option u.step_number w.lessor) v.masters (z ∷ [])) used
           where
-            still : list_any (λ (w : Member). w.master == u.birth) v.members ≡ true → list_any (λ (w : Member). w.master == u.birth) (map put v.members) ≡ true
+            still : list_any (λ (w : Member). w.master == u.step_number) v.members ≡ true → list_any (λ (w : Member). w.master == u.step_number) (map put v.members) ≡ true
             still h =
-                list_any-map (λ (w : Member). w.master == u.birth) put v.members
-                ∙ any_more (λ (w : Member). member_of v.members w.client ≡ Some w) (λ (w : Member). w.master == u.birth) (λ w. (put w).master == u.birth)
-                (λ w at t. by_row (λ r. (r.master == u.birth) ≡ true) w at
-                (λ wx. absurd (let j : false ≡ true = sym differs ∙ eq-eqb u.birth x.master (sym (eqb-true w.master u.birth t) ∙ ap (λ (r : Member). r.master) wx) in cc)) t) v.members clients_found h
+                list_any-map (λ (w : Member). w.master == u.step_number) put v.members
+                ∙ any_more (λ (w : Member). member_of v.members w.client ≡ Some w) (λ (w : Member). w.master == u.step_number) (λ w. (put w).master == u.step_number)
+                (λ w at t. by_row (λ r. (r.master == u.step_number) ≡ true) w at
+                (λ wx. absurd (let j : false ≡ true = sym differs ∙ eq-eqb u.step_number x.master (sym (eqb-true w.master u.step_number t) ∙ ap (λ (r : Member). r.master) wx) in cc)) t) v.members clients_found h
 
   -- a client's number
   module _ (x : Member) (here : member_of v.members x.client ≡ Some x) (n : ℕ) where
@@ -473,7 +472,7 @@ module _ (v : MasterSet) (a : AreMasters v) where
       where
         number : (b : Bool) (g : Option Magic) → (b && option_map_or (λ (d : Magic). (d.number == n) && not d.spent) g false) ≡ true → option_map_or (λ (d : Magic). d.number == n) g false ≡ true
         number b None h = absurd (let j : false ≡ true = sym (and-false b) ∙ h in cc)
-        number b (Some d) h = (both_true (d.number == n) (not d.spent) (both_true b ((d.number == n) && not d.spent) h).1).0
+        number b (Some d) h = (and_parts (d.number == n) (not d.spent) (and_parts b ((d.number == n) && not d.spent) h).1).0
 
         as_it : (k j : ℕ) → has_magic k j (with_magic n true x) ≡ has_magic k j x
         as_it k j = spent_same k j n true x (number (x.master == m) x.magic unspent)
@@ -488,19 +487,19 @@ module _ (v : MasterSet) (a : AreMasters v) where
 -- a master that is kept no more is the one that may be unused
 pub released_used : (v : MasterSet) → AreMasters v → (m : ℕ) → OthersUsed v.members (with_kept m false v).masters m
 released_used v a m =
-    all_mapped (λ (z : Master). (z.birth == m) ≡ false → is_used v.members (with_kept m false v).masters z ≡ true) (kept_at m false) v.masters
-    (all_weaker (λ (z : Master). is_used v.members v.masters z ≡ true) (λ (z : Master). ((kept_at m false z).birth == m) ≡ false → is_used v.members (with_kept m false v).masters (kept_at m false z) ≡ true)
+    all_mapped (λ (z : Master). (z.step_number == m) ≡ false → is_used v.members (with_kept m false v).masters z ≡ true) (kept_at m false) v.masters
+    (all_weaker (λ (z : Master). is_used v.members v.masters z ≡ true) (λ (z : Master). ((kept_at m false z).step_number == m) ≡ false → is_used v.members (with_kept m false v).masters (kept_at m false z) ≡ true)
     (λ z used differs.
-    let other : (z.birth == m) ≡ false = ap (λ n. n == m) (sym (birth_stays m false z)) ∙ differs in
+    let other : (z.step_number == m) ≡ false = ap (λ n. n == m) (sym (step_number_stays m false z)) ∙ differs in
     let same : kept_at m false z ≡ z = ap (λ b. if b then record z { kept = false } else z) other in
-    ap (λ (u : Master). is_used v.members (with_kept m false v).masters u) same ∙ ap (λ b. is_held v.members z || b) (list_any-map (λ (y : Master). is_option z.birth y.lessor) (kept_at m false) v.masters ∙ list_any_agree (λ (y : Master). is_option z.birth (kept_at m false y).lessor) (λ (y : Master). is_option z.birth y.lessor) (λ y. ap (is_option z.birth) (lessor_stays m false y)) v.masters) ∙ used
+    ap (λ (u : Master). is_used v.members (with_kept m false v).masters u) same ∙ ap (λ b. is_held v.members z || b) (list_any-map (λ (y : Master). is_option z.step_number y.lessor) (kept_at m false) v.masters ∙ list_any_agree (λ (y : Master). is_option z.step_number (kept_at m false y).lessor) (λ (y : Master). is_option z.step_number y.lessor) (λ y. ap (is_option z.step_number) (lessor_stays m false y)) v.masters) ∙ used
     ) v.masters (all_living_used v.members v.masters a.masters_rise a.lessors_older a.used))
 
 -- where those that are released are below one, those that aren't are used
-pub freed_others : (v : MasterSet) → AreMasters v → (top : ℕ) (under : ℕ → Bool) → ((n : ℕ) → under n ≡ true → is_under (lessor_of v.masters) top n ≡ true) → AllByRecursion (λ (x : Master). is_under (lessor_of (freed under v).masters) top x.birth ≡ false → is_used v.members (freed under v).masters x ≡ true) (freed under v).masters
+pub freed_others : (v : MasterSet) → AreMasters v → (top : ℕ) (under : ℕ → Bool) → ((n : ℕ) → under n ≡ true → is_under (lessor_of v.masters) top n ≡ true) → AllByRecursion (λ (x : Master). is_under (lessor_of (freed under v).masters) top x.step_number ≡ false → is_used v.members (freed under v).masters x ≡ true) (freed under v).masters
 freed_others v a top under within =
-    all_mapped (λ (z : Master). is_under (lessor_of new) top z.birth ≡ false → is_used v.members new z ≡ true) g v.masters
-    (all_weaker (λ (z : Master). is_used v.members v.masters z ≡ true) (λ (z : Master). is_under (lessor_of new) top (g z).birth ≡ false → is_used v.members new (g z) ≡ true) each v.masters (all_living_used v.members v.masters a.masters_rise a.lessors_older a.used))
+    all_mapped (λ (z : Master). is_under (lessor_of new) top z.step_number ≡ false → is_used v.members new z ≡ true) g v.masters
+    (all_weaker (λ (z : Master). is_used v.members v.masters z ≡ true) (λ (z : Master). is_under (lessor_of new) top (g z).step_number ≡ false → is_used v.members new (g z) ≡ true) each v.masters (all_living_used v.members v.masters a.masters_rise a.lessors_older a.used))
   where
     g : Master → Master
     g = marked under
@@ -512,14 +511,14 @@ freed_others v a top under within =
     apart_not n true e apart = absurd (false≢true (sym apart ∙ within n e))
     apart_not n false e apart = e
 
-    each : (z : Master) → is_used v.members v.masters z ≡ true → is_under (lessor_of new) top (g z).birth ≡ false → is_used v.members new (g z) ≡ true
+    each : (z : Master) → is_used v.members v.masters z ≡ true → is_under (lessor_of new) top (g z).step_number ≡ false → is_used v.members new (g z) ≡ true
     each z used apart =
-        let births = marked_birth under in
+        let step_numbers = marked_step_number under in
         let lessors = marked_lessor under in
-        let test : is_under (lessor_of v.masters) top z.birth ≡ false = ap (λ (above : ℕ → Option ℕ). is_under above top z.birth) (λ i n. sym (over_lessors g births lessors v.masters n) i) ∙ ap (is_under (lessor_of new) top) (sym (births z)) ∙ apart in
-        let same : g z ≡ z = ap (λ b. if b then record z { kept = false } else z) (apart_not z.birth (under z.birth) refl test) in
+        let test : is_under (lessor_of v.masters) top z.step_number ≡ false = ap (λ (above : ℕ → Option ℕ). is_under above top z.step_number) (λ i n. sym (over_lessors g step_numbers lessors v.masters n) i) ∙ ap (is_under (lessor_of new) top) (sym (step_numbers z)) ∙ apart in
+        let same : g z ≡ z = ap (λ b. if b then record z { kept = false } else z) (apart_not z.step_number (under z.step_number) refl test) in
         ap (λ (u : Master). is_used v.members new u) same
-        ∙ ap (λ b. is_held v.members z || b) (list_any-map (λ (y : Master). is_option z.birth y.lessor) g v.masters ∙ list_any_agree (λ (y : Master). is_option z.birth (g y).lessor) (λ (y : Master). is_option z.birth y.lessor) (λ y. ap (is_option z.birth) (lessors y)) v.masters) ∙ used
+        ∙ ap (λ b. is_held v.members z || b) (list_any-map (λ (y : Master). is_option z.step_number y.lessor) g v.masters ∙ list_any_agree (λ (y : Master). is_option z.step_number (g y).lessor) (λ (y : Master). is_option z.step_number y.lessor) (λ y. ap (is_option z.step_number) (lessors y)) v.masters) ∙ used
 
 -- ---- who is current
 
@@ -531,7 +530,7 @@ swept_same v t =
     (λ x there named. swept_owner v.members v.masters t.masters_rise t.lessors_older x.master (named_lives v.members v.masters t.masters_rise t.lessors_older x there named)) v.members t.masters_there (each_is_there (λ (x : Member). x.master) v.members))
 
 -- nor does a new master
-pub pushed_same : (v : MasterSet) → AreMasters v → (z : Master) → AllByRecursion (λ (x : Master). x.birth < z.birth) v.masters → (c : ℕ) → is_current (with_master z v) c ≡ is_current v c
+pub pushed_same : (v : MasterSet) → AreMasters v → (z : Master) → AllByRecursion (λ (x : Master). x.step_number < z.step_number) v.masters → (c : ℕ) → is_current (with_master z v) c ≡ is_current v c
 pushed_same v a z newest =
     same_owners v.members v.masters (v.masters ++ z ∷ []) v.device_master
     (all_weaker (λ (x : Member). is_some (master_at v.masters x.master) ≡ true) (λ (x : Member). owner_of (v.masters ++ z ∷ []) x.master ≡ owner_of v.masters x.master) (λ x there. pushed_owner v.masters z newest a.lessors_older x.master there) v.members a.masters_there)
@@ -541,11 +540,11 @@ pub kept_same : (v : MasterSet) (m : ℕ) (kept : Bool) → (c : ℕ) → is_cur
 kept_same v m kept = under_same v.members v.masters (with_kept m kept v).masters v.device_master (kept_lessors m kept v.masters)
 
 pub freed_same : (v : MasterSet) (under : ℕ → Bool) → (c : ℕ) → is_current (freed under v) c ≡ is_current v c
-freed_same v under = under_same v.members v.masters (freed under v).masters v.device_master (over_lessors (marked under) (marked_birth under) (marked_lessor under) v.masters)
+freed_same v under = under_same v.members v.masters (freed under v).masters v.device_master (over_lessors (marked under) (marked_step_number under) (marked_lessor under) v.masters)
 
 -- a client that is no master is not current
-pub guest_same : (v : MasterSet) (y : Member) → y.is_master ≡ false → AllByRecursion (λ (x : Member). x.client < y.client) v.members → (c : ℕ) → is_current (with_member y v) c ≡ is_current v c
-guest_same v y own newest c =
+pub non_master_same : (v : MasterSet) (y : Member) → y.is_master ≡ false → AllByRecursion (λ (x : Member). x.client < y.client) v.members → (c : ℕ) → is_current (with_member y v) c ≡ is_current v c
+non_master_same v y own newest c =
     one_more v.members y v.masters v.device_master newest c
     ∙ ap (λ b. ((c == y.client) && (b && is_option (owner_of v.masters y.master) v.device_master)) || is_current v c) own ∙ ap (λ b. b || is_current v c) (and-false (c == y.client))
 
@@ -565,16 +564,16 @@ each_keyed ms keyed = all_found_apart (λ (x : Master). x.key) ms keyed
 
 pub keyed_found : (ms : List Master) (n : ℕ) (x : Master) → Keyed ms → master_at ms n ≡ Some x → IsKeyOf ms n x.key
 keyed_found ms n x keyed e =
-    let is = found (is_birth n) (λ (y : Master). find (is_key y.key) ms ≡ Some y) x ms (each_keyed ms keyed) e in
-    ap (option_map (λ (y : Master). y.birth)) is.1 ∙ ap Some (eqb-true x.birth n is.0)
+    let is = found (is_step_number n) (λ (y : Master). find (is_key y.key) ms ≡ Some y) x ms (each_keyed ms keyed) e in
+    ap (option_map (λ (y : Master). y.step_number)) is.1 ∙ ap Some (eqb-true x.step_number n is.0)
 
 pub keyed_at : (ms : List Master) (n : ℕ) → Keyed ms → (o : Option Master) → o ≡ master_at ms n → IfSome o (λ x. IsKeyOf ms n x.key)
 keyed_at ms n keyed None e = tt
 keyed_at ms n keyed (Some x) e = keyed_found ms n x keyed (sym e)
 
-pub keyed_each : (ms : List Master) → Keyed ms → (p : Master → Bool) (o : Option Master) → o ≡ find p ms → IfSome o (λ x. IsKeyOf ms x.birth x.key)
+pub keyed_each : (ms : List Master) → Keyed ms → (p : Master → Bool) (o : Option Master) → o ≡ find p ms → IfSome o (λ x. IsKeyOf ms x.step_number x.key)
 keyed_each ms keyed p None e = tt
-keyed_each ms keyed p (Some x) e = ap (option_map (λ (y : Master). y.birth)) (found p (λ (y : Master). find (is_key y.key) ms ≡ Some y) x ms (each_keyed ms keyed) (sym e)).1
+keyed_each ms keyed p (Some x) e = ap (option_map (λ (y : Master). y.step_number)) (found p (λ (y : Master). find (is_key y.key) ms ≡ Some y) x ms (each_keyed ms keyed) (sym e)).1
 
 -- a master comes under a key that none has
 pub keyed_more : (ms : List Master) (z : Master) (k : ℕ) → Keyed ms → find (is_key k) ms ≡ None → z.key ≡ k → Keyed (ms ++ z ∷ [])
@@ -589,22 +588,17 @@ client_found xs c x e =
     let num : x.client ≡ c = eqb-true x.client c (found (is_client c) (λ _. Unit {0}) x xs (all_each (λ _. Unit {0}) (λ _. tt) xs) e).0 in
     (num, ap (member_of xs) num ∙ e)
 
--- what is there
-pub some_is : {X : Type 0} (o : Option X) → is_some o ≡ true → (x : X) × (o ≡ Some x)
-some_is {X = X} None h = absurd (let e : false ≡ true = h in cc)
-some_is (Some x) h = (x, refl)
-
 -- the master of a key
-pub of_key : (ms : List Master) (key : ℕ) (x : Master) → find (is_key key) ms ≡ Some x → (birth_at ms key ≡ x.birth) × (is_some (master_at ms x.birth) ≡ true)
+pub of_key : (ms : List Master) (key : ℕ) (x : Master) → find (is_key key) ms ≡ Some x → (step_number_at ms key ≡ x.step_number) × (is_some (master_at ms x.step_number) ≡ true)
 of_key ms key x e = (
-  ap (λ o. option_map_or (λ (y : Master). y.birth) o 0) e,
-  is_some-find (is_birth x.birth) ms ∙ any_found (is_key key) (is_birth x.birth) x ms e (eq-eqb x.birth x.birth refl),
+  ap (λ o. option_map_or (λ (y : Master). y.step_number) o 0) e,
+  is_some-find (is_step_number x.step_number) ms ∙ any_found (is_key key) (is_step_number x.step_number) x ms e (eq-eqb x.step_number x.step_number refl),
 )
 
--- what a birth finds has it
-pub at_birth : (ms : List Master) (m : ℕ) (x : Master) → master_at ms m ≡ Some x → (x.birth ≡ m) × (master_at ms x.birth ≡ Some x)
-at_birth ms m x e =
-    let num : x.birth ≡ m = eqb-true x.birth m (found (is_birth m) (λ _. Unit {0}) x ms (all_each (λ _. Unit {0}) (λ _. tt) ms) e).0 in
+-- what a step number finds has it
+pub at_step_number : (ms : List Master) (m : ℕ) (x : Master) → master_at ms m ≡ Some x → (x.step_number ≡ m) × (master_at ms x.step_number ≡ Some x)
+at_step_number ms m x e =
+    let num : x.step_number ≡ m = eqb-true x.step_number m (found (is_step_number m) (λ _. Unit {0}) x ms (all_each (λ _. Unit {0}) (λ _. tt) ms) e).0 in
     (num, ap (master_at ms) num ∙ e)
 
 -- some masters are kept no more, and a sweep takes those that nothing holds
@@ -614,5 +608,5 @@ freed_sound a b v under is sound_a flags now =
     let keyed : Keyed v.masters = subst (λ (w : MasterSet). Keyed w.masters) is sound_a.keyed in
     let new = freed under v in
     sound b (swept new) now (swept_are new (freed_ties v are under))
-    (keyed_fewer new.masters (λ (u : Master). is_living v.members new.masters u.birth) (over_keyed (marked under) (marked_birth under) (marked_lessor under) v.masters (marked_key under) keyed))
+    (keyed_fewer new.masters (λ (u : Master). is_living v.members new.masters u.step_number) (over_keyed (marked under) (marked_step_number under) (marked_lessor under) v.masters (marked_key under) keyed))
     (λ k. flags k ∙ sound_a.flagged k ∙ ap (λ (w : MasterSet). is_current w k) is ∙ sym (swept_same new (freed_ties v are under) k ∙ freed_same v under k))

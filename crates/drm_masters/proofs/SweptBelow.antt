@@ -11,7 +11,7 @@ use Rattle.drm_lists.proofs.Lists.{all_each, all_weaker}
 use Rattle.std.specs.Prelude.{nat_lt}
 use Rattle.drm_masters.specs.declared.rows.Member.{Member}
 use Rattle.drm_masters.specs.declared.rows.Master.{Master}
-use Rattle.drm_masters.specs.Masters.{is_birth, is_option, master_at, lessor_of, is_used, is_living}
+use Rattle.drm_masters.specs.Masters.{is_step_number, is_option, master_at, lessor_of, is_used, is_living}
 use Rattle.drm_masters.specs.Sweeps.{IsSweptBelow}
 use Rattle.drm_masters.proofs.Living.{Rise, Older, falls, lessee_of}
 use Rattle.drm_masters.proofs.Below.{named_is, less_of, lt_of, le_of, low, apart, IsFewer, was_there, lessor_was, same_there, under_there, under_was, above_there, used_yet}
@@ -21,7 +21,7 @@ pub record Sweeping (members : List Member) (ms : List Master) (top after : ℕ)
   pub from : top ≤ after
   pub rise : Rise now
   pub older : Older now
-  pub left : filter (λ (x : Master). is_living members now x.birth) now ≡ filter (λ (x : Master). is_living members ms x.birth) ms
+  pub left : filter (λ (x : Master). is_living members now x.step_number) now ≡ filter (λ (x : Master). is_living members ms x.step_number) ms
   pub fewer : IsFewer ms now
   pub others : (n : ℕ) → is_under (lessor_of ms) top n ≡ false → master_at now n ≡ master_at ms n
   pub stays : master_at now top ≡ master_at ms top
@@ -82,20 +82,20 @@ module _ (members : List Member) (ms : List Master) (rise : Rise ms) (older : Ol
             before : master_at now n ≡ Some x
             before = was_there now next s.fewer n x at
 
-            present : is_some (master_at now n) ≡ true
-            present = ap is_some before
+            open_client : is_some (master_at now n) ≡ true
+            open_client = ap is_some before
 
             here : is_under (lessor_of now) y n ≡ true
-            here = under_there ms now h.fewer h.older y n present ∙ under
+            here = under_there ms now h.fewer h.older y n open_client ∙ under
 
             y_there : is_some (master_at now y) ≡ true
-            y_there = above_there ms now h.fewer h.older y n present under
+            y_there = above_there ms now h.fewer h.older y n open_client under
 
-            birth : x.birth ≡ n
-            birth = eqb-true x.birth n (found_is (master_at now n) refl before)
+            step_number : x.step_number ≡ n
+            step_number = eqb-true x.step_number n (found_is (master_at now n) refl before)
               where
-                found_is : (o : Option Master) → master_at now n ≡ o → o ≡ Some x → is_birth n x ≡ true
-                found_is o e k = (found (is_birth n) (λ _. Unit {0}) x now (all_each (λ _. Unit {0}) (λ _. tt) now) (e ∙ k)).0
+                found_is : (o : Option Master) → master_at now n ≡ o → o ≡ Some x → is_step_number n x ≡ true
+                found_is o e k = (found (is_step_number n) (λ _. Unit {0}) x now (all_each (λ _. Unit {0}) (λ _. tt) now) (e ∙ k)).0
 
             by_last : (b : Bool) → (y == l) ≡ b → is_used members next x ≡ true
             by_last true e = s.used n x at (subst (λ k. is_under (lessor_of now) k n ≡ true) (eqb-true y l e) here)
@@ -111,24 +111,24 @@ module _ (members : List Member) (ms : List Master) (rise : Rise ms) (older : Ol
                     by_order true lt = absurd (false≢true (sym (least y (lt_of after y lt) less) ∙ ap (is_option top) (same_there ms now h.fewer y y_there ∙ up_y) ∙ eq-eqb top top refl))
                     by_order false lt = le_of after y lt
 
-                stay_there : (z : Master) → master_at now z.birth ≡ Some z → is_option x.birth z.lessor ≡ true → master_at next z.birth ≡ Some z
-                stay_there z at_z names = s.others z.birth (to_false (is_under (lessor_of now) l z.birth) never) ∙ at_z
+                stay_there : (z : Master) → master_at now z.step_number ≡ Some z → is_option x.step_number z.lessor ≡ true → master_at next z.step_number ≡ Some z
+                stay_there z at_z names = s.others z.step_number (to_false (is_under (lessor_of now) l z.step_number) never) ∙ at_z
                   where
-                    up_z : lessor_of now z.birth ≡ Some n
-                    up_z = ap (option_and_then (λ (u : Master). u.lessor)) at_z ∙ named_is x.birth z.lessor names ∙ ap Some birth
+                    up_z : lessor_of now z.step_number ≡ Some n
+                    up_z = ap (option_and_then (λ (u : Master). u.lessor)) at_z ∙ named_is x.step_number z.lessor names ∙ ap Some step_number
 
-                    never : is_under (lessor_of now) l z.birth ≡ true → ⊥
-                    never e = either (z.birth == l) refl (sym (under_some (lessor_of now) (falls now h.older) l z.birth n up_z) ∙ e)
+                    never : is_under (lessor_of now) l z.step_number ≡ true → ⊥
+                    never e = either (z.step_number == l) refl (sym (under_some (lessor_of now) (falls now h.older) l z.step_number n up_z) ∙ e)
                       where
-                        either : (b : Bool) → (z.birth == l) ≡ b → (b || is_under (lessor_of now) l n) ≡ true → ⊥
+                        either : (b : Bool) → (z.step_number == l) ≡ b → (b || is_under (lessor_of now) l n) ≡ true → ⊥
                         either true is k =
-                            let one : Some n ≡ Some top = sym up_z ∙ ap (lessor_of now) (eqb-true z.birth l is) ∙ up_now in
+                            let one : Some n ≡ Some top = sym up_z ∙ ap (lessor_of now) (eqb-true z.step_number l is) ∙ up_now in
                             let same : n ≡ top = cc in
                             let le = low (lessor_of ms) (falls ms older) y n under in
                             let lt = falls ms older y top up_y in
                             omega (arith, le, lt, same)
                         either false is k =
-                            let same = apart (lessor_of ms) (falls ms older) top y l up_y up n under (sym (under_there ms now h.fewer h.older l n present) ∙ k) in
+                            let same = apart (lessor_of ms) (falls ms older) top y l up_y up n under (sym (under_there ms now h.fewer h.older l n open_client) ∙ k) in
                             omega (arith, same, less)
 
     -- all lessees are swept
@@ -170,8 +170,8 @@ module _ (members : List Member) (ms : List Master) (rise : Rise ms) (older : Ol
       swept_kept x at used = swept_as (λ y e. let one : Some x ≡ Some y = sym at ∙ e in let same : x ≡ y = cc in ap (is_used members now) (sym same) ∙ used)
 
       -- it goes
-      pub swept_gone : (x : Master) → master_at now top ≡ Some x → x.birth ≡ top → is_used members now x ≡ false → IsSweptBelow members top ms (filter (λ (z : Master). not (is_birth top z)) now)
-      swept_gone x at birth unused = subst (λ b. IsSweptBelow members top ms (filter (λ (z : Master). not (is_birth b z)) now)) birth (record {
+      pub swept_gone : (x : Master) → master_at now top ≡ Some x → x.step_number ≡ top → is_used members now x ≡ false → IsSweptBelow members top ms (filter (λ (z : Master). not (is_step_number top z)) now)
+      swept_gone x at step_number unused = subst (λ b. IsSweptBelow members top ms (filter (λ (z : Master). not (is_step_number b z)) now)) step_number (record {
         rise = gone_rise members now h.rise h.older x here unused;
         older = gone_older members now h.rise h.older x here unused;
         left = same_left members now h.rise h.older x here unused ∙ h.left;
@@ -180,85 +180,85 @@ module _ (members : List Member) (ms : List Master) (rise : Rise ms) (older : Ol
         used = used;
       })
         where
-          here : master_at now x.birth ≡ Some x
-          here = ap (master_at now) birth ∙ at
+          here : master_at now x.step_number ≡ Some x
+          here = ap (master_at now) step_number ∙ at
 
           gone : List Master
-          gone = filter (λ (z : Master). not (is_birth x.birth z)) now
+          gone = filter (λ (z : Master). not (is_step_number x.step_number z)) now
 
-          at_is : (n : ℕ) → master_at gone n ≡ cond (not (n == x.birth)) (master_at now n) None
-          at_is n = find_where (λ (z : Master). z.birth) (λ k. not (k == x.birth)) n now
+          at_is : (n : ℕ) → master_at gone n ≡ cond (not (n == x.step_number)) (master_at now n) None
+          at_is n = find_where (λ (z : Master). z.step_number) (λ k. not (k == x.step_number)) n now
 
-          left_at : (n : ℕ) → (n == x.birth) ≡ false → master_at gone n ≡ master_at now n
+          left_at : (n : ℕ) → (n == x.step_number) ≡ false → master_at gone n ≡ master_at now n
           left_at n e = at_is n ∙ ap (λ b. cond (not b) (master_at now n) None) e
 
-          differs : (n : ℕ) → is_under (lessor_of ms) top n ≡ false → (n == x.birth) ≡ false
-          differs n apart = ne_eqb n x.birth (λ same. false≢true (sym apart ∙ subst (λ k. is_under (lessor_of ms) top k ≡ true) (sym (same ∙ birth)) (itself (lessor_of ms) top top)))
+          differs : (n : ℕ) → is_under (lessor_of ms) top n ≡ false → (n == x.step_number) ≡ false
+          differs n apart = ne_eqb n x.step_number (λ same. false≢true (sym apart ∙ subst (λ k. is_under (lessor_of ms) top k ≡ true) (sym (same ∙ step_number)) (itself (lessor_of ms) top top)))
 
           fewer : IsFewer ms gone
-          fewer n = by_top (n == x.birth) refl
+          fewer n = by_top (n == x.step_number) refl
             where
-              by_top : (b : Bool) → (n == x.birth) ≡ b → (master_at gone n ≡ master_at ms n) ⊎ (master_at gone n ≡ None)
+              by_top : (b : Bool) → (n == x.step_number) ≡ b → (master_at gone n ≡ master_at ms n) ⊎ (master_at gone n ≡ None)
               by_top true e = inr (at_is n ∙ ap (λ b. cond (not b) (master_at now n) None) e)
               by_top false e = elim (h.fewer n) [ inl same ↦ inl (left_at n e ∙ same) | inr none ↦ inr (left_at n e ∙ none) ]
 
           used : (n : ℕ) (y : Master) → master_at gone n ≡ Some y → is_under (lessor_of ms) top n ≡ true → is_used members gone y ≡ true
-          used n y at_y under = by_top (n == x.birth) refl
+          used n y at_y under = by_top (n == x.step_number) refl
             where
-              by_top : (b : Bool) → (n == x.birth) ≡ b → is_used members gone y ≡ true
+              by_top : (b : Bool) → (n == x.step_number) ≡ b → is_used members gone y ≡ true
               by_top true e = absurd (false≢true (ap is_some (sym (at_is n ∙ ap (λ b. cond (not b) (master_at now n) None) e) ∙ at_y)))
               by_top false e =
                   let before : master_at now n ≡ Some y = sym (left_at n e) ∙ at_y in
-                  used_yet members now gone h.rise y (λ z at_z names. left_at z.birth (stays z at_z names) ∙ at_z) (below_used n y before (ap (λ k. n == k) (sym birth) ∙ e) under)
+                  used_yet members now gone h.rise y (λ z at_z names. left_at z.step_number (stays z at_z names) ∙ at_z) (below_used n y before (ap (λ k. n == k) (sym step_number) ∙ e) under)
                 where
-                  num : y.birth ≡ n
-                  num = eqb-true y.birth n (found (is_birth n) (λ _. Unit {0}) y now (all_each (λ _. Unit {0}) (λ _. tt) now) (sym (left_at n e) ∙ at_y)).0
+                  num : y.step_number ≡ n
+                  num = eqb-true y.step_number n (found (is_step_number n) (λ _. Unit {0}) y now (all_each (λ _. Unit {0}) (λ _. tt) now) (sym (left_at n e) ∙ at_y)).0
 
-                  stays : (z : Master) → master_at now z.birth ≡ Some z → is_option y.birth z.lessor ≡ true → (z.birth == x.birth) ≡ false
-                  stays z at_z names = ne_eqb z.birth x.birth never
+                  stays : (z : Master) → master_at now z.step_number ≡ Some z → is_option y.step_number z.lessor ≡ true → (z.step_number == x.step_number) ≡ false
+                  stays z at_z names = ne_eqb z.step_number x.step_number never
                     where
-                      never : z.birth ≡ x.birth → ⊥
+                      never : z.step_number ≡ x.step_number → ⊥
                       never same =
-                          let up : lessor_of now z.birth ≡ Some n = ap (option_and_then (λ (u : Master). u.lessor)) at_z ∙ named_is y.birth z.lessor names ∙ ap Some num in
-                          let lt = falls now h.older z.birth n up in
+                          let up : lessor_of now z.step_number ≡ Some n = ap (option_and_then (λ (u : Master). u.lessor)) at_z ∙ named_is y.step_number z.lessor names ∙ ap Some num in
+                          let lt = falls now h.older z.step_number n up in
                           let le = low (lessor_of ms) (falls ms older) top n under in
-                          omega (arith, lt, le, same, birth)
+                          omega (arith, lt, le, same, step_number)
 
 -- ---- the masters above the one that was swept below
 
-module _ (members : List Member) (ms : List Master) (rise : Rise ms) (older : Older ms) (top : ℕ) (others : AllByRecursion (λ (x : Master). is_under (lessor_of ms) top x.birth ≡ false → is_used members ms x ≡ true) ms) (now : List Master) (s : IsSweptBelow members top ms now) where
+module _ (members : List Member) (ms : List Master) (rise : Rise ms) (older : Older ms) (top : ℕ) (others : AllByRecursion (λ (x : Master). is_under (lessor_of ms) top x.step_number ≡ false → is_used members ms x ≡ true) ms) (now : List Master) (s : IsSweptBelow members top ms now) where
   -- all are used but its lessor
-  used_but : (z : Master) → master_at now z.birth ≡ Some z → is_option z.birth (lessor_of ms top) ≡ false → is_used members now z ≡ true
-  used_but z at no_lessor = by_place (is_under (lessor_of ms) top z.birth) refl
+  used_but : (z : Master) → master_at now z.step_number ≡ Some z → is_option z.step_number (lessor_of ms top) ≡ false → is_used members now z ≡ true
+  used_but z at no_lessor = by_position (is_under (lessor_of ms) top z.step_number) refl
     where
-      before : master_at ms z.birth ≡ Some z
-      before = was_there ms now s.fewer z.birth z at
+      before : master_at ms z.step_number ≡ Some z
+      before = was_there ms now s.fewer z.step_number z at
 
-      by_place : (b : Bool) → is_under (lessor_of ms) top z.birth ≡ b → is_used members now z ≡ true
-      by_place true e = s.used z.birth z at e
-      by_place false e =
-          used_yet members ms now rise z (λ w at_w names. s.others w.birth (apart w at_w names (is_under (lessor_of ms) top w.birth) refl) ∙ at_w)
-          ((found (is_birth z.birth) (λ (x : Master). is_under (lessor_of ms) top x.birth ≡ false → is_used members ms x ≡ true) z ms others before).1 e)
+      by_position : (b : Bool) → is_under (lessor_of ms) top z.step_number ≡ b → is_used members now z ≡ true
+      by_position true e = s.used z.step_number z at e
+      by_position false e =
+          used_yet members ms now rise z (λ w at_w names. s.others w.step_number (apart w at_w names (is_under (lessor_of ms) top w.step_number) refl) ∙ at_w)
+          ((found (is_step_number z.step_number) (λ (x : Master). is_under (lessor_of ms) top x.step_number ≡ false → is_used members ms x ≡ true) z ms others before).1 e)
         where
-          apart : (w : Master) → master_at ms w.birth ≡ Some w → is_option z.birth w.lessor ≡ true → (b : Bool) → is_under (lessor_of ms) top w.birth ≡ b → b ≡ false
+          apart : (w : Master) → master_at ms w.step_number ≡ Some w → is_option z.step_number w.lessor ≡ true → (b : Bool) → is_under (lessor_of ms) top w.step_number ≡ b → b ≡ false
           apart w at_w names false k = refl
-          apart w at_w names true k = absurd (either (w.birth == top) refl (sym (under_some (lessor_of ms) (falls ms older) top w.birth z.birth up_w) ∙ k))
+          apart w at_w names true k = absurd (either (w.step_number == top) refl (sym (under_some (lessor_of ms) (falls ms older) top w.step_number z.step_number up_w) ∙ k))
             where
-              up_w : lessor_of ms w.birth ≡ Some z.birth
-              up_w = ap (option_and_then (λ (u : Master). u.lessor)) at_w ∙ named_is z.birth w.lessor names
+              up_w : lessor_of ms w.step_number ≡ Some z.step_number
+              up_w = ap (option_and_then (λ (u : Master). u.lessor)) at_w ∙ named_is z.step_number w.lessor names
 
-              either : (b : Bool) → (w.birth == top) ≡ b → (b || is_under (lessor_of ms) top z.birth) ≡ true → ⊥
-              either true is j = false≢true (sym no_lessor ∙ ap (is_option z.birth) (ap (lessor_of ms) (sym (eqb-true w.birth top is)) ∙ up_w) ∙ eq-eqb z.birth z.birth refl)
+              either : (b : Bool) → (w.step_number == top) ≡ b → (b || is_under (lessor_of ms) top z.step_number) ≡ true → ⊥
+              either true is j = false≢true (sym no_lessor ∙ ap (is_option z.step_number) (ap (lessor_of ms) (sym (eqb-true w.step_number top is)) ∙ up_w) ∙ eq-eqb z.step_number z.step_number refl)
               either false is j = false≢true (sym e ∙ j)
 
-  each_at : AllByRecursion (λ (x : Master). master_at now x.birth ≡ Some x) now
-  each_at = all_found (λ (x : Master). x.birth) now s.rise
+  each_at : AllByRecursion (λ (x : Master). master_at now x.step_number ≡ Some x) now
+  each_at = all_found (λ (x : Master). x.step_number) now s.rise
 
   pub others_used : (b : ℕ) → lessor_of ms top ≡ Some b → OthersUsed members now b
-  others_used b e = all_weaker (λ (x : Master). master_at now x.birth ≡ Some x) (λ (x : Master). (x.birth == b) ≡ false → is_used members now x ≡ true) (λ x at differs. used_but x at (ap (is_option x.birth) e ∙ flipped x.birth b differs)) now each_at
+  others_used b e = all_weaker (λ (x : Master). master_at now x.step_number ≡ Some x) (λ (x : Master). (x.step_number == b) ≡ false → is_used members now x ≡ true) (λ x at differs. used_but x at (ap (is_option x.step_number) e ∙ flipped x.step_number b differs)) now each_at
 
   pub all_used_now : lessor_of ms top ≡ None → AllByRecursion (λ (x : Master). is_used members now x ≡ true) now
-  all_used_now e = all_weaker (λ (x : Master). master_at now x.birth ≡ Some x) (λ (x : Master). is_used members now x ≡ true) (λ x at. used_but x at (ap (is_option x.birth) e)) now each_at
+  all_used_now e = all_weaker (λ (x : Master). master_at now x.step_number ≡ Some x) (λ (x : Master). is_used members now x ≡ true) (λ x at. used_but x at (ap (is_option x.step_number) e)) now each_at
 
-  pub left_by_none : lessor_of ms top ≡ None → now ≡ filter (λ (x : Master). is_living members ms x.birth) ms
+  pub left_by_none : lessor_of ms top ≡ None → now ≡ filter (λ (x : Master). is_living members ms x.step_number) ms
   left_by_none e = all_stay members now s.rise s.older (all_used_now e) ∙ s.left

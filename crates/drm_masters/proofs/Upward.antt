@@ -14,189 +14,189 @@ use Rattle.drm_lists.proofs.Chains.{same_chain}
 use Rattle.drm_lists.proofs.Rising.{found, any_more, all_found, find_where}
 use Rattle.drm_masters.specs.declared.rows.Member.{Member}
 use Rattle.drm_masters.specs.declared.rows.Master.{Master}
-use Rattle.drm_masters.specs.Masters.{is_birth, is_option, master_at, lessor_of, is_held, is_used, is_living, HasOlderLessor}
-use Rattle.drm_masters.proofs.Looked.{next_place}
+use Rattle.drm_masters.specs.Masters.{is_step_number, is_option, master_at, lessor_of, is_held, is_used, is_living, HasOlderLessor}
+use Rattle.drm_masters.proofs.Looked.{next_position}
 use Rattle.drm_masters.proofs.Living.{Rise, Older, living_is}
 use Rattle.drm_masters.proofs.Settled.{Settled, looked, none_looked, all_looked}
 
--- all but those of a birth are used
+-- all but those of a step number are used
 abbrev pub OthersUsed : List Member → List Master → ℕ → Type 0
-OthersUsed members ms birth = AllByRecursion (λ (x : Master). (x.birth == birth) ≡ false → is_used members ms x ≡ true) ms
+OthersUsed members ms step_number = AllByRecursion (λ (x : Master). (x.step_number == step_number) ≡ false → is_used members ms x ≡ true) ms
 
 module _ (members : List Member) (ms : List Master) (rise : Rise ms) (older : Older ms) where
   -- where each is used a sweep takes none
-  pub all_stay : AllByRecursion (λ (x : Master). is_used members ms x ≡ true) ms → ms ≡ filter (λ (x : Master). is_living members ms x.birth) ms
+  pub all_stay : AllByRecursion (λ (x : Master). is_used members ms x ≡ true) ms → ms ≡ filter (λ (x : Master). is_living members ms x.step_number) ms
   all_stay used = all_looked members ms rise older 0 ms (down 0 (length ms) (let e : 0 + length ms ≡ length ms = omega arith in e)) refl
     where
       down : (n k : ℕ) → n + k ≡ length ms → Settled members ms n ms
       down n zero e = none_looked members ms rise older n (omega (arith, e))
       down n (suc k) e =
-          let w = next_place ms n (omega (arith, e)) in
+          let w = next_position ms n (omega (arith, e)) in
           (looked members ms rise older n ms (down (suc n) k (omega (arith, e))) w.0 w.1 true (sym (all_at (λ (x : Master). is_used members ms x ≡ true) ms n w.0 used w.1))).0 refl
 
   -- a master that is not used goes, and nothing else changes
-  module _ (x : Master) (here : master_at ms x.birth ≡ Some x) (unused : is_used members ms x ≡ false) where
+  module _ (x : Master) (here : master_at ms x.step_number ≡ Some x) (unused : is_used members ms x ≡ false) where
     not_held : is_held members x ≡ false
-    not_held = first (is_held members x) (list_any (λ (z : Master). is_option x.birth z.lessor) ms) unused
+    not_held = first (is_held members x) (list_any (λ (z : Master). is_option x.step_number z.lessor) ms) unused
       where
         first : (a b : Bool) → (a || b) ≡ false → a ≡ false
         first true b h = h
         first false b h = refl
 
-    no_lessee : AllByRecursion (λ (z : Master). is_option x.birth z.lessor ≡ false) ms
-    no_lessee = each ms (behind (is_held members x) (list_any (λ (z : Master). is_option x.birth z.lessor) ms) unused)
+    no_lessee : AllByRecursion (λ (z : Master). is_option x.step_number z.lessor ≡ false) ms
+    no_lessee = each ms (behind (is_held members x) (list_any (λ (z : Master). is_option x.step_number z.lessor) ms) unused)
       where
         behind : (a b : Bool) → (a || b) ≡ false → b ≡ false
         behind true b h = absurd (false≢true (sym h))
         behind false b h = h
 
-        each : (xs : List Master) → list_any (λ (z : Master). is_option x.birth z.lessor) xs ≡ false → AllByRecursion (λ (z : Master). is_option x.birth z.lessor ≡ false) xs
+        each : (xs : List Master) → list_any (λ (z : Master). is_option x.step_number z.lessor) xs ≡ false → AllByRecursion (λ (z : Master). is_option x.step_number z.lessor ≡ false) xs
         each [] h = tt
-        each (y ∷ ys) h = (first (is_option x.birth y.lessor) (list_any (λ (z : Master). is_option x.birth z.lessor) ys) h, each ys (behind (is_option x.birth y.lessor) (list_any (λ (z : Master). is_option x.birth z.lessor) ys) h))
+        each (y ∷ ys) h = (first (is_option x.step_number y.lessor) (list_any (λ (z : Master). is_option x.step_number z.lessor) ys) h, each ys (behind (is_option x.step_number y.lessor) (list_any (λ (z : Master). is_option x.step_number z.lessor) ys) h))
           where
             first : (a b : Bool) → (a || b) ≡ false → a ≡ false
             first true b k = k
             first false b k = refl
 
     abbrev pub gone : List Master
-    gone = filter (λ (z : Master). not (is_birth x.birth z)) ms
+    gone = filter (λ (z : Master). not (is_step_number x.step_number z)) ms
 
     -- it is nobody's lessor
-    apart : (n l : ℕ) → lessor_of ms n ≡ Some l → (l == x.birth) ≡ false
+    apart : (n l : ℕ) → lessor_of ms n ≡ Some l → (l == x.step_number) ≡ false
     apart n l e = by_row (master_at ms n) refl e
       where
-        by_row : (o : Option Master) → master_at ms n ≡ o → option_and_then (λ (z : Master). z.lessor) o ≡ Some l → (l == x.birth) ≡ false
+        by_row : (o : Option Master) → master_at ms n ≡ o → option_and_then (λ (z : Master). z.lessor) o ≡ Some l → (l == x.step_number) ≡ false
         by_row None at k = absurd (false≢true (ap is_some k))
-        by_row (Some z) at k = sym (ap (is_option x.birth) k) ∙ (found (is_birth n) (λ (y : Master). is_option x.birth y.lessor ≡ false) z ms no_lessee at).1
+        by_row (Some z) at k = sym (ap (is_option x.step_number) k) ∙ (found (is_step_number n) (λ (y : Master). is_option x.step_number y.lessor ≡ false) z ms no_lessee at).1
 
-    at_is : (n : ℕ) → (n == x.birth) ≡ false → master_at gone n ≡ master_at ms n
-    at_is n differs = find_where (λ (z : Master). z.birth) (λ k. not (k == x.birth)) n ms ∙ ap (λ b. cond (not b) (master_at ms n) None) differs
+    at_is : (n : ℕ) → (n == x.step_number) ≡ false → master_at gone n ≡ master_at ms n
+    at_is n differs = find_where (λ (z : Master). z.step_number) (λ k. not (k == x.step_number)) n ms ∙ ap (λ b. cond (not b) (master_at ms n) None) differs
 
-    lessors_are : (n : ℕ) → (n == x.birth) ≡ false → lessor_of gone n ≡ lessor_of ms n
+    lessors_are : (n : ℕ) → (n == x.step_number) ≡ false → lessor_of gone n ≡ lessor_of ms n
     lessors_are n differs = ap (option_and_then (λ (z : Master). z.lessor)) (at_is n differs)
 
-    under_is : (b n : ℕ) → (n == x.birth) ≡ false → is_under (lessor_of gone) b n ≡ is_under (lessor_of ms) b n
-    under_is b n differs = ap (λ l. is_among l b) (same_chain (λ k. (k == x.birth) ≡ false) (lessor_of ms) (lessor_of gone) lessors_are (λ k l p e. apart k l e) n n differs)
+    under_is : (b n : ℕ) → (n == x.step_number) ≡ false → is_under (lessor_of gone) b n ≡ is_under (lessor_of ms) b n
+    under_is b n differs = ap (λ l. is_among l b) (same_chain (λ k. (k == x.step_number) ≡ false) (lessor_of ms) (lessor_of gone) lessors_are (λ k l p e. apart k l e) n n differs)
 
     pub gone_rise : Rise gone
-    gone_rise = in_order_filter (λ (a b : Master). a.birth < b.birth) (λ (z : Master). not (is_birth x.birth z)) ms rise
+    gone_rise = in_order_filter (λ (a b : Master). a.step_number < b.step_number) (λ (z : Master). not (is_step_number x.step_number z)) ms rise
 
     pub gone_older : Older gone
     gone_older =
-        all_filter (HasOlderLessor gone) (λ (z : Master). not (is_birth x.birth z)) ms
-        (all_both (HasOlderLessor ms) (λ (z : Master). is_option x.birth z.lessor ≡ false) (HasOlderLessor gone) (λ z h free l e.
+        all_filter (HasOlderLessor gone) (λ (z : Master). not (is_step_number x.step_number z)) ms
+        (all_both (HasOlderLessor ms) (λ (z : Master). is_option x.step_number z.lessor ≡ false) (HasOlderLessor gone) (λ z h free l e.
         let k = h l e in
-        (ap is_some (at_is l (sym (ap (is_option x.birth) e) ∙ free)) ∙ k.0, k.1)) ms older no_lessee)
+        (ap is_some (at_is l (sym (ap (is_option x.step_number) e) ∙ free)) ∙ k.0, k.1)) ms older no_lessee)
 
     -- each row with what is so of it
     record Told (z : Master) : Type 0 where
-      at : master_at ms z.birth ≡ Some z
-      free : is_option x.birth z.lessor ≡ false
+      at : master_at ms z.step_number ≡ Some z
+      free : is_option x.step_number z.lessor ≡ false
 
     told : AllByRecursion Told ms
-    told = all_both (λ (z : Master). master_at ms z.birth ≡ Some z) (λ (z : Master). is_option x.birth z.lessor ≡ false) Told (λ z a n. record { at = a; free = n }) ms (all_found (λ (z : Master). z.birth) ms rise) no_lessee
+    told = all_both (λ (z : Master). master_at ms z.step_number ≡ Some z) (λ (z : Master). is_option x.step_number z.lessor ≡ false) Told (λ z a n. record { at = a; free = n }) ms (all_found (λ (z : Master). z.step_number) ms rise) no_lessee
 
-    is_it : (z : Master) → Told z → (z.birth == x.birth) ≡ true → z ≡ x
-    is_it z t e = let one : Some z ≡ Some x = sym t.at ∙ ap (master_at ms) (eqb-true z.birth x.birth e) ∙ here in cc
+    is_it : (z : Master) → Told z → (z.step_number == x.step_number) ≡ true → z ≡ x
+    is_it z t e = let one : Some z ≡ Some x = sym t.at ∙ ap (master_at ms) (eqb-true z.step_number x.step_number e) ∙ here in cc
 
-    any_where : (q r : Master → Bool) → (xs : List Master) → AllByRecursion (λ z. r z ≡ (not (is_birth x.birth z) && q z)) xs → list_any q (filter (λ (z : Master). not (is_birth x.birth z)) xs) ≡ list_any r xs
+    any_where : (q r : Master → Bool) → (xs : List Master) → AllByRecursion (λ z. r z ≡ (not (is_step_number x.step_number z) && q z)) xs → list_any q (filter (λ (z : Master). not (is_step_number x.step_number z)) xs) ≡ list_any r xs
     any_where q r [] h = refl
     any_where q r (z ∷ zs) h =
-        elim (is_birth x.birth z) as (λ b. r z ≡ (not b && q z) → list_any q (cond (not b) (z ∷ filter (λ (y : Master). not (is_birth x.birth y)) zs) (filter (λ (y : Master). not (is_birth x.birth y)) zs)) ≡ (r z || list_any r zs)) [
+        elim (is_step_number x.step_number z) as (λ b. r z ≡ (not b && q z) → list_any q (cond (not b) (z ∷ filter (λ (y : Master). not (is_step_number x.step_number y)) zs) (filter (λ (y : Master). not (is_step_number x.step_number y)) zs)) ≡ (r z || list_any r zs)) [
           | true ↦ λ e. any_where q r zs h.1 ∙ ap (λ b. b || list_any r zs) (sym e)
           | false ↦ λ e. λ i. sym e i || any_where q r zs h.1 i
         ] h.0
 
     living_as : (b : ℕ) → is_living members gone b ≡ is_living members ms b
     living_as b =
-        any_where (λ (z : Master). is_held members z && is_under (lessor_of gone) b z.birth) (λ (z : Master). is_held members z && is_under (lessor_of ms) b z.birth) ms
-        (all_weaker Told (λ z. (is_held members z && is_under (lessor_of ms) b z.birth) ≡ (not (is_birth x.birth z) && (is_held members z && is_under (lessor_of gone) b z.birth))) each ms told)
+        any_where (λ (z : Master). is_held members z && is_under (lessor_of gone) b z.step_number) (λ (z : Master). is_held members z && is_under (lessor_of ms) b z.step_number) ms
+        (all_weaker Told (λ z. (is_held members z && is_under (lessor_of ms) b z.step_number) ≡ (not (is_step_number x.step_number z) && (is_held members z && is_under (lessor_of gone) b z.step_number))) each ms told)
       where
-        each : (z : Master) → Told z → (is_held members z && is_under (lessor_of ms) b z.birth) ≡ (not (is_birth x.birth z) && (is_held members z && is_under (lessor_of gone) b z.birth))
+        each : (z : Master) → Told z → (is_held members z && is_under (lessor_of ms) b z.step_number) ≡ (not (is_step_number x.step_number z) && (is_held members z && is_under (lessor_of gone) b z.step_number))
         each z t =
-            elim (z.birth == x.birth) as (λ c. (z.birth == x.birth) ≡ c → (is_held members z && is_under (lessor_of ms) b z.birth) ≡ (not c && (is_held members z && is_under (lessor_of gone) b z.birth))) [
-              | true ↦ λ e. ap (λ c. c && is_under (lessor_of ms) b z.birth) (ap (is_held members) (is_it z t e) ∙ not_held)
-              | false ↦ λ e. ap (λ c. is_held members z && c) (sym (under_is b z.birth e))
+            elim (z.step_number == x.step_number) as (λ c. (z.step_number == x.step_number) ≡ c → (is_held members z && is_under (lessor_of ms) b z.step_number) ≡ (not c && (is_held members z && is_under (lessor_of gone) b z.step_number))) [
+              | true ↦ λ e. ap (λ c. c && is_under (lessor_of ms) b z.step_number) (ap (is_held members) (is_it z t e) ∙ not_held)
+              | false ↦ λ e. ap (λ c. is_held members z && c) (sym (under_is b z.step_number e))
             ] refl
 
-    dies : is_living members ms x.birth ≡ false
+    dies : is_living members ms x.step_number ≡ false
     dies = living_is ms members rise older x here ∙ ap (λ b. b || list_any q ms) not_held ∙ none ms no_lessee
       where
         q : Master → Bool
-        q y = is_living members ms y.birth && is_option x.birth y.lessor
+        q y = is_living members ms y.step_number && is_option x.step_number y.lessor
 
-        none : (xs : List Master) → AllByRecursion (λ (z : Master). is_option x.birth z.lessor ≡ false) xs → list_any q xs ≡ false
+        none : (xs : List Master) → AllByRecursion (λ (z : Master). is_option x.step_number z.lessor ≡ false) xs → list_any q xs ≡ false
         none [] h = refl
-        none (z ∷ zs) h = ap (λ b. (is_living members ms z.birth && b) || list_any q zs) h.0 ∙ ap (λ b. b || list_any q zs) (and-false (is_living members ms z.birth)) ∙ none zs h.1
+        none (z ∷ zs) h = ap (λ b. (is_living members ms z.step_number && b) || list_any q zs) h.0 ∙ ap (λ b. b || list_any q zs) (and-false (is_living members ms z.step_number)) ∙ none zs h.1
 
     -- what a sweep leaves of the others is what it leaves of all
-    pub same_left : filter (λ (z : Master). is_living members gone z.birth) gone ≡ filter (λ (z : Master). is_living members ms z.birth) ms
+    pub same_left : filter (λ (z : Master). is_living members gone z.step_number) gone ≡ filter (λ (z : Master). is_living members ms z.step_number) ms
     same_left =
-        filter-both (λ (z : Master). is_living members gone z.birth) (λ (z : Master). not (is_birth x.birth z)) ms
-        ∙ filter-same (λ z. not (is_birth x.birth z) && is_living members gone z.birth) (λ (z : Master). is_living members ms z.birth) ms
-        (all_weaker Told (λ z. (not (is_birth x.birth z) && is_living members gone z.birth) ≡ is_living members ms z.birth) (λ z t.
-        elim (z.birth == x.birth) as (λ c. (z.birth == x.birth) ≡ c → (not c && is_living members gone z.birth) ≡ is_living members ms z.birth) [
-          | true ↦ λ e. sym (ap (is_living members ms) (eqb-true z.birth x.birth e) ∙ dies)
-          | false ↦ λ e. living_as z.birth
+        filter-both (λ (z : Master). is_living members gone z.step_number) (λ (z : Master). not (is_step_number x.step_number z)) ms
+        ∙ filter-same (λ z. not (is_step_number x.step_number z) && is_living members gone z.step_number) (λ (z : Master). is_living members ms z.step_number) ms
+        (all_weaker Told (λ z. (not (is_step_number x.step_number z) && is_living members gone z.step_number) ≡ is_living members ms z.step_number) (λ z t.
+        elim (z.step_number == x.step_number) as (λ c. (z.step_number == x.step_number) ≡ c → (not c && is_living members gone z.step_number) ≡ is_living members ms z.step_number) [
+          | true ↦ λ e. sym (ap (is_living members ms) (eqb-true z.step_number x.step_number e) ∙ dies)
+          | false ↦ λ e. living_as z.step_number
         ] refl) ms told)
 
     -- the others are used yet, but it may be its lessor
-    pub others_left : (b : ℕ) → (x.lessor ≡ Some b ⊎ x.lessor ≡ None) → OthersUsed members ms x.birth → AllByRecursion (λ (z : Master). (x.lessor ≡ None ⊎ ((z.birth == b) ≡ false)) → is_used members gone z ≡ true) gone
+    pub others_left : (b : ℕ) → (x.lessor ≡ Some b ⊎ x.lessor ≡ None) → OthersUsed members ms x.step_number → AllByRecursion (λ (z : Master). (x.lessor ≡ None ⊎ ((z.step_number == b) ≡ false)) → is_used members gone z ≡ true) gone
     others_left b up used =
-        all_both (λ (z : Master). (z.birth == x.birth) ≡ false → is_used members ms z ≡ true) (λ (z : Master). not (is_birth x.birth z) ≡ true) (λ (z : Master). (x.lessor ≡ None ⊎ ((z.birth == b) ≡ false)) → is_used members gone z ≡ true)
-        (λ z u differs how. still z (u (flip (is_birth x.birth z) differs)) (not_named z up how)) gone (all_filter (λ (z : Master). (z.birth == x.birth) ≡ false → is_used members ms z ≡ true) (λ (z : Master). not (is_birth x.birth z)) ms used)
-        (filter_true (λ (z : Master). not (is_birth x.birth z)) ms)
+        all_both (λ (z : Master). (z.step_number == x.step_number) ≡ false → is_used members ms z ≡ true) (λ (z : Master). not (is_step_number x.step_number z) ≡ true) (λ (z : Master). (x.lessor ≡ None ⊎ ((z.step_number == b) ≡ false)) → is_used members gone z ≡ true)
+        (λ z u differs how. still z (u (flip (is_step_number x.step_number z) differs)) (not_named z up how)) gone (all_filter (λ (z : Master). (z.step_number == x.step_number) ≡ false → is_used members ms z ≡ true) (λ (z : Master). not (is_step_number x.step_number z)) ms used)
+        (filter_true (λ (z : Master). not (is_step_number x.step_number z)) ms)
       where
         flip : (c : Bool) → not c ≡ true → c ≡ false
         flip true h = absurd (false≢true h)
         flip false h = refl
 
-        not_named : (z : Master) → (x.lessor ≡ Some b ⊎ x.lessor ≡ None) → (x.lessor ≡ None ⊎ ((z.birth == b) ≡ false)) → is_option z.birth x.lessor ≡ false
-        not_named z up (inl none) = ap (is_option z.birth) none
-        not_named z (inl some) (inr other) = ap (is_option z.birth) some ∙ turned b z.birth other
+        not_named : (z : Master) → (x.lessor ≡ Some b ⊎ x.lessor ≡ None) → (x.lessor ≡ None ⊎ ((z.step_number == b) ≡ false)) → is_option z.step_number x.lessor ≡ false
+        not_named z up (inl none) = ap (is_option z.step_number) none
+        not_named z (inl some) (inr other) = ap (is_option z.step_number) some ∙ turned b z.step_number other
           where
             turned : (b n : ℕ) → (n == b) ≡ false → (b == n) ≡ false
             turned b n e = elim (b == n) as (λ c. (b == n) ≡ c → c ≡ false) [ true ↦ λ k. absurd (false≢true (sym e ∙ eq-eqb n b (sym (eqb-true b n k)))) | false ↦ λ k. refl ] refl
-        not_named z (inr none) (inr other) = ap (is_option z.birth) none
+        not_named z (inr none) (inr other) = ap (is_option z.step_number) none
 
-        still : (z : Master) → is_used members ms z ≡ true → is_option z.birth x.lessor ≡ false → is_used members gone z ≡ true
-        still z used other = ap (λ c. is_held members z || c) (any_where (λ (y : Master). is_option z.birth y.lessor) (λ (y : Master). is_option z.birth y.lessor) ms (all_weaker Told (λ y. is_option z.birth y.lessor ≡ (not (is_birth x.birth y) && is_option z.birth y.lessor)) each ms told)) ∙ used
+        still : (z : Master) → is_used members ms z ≡ true → is_option z.step_number x.lessor ≡ false → is_used members gone z ≡ true
+        still z used other = ap (λ c. is_held members z || c) (any_where (λ (y : Master). is_option z.step_number y.lessor) (λ (y : Master). is_option z.step_number y.lessor) ms (all_weaker Told (λ y. is_option z.step_number y.lessor ≡ (not (is_step_number x.step_number y) && is_option z.step_number y.lessor)) each ms told)) ∙ used
           where
-            each : (y : Master) → Told y → is_option z.birth y.lessor ≡ (not (is_birth x.birth y) && is_option z.birth y.lessor)
+            each : (y : Master) → Told y → is_option z.step_number y.lessor ≡ (not (is_step_number x.step_number y) && is_option z.step_number y.lessor)
             each y t =
-                elim (y.birth == x.birth) as (λ c. (y.birth == x.birth) ≡ c → is_option z.birth y.lessor ≡ (not c && is_option z.birth y.lessor)) [
-                  | true ↦ λ e. ap (λ (u : Master). is_option z.birth u.lessor) (is_it y t e) ∙ other
+                elim (y.step_number == x.step_number) as (λ c. (y.step_number == x.step_number) ≡ c → is_option z.step_number y.lessor ≡ (not c && is_option z.step_number y.lessor)) [
+                  | true ↦ λ e. ap (λ (u : Master). is_option z.step_number u.lessor) (is_it y t e) ∙ other
                   | false ↦ λ e. refl
                 ] refl
 
-    pub lessor_left : (b : ℕ) → x.lessor ≡ Some b → OthersUsed members ms x.birth → OthersUsed members gone b
-    lessor_left b up used = all_weaker (λ (z : Master). (x.lessor ≡ None ⊎ ((z.birth == b) ≡ false)) → is_used members gone z ≡ true) (λ (z : Master). (z.birth == b) ≡ false → is_used members gone z ≡ true) (λ z u other. u (inr other)) gone (others_left b (inl up) used)
+    pub lessor_left : (b : ℕ) → x.lessor ≡ Some b → OthersUsed members ms x.step_number → OthersUsed members gone b
+    lessor_left b up used = all_weaker (λ (z : Master). (x.lessor ≡ None ⊎ ((z.step_number == b) ≡ false)) → is_used members gone z ≡ true) (λ (z : Master). (z.step_number == b) ≡ false → is_used members gone z ≡ true) (λ z u other. u (inr other)) gone (others_left b (inl up) used)
 
 -- those that stay are used
-pub all_living_used : (members : List Member) (ms : List Master) (rise : Rise ms) (older : Older ms) → AllByRecursion (λ (x : Master). is_living members ms x.birth ≡ true) ms → AllByRecursion (λ (x : Master). is_used members ms x ≡ true) ms
+pub all_living_used : (members : List Member) (ms : List Master) (rise : Rise ms) (older : Older ms) → AllByRecursion (λ (x : Master). is_living members ms x.step_number ≡ true) ms → AllByRecursion (λ (x : Master). is_used members ms x ≡ true) ms
 all_living_used members ms rise older living =
-    all_both (λ (x : Master). is_living members ms x.birth ≡ true) (λ (x : Master). master_at ms x.birth ≡ Some x) (λ (x : Master). is_used members ms x ≡ true)
-    (λ x lives at. weaker x (is_held members x) (sym (living_is ms members rise older x at) ∙ lives)) ms living (all_found (λ (x : Master). x.birth) ms rise)
+    all_both (λ (x : Master). is_living members ms x.step_number ≡ true) (λ (x : Master). master_at ms x.step_number ≡ Some x) (λ (x : Master). is_used members ms x ≡ true)
+    (λ x lives at. weaker x (is_held members x) (sym (living_is ms members rise older x at) ∙ lives)) ms living (all_found (λ (x : Master). x.step_number) ms rise)
   where
-    weaker : (x : Master) (b : Bool) → (b || list_any (λ (y : Master). is_living members ms y.birth && is_option x.birth y.lessor) ms) ≡ true → (b || list_any (λ (y : Master). is_option x.birth y.lessor) ms) ≡ true
+    weaker : (x : Master) (b : Bool) → (b || list_any (λ (y : Master). is_living members ms y.step_number && is_option x.step_number y.lessor) ms) ≡ true → (b || list_any (λ (y : Master). is_option x.step_number y.lessor) ms) ≡ true
     weaker x true h = refl
-    weaker x false h = any_more (λ _. Unit {0}) (λ (y : Master). is_living members ms y.birth && is_option x.birth y.lessor) (λ (y : Master). is_option x.birth y.lessor) (λ y u t. second (is_living members ms y.birth) (is_option x.birth y.lessor) t) ms (all_each (λ _. Unit {0}) (λ _. tt) ms) h
+    weaker x false h = any_more (λ _. Unit {0}) (λ (y : Master). is_living members ms y.step_number && is_option x.step_number y.lessor) (λ (y : Master). is_option x.step_number y.lessor) (λ y u t. second (is_living members ms y.step_number) (is_option x.step_number y.lessor) t) ms (all_each (λ _. Unit {0}) (λ _. tt) ms) h
       where
         second : (a b : Bool) → (a && b) ≡ true → b ≡ true
         second true b h = h
         second false b h = absurd (false≢true h)
 
 -- where it has no lessor the others are all that stay
-pub top_left : (members : List Member) (ms : List Master) (rise : Rise ms) (older : Older ms) (x : Master) (here : master_at ms x.birth ≡ Some x) (unused : is_used members ms x ≡ false) → x.lessor ≡ None → OthersUsed members ms x.birth →
-    filter (λ (z : Master). not (is_birth x.birth z)) ms ≡ filter (λ (z : Master). is_living members ms z.birth) ms
+pub top_left : (members : List Member) (ms : List Master) (rise : Rise ms) (older : Older ms) (x : Master) (here : master_at ms x.step_number ≡ Some x) (unused : is_used members ms x ≡ false) → x.lessor ≡ None → OthersUsed members ms x.step_number →
+    filter (λ (z : Master). not (is_step_number x.step_number z)) ms ≡ filter (λ (z : Master). is_living members ms z.step_number) ms
 top_left members ms rise older x here unused top used =
     let left = gone members ms rise older x here unused in
     all_stay members left (gone_rise members ms rise older x here unused) (gone_older members ms rise older x here unused)
-    (all_weaker (λ (z : Master). (x.lessor ≡ None ⊎ ((z.birth == 0) ≡ false)) → is_used members left z ≡ true) (λ (z : Master). is_used members left z ≡ true) (λ z u. u (inl top)) left (others_left members ms rise older x here unused 0 (inr top) used))
+    (all_weaker (λ (z : Master). (x.lessor ≡ None ⊎ ((z.step_number == 0) ≡ false)) → is_used members left z ≡ true) (λ (z : Master). is_used members left z ≡ true) (λ z u. u (inl top)) left (others_left members ms rise older x here unused 0 (inr top) used))
     ∙ same_left members ms rise older x here unused
 
 -- all are used where that one is, or isn't there
-pub all_used : (members : List Member) (ms : List Master) (b : ℕ) → OthersUsed members ms b → ((x : Master) → master_at ms x.birth ≡ Some x → (x.birth == b) ≡ true → is_used members ms x ≡ true) → Rise ms → AllByRecursion (λ (x : Master). is_used members ms x ≡ true) ms
+pub all_used : (members : List Member) (ms : List Master) (b : ℕ) → OthersUsed members ms b → ((x : Master) → master_at ms x.step_number ≡ Some x → (x.step_number == b) ≡ true → is_used members ms x ≡ true) → Rise ms → AllByRecursion (λ (x : Master). is_used members ms x ≡ true) ms
 all_used members ms b others it rise =
-    all_both (λ (x : Master). (x.birth == b) ≡ false → is_used members ms x ≡ true) (λ (x : Master). master_at ms x.birth ≡ Some x) (λ (x : Master). is_used members ms x ≡ true)
-    (λ x u at. elim (x.birth == b) as (λ c. (x.birth == b) ≡ c → is_used members ms x ≡ true) [ true ↦ λ e. it x at e | false ↦ λ e. u e ] refl) ms others (all_found (λ (x : Master). x.birth) ms rise)
+    all_both (λ (x : Master). (x.step_number == b) ≡ false → is_used members ms x ≡ true) (λ (x : Master). master_at ms x.step_number ≡ Some x) (λ (x : Master). is_used members ms x ≡ true)
+    (λ x u at. elim (x.step_number == b) as (λ c. (x.step_number == b) ≡ c → is_used members ms x ≡ true) [ true ↦ λ e. it x at e | false ↦ λ e. u e ] refl) ms others (all_found (λ (x : Master). x.step_number) ms rise)

@@ -15,15 +15,15 @@ use Rattle.drm_masters.specs.declared.rows.Magic.{Magic}
 use Rattle.drm_masters.specs.declared.rows.Master.{Master}
 use Rattle.drm_masters.specs.declared.rows.Member.{Member}
 use Rattle.drm_lists.specs.Chains.{is_under}
-use Rattle.drm_masters.specs.Masters.{MasterSet, is_client, is_birth, is_key, is_option, IsKeyOf, lessor_of, is_lessee, is_below, is_current_member, has_open_magic, free_magic, free_lessee, swept}
+use Rattle.drm_masters.specs.Masters.{MasterSet, is_client, is_step_number, is_key, is_option, IsKeyOf, lessor_of, is_lessee, is_below, is_current_member, has_open_magic, free_magic, free_lessee, swept}
 
 -- each client that is there is older
 abbrev pub IsNewClient : MasterSet → ℕ → Type 0
 IsNewClient v c = AllByRecursion (λ (x : Member). x.client < c) v.members
 
 -- each master that is there is older
-abbrev pub IsNewBirth : MasterSet → ℕ → Type 0
-IsNewBirth v birth = AllByRecursion (λ (x : Master). x.birth < birth) v.masters
+abbrev pub IsNewStepNumber : MasterSet → ℕ → Type 0
+IsNewStepNumber v step_number = AllByRecursion (λ (x : Master). x.step_number < step_number) v.masters
 
 -- a key that no master has
 abbrev pub IsFreeKey : MasterSet → ℕ → Type 0
@@ -31,23 +31,23 @@ IsFreeKey v key = find (is_key key) v.masters ≡ None
 
 -- rows as they are made
 
-abbrev pub own_master : ℕ → ℕ → Master
-own_master key birth = record { key = key; birth = birth; lessor = None; lessee_id = 0; kept = false }
+abbrev pub founded_master : ℕ → ℕ → Master
+founded_master key step_number = record { key = key; step_number = step_number; lessor = None; lessee_id = 0; kept = false }
 
 abbrev pub lessee : ℕ → ℕ → ℕ → ℕ → Master
-lessee key birth lessor id = record { key = key; birth = birth; lessor = Some lessor; lessee_id = id; kept = true }
+lessee key step_number lessor id = record { key = key; step_number = step_number; lessor = Some lessor; lessee_id = id; kept = true }
 
 -- a client of a master of its own
 abbrev pub owner : ℕ → ℕ → Member
 owner c m = record { client = c; once_master = true; is_master = true; master = m; magic = None }
 
 -- a client of another's master
-abbrev pub guest : ℕ → ℕ → Member
-guest c m = record { client = c; once_master = false; is_master = false; master = m; magic = None }
+abbrev pub non_master : ℕ → ℕ → Member
+non_master c m = record { client = c; once_master = false; is_master = false; master = m; magic = None }
 
 -- a client that redeemed a lessee: a master, but not once a master by that (own)
-abbrev pub redeemer : ℕ → ℕ → Member
-redeemer c m = record { client = c; once_master = false; is_master = true; master = m; magic = None }
+abbrev pub lease_client : ℕ → ℕ → Member
+lease_client c m = record { client = c; once_master = false; is_master = true; master = m; magic = None }
 
 abbrev pub keyed_as : ℕ → Master → Master
 keyed_as key x = record x { key = key }
@@ -75,28 +75,28 @@ kept_as kept x = record x { kept = kept }
 
 -- the master is kept, or not any more
 abbrev pub with_kept : ℕ → Bool → MasterSet → MasterSet
-with_kept m kept v = record v { masters = map (λ (x : Master). if is_birth m x then kept_as kept x else x) v.masters }
+with_kept m kept v = record v { masters = map (λ (x : Master). if is_step_number m x then kept_as kept x else x) v.masters }
 
 -- the master is kept no more, nor is any below it
 abbrev pub released_under : ℕ → MasterSet → MasterSet
-released_under top v = record v { masters = map (λ (x : Master). if is_under (lessor_of v.masters) top x.birth then kept_as false x else x) v.masters }
+released_under top v = record v { masters = map (λ (x : Master). if is_under (lessor_of v.masters) top x.step_number then kept_as false x else x) v.masters }
 
 -- all below the master are kept no more; it stays kept if it is
 abbrev pub released_below : ℕ → MasterSet → MasterSet
-released_below top v = record v { masters = map (λ (x : Master). if is_below v.masters top x.birth then kept_as false x else x) v.masters }
+released_below top v = record v { masters = map (λ (x : Master). if is_below v.masters top x.step_number then kept_as false x else x) v.masters }
 
 abbrev pub with_magic : ℕ → Bool → Member → Member
 with_magic n spent x = record x { magic = Some (record { number = n; spent = spent }) }
 
 -- openings
 
--- without a device's master the client founds one, else it is a guest of the device's
+-- without a device's master the client founds one, else it is a client that is no master of the device's
 abbrev pub Opened : MasterSet → ℕ → ℕ → Option ℕ → MasterSet → Type 0
-Opened v c birth None new = (key : ℕ) × IsFreeKey v key × (new ≡ with_device (Some birth) (with_member (owner c birth) (with_master (own_master key birth) v)))
-Opened v c birth (Some m) new = new ≡ with_member (guest c m) v
+Opened v c step_number None new = (key : ℕ) × IsFreeKey v key × (new ≡ with_device (Some step_number) (with_member (owner c step_number) (with_master (founded_master key step_number) v)))
+Opened v c step_number (Some m) new = new ≡ with_member (non_master c m) v
 
 abbrev pub redeemed : ℕ → ℕ → MasterSet → MasterSet
-redeemed c m v = with_kept m false (with_member (redeemer c m) v)
+redeemed c m v = with_kept m false (with_member (lease_client c m) v)
 
 -- SET_MASTER and DROP_MASTER
 
@@ -117,19 +117,19 @@ drop_checks v x root =
 
 -- a new master of a client, which becomes the device's; a master that nobody holds any more goes
 abbrev pub remade : ℕ → ℕ → ℕ → MasterSet → MasterSet
-remade c key birth v = swept (with_device (Some birth) (changed_member (owner c birth) (with_master (own_master key birth) v)))
+remade c key step_number v = swept (with_device (Some step_number) (changed_member (owner c step_number) (with_master (founded_master key step_number) v)))
 
 -- who is current is done, who is no master gets a new one, and any other has its own set again
 abbrev pub SetBy : MasterSet → Member → ℕ → SetDone → MasterSet → Type 0
-SetBy v x birth Already new = (is_current_member v x ≡ true) × (new ≡ v)
-SetBy v x birth Again new = (is_current_member v x ≡ false) × (x.is_master ≡ true) × (new ≡ with_device (Some x.master) v)
-SetBy v x birth Made new = (is_current_member v x ≡ false) × (x.is_master ≡ false) × ((key : ℕ) × IsFreeKey v key × (new ≡ remade x.client key birth v))
+SetBy v x step_number Already new = (is_current_member v x ≡ true) × (new ≡ v)
+SetBy v x step_number Again new = (is_current_member v x ≡ false) × (x.is_master ≡ true) × (new ≡ with_device (Some x.master) v)
+SetBy v x step_number Made new = (is_current_member v x ≡ false) × (x.is_master ≡ false) × ((key : ℕ) × IsFreeKey v key × (new ≡ remade x.client key step_number v))
 
 -- memory is refused only where a new master is made
 abbrev pub SetOf : MasterSet → Member → Bool → ℕ → Result SetDone SetFault → MasterSet → Type 0
-SetOf v x root birth (Ok done) new = (first_failing (set_checks v x root) ≡ None) × SetBy v x birth done new
-SetOf v x root birth (Err (Denied rule)) new = (first_failing (set_checks v x root) ≡ Some rule) × (new ≡ v)
-SetOf v x root birth (Err SetNoMemory) new = (first_failing (set_checks v x root) ≡ None) × (is_current_member v x ≡ false) × (x.is_master ≡ false) × (new ≡ v)
+SetOf v x root step_number (Ok done) new = (first_failing (set_checks v x root) ≡ None) × SetBy v x step_number done new
+SetOf v x root step_number (Err (Denied rule)) new = (first_failing (set_checks v x root) ≡ Some rule) × (new ≡ v)
+SetOf v x root step_number (Err SetNoMemory) new = (first_failing (set_checks v x root) ≡ None) × (is_current_member v x ≡ false) × (x.is_master ≡ false) × (new ≡ v)
 
 abbrev pub DroppedBy : MasterSet → Member → Bool → Result (Unit {0}) Rule → MasterSet → Type 0
 DroppedBy v x root (Ok u) new = (first_failing (drop_checks v x root) ≡ None) × (new ≡ with_device None v)
@@ -165,6 +165,6 @@ ClosedBy v (Some x) own new = ClosedOf v x x.is_master own new
 -- lessees
 
 abbrev pub MadeLessee : MasterSet → ℕ → ℕ → Result (ℕ × ℕ) LesseeFault → MasterSet → Type 0
-MadeLessee v m birth (Ok made) new = IsFreeKey v made.0 × (free_lessee v m ≡ Some made.1) × (new ≡ with_master (lessee made.0 birth m made.1) v)
-MadeLessee v m birth (Err Full) new = (free_lessee v m ≡ None) × (new ≡ v)
-MadeLessee v m birth (Err LesseeNoMemory) new = (is_some (free_lessee v m) ≡ true) × (new ≡ v)
+MadeLessee v m step_number (Ok made) new = IsFreeKey v made.0 × (free_lessee v m ≡ Some made.1) × (new ≡ with_master (lessee made.0 step_number m made.1) v)
+MadeLessee v m step_number (Err Full) new = (free_lessee v m ≡ None) × (new ≡ v)
+MadeLessee v m step_number (Err LesseeNoMemory) new = (is_some (free_lessee v m) ≡ true) × (new ≡ v)

@@ -8,7 +8,7 @@ use Rattle.drm_index_array.specs.Indexed.{Indexed, indexed_code}
 use Rattle.drm_masters.specs.declared.rows.Master.{Master}
 use Rattle.drm_masters.specs.Masters.{is_option, master_at, owner_of, is_lessee_of}
 
--- the birth of the lessee that has an id under an owner
+-- the step number of the lessee that has an id under an owner
 abbrev pub Ids : Type 0
 Ids = ℕ → ℕ → Option ℕ
 
@@ -27,7 +27,7 @@ id_at m o i = id_in (map.get m o) i
 
 -- the same but for one id of an owner
 abbrev pub IsSet : Ids → ℕ → ℕ → Option ℕ → Ids → Type 0
-IsSet old o i birth new = (p q : ℕ) → new p q ≡ (if (p == o) && (q == i) then birth else old p q)
+IsSet old o i step_number new = (p q : ℕ) → new p q ≡ (if (p == o) && (q == i) then step_number else old p q)
 
 -- whether this is the id of a lessee of the owner; a master without a lessor has none
 abbrev pub has_id : ℕ → Option ℕ → ℕ → ℕ → ℕ → Bool
@@ -35,7 +35,7 @@ has_id owner lessor id o i = is_some lessor && ((o == owner) && (i == id))
 
 -- a master is found by its id besides, if it is a lessee
 abbrev pub IsNamed : Ids → ℕ → Option ℕ → ℕ → ℕ → Ids → Type 0
-IsNamed old owner lessor id birth new = (o i : ℕ) → new o i ≡ (if has_id owner lessor id o i then Some birth else old o i)
+IsNamed old owner lessor id step_number new = (o i : ℕ) → new o i ≡ (if has_id owner lessor id o i then Some step_number else old o i)
 
 -- or not any more
 abbrev pub IsUnnamed : Ids → ℕ → Option ℕ → ℕ → Ids → Type 0
@@ -43,7 +43,7 @@ IsUnnamed old owner lessor id new = (o i : ℕ) → new o i ≡ (if has_id owner
 
 -- the owner of a master that is to come: that of its lessor, or else itself
 abbrev pub owner_to_be : List Master → Master → ℕ
-owner_to_be ms x = option_map_or (owner_of ms) x.lessor x.birth
+owner_to_be ms x = option_map_or (owner_of ms) x.lessor x.step_number
 
 -- by each id the lessee is found that has it under the owner
 abbrev pub AreIdsOf : List Master → Ids → Type 0

@@ -1,4 +1,4 @@
--- Who stands to which master, and the masters, as flat lists in the order of births (drm(7), masters; drm-uapi, leases).
+-- Who stands to which master, and the masters, as flat lists in the order of step numbers (drm(7), masters; drm-uapi, leases).
 use Rattle.std.specs.Prelude.{◌≡◌, ℕ, ◌==◌, ◌<◌, ◌≤◌, Bool, true, false, not, ◌&&◌, ◌||◌, List, length, Option, None, Some, find, filter, map}
 use Rattle.std.specs.List.{list_any, AllByRecursion}
 use Rattle.std.specs.Option.{is_some, option_map, option_map_or, option_and_then}
@@ -10,7 +10,7 @@ use Rattle.drm_masters.specs.declared.rows.Magic.{Magic}
 use Rattle.drm_masters.specs.declared.rows.Master.{Master}
 use Rattle.drm_masters.specs.declared.rows.Member.{Member}
 
--- a client, a master and the device's master are named by their births; magics run to one number, the ids of lessees to
+-- a client, a master and the device's master are named by their step numbers; magics run to one number, the ids of lessees to
 -- another
 pub record MasterSet : Type 0 where
   pub members : List Member
@@ -33,18 +33,18 @@ member_of members c = find (is_client c) members
 
 -- masters
 
-abbrev pub is_birth : ℕ → Master → Bool
-is_birth m x = x.birth == m
+abbrev pub is_step_number : ℕ → Master → Bool
+is_step_number m x = x.step_number == m
 
 abbrev pub is_key : ℕ → Master → Bool
 is_key key x = x.key == key
 
 abbrev pub master_at : List Master → ℕ → Option Master
-master_at masters m = find (is_birth m) masters
+master_at masters m = find (is_step_number m) masters
 
 -- the master of a key; 0 where none has it
-abbrev pub birth_at : List Master → ℕ → ℕ
-birth_at masters key = option_map_or (λ (x : Master). x.birth) (find (is_key key) masters) 0
+abbrev pub step_number_at : List Master → ℕ → ℕ
+step_number_at masters key = option_map_or (λ (x : Master). x.step_number) (find (is_key key) masters) 0
 
 -- the key of a master, if it is there
 abbrev pub key_of : List Master → ℕ → Option ℕ
@@ -52,7 +52,7 @@ key_of masters m = option_map (λ (x : Master). x.key) (master_at masters m)
 
 -- the key is that of a master which is there
 abbrev pub IsKeyOf : List Master → ℕ → ℕ → Type 0
-IsKeyOf masters m key = option_map (λ (x : Master). x.birth) (find (is_key key) masters) ≡ Some m
+IsKeyOf masters m key = option_map (λ (x : Master). x.step_number) (find (is_key key) masters) ≡ Some m
 
 -- whether a master has the key
 abbrev pub is_there : List Master → ℕ → Bool
@@ -61,9 +61,9 @@ is_there masters key = is_some (find (is_key key) masters)
 abbrev pub lessor_of : List Master → ℕ → Option ℕ
 lessor_of masters m = option_and_then (λ (x : Master). x.lessor) (master_at masters m)
 
--- the direct lessees of a master, in the order of births
+-- the direct lessees of a master, in the order of step numbers
 abbrev pub lessees_of : List Master → ℕ → List ℕ
-lessees_of masters m = map (λ (x : Master). x.birth) (filter (λ (x : Master). is_option m x.lessor) masters)
+lessees_of masters m = map (λ (x : Master). x.step_number) (filter (λ (x : Master). is_option m x.lessor) masters)
 
 abbrev pub is_lessee : List Master → ℕ → Bool
 is_lessee masters m = is_some (lessor_of masters m)
@@ -94,19 +94,19 @@ is_current v c = option_map_or (is_current_member v) (member_of v.members c) fal
 
 -- whether it is kept, or a client names it
 abbrev pub is_held : List Member → Master → Bool
-is_held members x = x.kept || list_any (λ (y : Member). y.master == x.birth) members
+is_held members x = x.kept || list_any (λ (y : Member). y.master == x.step_number) members
 
 -- whether it is held, or some master's lessor
 abbrev pub is_used : List Member → List Master → Master → Bool
-is_used members masters x = is_held members x || list_any (λ (y : Master). is_option x.birth y.lessor) masters
+is_used members masters x = is_held members x || list_any (λ (y : Master). is_option x.step_number y.lessor) masters
 
 -- whether the master or one below it is held
 abbrev pub is_living : List Member → List Master → ℕ → Bool
-is_living members masters m = list_any (λ (x : Master). is_held members x && is_under (lessor_of masters) m x.birth) masters
+is_living members masters m = list_any (λ (x : Master). is_held members x && is_under (lessor_of masters) m x.step_number) masters
 
 -- a master goes with the last that is held below it
 abbrev pub swept : MasterSet → MasterSet
-swept v = record v { masters = filter (λ (x : Master). is_living v.members v.masters x.birth) v.masters }
+swept v = record v { masters = filter (λ (x : Master). is_living v.members v.masters x.step_number) v.masters }
 
 -- magics
 
@@ -126,7 +126,7 @@ free_magic v m = least (λ n. not (list_any (has_magic m n) v.members)) 1 v.last
 
 -- whether it is a lessee of this id under the owner
 abbrev pub is_lessee_of : List Master → ℕ → ℕ → Master → Bool
-is_lessee_of masters owner id x = is_some x.lessor && (x.lessee_id == id) && (owner_of masters x.birth == owner)
+is_lessee_of masters owner id x = is_some x.lessor && (x.lessee_id == id) && (owner_of masters x.step_number == owner)
 
 -- the least id that no lessee has under the owner of the master (drm-uapi, leases; ids own)
 abbrev pub free_lessee : MasterSet → ℕ → Option ℕ
@@ -136,23 +136,23 @@ free_lessee v m = least (λ id. not (list_any (is_lessee_of v.masters (owner_of 
 
 -- each lessor is there, and older
 abbrev pub HasOlderLessor : List Master → Master → Type 0
-HasOlderLessor masters x = (l : ℕ) → x.lessor ≡ Some l → (is_some (master_at masters l) ≡ true) × (l < x.birth)
+HasOlderLessor masters x = (l : ℕ) → x.lessor ≡ Some l → (is_some (master_at masters l) ≡ true) × (l < x.step_number)
 
 -- one of the two has no number, or they have two, or they stand to two masters
 abbrev pub HaveOtherMagics : Member → Member → Type 0
 HaveOtherMagics x y = (n : ℕ) → has_magic x.master n x ≡ true → has_magic x.master n y ≡ false
 
--- the lists stand in the order of births; all that is named is there; the device's master is some client's own; neither it
+-- the lists stand in the order of step numbers; all that is named is there; the device's master is some client's own; neither it
 -- nor the master of a client that is no master has a lessor; each master is held, or one below it; no two clients of a
 -- master have one number, and there are no more clients than numbers
 pub record AreMasters (v : MasterSet) : Type 0 where
   pub members_rise : InOrder (λ (x y : Member). x.client < y.client) v.members
-  pub masters_rise : InOrder (λ (x y : Master). x.birth < y.birth) v.masters
+  pub masters_rise : InOrder (λ (x y : Master). x.step_number < y.step_number) v.masters
   pub lessors_older : AllByRecursion (HasOlderLessor v.masters) v.masters
   pub masters_there : AllByRecursion (λ (x : Member). is_some (master_at v.masters x.master) ≡ true) v.members
   pub device_own : (m : ℕ) → v.device_master ≡ Some m → list_any (λ (x : Member). x.is_master && (x.master == m)) v.members ≡ true
   pub device_owner : (m : ℕ) → v.device_master ≡ Some m → lessor_of v.masters m ≡ None
   pub guests_of_owners : AllByRecursion (λ (x : Member). x.is_master ≡ false → lessor_of v.masters x.master ≡ None) v.members
-  pub used : AllByRecursion (λ (x : Master). is_living v.members v.masters x.birth ≡ true) v.masters
+  pub used : AllByRecursion (λ (x : Master). is_living v.members v.masters x.step_number ≡ true) v.masters
   pub magics_differ : InOrder HaveOtherMagics v.members
   pub few : length v.members ≤ v.last_magic

@@ -29,20 +29,20 @@ rows_code code = code_by (List Member × set.FinSet nat_cmp) (coded× (coded_lis
 
 -- what stands where no master is kept
 abbrev pub nothing : Master
-nothing = record { key = 0; birth = 0; lessor = None; lessee_id = 0; kept = false }
+nothing = record { key = 0; step_number = 0; lessor = None; lessee_id = 0; kept = false }
 
--- the masters, in the order of their births
+-- the masters, in the order of their step numbers
 pub record MasterRows : Type 0 where
   pub items : List Master
 
--- the births of a master's lessees stand in its group
+-- the step numbers of a master's lessees stand in its group
 abbrev pub AreLesseesOf : List Master → Groups → Type 0
 AreLesseesOf ms groups = (m n : ℕ) → groups m n ≡ is_option m (lessor_of ms n)
 
--- a birth is listed with its lessor's besides
+-- a step number is listed with its lessor's besides
 abbrev pub IsListed : Groups → Option ℕ → ℕ → Groups → Type 0
-IsListed old lessor birth new = (m n : ℕ) → new m n ≡ (old m n || (is_option m lessor && (n == birth)))
+IsListed old lessor step_number new = (m n : ℕ) → new m n ≡ (old m n || (is_option m lessor && (n == step_number)))
 
 -- or not any more
 abbrev pub IsUnlisted : Groups → Option ℕ → ℕ → Groups → Type 0
-IsUnlisted old lessor birth new = (m n : ℕ) → new m n ≡ (old m n && not (is_option m lessor && (n == birth)))
+IsUnlisted old lessor step_number new = (m n : ℕ) → new m n ≡ (old m n && not (is_option m lessor && (n == step_number)))

@@ -29,7 +29,7 @@ pub fn flag_if_current(
     member: Member,
 )
     requires older { AllByRecursion (sets.HasOlderLessor masters.now.items) masters.now.items }
-    requires present { is_some (sets.member_of members.old.items member.client) ≡ true }
+    requires open_client { is_some (sets.member_of members.old.items member.client) ≡ true }
     ensures rows { members.new.items ≡ members.old.items }
     ensures flags { (c : ℕ) → set.contains members.new.flags c ≡ (((c == member.client) && sets.is_current_among masters.now.items device member) || set.contains members.old.flags c) }
 {
@@ -46,8 +46,8 @@ pub fn flag_current(members: &mut Members, masters: &MasterTable, device: Option
     ensures rows { members.new.items ≡ members.old.items }
     ensures flags { (c : ℕ) → set.contains members.new.flags c ≡ option_map_or (sets.is_current_among masters.now.items device) (sets.member_of members.old.items c) false }
 {
-    for place in 0..members.len() {
-        let Some(member) = members.nth(place) else {
+    for position in 0..members.len() {
+        let Some(member) = members.nth(position) else {
             unreachable!()
         };
         flag_if_current(members, masters, device, member);

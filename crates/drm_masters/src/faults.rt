@@ -3,10 +3,20 @@
 use drm_table::Rule;
 
 /// Memory was refused, and all is as it was.
+///
+/// ```rust
+/// let mut masters = Masters::new(alloc, 4, 0);
+/// let Ok(_first) = masters.on_open(1, 1) else { return };
+/// assert!(masters.member(1).is_none() || masters.magic(1) != Err(NoMemory));
+/// ```
 #[derive(Clone, Copy, PartialEq, Eq, Debug)]
 pub struct NoMemory;
 
 /// How a client became current (drm-uapi, SET_MASTER).
+///
+/// ```rust
+/// assert!(masters.member(1).is_none() || masters.set(1, false, 2) == Ok(SetDone::Already));
+/// ```
 #[derive(Clone, Copy, PartialEq, Eq, Debug)]
 pub enum SetDone {
     /// It was current already.
@@ -18,6 +28,12 @@ pub enum SetDone {
 }
 
 /// Why it did not. All is as it was.
+///
+/// ```rust
+/// let Ok(_second) = masters.on_open(2, 2) else { return };
+/// let denied = Err(SetFault::Denied(Rule::MasterPerm));
+/// assert!(masters.member(2).is_none() || masters.set(2, false, 3) == denied);
+/// ```
 #[derive(Clone, Copy, PartialEq, Eq, Debug)]
 pub enum SetFault {
     /// A rule denies it.
@@ -27,6 +43,11 @@ pub enum SetFault {
 }
 
 /// Why no lessee was made. All is as it was.
+///
+/// ```rust
+/// let Some(owner) = masters.master(1) else { return };
+/// assert!(masters.make_lessee(owner.key, 4) == Err(LesseeFault::Full));
+/// ```
 #[derive(Clone, Copy, PartialEq, Eq, Debug)]
 pub enum LesseeFault {
     /// The owner has a lessee of each id (own).

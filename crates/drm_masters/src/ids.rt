@@ -12,7 +12,7 @@ use drm_index_array::{IndexArray, InsertFault};
 use std::alloc::Global;
 use std::marker::Model;
 
-/// The births of lessees, by their owners and ids: those of one owner are found without the others. An owner without lessees takes no
+/// The step numbers of lessees, by their owners and ids: those of one owner are found without the others. An owner without lessees takes no
 /// memory. Contracts see a map from each owner to what has its ids.
 #[derive(Drop)]
 pub struct OwnerIds {
@@ -46,8 +46,8 @@ impl OwnerIds {
         ensures { result ≡ id_at self.now owner id }
     {
         let ids = self.owners.get(owner)?;
-        let birth = ids.get(id)?;
-        Some(*birth)
+        let step_number = ids.get(id)?;
+        Some(*step_number)
     }
 
     /// The least id from 1 to the last that no lessee of the owner has.
@@ -65,16 +65,16 @@ impl OwnerIds {
     }
 
     /// Notes a lessee under an id that none of its owner has. Without memory nothing changes.
-    pub fn note(&mut self, owner: u32, id: u32, birth: u32) -> Result<(), NoMemory>
+    pub fn note(&mut self, owner: u32, id: u32, step_number: u32) -> Result<(), NoMemory>
         requires { id_at self.old owner id ≡ None }
-        ensures ok { OnOk result (IsSet (id_at self.old) owner id (Some birth) (id_at self.new)) }
+        ensures ok { OnOk result (IsSet (id_at self.old) owner id (Some step_number) (id_at self.new)) }
         ensures err { OnErr result (self.new ≡ self.old) }
     {
         if let Some(ids) = self.owners.get_mut(owner) {
-            return put_new(ids, id, birth);
+            return put_new(ids, id, step_number);
         }
         let mut ids = IndexArray::new(self.alloc);
-        if let Err(_fault) = ids.insert(id, birth) {
+        if let Err(_fault) = ids.insert(id, step_number) {
             return Err(NoMemory);
         }
         if let Err(_fault) = self.owners.insert(owner, ids) {
@@ -90,7 +90,7 @@ impl OwnerIds {
         let Some(ids) = self.owners.get_mut(owner) else {
             return;
         };
-        let _birth = ids.remove(id);
+        let _step_number = ids.remove(id);
         let left = ids.len();
         if left == 0 {
             take_out(&mut self.owners, owner);

@@ -15,13 +15,20 @@ use crate::searches::{
 };
 use crate::sweeps::{release_all_below, release_all_under, sweep_under, sweep_up};
 use crate::table::MasterTable;
-use crate::writes::{device_without, guest, lessee, own_master, owner, redeemer, with_magic};
+use crate::writes::{
+    device_without, founded_master, lease_client, lessee, non_master, owner, with_magic,
+};
 use drm_table::Rule;
 use std::alloc::Global;
 use std::marker::Model;
 
 /// The clients that stand to a master, the masters, and which of these is the device's (drm(7); drm-uapi, leases). A
-/// master stays while it, or one below it, is kept or named by a client. Contracts see flat lists, in the order of births.
+/// master stays while it, or one below it, is kept or named by a client. Contracts see flat lists, in the order of step numbers.
+///
+/// ```rust
+/// let mut masters = Masters::new(alloc, 4, 4);
+/// let Ok(is_first) = masters.on_open(1, 1) else { return };
+/// ```
 pub struct Masters {
     members: Members,
     masters: MasterTable,
@@ -60,6 +67,10 @@ impl Model for Masters {
 impl Masters {
     /// No client and no master: for so many clients at once, with magics from 1 to that, and for lessee ids from 1 to
     /// `lessees` below each owner. It takes no memory.
+    ///
+    /// ```rust
+    /// assert!(Masters::new(alloc, 4, 4).device_master().is_none());
+    /// ```
     pub fn new(alloc: Global, clients: u32, lessees: u32) -> Masters
         ensures { result ≡ record { members = []; masters = []; device_master = None; last_magic = clients; last_lessee = lessees } }
     {
@@ -80,6 +91,10 @@ impl Masters {
     }
 
     /// How a client stands to masters, if it does. It takes no memory.
+    ///
+    /// ```rust
+    /// assert!(masters.member(1).is_some_and(|row| row.is_master && row.master == 1));
+    /// ```
     pub fn member(&self, client: u32) -> Option<Member>
         ensures member { result ≡ sets.member_of self.now.members client }
         ensures are { sets.AreMasters self.now }
@@ -88,6 +103,10 @@ impl Masters {
     }
 
     /// The key of a client's master, if it stands to one.
+    ///
+    /// ```rust
+    /// assert!(masters.master_of(1).is_some() && masters.master_of(2).is_none());
+    /// ```
     pub fn master_of(&self, client: u32) -> Option<MasterKey>
         ensures { result ≡ option_and_then (λ x. sets.key_of self.now.masters x.master) (sets.member_of self.now.members client) }
     {
@@ -96,16 +115,24 @@ impl Masters {
         Some(master.key)
     }
 
-    /// The master of a birth, if it is there. It takes no memory.
-    pub fn master(&self, birth: u32) -> Option<Master>
-        ensures master { result ≡ sets.master_at self.now.masters birth }
-        ensures keyed { IfSome result (λ x. sets.IsKeyOf self.now.masters birth x.key) }
+    /// The master of a step number, if it is there. It takes no memory.
+    ///
+    /// ```rust
+    /// assert!(masters.master(1).is_some_and(|row| row.lessor.is_none() && !row.kept));
+    /// ```
+    pub fn master(&self, step_number: u32) -> Option<Master>
+        ensures master { result ≡ sets.master_at self.now.masters step_number }
+        ensures keyed { IfSome result (λ x. sets.IsKeyOf self.now.masters step_number x.key) }
     {
-        self.masters.at(birth)
+        self.masters.at(step_number)
     }
 
     /// Whether a master is the one named top, or below it. Masters are named by the numbers of the steps that made them. It
     /// takes no memory.
+    ///
+    /// ```rust
+    /// assert!(masters.is_under(1, 1));
+    /// ```
     pub fn is_under(&self, top: u32, master: u32) -> bool
         ensures { result ≡ chains.is_under (sets.lessor_of self.now.masters) top master }
     {
@@ -114,6 +141,10 @@ impl Masters {
 
     /// How deep a master lies below its owner: 0 where it has no lessor, else one more than its lessor (own). Masters are named
     /// by the numbers of the steps that made them. It takes no memory.
+    ///
+    /// ```rust
+    /// assert!(masters.depth(1) == 0);
+    /// ```
     pub fn depth(&self, master: u32) -> u32
         ensures { result ≡ sets.depth_of self.now.masters master }
     {
@@ -121,25 +152,38 @@ impl Masters {
     }
 
     /// The key of a master's lessor, if it is a lessee.
+    ///
+    /// ```rust
+    /// let Some(row) = masters.master(1) else { return };
+    /// assert!(masters.lessor_of(row.key).is_none());
+    /// ```
     pub fn lessor_of(&self, master: MasterKey) -> Option<MasterKey>
         requires { sets.is_there self.now.masters master ≡ true }
-        ensures { result ≡ option_and_then (sets.key_of self.now.masters) (sets.lessor_of self.now.masters (sets.birth_at self.now.masters master)) }
+        ensures { result ≡ option_and_then (sets.key_of self.now.masters) (sets.lessor_of self.now.masters (sets.step_number_at self.now.masters master)) }
     {
-        let birth = self.masters.of_key(master)?.birth;
-        let lessor = lessor_of(&self.masters, birth)?;
+        let step_number = self.masters.of_key(master)?.step_number;
+        let lessor = lessor_of(&self.masters, step_number)?;
         Some(self.masters.at(lessor)?.key)
     }
 
-    /// The direct lessee of a master at a place, from 0, in the order of births; none past the last. Masters are named by the
+    /// The direct lessee of a master at a place, from 0, in the order of step numbers; none past the last. Masters are named by the
     /// numbers of the steps that made them. It takes no memory.
-    pub fn nth_lessee(&self, lessor: u32, place: usize) -> Option<u32>
-        ensures { result ≡ slice_get (sets.lessees_of self.now.masters lessor) place }
+    ///
+    /// ```rust
+    /// assert!(masters.nth_lessee(1, 0).is_none());
+    /// ```
+    pub fn nth_lessee(&self, lessor: u32, position: usize) -> Option<u32>
+        ensures { result ≡ slice_get (sets.lessees_of self.now.masters lessor) position }
     {
-        self.masters.nth_lessee(lessor, place)
+        self.masters.nth_lessee(lessor, position)
     }
 
     /// Whether a client's master has a lessor (drm-uapi, leases). It is false of a client that stands to no master. It takes
     /// no memory.
+    ///
+    /// ```rust
+    /// assert!(!masters.is_lessee(1));
+    /// ```
     pub fn is_lessee(&self, client: u32) -> bool
         ensures { result ≡ option_map_or (λ x. sets.is_lessee self.now.masters x.master) (sets.member_of self.now.members client) false }
     {
@@ -150,6 +194,10 @@ impl Masters {
     }
 
     /// The device's master, by the number of the step that made it.
+    ///
+    /// ```rust
+    /// assert!(masters.device_master() == Some(1));
+    /// ```
     pub fn device_master(&self) -> Option<u32>
         ensures { result ≡ self.now.device_master }
     {
@@ -158,6 +206,10 @@ impl Masters {
 
     /// Whether the client is current: it is a master, and the owner of its master is the device's (drm(7); for a lessee
     /// drm-uapi, leases). One that stands to no master isn't.
+    ///
+    /// ```rust
+    /// assert!(masters.is_current(1) && !masters.is_current(2));
+    /// ```
     pub fn is_current(&self, client: u32) -> bool
         ensures { result ≡ sets.is_current self.now client }
     {
@@ -165,51 +217,64 @@ impl Masters {
     }
 
     /// Adds a client that opened the primary node. While the device has no master the client gets a new one, made by the
-    /// step of this number, which becomes the device's: true. Else it is a guest of the device's: false. Without memory
+    /// step of this number, which becomes the device's: true. Else it is a client that is no master of the device's: false. Without memory
     /// nothing changes.
-    pub fn on_open(&mut self, client: u32, birth: u32) -> Result<bool, NoMemory>
+    ///
+    /// ```rust
+    /// assert!(is_first);
+    /// ```
+    pub fn on_open(&mut self, client: u32, step_number: u32) -> Result<bool, NoMemory>
         requires new_client { calls.IsNewClient self.old client }
         requires room { length self.old.members < self.old.last_magic }
-        requires new_birth { calls.IsNewBirth self.old birth }
+        requires new_step_number { calls.IsNewStepNumber self.old step_number }
         ensures made { IfOk result (λ made. made ≡ not (is_some self.old.device_master)) }
-        ensures ok { OnOk result (calls.Opened self.old client birth self.old.device_master self.new) }
+        ensures ok { OnOk result (calls.Opened self.old client step_number self.old.device_master self.new) }
         ensures err { OnErr result (self.new ≡ self.old) }
     {
         if let Some(master) = self.device_master {
-            if let Err(NoMemory) = self.members.add(guest(client, master)) {
+            if let Err(NoMemory) = self.members.add(non_master(client, master)) {
                 return Err(NoMemory);
             }
             return Ok(false);
         }
-        if let Err(NoMemory) = self.masters.insert(own_master(birth)) {
+        if let Err(NoMemory) = self.masters.insert(founded_master(step_number)) {
             return Err(NoMemory);
         }
-        if let Err(NoMemory) = self.members.add(owner(client, birth)) {
-            self.masters.remove(birth);
+        if let Err(NoMemory) = self.members.add(owner(client, step_number)) {
+            self.masters.remove(step_number);
             return Err(NoMemory);
         }
-        self.device_master = Some(birth);
+        self.device_master = Some(step_number);
         flag_current(&mut self.members, &self.masters, self.device_master);
         Ok(true)
     }
 
     /// Adds the client that redeems a lessee, which is kept no more. It is a master, though not once a master by that
     /// (own). Without memory nothing changes.
+    ///
+    /// ```rust
+    /// let mut masters = Masters::new(alloc, 4, 4);
+    /// let Ok(_first) = masters.on_open(1, 1) else { return };
+    /// let Some(owner) = masters.master(1) else { return };
+    /// let Ok((lessee, _id)) = masters.make_lessee(owner.key, 2) else { return };
+    /// let Ok(()) = masters.on_redeem(3, lessee) else { return };
+    /// assert!(masters.is_lessee(3));
+    /// ```
     pub fn on_redeem(&mut self, client: u32, master: MasterKey) -> Result<(), NoMemory>
         requires new_client { calls.IsNewClient self.old client }
         requires room { length self.old.members < self.old.last_magic }
         requires unredeemed { option_map_or (λ x. x.kept && is_some x.lessor) (find (sets.is_key master) self.old.masters) false ≡ true }
-        ensures ok { OnOk result (self.new ≡ calls.redeemed client (sets.birth_at self.old.masters master) self.old) }
+        ensures ok { OnOk result (self.new ≡ calls.redeemed client (sets.step_number_at self.old.masters master) self.old) }
         ensures err { OnErr result (self.new ≡ self.old) }
     {
         let Some(redeemed) = self.masters.of_key(master) else {
             unreachable!()
         };
-        let member = redeemer(client, redeemed.birth);
+        let member = lease_client(client, redeemed.step_number);
         if let Err(NoMemory) = self.members.add(member) {
             return Err(NoMemory);
         }
-        self.masters.set_kept(redeemed.birth, false);
+        self.masters.set_kept(redeemed.step_number, false);
         flag_if_current(&mut self.members, &self.masters, self.device_master, member);
         Ok(())
     }
@@ -218,11 +283,17 @@ impl Masters {
     /// current is done; while the device has a master others are refused (27); a client that is no master gets a new one,
     /// made by the step of this number, and loses its magic; a lessee is refused (29); any other has its own set again.
     /// A refusal changes nothing.
+    ///
+    /// ```rust
+    /// if masters.member(1).is_some() {
+    ///     assert!(masters.set(1, false, 9) == Ok(SetDone::Already));
+    /// }
+    /// ```
     #[tactic(auto, unfolding(crate::specs::Calls::set_checks))]
-    pub fn set(&mut self, client: u32, root: bool, birth: u32) -> Result<SetDone, SetFault>
-        requires present { is_some (sets.member_of self.old.members client) ≡ true }
-        requires new_birth { calls.IsNewBirth self.old birth }
-        ensures set { IfSome (sets.member_of self.old.members client) (λ x. calls.SetOf self.old x root birth result self.new) }
+    pub fn set(&mut self, client: u32, root: bool, step_number: u32) -> Result<SetDone, SetFault>
+        requires open_client { is_some (sets.member_of self.old.members client) ≡ true }
+        requires new_step_number { calls.IsNewStepNumber self.old step_number }
+        ensures set { IfSome (sets.member_of self.old.members client) (λ x. calls.SetOf self.old x root step_number result self.new) }
         ensures err { OnErr result (self.new ≡ self.old) }
     {
         let Some(member) = self.members.get(client) else {
@@ -238,7 +309,7 @@ impl Masters {
             return Err(SetFault::Denied(Rule::MasterBusy));
         }
         if !member.is_master {
-            if let Err(NoMemory) = self.found(client, birth) {
+            if let Err(NoMemory) = self.found(client, step_number) {
                 return Err(SetFault::NoMemory);
             }
             return Ok(SetDone::Made);
@@ -254,6 +325,12 @@ impl Masters {
     /// DROP_MASTER (drm-uapi), in order: a client that was never a master and isn't root is refused (26), one that isn't
     /// current (28), and a lessee (29). Else the device has no master, and the client stays a master of its own. A refusal
     /// changes nothing.
+    ///
+    /// ```rust
+    /// if masters.member(1).is_some() {
+    ///     assert!(masters.drop_master(1, false) == Ok(()));
+    /// }
+    /// ```
     #[tactic(auto, unfolding(crate::specs::Calls::drop_checks))]
     pub fn drop_master(&mut self, client: u32, root: bool) -> Result<(), Rule>
         requires { is_some (sets.member_of self.old.members client) ≡ true }
@@ -279,6 +356,12 @@ impl Masters {
 
     /// GET_MAGIC (drm(7)): the client's number under its master. Where it has none, it gets the least free one: among so
     /// many clients as there are numbers one is free, so that this always answers. It takes no memory.
+    ///
+    /// ```rust
+    /// if masters.member(1).is_some() {
+    ///     assert!(masters.magic(1) == Ok(1));
+    /// }
+    /// ```
     pub fn magic(&mut self, client: u32) -> Result<u32, NoMemory>
         requires { is_some (sets.member_of self.old.members client) ≡ true }
         ensures given { IfOk result (λ n. IfSome (sets.member_of self.old.members client) (λ x. calls.GaveMagic self.old x x.magic n self.new)) }
@@ -299,6 +382,12 @@ impl Masters {
 
     /// AUTH_MAGIC (drm(7)): spends a number under the caller's master, and says which client it authenticates. A number
     /// that no client has there, or that is spent, is refused (25), and then nothing changes.
+    ///
+    /// ```rust
+    /// if masters.member(1).is_some() {
+    ///     assert!(masters.auth(1, 7) == Err(Rule::NoMagic));
+    /// }
+    /// ```
     pub fn auth(&mut self, client: u32, number: u32) -> Result<u32, Rule>
         requires { is_some (sets.member_of self.old.members client) ≡ true }
         ensures authenticated { IfSome (sets.member_of self.old.members client) (λ x. calls.AuthenticatedBy self.old x.master number result self.new) }
@@ -317,6 +406,11 @@ impl Masters {
     /// Takes a client out with its magic. A master of its own is given back and stays until its release, and if it was
     /// the device's, the device has none. Any other master goes where nothing else holds it. A client that stands to no
     /// master changes nothing. It takes no memory.
+    ///
+    /// ```rust
+    /// assert!(masters.on_close(1).is_some());
+    /// assert!(masters.member(1).is_none());
+    /// ```
     pub fn on_close(&mut self, client: u32) -> Option<MasterKey>
         ensures { calls.ClosedBy self.old (sets.member_of self.old.members client) result self.new }
     {
@@ -338,23 +432,34 @@ impl Masters {
     /// Makes a lessee of a master, by the step of this number, with the least id that is free below the master's owner
     /// (drm-uapi, leases; ids own). It stays until it is redeemed or released. A refusal changes nothing: `Full` exactly
     /// where no id is free, `NoMemory` where memory was refused.
+    ///
+    /// ```rust
+    /// let mut masters = Masters::new(alloc, 4, 4);
+    /// let Ok(_first) = masters.on_open(1, 1) else { return };
+    /// let Some(owner) = masters.master(1) else { return };
+    /// let Ok((lessee, id)) = masters.make_lessee(owner.key, 2) else { return };
+    /// assert!(id == 1);
+    /// ```
     pub fn make_lessee(
         &mut self,
         master: MasterKey,
-        birth: u32,
+        step_number: u32,
     ) -> Result<(MasterKey, u32), LesseeFault>
-        requires present { sets.is_there self.old.masters master ≡ true }
-        requires new_birth { calls.IsNewBirth self.old birth }
-        ensures made { calls.MadeLessee self.old (sets.birth_at self.old.masters master) birth result self.new }
+        requires open_client { sets.is_there self.old.masters master ≡ true }
+        requires new_step_number { calls.IsNewStepNumber self.old step_number }
+        ensures made { calls.MadeLessee self.old (sets.step_number_at self.old.masters master) step_number result self.new }
         ensures err { OnErr result (self.new ≡ self.old) }
     {
         let Some(lessor) = self.masters.of_key(master) else {
             unreachable!()
         };
-        let Some(id) = self.free_lessee(lessor.birth) else {
+        let Some(id) = self.free_lessee(lessor.step_number) else {
             return Err(LesseeFault::Full);
         };
-        let key = match self.masters.insert(lessee(birth, lessor.birth, id)) {
+        let key = match self
+            .masters
+            .insert(lessee(step_number, lessor.step_number, id))
+        {
             Ok(key) => key,
             Err(NoMemory) => return Err(LesseeFault::NoMemory),
         };
@@ -362,17 +467,26 @@ impl Masters {
     }
 
     /// The lessee of this id among all of the master's owner. It takes no memory.
+    ///
+    /// ```rust
+    /// let Some(owner) = masters.master(1) else { return };
+    /// assert!(masters.lessee(owner.key, id).is_some_and(|row| row.key == lessee));
+    /// ```
     pub fn lessee(&self, master: MasterKey, id: u32) -> Option<Master>
         requires { sets.is_there self.now.masters master ≡ true }
-        ensures lessee { result ≡ find (sets.is_lessee_of self.now.masters (sets.owner_of self.now.masters (sets.birth_at self.now.masters master)) id) self.now.masters }
-        ensures keyed { IfSome result (λ x. sets.IsKeyOf self.now.masters x.birth x.key) }
+        ensures lessee { result ≡ find (sets.is_lessee_of self.now.masters (sets.owner_of self.now.masters (sets.step_number_at self.now.masters master)) id) self.now.masters }
+        ensures keyed { IfSome result (λ x. sets.IsKeyOf self.now.masters x.step_number x.key) }
     {
-        let birth = self.masters.of_key(master)?.birth;
-        let owner = owner_of(&self.masters, birth);
+        let step_number = self.masters.of_key(master)?.step_number;
+        let owner = owner_of(&self.masters, step_number);
         self.masters.lessee(owner, id)
     }
 
     /// The last id that a lessee may have.
+    ///
+    /// ```rust
+    /// assert!(masters.last_lessee() == 4);
+    /// ```
     pub fn last_lessee(&self) -> u32
         ensures { result ≡ self.now.last_lessee }
     {
@@ -380,6 +494,10 @@ impl Masters {
     }
 
     /// The least id that no lessee of the master's owner has; none where each is taken. It takes no memory.
+    ///
+    /// ```rust
+    /// assert!(masters.free_lessee(1) == Some(2));
+    /// ```
     pub fn free_lessee(&self, master: u32) -> Option<u32>
         ensures { result ≡ sets.free_lessee self.now master }
     {
@@ -388,19 +506,31 @@ impl Masters {
     }
 
     /// Ends the stay of a kept master. It goes, and those above it, as far as nothing else holds them. It takes no memory.
+    ///
+    /// ```rust
+    /// if let Some(row) = masters.master(2) {
+    ///     masters.release(row.key);
+    /// }
+    /// assert!(masters.master(2).is_none());
+    /// ```
     pub fn release(&mut self, master: MasterKey)
         requires { sets.is_there self.old.masters master ≡ true }
-        ensures { self.new ≡ sets.swept (calls.with_kept (sets.birth_at self.old.masters master) false self.old) }
+        ensures { self.new ≡ sets.swept (calls.with_kept (sets.step_number_at self.old.masters master) false self.old) }
     {
         let Some(released) = self.masters.of_key(master) else {
             unreachable!()
         };
-        self.masters.set_kept(released.birth, false);
-        sweep_up(&self.members, &mut self.masters, released.birth);
+        self.masters.set_kept(released.step_number, false);
+        sweep_up(&self.members, &mut self.masters, released.step_number);
     }
 
     /// Ends the stay of a master and of all below it, where they are kept. Each goes, and those above it, as far as nothing
     /// else holds them. It takes no memory.
+    ///
+    /// ```rust
+    /// masters.release_under(1);
+    /// assert!(masters.master(1).is_some());
+    /// ```
     pub fn release_under(&mut self, top: u32)
         ensures { self.new ≡ sets.swept (calls.released_under top self.old) }
     {
@@ -410,6 +540,11 @@ impl Masters {
 
     /// Ends the stay of all below a master, where they are kept, and not its own. Each goes, and those above it, as far as
     /// nothing else holds them. It takes no memory.
+    ///
+    /// ```rust
+    /// masters.release_below(1);
+    /// assert!(masters.master(1).is_some());
+    /// ```
     pub fn release_below(&mut self, top: u32)
         ensures { self.new ≡ sets.swept (calls.released_below top self.old) }
     {
@@ -417,42 +552,50 @@ impl Masters {
         sweep_under(&self.members, &mut self.masters, top);
     }
 
-    /// The client at a place, from 0, in the order of births, among those that stand to masters; none past the last. It
+    /// The client at a place, from 0, in the order of step numbers, among those that stand to masters; none past the last. It
     /// takes no memory.
-    pub fn nth_member(&self, place: usize) -> Option<Member>
-        ensures { result ≡ slice_get self.now.members place }
+    ///
+    /// ```rust
+    /// assert!(masters.nth_member(0).is_some_and(|row| row.client == 1));
+    /// ```
+    pub fn nth_member(&self, position: usize) -> Option<Member>
+        ensures { result ≡ slice_get self.now.members position }
     {
-        self.members.nth(place)
+        self.members.nth(position)
     }
 
-    /// The master at a place, from 0, in the order of births; none past the last. It takes no memory.
-    pub fn nth_master(&self, place: usize) -> Option<Master>
-        ensures { result ≡ slice_get self.now.masters place }
+    /// The master at a place, from 0, in the order of step numbers; none past the last. It takes no memory.
+    ///
+    /// ```rust
+    /// assert!(masters.nth_master(0).is_some_and(|row| row.step_number == 1));
+    /// ```
+    pub fn nth_master(&self, position: usize) -> Option<Master>
+        ensures { result ≡ slice_get self.now.masters position }
     {
-        self.masters.nth(place)
+        self.masters.nth(position)
     }
 
     // a new master of a client that is no master, under this key; the device has none
-    fn found(&mut self, client: u32, birth: u32) -> Result<MasterKey, NoMemory>
+    fn found(&mut self, client: u32, step_number: u32) -> Result<MasterKey, NoMemory>
         requires none { self.old.device_master ≡ None }
-        requires new_birth { calls.IsNewBirth self.old birth }
-        requires present { is_some (sets.member_of self.old.members client) ≡ true }
-        ensures ok { IfOk result (λ key. self.new ≡ calls.remade client key birth self.old) }
+        requires new_step_number { calls.IsNewStepNumber self.old step_number }
+        requires open_client { is_some (sets.member_of self.old.members client) ≡ true }
+        ensures ok { IfOk result (λ key. self.new ≡ calls.remade client key step_number self.old) }
         ensures free { IfOk result (λ key. calls.IsFreeKey self.old key) }
         ensures err { OnErr result (self.new ≡ self.old) }
     {
         let Some(old) = self.members.get(client) else {
             unreachable!()
         };
-        let key = match self.masters.insert(own_master(birth)) {
+        let key = match self.masters.insert(founded_master(step_number)) {
             Ok(key) => key,
             Err(NoMemory) => return Err(NoMemory),
         };
-        if let Err(NoMemory) = self.members.remake(owner(client, birth)) {
-            self.masters.remove(birth);
+        if let Err(NoMemory) = self.members.remake(owner(client, step_number)) {
+            self.masters.remove(step_number);
             return Err(NoMemory);
         }
-        self.device_master = Some(birth);
+        self.device_master = Some(step_number);
         sweep_up(&self.members, &mut self.masters, old.master);
         flag_current(&mut self.members, &self.masters, self.device_master);
         Ok(key)

@@ -79,10 +79,10 @@ impl Members {
     }
 
     /// The client at a place, from 0; none past the last.
-    pub fn nth(&self, place: usize) -> Option<Member>
-        ensures { result ≡ slice_get self.now.items place }
+    pub fn nth(&self, position: usize) -> Option<Member>
+        ensures { result ≡ slice_get self.now.items position }
     {
-        let client = self.clients.nth(place)?;
+        let client = self.clients.nth(position)?;
         self.get(client)
     }
 
@@ -165,7 +165,7 @@ impl Members {
 
     /// Flags a client as current.
     pub fn flag(&mut self, client: u32)
-        requires present { is_some (sets.member_of self.old.items client) ≡ true }
+        requires open_client { is_some (sets.member_of self.old.items client) ≡ true }
         ensures rows { self.new.items ≡ self.old.items }
         ensures flags { self.new.flags ≡ set.insert self.old.flags client }
     {
@@ -223,7 +223,7 @@ fn insert(
 
 /// Puts what is kept of a client that is there.
 fn put(clients: &mut IndexArray<Membership>, client: u32, kept: Membership)
-    requires present { is_some (fin.get clients.old.items client) ≡ true }
+    requires open_client { is_some (fin.get clients.old.items client) ≡ true }
     ensures { clients.new ≡ with_item clients.old client kept }
 {
     let Some(slot) = clients.get_mut(client) else {

@@ -6,6 +6,13 @@ use std::marker::Model;
 
 /// Names a master of its [`Masters`](crate::Masters) for as long as it is there; another may have the key afterwards.
 /// Contracts see a number.
+///
+/// ```rust
+/// let mut masters = Masters::new(alloc, 4, 4);
+/// let Ok(_first) = masters.on_open(1, 1) else { return };
+/// let Some(key) = masters.master_of(1) else { return };
+/// assert!(masters.master(1).is_some_and(|row| row.key == key));
+/// ```
 #[derive(Clone, Copy, PartialEq, Eq, Debug)]
 pub struct MasterKey {
     number: u32,
@@ -36,6 +43,14 @@ impl MasterKey {
 }
 
 /// A client's number under its master (drm(7)).
+///
+/// ```rust
+/// if masters.member(1).is_some() {
+///     assert!(masters.magic(1) == Ok(1));
+/// }
+/// let magic = Some(Magic { number: 1, spent: false });
+/// assert!(masters.member(1).is_some_and(|row| row.magic == magic));
+/// ```
 #[derive(Clone, Copy, PartialEq, Eq, Debug)]
 pub struct Magic {
     /// The number, from 1.
@@ -45,6 +60,11 @@ pub struct Magic {
 }
 
 /// How an open client stands to masters. A render client does not, and is not listed.
+///
+/// ```rust
+/// let member = Member { client: 1, once_master: true, is_master: true, master: 1, magic };
+/// assert!(masters.nth_member(0) == Some(member));
+/// ```
 #[derive(Clone, Copy, PartialEq, Eq, Debug)]
 pub struct Member {
     /// The client's number.
@@ -60,11 +80,16 @@ pub struct Member {
 }
 
 /// A master.
+///
+/// ```rust
+/// let master = Master { key, step_number: 1, lessor: None, lessee_id: 0, kept: false };
+/// assert!(masters.nth_master(0) == Some(master));
+/// ```
 #[derive(Clone, Copy, PartialEq, Eq, Debug)]
 pub struct Master {
     pub key: MasterKey,
     /// The number of the step that made it.
-    pub birth: u32,
+    pub step_number: u32,
     /// Whose lessee it is, by the number of the step that made that one.
     pub lessor: Option<u32>,
     /// The id of a lessee among all of its owner, from 1; of another master 0.

@@ -12,46 +12,46 @@ use crate::rows::{Master, Member};
 use crate::table::MasterTable;
 
 /// The lessor of a master, if it is a lessee.
-pub fn lessor_of(masters: &MasterTable, birth: u32) -> Option<u32>
-    ensures { result ≡ sets.lessor_of masters.now.items birth }
+pub fn lessor_of(masters: &MasterTable, step_number: u32) -> Option<u32>
+    ensures { result ≡ sets.lessor_of masters.now.items step_number }
 {
-    match masters.at(birth) {
+    match masters.at(step_number) {
         Some(master) => master.lessor,
         None => None,
     }
 }
 
 /// The top of a master's chain of lessors.
-pub fn owner_of(masters: &MasterTable, birth: u32) -> u32
+pub fn owner_of(masters: &MasterTable, step_number: u32) -> u32
     requires older { AllByRecursion (sets.HasOlderLessor masters.now.items) masters.now.items }
-    ensures { result ≡ sets.owner_of masters.now.items birth }
+    ensures { result ≡ sets.owner_of masters.now.items step_number }
 {
-    match lessor_of(masters, birth) {
+    match lessor_of(masters, step_number) {
         Some(lessor) => owner_of(masters, lessor),
-        None => birth,
+        None => step_number,
     }
 }
 
-/// How many lessors stand above a master. There are no more than its birth comes to, since each is older.
-pub fn depth_of(masters: &MasterTable, birth: u32) -> u32
+/// How many lessors stand above a master. There are no more than its step number comes to, since each is older.
+pub fn depth_of(masters: &MasterTable, step_number: u32) -> u32
     requires older { AllByRecursion (sets.HasOlderLessor masters.now.items) masters.now.items }
-    ensures { result ≡ sets.depth_of masters.now.items birth }
+    ensures { result ≡ sets.depth_of masters.now.items step_number }
 {
-    match lessor_of(masters, birth) {
+    match lessor_of(masters, step_number) {
         Some(lessor) => depth_of(masters, lessor) + 1,
         None => 0,
     }
 }
 
 /// Whether a master is the one named top, or below it.
-pub fn is_under(masters: &MasterTable, top: u32, birth: u32) -> bool
+pub fn is_under(masters: &MasterTable, top: u32, step_number: u32) -> bool
     requires older { AllByRecursion (sets.HasOlderLessor masters.now.items) masters.now.items }
-    ensures { result ≡ chains.is_under (sets.lessor_of masters.now.items) top birth }
+    ensures { result ≡ chains.is_under (sets.lessor_of masters.now.items) top step_number }
 {
-    if birth == top {
+    if step_number == top {
         return true;
     }
-    match lessor_of(masters, birth) {
+    match lessor_of(masters, step_number) {
         Some(lessor) => is_under(masters, top, lessor),
         None => false,
     }
@@ -71,8 +71,8 @@ pub fn is_option(number: u32, option: Option<u32>) -> bool
 pub fn find_open_magic(members: &Members, master: u32, number: u32) -> Option<Member>
     ensures { result ≡ find (sets.has_open_magic master number) members.now.items }
 {
-    for place in 0..members.len() {
-        let Some(member) = members.nth(place) else {
+    for position in 0..members.len() {
+        let Some(member) = members.nth(position) else {
             unreachable!()
         };
         if has_open_magic(member, master, number) {
@@ -104,8 +104,8 @@ fn has_magic(member: Member, master: u32, number: u32) -> bool
 pub fn is_magic(members: &Members, master: u32, number: u32) -> bool
     ensures { result ≡ list_any (sets.has_magic master number) members.now.items }
 {
-    for place in 0..members.len() {
-        let Some(member) = members.nth(place) else {
+    for position in 0..members.len() {
+        let Some(member) = members.nth(position) else {
             unreachable!()
         };
         if has_magic(member, master, number) {

@@ -16,20 +16,20 @@ use crate::table::MasterTable;
 
 /// A master goes where neither it nor one below it is held. All but one are used: it goes if it isn't, and then those above it, as far as
 /// nothing else holds them. No other is looked at.
-pub fn sweep_up(members: &Members, masters: &mut MasterTable, birth: u32)
-    requires rise { InOrder (λ x y. x.birth < y.birth) masters.old.items }
+pub fn sweep_up(members: &Members, masters: &mut MasterTable, step_number: u32)
+    requires rise { InOrder (λ x y. x.step_number < y.step_number) masters.old.items }
     requires older { AllByRecursion (sets.HasOlderLessor masters.old.items) masters.old.items }
-    requires others { AllByRecursion (λ x. (x.birth == birth) ≡ false → sets.is_used members.now.items masters.old.items x ≡ true) masters.old.items }
-    ensures { masters.new.items ≡ filter (λ x. sets.is_living members.now.items masters.old.items x.birth) masters.old.items }
+    requires others { AllByRecursion (λ x. (x.step_number == step_number) ≡ false → sets.is_used members.now.items masters.old.items x ≡ true) masters.old.items }
+    ensures { masters.new.items ≡ filter (λ x. sets.is_living members.now.items masters.old.items x.step_number) masters.old.items }
 {
-    let Some(master) = masters.at(birth) else {
+    let Some(master) = masters.at(step_number) else {
         return;
     };
     let above = master.lessor;
     if is_used(members, masters, master) {
         return;
     }
-    masters.remove(birth);
+    masters.remove(step_number);
     if let Some(lessor) = above {
         sweep_up(members, masters, lessor);
     }
@@ -38,10 +38,10 @@ pub fn sweep_up(members: &Members, masters: &mut MasterTable, birth: u32)
 /// The same where all are used but for a master, those below it, and those above: these go as far as nothing else holds them. No other is
 /// looked at.
 pub fn sweep_under(members: &Members, masters: &mut MasterTable, top: u32)
-    requires rise { InOrder (λ x y. x.birth < y.birth) masters.old.items }
+    requires rise { InOrder (λ x y. x.step_number < y.step_number) masters.old.items }
     requires older { AllByRecursion (sets.HasOlderLessor masters.old.items) masters.old.items }
-    requires others { AllByRecursion (λ x. is_under (sets.lessor_of masters.old.items) top x.birth ≡ false → sets.is_used members.now.items masters.old.items x ≡ true) masters.old.items }
-    ensures { masters.new.items ≡ filter (λ x. sets.is_living members.now.items masters.old.items x.birth) masters.old.items }
+    requires others { AllByRecursion (λ x. is_under (sets.lessor_of masters.old.items) top x.step_number ≡ false → sets.is_used members.now.items masters.old.items x ≡ true) masters.old.items }
+    ensures { masters.new.items ≡ filter (λ x. sets.is_living members.now.items masters.old.items x.step_number) masters.old.items }
 {
     let above = searches::lessor_of(masters, top);
     sweep_below(members, masters, top);
@@ -52,7 +52,7 @@ pub fn sweep_under(members: &Members, masters: &mut MasterTable, top: u32)
 
 /// Of a master and those below it those go that nothing holds, nor one below them. No other is looked at.
 fn sweep_below(members: &Members, masters: &mut MasterTable, top: u32)
-    requires rise { InOrder (λ x y. x.birth < y.birth) masters.old.items }
+    requires rise { InOrder (λ x y. x.step_number < y.step_number) masters.old.items }
     requires older { AllByRecursion (sets.HasOlderLessor masters.old.items) masters.old.items }
     ensures { IsSweptBelow members.now.items top masters.old.items masters.new.items }
 {
@@ -71,9 +71,9 @@ fn sweep_below(members: &Members, masters: &mut MasterTable, top: u32)
 
 /// Has a master and all below it be kept no more. No other is looked at.
 pub fn release_all_under(masters: &mut MasterTable, top: u32)
-    requires rise { InOrder (λ x y. x.birth < y.birth) masters.old.items }
+    requires rise { InOrder (λ x y. x.step_number < y.step_number) masters.old.items }
     requires older { AllByRecursion (sets.HasOlderLessor masters.old.items) masters.old.items }
-    ensures { masters.new.items ≡ map (λ x. if is_under (sets.lessor_of masters.old.items) top x.birth then kept_as false x else x) masters.old.items }
+    ensures { masters.new.items ≡ map (λ x. if is_under (sets.lessor_of masters.old.items) top x.step_number then kept_as false x else x) masters.old.items }
 {
     masters.set_kept(top, false);
     release_all_below(masters, top);
@@ -81,9 +81,9 @@ pub fn release_all_under(masters: &mut MasterTable, top: u32)
 
 /// Has all below a master be kept no more, each direct lessee with all below it. No other is looked at.
 pub fn release_all_below(masters: &mut MasterTable, top: u32)
-    requires rise { InOrder (λ x y. x.birth < y.birth) masters.old.items }
+    requires rise { InOrder (λ x y. x.step_number < y.step_number) masters.old.items }
     requires older { AllByRecursion (sets.HasOlderLessor masters.old.items) masters.old.items }
-    ensures { masters.new.items ≡ map (λ x. if sets.is_below masters.old.items top x.birth then kept_as false x else x) masters.old.items }
+    ensures { masters.new.items ≡ map (λ x. if sets.is_below masters.old.items top x.step_number then kept_as false x else x) masters.old.items }
 {
     let mut after = top;
     while let Some(lessee) = masters.lessee_after(top, after) {
@@ -97,5 +97,5 @@ pub fn release_all_below(masters: &mut MasterTable, top: u32)
 fn is_used(members: &Members, masters: &MasterTable, master: Master) -> bool
     ensures { result ≡ sets.is_used members.now.items masters.now.items master }
 {
-    master.kept || members.is_named(master.birth) || masters.has_lessee(master.birth)
+    master.kept || members.is_named(master.step_number) || masters.has_lessee(master.step_number)
 }

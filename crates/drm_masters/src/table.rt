@@ -22,13 +22,13 @@ use slab::Slab;
 use std::alloc::Global;
 use std::marker::Model;
 
-/// The masters that are there, under keys that are given again. Contracts see a flat list, in the order of births.
+/// The masters that are there, under keys that are given again. Contracts see a flat list, in the order of step numbers.
 #[derive(Drop)]
 pub struct MasterTable {
-    // the keys, by the births of their masters
+    // the keys, by the step numbers of their masters
     keys: IndexArray<u32>,
     kept: Slab<Master>,
-    // the births of lessees, by those of their lessors
+    // the step numbers of lessees, by those of their lessors
     lessees: Groups,
     // and by their owners and ids
     ids: OwnerIds,
@@ -66,11 +66,11 @@ impl MasterTable {
         self.keys.len()
     }
 
-    /// The master of a birth, if it is there.
-    pub fn at(&self, birth: u32) -> Option<Master>
-        ensures { result ≡ sets.master_at self.now.items birth }
+    /// The master of a step number, if it is there.
+    pub fn at(&self, step_number: u32) -> Option<Master>
+        ensures { result ≡ sets.master_at self.now.items step_number }
     {
-        let key = *self.keys.get(birth)?;
+        let key = *self.keys.get(step_number)?;
         let master = self.kept.get(key as usize)?;
         Some(*master)
     }
@@ -84,17 +84,17 @@ impl MasterTable {
     }
 
     /// The master at a place, from 0; none past the last.
-    pub fn nth(&self, place: usize) -> Option<Master>
-        ensures { result ≡ slice_get self.now.items place }
+    pub fn nth(&self, position: usize) -> Option<Master>
+        ensures { result ≡ slice_get self.now.items position }
     {
-        let birth = self.keys.nth(place)?;
-        self.at(birth)
+        let step_number = self.keys.nth(position)?;
+        self.at(step_number)
     }
 
     /// Adds a master under a key of its own, which is given back; a lessee has an id that no other of its owner has. Without memory
     /// nothing changes.
     pub fn insert(&mut self, master: Master) -> Result<MasterKey, NoMemory>
-        requires newest { AllByRecursion (λ x. x.birth < master.birth) self.old.items }
+        requires newest { AllByRecursion (λ x. x.step_number < master.step_number) self.old.items }
         requires older { AllByRecursion (sets.HasOlderLessor self.old.items) self.old.items }
         requires there { (l : ℕ) → master.lessor ≡ Some l → is_some (sets.master_at self.old.items l) ≡ true }
         requires other_id { (l : ℕ) → master.lessor ≡ Some l → list_any (sets.is_lessee_of self.old.items (sets.owner_of self.old.items l) master.lessee_id) self.old.items ≡ false }
@@ -102,10 +102,10 @@ impl MasterTable {
         ensures free { IfOk result (λ key. find (sets.is_key key) self.old.items ≡ None) }
         ensures err { OnErr result (self.new ≡ self.old) }
     {
-        let birth = master.birth;
+        let step_number = master.step_number;
         let lessor = master.lessor;
         let id = master.lessee_id;
-        let owner = owner_to_be(self, lessor, birth);
+        let owner = owner_to_be(self, lessor, step_number);
         // a slab gives low keys, of which its contract says nothing: those of 32 bits end long after the memory
         let number = self.kept.vacant_key();
         if number > u32::MAX as usize {
@@ -114,15 +114,15 @@ impl MasterTable {
         if let Err(_fault) = self.kept.reserve(1) {
             return Err(NoMemory);
         }
-        if let Err(NoMemory) = name(&mut self.ids, owner, lessor, id, birth) {
+        if let Err(NoMemory) = name(&mut self.ids, owner, lessor, id, step_number) {
             return Err(NoMemory);
         }
-        if let Err(NoMemory) = list(&mut self.lessees, lessor, birth) {
+        if let Err(NoMemory) = list(&mut self.lessees, lessor, step_number) {
             unname(&mut self.ids, owner, lessor, id);
             return Err(NoMemory);
         }
-        if let Err(NoMemory) = put_new(&mut self.keys, birth, number as u32) {
-            unlist(&mut self.lessees, lessor, birth);
+        if let Err(NoMemory) = put_new(&mut self.keys, step_number, number as u32) {
+            unlist(&mut self.lessees, lessor, step_number);
             unname(&mut self.ids, owner, lessor, id);
             return Err(NoMemory);
         }
@@ -131,11 +131,11 @@ impl MasterTable {
         Ok(key)
     }
 
-    /// Keeps the master of a birth, if it is there, or not any more.
-    pub fn set_kept(&mut self, birth: u32, kept: bool)
-        ensures { self.new.items ≡ list_map (λ x. if sets.is_birth birth x then calls.kept_as kept x else x) self.old.items }
+    /// Keeps the master of a step number, if it is there, or not any more.
+    pub fn set_kept(&mut self, step_number: u32, kept: bool)
+        ensures { self.new.items ≡ list_map (λ x. if sets.is_step_number step_number x then calls.kept_as kept x else x) self.old.items }
     {
-        let Some(key) = self.keys.get(birth) else {
+        let Some(key) = self.keys.get(step_number) else {
             return;
         };
         let key = *key;
@@ -145,20 +145,20 @@ impl MasterTable {
         *master = Master { kept, ..*master };
     }
 
-    /// Takes the master of a birth away, if it is there; it is nobody's lessor. Its key may be given again.
-    pub fn remove(&mut self, birth: u32)
+    /// Takes the master of a step number away, if it is there; it is nobody's lessor. Its key may be given again.
+    pub fn remove(&mut self, step_number: u32)
         requires older { AllByRecursion (sets.HasOlderLessor self.old.items) self.old.items }
-        requires no_lessee { list_any (λ x. sets.is_option birth x.lessor) self.old.items ≡ false }
-        ensures { self.new.items ≡ filter (λ x. not (sets.is_birth birth x)) self.old.items }
+        requires no_lessee { list_any (λ x. sets.is_option step_number x.lessor) self.old.items ≡ false }
+        ensures { self.new.items ≡ filter (λ x. not (sets.is_step_number step_number x)) self.old.items }
     {
-        let owner = owner_of(self, birth);
-        let Some(key) = self.keys.remove(birth) else {
+        let owner = owner_of(self, step_number);
+        let Some(key) = self.keys.remove(step_number) else {
             return;
         };
         let Some(master) = self.kept.try_remove(key as usize) else {
             unreachable!()
         };
-        unlist(&mut self.lessees, master.lessor, birth);
+        unlist(&mut self.lessees, master.lessor, step_number);
         unname(&mut self.ids, owner, master.lessor, master.lessee_id);
     }
 
@@ -166,8 +166,8 @@ impl MasterTable {
     pub fn lessee(&self, owner: u32, id: u32) -> Option<Master>
         ensures { result ≡ find (sets.is_lessee_of self.now.items owner id) self.now.items }
     {
-        let birth = self.ids.at(owner, id)?;
-        self.at(birth)
+        let step_number = self.ids.at(owner, id)?;
+        self.at(step_number)
     }
 
     /// The least id up to the last that no lessee has under the owner.
@@ -184,14 +184,14 @@ impl MasterTable {
         self.lessees.next(lessor, 0).is_some()
     }
 
-    /// The direct lessee of a master at a place, from 0, in the order of births; none past the last.
-    pub fn nth_lessee(&self, lessor: u32, place: usize) -> Option<u32>
-        ensures { result ≡ slice_get (sets.lessees_of self.now.items lessor) place }
+    /// The direct lessee of a master at a place, from 0, in the order of step numbers; none past the last.
+    pub fn nth_lessee(&self, lessor: u32, position: usize) -> Option<u32>
+        ensures { result ≡ slice_get (sets.lessees_of self.now.items lessor) position }
     {
-        self.lessees.nth(lessor, place)
+        self.lessees.nth(lessor, position)
     }
 
-    /// The oldest direct lessee of a master that is younger than this birth.
+    /// The oldest direct lessee of a master that is younger than this step number.
     pub fn lessee_after(&self, lessor: u32, after: u32) -> Option<u32>
         ensures least { result ≡ least (λ n. sets.is_option lessor (sets.lessor_of self.now.items n)) (after + 1) u32.MAX }
         ensures none_above { IfNone result ((n : ℕ) → after < n → sets.is_option lessor (sets.lessor_of self.now.items n) ≡ false) }
@@ -205,13 +205,13 @@ impl MasterTable {
 }
 
 /// The owner of a master that is to come: that of its lessor, or else itself.
-fn owner_to_be(masters: &MasterTable, lessor: Option<u32>, birth: u32) -> u32
+fn owner_to_be(masters: &MasterTable, lessor: Option<u32>, step_number: u32) -> u32
     requires older { AllByRecursion (sets.HasOlderLessor masters.now.items) masters.now.items }
-    ensures { result ≡ option_map_or (sets.owner_of masters.now.items) lessor birth }
+    ensures { result ≡ option_map_or (sets.owner_of masters.now.items) lessor step_number }
 {
     match lessor {
         Some(lessor) => owner_of(masters, lessor),
-        None => birth,
+        None => step_number,
     }
 }
 
@@ -221,16 +221,16 @@ fn name(
     owner: u32,
     lessor: Option<u32>,
     id: u32,
-    birth: u32,
+    step_number: u32,
 ) -> Result<(), NoMemory>
     requires { (l : ℕ) → lessor ≡ Some l → id_at ids.old owner id ≡ None }
-    ensures ok { OnOk result (IsNamed (id_at ids.old) owner lessor id birth (id_at ids.new)) }
+    ensures ok { OnOk result (IsNamed (id_at ids.old) owner lessor id step_number (id_at ids.new)) }
     ensures err { OnErr result (ids.new ≡ ids.old) }
 {
     let Some(_lessor) = lessor else {
         return Ok(());
     };
-    ids.note(owner, id, birth)
+    ids.note(owner, id, step_number)
 }
 
 /// Not any more.
@@ -243,24 +243,24 @@ fn unname(ids: &mut OwnerIds, owner: u32, lessor: Option<u32>, id: u32)
 }
 
 /// Lists a master with its lessor's lessees, if it has one. Without memory nothing changes.
-fn list(lessees: &mut Groups, lessor: Option<u32>, birth: u32) -> Result<(), NoMemory>
-    ensures ok { OnOk result (IsListed (has lessees.old) lessor birth (has lessees.new)) }
+fn list(lessees: &mut Groups, lessor: Option<u32>, step_number: u32) -> Result<(), NoMemory>
+    ensures ok { OnOk result (IsListed (has lessees.old) lessor step_number (has lessees.new)) }
     ensures err { OnErr result (lessees.new ≡ lessees.old) }
 {
     let Some(lessor) = lessor else {
         return Ok(());
     };
-    match lessees.note(lessor, birth) {
+    match lessees.note(lessor, step_number) {
         Ok(()) => Ok(()),
         Err(_fault) => Err(NoMemory),
     }
 }
 
 /// Lists it no more.
-fn unlist(lessees: &mut Groups, lessor: Option<u32>, birth: u32)
-    ensures { IsUnlisted (has lessees.old) lessor birth (has lessees.new) }
+fn unlist(lessees: &mut Groups, lessor: Option<u32>, step_number: u32)
+    ensures { IsUnlisted (has lessees.old) lessor step_number (has lessees.new) }
 {
     if let Some(lessor) = lessor {
-        lessees.forget(lessor, birth);
+        lessees.forget(lessor, step_number);
     }
 }

@@ -7,12 +7,12 @@ ghost use Rattle.drm_masters.specs.Calls as calls;
 use crate::rows::{Magic, Master, MasterKey, Member};
 
 /// A master of a client of its own, whose key is given as it is added.
-pub fn own_master(birth: u32) -> Master
-    ensures { result ≡ calls.own_master 0 birth }
+pub fn founded_master(step_number: u32) -> Master
+    ensures { result ≡ calls.founded_master 0 step_number }
 {
     Master {
         key: MasterKey::from_number(0),
-        birth,
+        step_number,
         lessor: None,
         lessee_id: 0,
         kept: false,
@@ -20,12 +20,12 @@ pub fn own_master(birth: u32) -> Master
 }
 
 /// A lessee, which stays until it is redeemed or released; its key is given as it is added.
-pub fn lessee(birth: u32, lessor: u32, lessee_id: u32) -> Master
-    ensures { result ≡ calls.lessee 0 birth lessor lessee_id }
+pub fn lessee(step_number: u32, lessor: u32, lessee_id: u32) -> Master
+    ensures { result ≡ calls.lessee 0 step_number lessor lessee_id }
 {
     Master {
         key: MasterKey::from_number(0),
-        birth,
+        step_number,
         lessor: Some(lessor),
         lessee_id,
         kept: true,
@@ -46,8 +46,8 @@ pub fn owner(client: u32, master: u32) -> Member
 }
 
 /// A client of another's master.
-pub fn guest(client: u32, master: u32) -> Member
-    ensures { result ≡ calls.guest client master }
+pub fn non_master(client: u32, master: u32) -> Member
+    ensures { result ≡ calls.non_master client master }
 {
     Member {
         client,
@@ -59,8 +59,8 @@ pub fn guest(client: u32, master: u32) -> Member
 }
 
 /// A client that redeemed a lessee.
-pub fn redeemer(client: u32, master: u32) -> Member
-    ensures { result ≡ calls.redeemer client master }
+pub fn lease_client(client: u32, master: u32) -> Member
+    ensures { result ≡ calls.lease_client client master }
 {
     Member {
         client,
@@ -86,7 +86,7 @@ pub fn device_without(device: Option<u32>, master: u32) -> Option<u32>
     ensures { result ≡ (if is_option master device then None else device) }
 {
     match device {
-        Some(birth) if birth == master => None,
+        Some(step_number) if step_number == master => None,
         _ => device,
     }
 }

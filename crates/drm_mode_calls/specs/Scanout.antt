@@ -1,10 +1,11 @@
 -- What SETCRTC and SETPLANE ask, by what the device keeps.
-use Rattle.std.specs.Prelude.{ℕ, ◌==◌, Bool, not, ◌&&◌, ◌||◌, [], ◌∷◌, Option, if◌then◌else◌}
+use Rattle.std.specs.Prelude.{ℕ, ◌==◌, Bool, ◌&&◌, ◌||◌, [], ◌∷◌, Option}
 use Rattle.drm_table.specs.declared.rules.Rule.{Rule}
 use Rattle.drm_table.specs.declared.rules.Rule.TheVariants.{NoModeObject, NoFb, BadRoute}
 use Rattle.drm_table.specs.Permit.{check, first_failing}
 use Rattle.drm_modes.specs.declared.kinds.Kind.TheVariants.{Crtc, Plane, Connector}
-use Rattle.drm_modes.specs.Topology.{drives, reaches}
+use Rattle.drm_modes.specs.Topology as topology
+use Rattle.drm_modes.specs.Modes.{can_show}
 use Rattle.drm_state.specs.declared.state.State.{State}
 use Rattle.drm_state.specs.Seeing.{sees_object}
 
@@ -18,12 +19,19 @@ sees_route s c crtc connector = sees_object s c Crtc crtc && ((connector == 0) |
 
 -- a framebuffer with a connector that the CRTC reaches, or neither
 abbrev pub is_route : State → ℕ → ℕ → ℕ → Bool
-is_route s crtc f connector = if connector == 0 then f == 0 else not (f == 0) && reaches s.modes.topology connector crtc
+is_route s crtc f connector = topology.is_route s.modes.topology crtc f connector
 
 -- whether the client sees the plane, and the CRTC unless the plane goes dark
-abbrev pub sees_place : State → ℕ → ℕ → ℕ → ℕ → Bool
-sees_place s c plane crtc f = sees_object s c Plane plane && ((f == 0) || sees_object s c Crtc crtc)
+abbrev pub sees_plane_route : State → ℕ → ℕ → ℕ → ℕ → Bool
+sees_plane_route s c plane crtc f = sees_object s c Plane plane && ((f == 0) || sees_object s c Crtc crtc)
 
 -- whether the plane can be shown on the CRTC, or goes dark
-abbrev pub is_place : State → ℕ → ℕ → ℕ → Bool
-is_place s plane crtc f = (f == 0) || drives s.modes.topology plane crtc
+abbrev pub is_plane_route : State → ℕ → ℕ → ℕ → Bool
+is_plane_route s plane crtc f = topology.is_plane_route s.modes.topology plane crtc f
+
+-- the first rule of SETCRTC that fails, and that of SETPLANE
+abbrev pub crtc_refusal : State → ℕ → ℕ → ℕ → ℕ → Option Rule
+crtc_refusal s c crtc f connector = refusal (sees_route s c crtc connector) (can_show s.modes f) (is_route s crtc f connector)
+
+abbrev pub plane_refusal : State → ℕ → ℕ → ℕ → ℕ → Option Rule
+plane_refusal s c plane crtc f = refusal (sees_plane_route s c plane crtc f) (can_show s.modes f) (is_plane_route s plane crtc f)

@@ -1,14 +1,14 @@
 //! Framebuffers: what they are, and how they come and go.
 
 ghost use Rattle.std.specs.Prelude.{◌≡◌, ◌≤◌, ◌&&◌, true};
-ghost use Rattle.drm_files.specs.Files.{is_present};
+ghost use Rattle.drm_files.specs.Files.{is_open_client};
 ghost use Rattle.drm_table.specs.declared.answers.Answer.TheVariants.{Framebuffer as FramebufferIs};
 ghost use Rattle.drm_table.specs.declared.calls.Call.TheVariants.{AddFb, GetFb, RmFb};
 ghost use Rattle.drm_model.specs.Buffers as buffers;
 ghost use Rattle.drm_model.specs.Modes as model;
 ghost use Rattle.drm_model.specs.Rows.{Rows};
-ghost use Rattle.drm_state.specs.Ties.{IsTied, IsReady};
-ghost use Rattle.drm_state.specs.Refinement.{OwesCall, OwesReply, Represents};
+ghost use Rattle.drm_state.specs.Invariants.{MeetsInvariants, StepPrecondition};
+ghost use Rattle.drm_state.specs.Refinement.{RefinesCall, RefinesReply, Represents};
 
 use drm_modes::{AddFbFault, Shape};
 use drm_state::{State, bytes_per_pixel, is_dumb_shape, new_handle};
@@ -20,14 +20,14 @@ use std::alloc::AllocError;
 /// nothing changes.
 pub fn get_fb(
     state: &mut State,
-    birth: u32,
+    step_number: u32,
     client: u32,
     framebuffer: u32,
 ) -> Result<Answer, AllocError>
-    requires ready { IsReady state.old birth }
-    requires present { is_present state.old.files client ≡ true }
-    ensures owes { OwesCall state.old birth client (GetFb framebuffer) result state.new }
-    ensures tied { IsTied state.new }
+    requires precondition { StepPrecondition state.old step_number }
+    requires open_client { is_open_client state.old.files client ≡ true }
+    ensures refines { RefinesCall state.old step_number client (GetFb framebuffer) result state.new }
+    ensures invariants { MeetsInvariants state.new }
 {
     let Some(row) = state.modes.fb(framebuffer) else {
         return Ok(Answer::Denied(Rule::NoFb));
@@ -35,7 +35,7 @@ pub fn get_fb(
     if !gives_handle(state, client) {
         return Ok(framebuffer_answer(row.shape, 0));
     }
-    let Some(handle) = new_handle(state, birth, client, row.object, None)? else {
+    let Some(handle) = new_handle(state, step_number, client, row.object, None)? else {
         return Ok(Answer::Denied(Rule::Full));
     };
     Ok(framebuffer_answer(row.shape, handle))
@@ -46,15 +46,15 @@ pub fn get_fb(
 /// the object, no id is free or memory is refused, nothing changes.
 pub fn add_fb(
     state: &mut State,
-    birth: u32,
+    step_number: u32,
     client: u32,
     shape: Shape,
     handle: u32,
 ) -> Result<Answer, AllocError>
-    requires ready { IsReady state.old birth }
-    requires present { is_present state.old.files client ≡ true }
-    ensures owes { OwesCall state.old birth client (AddFb shape.width shape.height shape.pitch shape.bpp handle) result state.new }
-    ensures tied { IsTied state.new }
+    requires precondition { StepPrecondition state.old step_number }
+    requires open_client { is_open_client state.old.files client ≡ true }
+    ensures refines { RefinesCall state.old step_number client (AddFb shape.width shape.height shape.pitch shape.bpp handle) result state.new }
+    ensures invariants { MeetsInvariants state.new }
 {
     let Some(object) = state.files.object_of(client, handle) else {
         return Ok(Answer::Denied(Rule::NoHandle));
@@ -77,10 +77,10 @@ pub fn add_fb(
 /// MODE_RMFB: the caller's framebuffer goes, what shows it goes dark, and its object goes with the last that refers to it
 /// (drm-uapi, mode setting). Where the caller made no such framebuffer, nothing changes. It takes no memory.
 pub fn rm_fb(state: &mut State, client: u32, framebuffer: u32) -> Answer
-    requires tied { IsTied state.old }
-    requires present { is_present state.old.files client ≡ true }
-    ensures owes { OwesReply state.old client (RmFb framebuffer) result state.new }
-    ensures tied { IsTied state.new }
+    requires invariants { MeetsInvariants state.old }
+    requires open_client { is_open_client state.old.files client ≡ true }
+    ensures refines { RefinesReply state.old client (RmFb framebuffer) result state.new }
+    ensures invariants { MeetsInvariants state.new }
 {
     let Some(object) = state.modes.rmfb(client, framebuffer) else {
         return Answer::Denied(Rule::NoFb);

@@ -1,10 +1,10 @@
 //! What a mode object is and shows.
 
 ghost use Rattle.std.specs.Prelude.{◌≡◌, true};
-ghost use Rattle.drm_files.specs.Files.{is_present};
+ghost use Rattle.drm_files.specs.Files.{is_open_client};
 ghost use Rattle.drm_table.specs.declared.calls.Call.TheVariants.{GetCrtc, GetEncoder, GetConnector, GetPlane};
-ghost use Rattle.drm_state.specs.Ties.{IsTied};
-ghost use Rattle.drm_state.specs.Refinement.{OwesReply};
+ghost use Rattle.drm_state.specs.Invariants.{MeetsInvariants};
+ghost use Rattle.drm_state.specs.Refinement.{RefinesReply};
 
 use crate::seeing::{sees_object, visible_mask};
 use drm_modes::Kind;
@@ -14,9 +14,9 @@ use drm_table::{Answer, Rule};
 /// MODE_GETCRTC (drm-uapi, mode setting): the framebuffer that a CRTC shows, 0 where it is dark. It is denied where the
 /// caller sees no such CRTC, and takes no memory.
 pub fn get_crtc(state: &State, client: u32, crtc: u32) -> Answer
-    requires tied { IsTied state.now }
-    requires present { is_present state.now.files client ≡ true }
-    ensures { OwesReply state.now client (GetCrtc crtc) result state.now }
+    requires invariants { MeetsInvariants state.now }
+    requires open_client { is_open_client state.now.files client ≡ true }
+    ensures { RefinesReply state.now client (GetCrtc crtc) result state.now }
 {
     if !sees_object(state, client, Kind::Crtc, crtc) {
         return Answer::Denied(Rule::NoModeObject);
@@ -29,9 +29,9 @@ pub fn get_crtc(state: &State, client: u32, crtc: u32) -> Answer
 /// MODE_GETENCODER (drm-uapi, mode setting): the possible CRTCs of an encoder, as a mask over those that the caller sees. It
 /// is denied where there is no such encoder, and takes no memory.
 pub fn get_encoder(state: &State, client: u32, encoder: u32) -> Answer
-    requires tied { IsTied state.now }
-    requires present { is_present state.now.files client ≡ true }
-    ensures { OwesReply state.now client (GetEncoder encoder) result state.now }
+    requires invariants { MeetsInvariants state.now }
+    requires open_client { is_open_client state.now.files client ≡ true }
+    ensures { RefinesReply state.now client (GetEncoder encoder) result state.now }
 {
     if !sees_object(state, client, Kind::Encoder, encoder) {
         return Answer::Denied(Rule::NoModeObject);
@@ -44,9 +44,9 @@ pub fn get_encoder(state: &State, client: u32, encoder: u32) -> Answer
 /// MODE_GETCONNECTOR (drm-uapi, mode setting; that a connector has one encoder is own): the encoder of a connector. It is
 /// denied where the caller sees no such connector, and takes no memory.
 pub fn get_connector(state: &State, client: u32, connector: u32) -> Answer
-    requires tied { IsTied state.now }
-    requires present { is_present state.now.files client ≡ true }
-    ensures { OwesReply state.now client (GetConnector connector) result state.now }
+    requires invariants { MeetsInvariants state.now }
+    requires open_client { is_open_client state.now.files client ≡ true }
+    ensures { RefinesReply state.now client (GetConnector connector) result state.now }
 {
     if !sees_object(state, client, Kind::Connector, connector) {
         return Answer::Denied(Rule::NoModeObject);
@@ -59,9 +59,9 @@ pub fn get_connector(state: &State, client: u32, connector: u32) -> Answer
 /// MODE_GETPLANE (drm-uapi, mode setting): the framebuffer that a plane shows, 0 where it is dark, and its possible CRTCs, as
 /// a mask over those that the caller sees. It is denied where the caller sees no such plane, and takes no memory.
 pub fn get_plane(state: &State, client: u32, plane: u32) -> Answer
-    requires tied { IsTied state.now }
-    requires present { is_present state.now.files client ≡ true }
-    ensures { OwesReply state.now client (GetPlane plane) result state.now }
+    requires invariants { MeetsInvariants state.now }
+    requires open_client { is_open_client state.now.files client ≡ true }
+    ensures { RefinesReply state.now client (GetPlane plane) result state.now }
 {
     if !sees_object(state, client, Kind::Plane, plane) {
         return Answer::Denied(Rule::NoModeObject);

@@ -1,38 +1,53 @@
 //! What there is.
 
 ghost use Rattle.std.specs.Prelude.{◌≡◌, true};
-ghost use Rattle.drm_files.specs.Files.{is_present};
+ghost use Rattle.std.specs.List.{AllByRecursion};
+ghost use Rattle.drm_table.specs.ResourceIds.{IsShortId};
+ghost use Rattle.drm_files.specs.Files.{is_open_client};
 ghost use Rattle.drm_table.specs.declared.calls.Call.TheVariants.{GetResources, GetPlaneResources};
-ghost use Rattle.drm_state.specs.Ties.{IsTied};
-ghost use Rattle.drm_state.specs.Refinement.{OwesReply};
+ghost use Rattle.drm_state.specs.Invariants.{MeetsInvariants};
+ghost use Rattle.drm_state.specs.Refinement.{RefinesReply};
 
 use crate::seeing::visible;
 use drm_modes::Kind;
 use drm_state::State;
-use drm_table::Answer;
+use drm_table::{Answer, ResourceIds, ShownList};
 
 /// MODE_GETRESOURCES (drm-uapi, mode setting): the CRTCs and connectors that the caller sees, all encoders, and its own
 /// framebuffers, each list rising. It takes no memory.
 pub fn get_resources(state: &State, client: u32) -> Answer
-    requires tied { IsTied state.now }
-    requires present { is_present state.now.files client ≡ true }
-    ensures { OwesReply state.now client GetResources result state.now }
+    requires invariants { MeetsInvariants state.now }
+    requires open_client { is_open_client state.now.files client ≡ true }
+    ensures { RefinesReply state.now client GetResources result state.now }
 {
+    state.modes.laws();
     Answer::Resources {
-        crtcs: visible(state, client, Kind::Crtc),
-        connectors: visible(state, client, Kind::Connector),
-        encoders: state.modes.ids(Kind::Encoder),
-        framebuffers: state.modes.framebuffers_of(client),
+        crtcs: told(&visible(state, client, Kind::Crtc)),
+        connectors: told(&visible(state, client, Kind::Connector)),
+        encoders: told(&state.modes.ids(Kind::Encoder)),
+        framebuffers: told(&state.modes.framebuffers_of(client)),
     }
 }
 
 /// MODE_GETPLANERESOURCES (drm-uapi, mode setting): the planes that the caller sees, rising. It takes no memory.
 pub fn get_plane_resources(state: &State, client: u32) -> Answer
-    requires tied { IsTied state.now }
-    requires present { is_present state.now.files client ≡ true }
-    ensures { OwesReply state.now client GetPlaneResources result state.now }
+    requires invariants { MeetsInvariants state.now }
+    requires open_client { is_open_client state.now.files client ≡ true }
+    ensures { RefinesReply state.now client GetPlaneResources result state.now }
 {
     Answer::List {
         list: visible(state, client, Kind::Plane),
+    }
+}
+
+/// The ids of mode objects or framebuffers, as resources tell them.
+#[tactic(auto, using(drm_table::proofs::ShortIds::short_each))]
+fn told(ids: &ShownList) -> ResourceIds
+    requires { AllByRecursion IsShortId ids.now }
+    ensures { result ≡ ids.now }
+{
+    match ResourceIds::of(ids) {
+        Some(told) => told,
+        None => unreachable!(),
     }
 }

@@ -1,11 +1,11 @@
 //! What CRTCs and planes show.
 
 ghost use Rattle.std.specs.Prelude.{◌≡◌, true};
-ghost use Rattle.drm_files.specs.Files.{is_present};
+ghost use Rattle.drm_files.specs.Files.{is_open_client};
 ghost use Rattle.drm_table.specs.declared.calls.Call.TheVariants.{SetCrtc, SetPlane};
 ghost use Rattle.drm_modes.specs.Modes as shown;
-ghost use Rattle.drm_state.specs.Ties.{IsTied};
-ghost use Rattle.drm_state.specs.Refinement.{OwesReply};
+ghost use Rattle.drm_state.specs.Invariants.{MeetsInvariants};
+ghost use Rattle.drm_state.specs.Refinement.{RefinesReply};
 ghost use Rattle.drm_mode_calls.specs.Scanout as scanned;
 
 use crate::seeing::sees_object;
@@ -24,15 +24,12 @@ pub fn set_crtc(
     framebuffer: u32,
     connector: u32,
 ) -> Answer
-    requires tied { IsTied state.old }
-    requires present { is_present state.old.files client ≡ true }
-    ensures owes { OwesReply state.old client (SetCrtc crtc framebuffer connector) result state.new }
-    ensures tied { IsTied state.new }
+    requires invariants { MeetsInvariants state.old }
+    requires open_client { is_open_client state.old.files client ≡ true }
+    ensures refines { RefinesReply state.old client (SetCrtc crtc framebuffer connector) result state.new }
+    ensures invariants { MeetsInvariants state.new }
 {
-    let seen = sees_route(state, client, crtc, connector);
-    let there = can_show(state, framebuffer);
-    let shows = is_route(state, crtc, framebuffer, connector);
-    if let Some(rule) = refusal(seen, there, shows) {
+    if let Some(rule) = crtc_refusal(state, client, crtc, framebuffer, connector) {
         return Answer::Denied(rule);
     }
     state.modes.setcrtc(crtc, framebuffer);
@@ -44,15 +41,12 @@ pub fn set_crtc(
 /// whichever CRTC is named then. It is denied where the caller doesn't see the plane, or the CRTC that is to show it, where
 /// there is no such framebuffer, and where the plane can't be shown on the CRTC. Then nothing changes. It takes no memory.
 pub fn set_plane(state: &mut State, client: u32, plane: u32, crtc: u32, framebuffer: u32) -> Answer
-    requires tied { IsTied state.old }
-    requires present { is_present state.old.files client ≡ true }
-    ensures owes { OwesReply state.old client (SetPlane plane crtc framebuffer) result state.new }
-    ensures tied { IsTied state.new }
+    requires invariants { MeetsInvariants state.old }
+    requires open_client { is_open_client state.old.files client ≡ true }
+    ensures refines { RefinesReply state.old client (SetPlane plane crtc framebuffer) result state.new }
+    ensures invariants { MeetsInvariants state.new }
 {
-    let seen = sees_place(state, client, plane, crtc, framebuffer);
-    let there = can_show(state, framebuffer);
-    let shows = is_place(state, plane, crtc, framebuffer);
-    if let Some(rule) = refusal(seen, there, shows) {
+    if let Some(rule) = plane_refusal(state, client, plane, crtc, framebuffer) {
         return Answer::Denied(rule);
     }
     state.modes.setplane(plane, framebuffer);
@@ -60,17 +54,45 @@ pub fn set_plane(state: &mut State, client: u32, plane: u32, crtc: u32, framebuf
     Answer::Done
 }
 
-/// The first of the rules that fails: the client sees the objects, the framebuffer is there, and it can be shown so.
-fn refusal(seen: bool, there: bool, shows: bool) -> Option<Rule>
-    ensures { result ≡ scanned.refusal seen there shows }
+/// The first rule of MODE_SETCRTC that fails; what comes after it isn't looked up.
+fn crtc_refusal(
+    state: &State,
+    client: u32,
+    crtc: u32,
+    framebuffer: u32,
+    connector: u32,
+) -> Option<Rule>
+    ensures { result ≡ scanned.crtc_refusal state.now client crtc framebuffer connector }
 {
-    if !seen {
+    if !sees_route(state, client, crtc, connector) {
         return Some(Rule::NoModeObject);
     }
-    if !there {
+    if !can_show(state, framebuffer) {
         return Some(Rule::NoFb);
     }
-    if !shows {
+    if !is_route(state, crtc, framebuffer, connector) {
+        return Some(Rule::BadRoute);
+    }
+    None
+}
+
+/// The first rule of MODE_SETPLANE that fails; what comes after it isn't looked up.
+fn plane_refusal(
+    state: &State,
+    client: u32,
+    plane: u32,
+    crtc: u32,
+    framebuffer: u32,
+) -> Option<Rule>
+    ensures { result ≡ scanned.plane_refusal state.now client plane crtc framebuffer }
+{
+    if !sees_plane_route(state, client, plane, crtc, framebuffer) {
+        return Some(Rule::NoModeObject);
+    }
+    if !can_show(state, framebuffer) {
+        return Some(Rule::NoFb);
+    }
+    if !is_plane_route(state, plane, crtc, framebuffer) {
         return Some(Rule::BadRoute);
     }
     None
@@ -95,16 +117,16 @@ fn is_route(state: &State, crtc: u32, framebuffer: u32, connector: u32) -> bool
 }
 
 /// Whether the client sees a plane, and a CRTC unless the plane goes dark.
-fn sees_place(state: &State, client: u32, plane: u32, crtc: u32, framebuffer: u32) -> bool
-    ensures { result ≡ scanned.sees_place state.now client plane crtc framebuffer }
+fn sees_plane_route(state: &State, client: u32, plane: u32, crtc: u32, framebuffer: u32) -> bool
+    ensures { result ≡ scanned.sees_plane_route state.now client plane crtc framebuffer }
 {
     sees_object(state, client, Kind::Plane, plane)
         && (framebuffer == 0 || sees_object(state, client, Kind::Crtc, crtc))
 }
 
 /// Whether a plane can be shown on a CRTC, or goes dark.
-fn is_place(state: &State, plane: u32, crtc: u32, framebuffer: u32) -> bool
-    ensures { result ≡ scanned.is_place state.now plane crtc framebuffer }
+fn is_plane_route(state: &State, plane: u32, crtc: u32, framebuffer: u32) -> bool
+    ensures { result ≡ scanned.is_plane_route state.now plane crtc framebuffer }
 {
     framebuffer == 0 || state.modes.drives(plane, crtc)
 }

@@ -1,44 +1,19 @@
 -- A closing adds no row, so that it takes no memory.
-use Rattle.std.proofs.Common.{◌≡◌, ◌∙◌, ℕ, ◌≤◌, Bool, true, false, cond, length, Option, None, Some, refl, ap, arith}
-use Rattle.std.specs.Prelude.{if◌then◌else◌, Ok, Err, Result}
-use Rattle.std.proofs.lemmas.List.{length-map}
-use Rattle.drm_lists.proofs.Lists.{filter-shorter}
+use Rattle.std.proofs.Common.{[], ◌≡◌, ◌∙◌, ℕ, ◌≤◌, Bool, true, false, cond, length, None, Some, refl, ap, arith, List}
+use Rattle.std.specs.Prelude.{Ok, Err, Result}
 use Rattle.drm_table.specs.declared.answers.Answer.{Answer}
 use Rattle.drm_table.specs.declared.answers.Answer.TheVariants.{Closed}
 use Rattle.drm_table.specs.declared.apart.Apart.{Apart}
 use Rattle.drm_table.specs.declared.apart.Apart.TheVariants.{JournalFull, NoMemory, Worn}
 use Rattle.drm_table.specs.declared.events.Event.TheVariants.{Close}
 use Rattle.drm_table.specs.declared.rules.Rule.TheVariants.{NoClient}
-use Rattle.drm_model.specs.Rows.{Rows, ClientRow, MasterRow, is_open, client_row}
-use Rattle.drm_model.specs.Masters.{is_under}
-use Rattle.drm_model.specs.Leases.{ended}
-use Rattle.drm_model.specs.Clients.{closed, ended_own, ended_if}
+use Rattle.drm_model.specs.Rows.{Rows, is_open}
 use Rattle.drm_model.specs.Verdict.{verdict, checks}
 use Rattle.drm_model.specs.Change.{changed}
 use Rattle.drm_model.specs.Reply.{reply, reply_by, answer_of}
 use Rattle.drm_model.specs.Run.{Step, Growing, IsLonger, no_room}
-
--- rows of which no list is longer than those of others, in the lists that a closing's own master has a part in
-record IsShorter (w v : Rows) : Type 0 where
-  masters : length v.masters ≤ length w.masters
-  grants : length v.grants ≤ length w.grants
-  objects : v.objects ≡ w.objects
-  names : v.names ≡ w.names
-
-ended_if-shorter : (w : Rows) (b : Bool) (m : Option ℕ) → IsShorter w (ended_if w b m)
-unfolding ended
-ended_if-shorter w true (Some m) = record {
-  masters = let e = length-map w.masters (λ (row : MasterRow). if is_under w.masters m row.master then record row { lease_token = None } else row) in omega arith;
-  grants = filter-shorter _ w.grants;
-  objects = refl;
-  names = refl;
-}
-ended_if-shorter w true None = record { masters = omega arith; grants = omega arith; objects = refl; names = refl }
-ended_if-shorter w false m = record { masters = omega arith; grants = omega arith; objects = refl; names = refl }
-
-ended_own-shorter : (w : Rows) (row : Option ClientRow) → IsShorter w (ended_own w row)
-ended_own-shorter w None = record { masters = omega arith; grants = omega arith; objects = refl; names = refl }
-ended_own-shorter w (Some row) = ended_if-shorter w row.is_master row.master
+use Rattle.drm_model.proofs.Changes.{client_after, client_stays, framebuffer_stays, handle_after, handle_stays, magic_after, magic_stays, master_after, object_after, token_stays, grant_stays, each_edits}
+use Rattle.drm_lists.proofs.Edits.{edited, length-edited}
 
 longer-not : (w v : Rows) → length v.clients ≤ length w.clients → length v.masters ≤ length w.masters → length v.magics ≤ length w.magics →
     length v.holds ≤ length w.holds → length v.objects ≤ length w.objects → length v.names ≤ length w.names → length v.tokens ≤ length w.tokens →
@@ -46,12 +21,24 @@ longer-not : (w v : Rows) → length v.clients ≤ length w.clients → length v
 longer-not w v a b c d e f g h i longer = omega (arith, longer)
 
 pub closing_adds_no_row : (w : Rows) (c : ℕ) → Growing w (Close c) → ⊥
-unfolding Growing changed closed
+unfolding Growing
 closing_adds_no_row w c grows =
-    let own = ended_own-shorter w (client_row w c) in
-    longer-not w (closed w c) (filter-shorter _ w.clients) own.masters (filter-shorter _ w.magics) (filter-shorter _ w.holds)
-    (let e = ap length own.objects in omega arith) (let e = ap length own.names in omega arith)
-    (filter-shorter _ w.tokens) own.grants (filter-shorter _ w.framebuffers) grows.1
+    let is = each_edits w (Close c) in
+    let never = longer-not w (changed w (Close c)) in
+    never
+    (shorter (client_stays w (Close c)) (client_after w (Close c)) w.clients _ (ap (λ (v : Rows). v.clients) is))
+    (shorter (λ row. true) (master_after w (Close c)) w.masters _ (ap (λ (v : Rows). v.masters) is))
+    (shorter (magic_stays w (Close c)) (magic_after w (Close c)) w.magics _ (ap (λ (v : Rows). v.magics) is))
+    (shorter (handle_stays w (Close c)) (handle_after w (Close c)) w.holds _ (ap (λ (v : Rows). v.holds) is))
+    (shorter (λ row. true) (object_after w (Close c)) w.objects _ (ap (λ (v : Rows). v.objects) is))
+    (shorter (λ row. true) (λ row. row) w.names _ (ap (λ (v : Rows). v.names) is))
+    (shorter (token_stays w (Close c)) (λ row. row) w.tokens _ (ap (λ (v : Rows). v.tokens) is))
+    (shorter (grant_stays w (Close c)) (λ row. row) w.grants _ (ap (λ (v : Rows). v.grants) is))
+    (shorter (framebuffer_stays w (Close c)) (λ row. row) w.framebuffers _ (ap (λ (v : Rows). v.framebuffers) is))
+    grows.1
+  where
+    shorter : {X : Type 0} (stays : X → Bool) (change : X → X) (xs now : List X) → now ≡ edited stays change [] xs → length now ≤ length xs
+    shorter stays change xs now e = let all = length-edited stays change [] xs in let same = ap length e in omega (arith, all, same)
 
 pub closing_verdict : (w : Rows) (c : ℕ) → verdict w (Close c) ≡ cond (is_open w c) None (Some NoClient)
 unfolding verdict checks

@@ -9,20 +9,20 @@ use Rattle.drm_table.specs.declared.events.Event.TheVariants.{Ask, Close}
 use Rattle.drm_table.specs.declared.calls.Call.TheVariants.{RevokeLease}
 use Rattle.drm_model.specs.Rows.{Rows, ClientRow, MasterRow, is_open, client_row}
 use Rattle.drm_model.specs.Masters.{is_under, master_of}
-use Rattle.drm_model.specs.Magics.{own_master, is_master}
+use Rattle.drm_model.specs.Magics.{caller_master, is_master}
 use Rattle.drm_model.specs.Leases.{ended, lessee_master}
 use Rattle.drm_model.specs.Clients.{closed, ended_own, ended_if}
 use Rattle.drm_model.specs.Calls.{meaning}
 use Rattle.drm_model.specs.Verdict.{verdict}
-use Rattle.drm_model.specs.Change.{after, after_verdict, changed, swept, noted, is_living}
+use Rattle.drm_model.specs.Change.{after, after_verdict, changed, swept, journaled, is_living}
 use Rattle.drm_model.specs.Endings.{IsForgotten, HasEnded, is_grant_of, is_open_lease}
 use Rattle.drm_model.proofs.Closings.{closing_accepted}
 
-closed_after : (w : Rows) (c : ℕ) → is_open w c ≡ true → after w (Close c) ≡ noted (swept (closed w c))
+closed_after : (w : Rows) (c : ℕ) → is_open w c ≡ true → after w (Close c) ≡ journaled (swept (closed w c))
 unfolding after changed
 closed_after w c open_client = ap (λ v. after_verdict v w (Close c)) (closing_accepted w c open_client)
 
-forgotten : (w : Rows) (c : ℕ) → IsForgotten (noted (swept (closed w c))) c
+forgotten : (w : Rows) (c : ℕ) → IsForgotten (journaled (swept (closed w c))) c
 unfolding swept closed
 forgotten w c = record {
   clients = none_left (λ row. row.client == c) (λ row. row.client == c) (λ row e. e) w.clients;
@@ -61,7 +61,7 @@ own_ended : (w : Rows) (own : ℕ) (o : Option ClientRow) → option_map_or (λ 
 own_ended w own None e h = absurd (let no : false ≡ true = e in cc)
 own_ended w own (Some row) e h = λ i. ended_if w (e i) (h i)
 
-closed-ended : (w : Rows) (c own m : ℕ) → is_under w.masters own m ≡ true → ended_own w (client_row w c) ≡ ended_if w true (Some own) → HasEnded (noted (swept (closed w c))) m
+closed-ended : (w : Rows) (c own m : ℕ) → is_under w.masters own m ≡ true → ended_own w (client_row w c) ≡ ended_if w true (Some own) → HasEnded (journaled (swept (closed w c))) m
 unfolding swept closed
 closed-ended w c own m under e = record {
   grants = ap (λ (v : Rows). list_any (is_grant_of m) v.grants) e ∙ no_grant w own m under;
@@ -77,17 +77,17 @@ closing_ends w c own m open_client master its_master under =
 
 -- of a lessee
 
-revoked : (w : Rows) (top m : ℕ) → is_under w.masters top m ≡ true → HasEnded (noted (swept (ended w top))) m
+revoked : (w : Rows) (top m : ℕ) → is_under w.masters top m ≡ true → HasEnded (journaled (swept (ended w top))) m
 unfolding swept
 revoked w top m under = record {
   grants = no_grant w top m under;
   lease_token = none_filtered (is_open_lease m) (λ row. is_living (ended w top) row.master) (ended w top).masters (no_token w top m under);
 }
 
-revoked_after : (w : Rows) (c lessee : ℕ) → verdict w (Ask c (RevokeLease lessee)) ≡ None → after w (Ask c (RevokeLease lessee)) ≡ noted (swept (ended w (lessee_master w (own_master w c) lessee)))
+revoked_after : (w : Rows) (c lessee : ℕ) → verdict w (Ask c (RevokeLease lessee)) ≡ None → after w (Ask c (RevokeLease lessee)) ≡ journaled (swept (ended w (lessee_master w (caller_master w c) lessee)))
 unfolding after changed meaning
 revoked_after w c lessee accepted = ap (λ v. after_verdict v w (Ask c (RevokeLease lessee))) accepted
 
 -- neither the lessee nor any below it has a grant or an open lease token
-pub revocation_ends : (w : Rows) (c lessee m : ℕ) → verdict w (Ask c (RevokeLease lessee)) ≡ None → is_under w.masters (lessee_master w (own_master w c) lessee) m ≡ true → HasEnded (after w (Ask c (RevokeLease lessee))) m
-revocation_ends w c lessee m accepted under = subst (λ v. HasEnded v m) (sym (revoked_after w c lessee accepted)) (revoked w (lessee_master w (own_master w c) lessee) m under)
+pub revocation_ends : (w : Rows) (c lessee m : ℕ) → verdict w (Ask c (RevokeLease lessee)) ≡ None → is_under w.masters (lessee_master w (caller_master w c) lessee) m ≡ true → HasEnded (after w (Ask c (RevokeLease lessee))) m
+revocation_ends w c lessee m accepted under = subst (λ v. HasEnded v m) (sym (revoked_after w c lessee accepted)) (revoked w (lessee_master w (caller_master w c) lessee) m under)

@@ -3,7 +3,7 @@ use Rattle.std.proofs.Common.{◌≡◌, ℕ, zero, suc, ◌+◌, ◌≤◌, ◌
 use Rattle.std.proofs.lemmas.List.{length-map}
 use Rattle.drm_lists.proofs.Lists.{filter-shorter}
 use Rattle.drm_lists.proofs.Orders.{length-sorted}
-use Rattle.drm_table.specs.Results.{IsFew}
+use Rattle.drm_table.specs.Results.{FitsOneFrame}
 use Rattle.drm_table.specs.declared.calls.Call.{Call}
 use Rattle.drm_table.specs.declared.calls.Call.TheVariants.{GetResources, GetFb}
 use Rattle.drm_table.specs.declared.events.Event.{Event}
@@ -46,28 +46,28 @@ resources-few w c topology few =
     let framebuffers = own-few w c in
     omega (arith, crtcs, connectors, encoders, framebuffers, topology.few, few)
 
-framebuffer-few : (handle : ℕ) (row : Option FramebufferRow) → IsFew (Ok (framebuffer_answer handle row))
+framebuffer-few : (handle : ℕ) (row : Option FramebufferRow) → FitsOneFrame (Ok (framebuffer_answer handle row))
 framebuffer-few handle (Some row) = tt
 framebuffer-few handle None = tt
 
 -- a call that is not told here answers no resources
-asked-few : (w : Rows) (c : ℕ) (call : Call) → IsTopology w.topology → length w.framebuffers ≤ 64 → IsFew (Ok (meaning w c call).answer)
+asked-few : (w : Rows) (c : ℕ) (call : Call) → IsTopology w.topology → length w.framebuffers ≤ 64 → FitsOneFrame (Ok (meaning w c call).answer)
 unfolding meaning
 asked-few w c GetResources topology few = resources-few w c topology few
 asked-few w c (GetFb f) topology few = framebuffer-few _ (framebuffer_row w f)
 asked-few w c call topology few = tt
 
-answered-few : (w : Rows) (event : Event) → IsTopology w.topology → length w.framebuffers ≤ 64 → IsFew (Ok (answer_of w event))
+answered-few : (w : Rows) (event : Event) → IsTopology w.topology → length w.framebuffers ≤ 64 → FitsOneFrame (Ok (answer_of w event))
 unfolding answer_of
 answered-few w (Open opening) topology few = tt
 answered-few w (Ask c call) topology few = asked-few w c call topology few
 answered-few w (Close c) topology few = tt
 
-replied-few : (w : Rows) (event : Event) (v : Option Rule) → IsTopology w.topology → length w.framebuffers ≤ 64 → IsFew (Ok (reply_by v w event))
+replied-few : (w : Rows) (event : Event) (v : Option Rule) → IsTopology w.topology → length w.framebuffers ≤ 64 → FitsOneFrame (Ok (reply_by v w event))
 replied-few w event (Some rule) topology few = tt
 replied-few w event None topology few = answered-few w event topology few
 
 -- a frame holds each answer
-pub few_reply : (w : Rows) (event : Event) → IsTopology w.topology → length w.framebuffers ≤ 64 → IsFew (Ok (reply w event))
+pub few_reply : (w : Rows) (event : Event) → IsTopology w.topology → length w.framebuffers ≤ 64 → FitsOneFrame (Ok (reply w event))
 unfolding reply
 few_reply w event topology few = replied-few w event (verdict w event) topology few

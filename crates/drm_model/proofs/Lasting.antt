@@ -1,28 +1,23 @@
 -- What has ended stays ended: grants and lease tokens are given to new masters alone.
-use Rattle.std.proofs.Common.{◌≡◌, ◌∙◌, ℕ, ◌+◌, ◌≤◌, ◌==◌, Bool, true, false, ◌&&◌, ◌||◌, List, [], ◌∷◌, Option, None, Some, refl, ap, arith}
-use Rattle.std.specs.Prelude.{if◌then◌else◌}
+use Rattle.std.proofs.Common.{◌≡◌, ◌∙◌, ℕ, ◌+◌, ◌≤◌, ◌==◌, Bool, true, false, ◌&&◌, ◌||◌, List, Option, None, Some, refl, ap, arith}
+use Rattle.std.specs.Prelude.{if◌then◌else◌, IfSome}
 use Rattle.std.specs.List.{list_any}
 use Rattle.std.proofs.lemmas.Bool.{and_right}
-use Rattle.drm_lists.proofs.Lists.{list_any-map, none_each, none_added, none_changed, none_filtered}
+use Rattle.drm_lists.proofs.Lists.{list_any-map, none_each, none_filtered}
 use Rattle.drm_lists.proofs.Numbers.{flipped, less-differ}
-use Rattle.drm_table.specs.declared.calls.Call.{Call}
-use Rattle.drm_table.specs.declared.calls.Call.TheVariants.{Version, SetMaster, CreateLease, RevokeLease}
+use Rattle.drm_table.specs.declared.calls.Call.TheVariants.{CreateLease}
 use Rattle.drm_table.specs.declared.events.Event.{Event}
 use Rattle.drm_table.specs.declared.events.Event.TheVariants.{Open, Ask, Close}
-use Rattle.drm_table.specs.declared.events.Opening.TheVariants.{Primary, Render, Lease}
-use Rattle.drm_table.specs.declared.rules.Rule.{Rule}
-use Rattle.drm_model.specs.Rows.{Rows, ClientRow, MasterRow, birth, client_row, is_option}
-use Rattle.drm_model.specs.Masters.{is_under}
-use Rattle.drm_model.specs.Magics.{own_master, is_current, is_master, mastered}
-use Rattle.drm_model.specs.Buffers.{with_object}
-use Rattle.drm_model.specs.Leases.{ended, grant, lessee_master, leased}
-use Rattle.drm_model.specs.Clients.{opened, opened_primary, closed, ended_own, ended_if}
-use Rattle.drm_model.specs.Calls.{meaning}
-use Rattle.drm_model.specs.Verdict.{verdict}
-use Rattle.drm_model.specs.Change.{after, after_verdict, changed, swept, is_living}
+use Rattle.drm_model.specs.Rows.{Rows, MasterRow, step_number}
+use Rattle.drm_model.specs.Leases.{grant, leased}
+use Rattle.drm_model.specs.Change.{after, changed, swept, is_living, journaled}
 use Rattle.drm_model.specs.Run.{run}
 use Rattle.drm_model.specs.Endings.{HasEnded, is_grant_of, is_open_lease}
 use Rattle.drm_model.proofs.Journals.{after-steps}
+use Rattle.drm_model.proofs.Changes.{along, master_after, new_grants, new_master_row, spends_token, by_verdict, grant_stays, each_edits}
+use Rattle.std.specs.Option.{is_some}
+use Rattle.drm_lists.proofs.Edits.{listed, none_edited}
+use Rattle.drm_model.proofs.StepNumbers.{master-new}
 
 -- the two lists that are read
 abbrev HaveEnded : ℕ → Rows → Type 0
@@ -35,67 +30,34 @@ untokened : (m : ℕ) (b : Bool) (row : MasterRow) → is_open_lease m row ≡ f
 untokened m true row h = and_right (row.master == m) false refl
 untokened m false row h = h
 
-untokened_new : (m n : ℕ) → ((n == m) && false || false) ≡ false
-untokened_new m n = ap (λ b. b || false) (and_right (n == m) false refl)
+-- a new master is another, and so is that of new grants
+new_grants-other : (w : Rows) (event : Event) (m : ℕ) → m ≤ w.steps → list_any (is_grant_of m) (new_grants w event) ≡ false
+new_grants-other w (Ask c (CreateLease ids)) m old = list_any-map (is_grant_of m) (grant (step_number w)) (leased w c ids) ∙ none_each (λ x. step_number w == m) (λ x. other m w.steps old) (leased w c ids)
+new_grants-other w (Ask c call) m old = refl
+new_grants-other w (Open opening) m old = refl
+new_grants-other w (Close c) m old = refl
 
-ended-still : (w : Rows) (top m : ℕ) → HaveEnded m w → HaveEnded m (ended w top)
-unfolding ended
-ended-still w top m h = (none_filtered (is_grant_of m) _ w.grants h.0, none_changed (is_open_lease m) _ (λ row k. untokened m (is_under w.masters top row.master) row k) w.masters h.1)
-
-ended_if-still : (w : Rows) (b : Bool) (top : Option ℕ) (m : ℕ) → HaveEnded m w → HaveEnded m (ended_if w b top)
-ended_if-still w true (Some top) m h = ended-still w top m h
-ended_if-still w true None m h = h
-ended_if-still w false top m h = h
-
-ended_own-still : (w : Rows) (row : Option ClientRow) (m : ℕ) → HaveEnded m w → HaveEnded m (ended_own w row)
-ended_own-still w None m h = h
-ended_own-still w (Some row) m h = ended_if-still w row.is_master row.master m h
-
-opened_primary-still : (w : Rows) (root universal : Bool) (device : Option ℕ) (m : ℕ) → HaveEnded m w → HaveEnded m (opened_primary w root universal device)
-opened_primary-still w root universal None m h = (h.0, none_added (is_open_lease m) w.masters _ h.1 (untokened_new m (birth w)))
-opened_primary-still w root universal (Some device) m h = h
-
-mastered-still : (w : Rows) (c : ℕ) (current master : Bool) (m : ℕ) → HaveEnded m w → HaveEnded m (mastered w c current master)
-mastered-still w c true master m h = h
-mastered-still w c false true m h = h
-mastered-still w c false false m h = (h.0, none_added (is_open_lease m) w.masters _ h.1 (untokened_new m (birth w)))
-
--- a call that is not told here changes no master and no grant
-asked-still : (w : Rows) (c : ℕ) (call : Call) (m : ℕ) → m ≤ w.steps → HaveEnded m w → HaveEnded m (meaning w c call).rows
-unfolding meaning with_object
-asked-still w c Version m old h = h
-asked-still w c SetMaster m old h = mastered-still w c (is_current w c) (is_master w c) m h
-asked-still w c (CreateLease ids) m old h =
-    let new = other m w.steps old in (
-      none_added (is_grant_of m) w.grants _ h.0 (list_any-map (is_grant_of m) (grant (birth w)) (leased w c ids) ∙ none_each (λ x. birth w == m) (λ x. new) (leased w c ids)),
-      none_added (is_open_lease m) w.masters _ h.1 (ap (λ b. b && true || false) new),
-    )
-asked-still w c (RevokeLease lessee) m old h = ended-still w (lessee_master w (own_master w c) lessee) m h
-asked-still w c call m old h = h
+new_master-other : (w : Rows) (m : ℕ) → m ≤ w.steps → (o : Option MasterRow) → IfSome o (λ row. row.master ≡ step_number w) → list_any (is_open_lease m) (listed o) ≡ false
+new_master-other w m old None fresh = refl
+new_master-other w m old (Some row) fresh = ap (λ b. b && is_some row.lease_token || false) (ap (λ n. n == m) fresh ∙ other m w.steps old)
 
 changed-still : (w : Rows) (event : Event) (m : ℕ) → m ≤ w.steps → HaveEnded m w → HaveEnded m (changed w event)
-unfolding changed opened closed
-changed-still w (Open (Primary root universal)) m old h = opened_primary-still w root universal w.device_master m h
-changed-still w (Open Render) m old h = h
-changed-still w (Open (Lease token root universal)) m old h = (h.0, none_changed (is_open_lease m) _ (λ row k. untokened m (is_option token row.lease_token) row k) w.masters h.1)
-changed-still w (Ask c call) m old h = asked-still w c call m old h
-changed-still w (Close c) m old h = ended_own-still w (client_row w c) m h
+changed-still w event m old h =
+    let is = each_edits w event in (
+      ap (list_any (is_grant_of m)) (ap (λ (v : Rows). v.grants) is) ∙ none_edited (grant_stays w event) (λ row. row) (new_grants w event) w.grants (is_grant_of m) (λ row k. k) (new_grants-other w event m old) h.0,
+      ap (list_any (is_open_lease m)) (ap (λ (v : Rows). v.masters) is)
+          ∙ none_edited (λ row. true) (master_after w event) (listed (new_master_row w event)) w.masters (is_open_lease m) (λ row k. untokened m (spends_token w event row) row k) (new_master-other w m old (new_master_row w event) (master-new w event)) h.1,
+    )
 
-verdict-still : (w : Rows) (event : Event) (v : Option Rule) (m : ℕ) → m ≤ w.steps → HaveEnded m w → HaveEnded m (after_verdict v w event)
+swept-still : (w : Rows) (m : ℕ) → HaveEnded m w → HaveEnded m (journaled (swept w))
 unfolding swept
-verdict-still w event (Some rule) m old h = h
-verdict-still w event None m old h =
-    let k = changed-still w event m old h in
-    (k.0, none_filtered (is_open_lease m) (λ row. is_living (changed w event) row.master) (changed w event).masters k.1)
+swept-still w m h = (h.0, none_filtered (is_open_lease m) (λ row. is_living w row.master) w.masters h.1)
 
-after-still : (w : Rows) (event : Event) (m : ℕ) → m ≤ w.steps → HaveEnded m w → HaveEnded m (after w event)
-unfolding after
-after-still w event m old h = verdict-still w event (verdict w event) m old h
-
-run-still : (w : Rows) (events : List Event) (m : ℕ) → m ≤ w.steps → HaveEnded m w → HaveEnded m (run w events)
-unfolding run
-run-still w [] m old h = h
-run-still w (e ∷ es) m old h = run-still (after w e) es m (let more = after-steps w e in omega (arith, old, more)) (after-still w e m old h)
+after-still : (m : ℕ) (w : Rows) (event : Event) → (m ≤ w.steps) × HaveEnded m w → (m ≤ (after w event).steps) × HaveEnded m (after w event)
+after-still m w event h = (
+  let old = h.0 in let more = after-steps w event in omega (arith, old, more),
+  by_verdict (HaveEnded m) w event h.1 (λ accepted. swept-still (changed w event) m (changed-still w event m h.0 h.1)),
+)
 
 pub stays_ended : (w : Rows) (events : List Event) (m : ℕ) → m ≤ w.steps → HasEnded w m → HasEnded (run w events) m
-stays_ended w events m old h = let k = run-still w events m old (h.grants, h.lease_token) in record { grants = k.0; lease_token = k.1 }
+stays_ended w events m old h = let k = along (λ v. (m ≤ v.steps) × HaveEnded m v) (after-still m) events w (old, (h.grants, h.lease_token)) in record { grants = k.1.0; lease_token = k.1.1 }

@@ -15,7 +15,8 @@ use Rattle.drm_modes.specs.Topology.{Topology, IsTopology, first_plane, first_en
 use Rattle.drm_modes.proofs.Fixed.{within}
 use Rattle.drm_model.specs.Rows.{Rows, is_framebuffer}
 use Rattle.drm_model.specs.Sees.{controls, has_universal, sees}
-use Rattle.drm_model.specs.Leases.{is_seen, is_leasable, stands_once, brought_along, leased}
+use Rattle.drm_model.specs.Leases.{is_seen, is_leasable, brought_along, leased}
+use Rattle.drm_modes.specs.LeaseRules.{stands_once}
 use Rattle.drm_model.specs.Calls.{meaning}
 use Rattle.drm_model.specs.Verdict.{verdict, checks, admission_checks}
 use Rattle.drm_model.proofs.Once.{passes_and_was, picked_once, each_once}
@@ -106,7 +107,7 @@ unseen : (encoder controlled hidden universal : Bool) → encoder ≡ false → 
 unseen encoder true hidden universal e h u = rw (e, h, u) refl
 unseen encoder false hidden universal e h u = rw e refl
 
-seen_named : (known sees encoder framebuffer : Bool) → ((known && sees) || framebuffer) ≡ true → not (encoder || framebuffer) ≡ true → (sees ≡ true) × (encoder ≡ false)
+pub seen_named : (known sees encoder framebuffer : Bool) → ((known && sees) || framebuffer) ≡ true → not (encoder || framebuffer) ≡ true → (sees ≡ true) × (encoder ≡ false)
 seen_named known sees true framebuffer seen leasable = absurd (false≢true leasable)
 seen_named known sees false true seen leasable = absurd (false≢true leasable)
 seen_named true true false false seen leasable = (refl, refl)

@@ -1,30 +1,29 @@
 -- Steps made the clients, masters and objects, and a lessor is older than its lessee, along a run.
-use Rattle.std.proofs.Common.{◌≡◌, ℕ, ◌+◌, ◌==◌, ◌<◌, ◌≤◌, Bool, true, false, List, [], ◌∷◌, ◌++◌, map, Option, None, Some, sym, subst, arith}
-use Rattle.std.specs.Prelude.{if◌then◌else◌, unwrap_or, IfSome}
+use Rattle.std.proofs.Common.{◌≡◌, ℕ, ◌+◌, ◌==◌, ◌<◌, ◌≤◌, Bool, true, false, List, Option, None, Some, sym, subst, arith, ap}
+use Rattle.std.specs.Prelude.{unwrap_or, IfSome}
 use Rattle.std.specs.List.{AllByRecursion}
 use Rattle.std.specs.Option.{option_map, option_and_then}
 use Rattle.std.proofs.lemmas.Bool.{eqb-true}
-use Rattle.drm_lists.proofs.Lists.{all_weaker, all_append, all_filter, all_mapped}
+use Rattle.drm_lists.proofs.Lists.{all_weaker, all_filter}
 use Rattle.drm_lists.proofs.Found.{all_found, found_passes}
-use Rattle.drm_table.specs.declared.calls.Call.{Call}
-use Rattle.drm_table.specs.declared.calls.Call.TheVariants.{SetClientCap, AuthMagic, SetMaster, DropMaster, BufCreate, StampWrite, CreateDumb, CreateLease, RevokeLease}
+use Rattle.drm_table.specs.declared.calls.Call.TheVariants.{SetClientCap, AuthMagic, SetMaster, DropMaster, CreateLease}
 use Rattle.drm_table.specs.declared.events.Event.{Event}
 use Rattle.drm_table.specs.declared.events.Event.TheVariants.{Open, Ask, Close}
 use Rattle.drm_table.specs.declared.events.Opening.TheVariants.{Primary, Render, Lease}
-use Rattle.drm_table.specs.declared.rules.Rule.{Rule}
-use Rattle.drm_model.specs.Births.{IsMadeClient, IsMadeMaster, WereMade}
-use Rattle.drm_model.specs.Rows.{Rows, ClientRow, MasterRow, ObjectRow, birth, empty_rows, is_option, is_client, client_row, object_of}
-use Rattle.drm_model.specs.Masters.{is_under, master_of, master_row, lessor_of}
-use Rattle.drm_model.specs.Magics.{own_master, magic_client, is_current, is_master, mastered, with_authenticated, with_master}
-use Rattle.drm_model.specs.Leases.{ended, lease_master, lessee_master}
-use Rattle.drm_model.specs.Buffers.{with_object, with_stamp}
-use Rattle.drm_model.specs.Capabilities.{with_universal}
+use Rattle.drm_model.specs.StepNumbers.{IsMadeClient, IsMadeMaster, WereMade}
+use Rattle.drm_model.specs.Rows.{Rows, ClientRow, MasterRow, ObjectRow, step_number, empty_rows, is_option, is_client, client_row}
+use Rattle.drm_model.specs.Masters.{master_of, master_row, lessor_of}
+use Rattle.drm_model.specs.Magics.{caller_master, magic_client, is_current, is_master, mastered}
+use Rattle.drm_model.specs.Leases.{ended, lease_master}
+use Rattle.drm_model.specs.Buffers.{with_object}
 use Rattle.drm_model.specs.Clients.{opened, opened_primary, closed, ended_own, ended_if}
 use Rattle.drm_model.specs.Calls.{meaning}
-use Rattle.drm_model.specs.Verdict.{verdict}
-use Rattle.drm_model.specs.Change.{after, after_verdict, changed, swept, noted}
-use Rattle.drm_model.specs.Run.{run, rows_of, History}
+use Rattle.drm_model.specs.Change.{after, changed, swept, journaled}
+use Rattle.drm_model.specs.Run.{rows_of, DeviceValue}
 use Rattle.drm_model.proofs.Journals.{after-steps}
+use Rattle.drm_lists.proofs.Edits.{all_edited, all_listed, either, listed}
+use Rattle.drm_model.proofs.Changes.{along, by_verdict, client_after, client_stays, founded_master, master_after, new_client_row, new_master_row, new_object_row, object_after, primary_row, set_master_row, set_row, spends_token, each_edits}
+use Rattle.drm_model.proofs.StepNumbers.{object-new, object-same}
 
 -- ---- one step later
 
@@ -38,7 +37,7 @@ clients_later last rows h = all_weaker (IsMadeClient last) (IsMadeClient (last +
 masters_later : (last : ℕ) (rows : List MasterRow) → AllByRecursion (IsMadeMaster last) rows → AllByRecursion (IsMadeMaster (last + 1)) rows
 masters_later last rows h = all_weaker (IsMadeMaster last) (IsMadeMaster (last + 1)) (λ row k. (k.0, let old = k.1 in omega (arith, old), k.2)) rows h
 
-later : (w : Rows) → WereMade w.steps w → WereMade (birth w) w
+later : (w : Rows) → WereMade w.steps w → WereMade (step_number w) w
 later w h = (clients_later w.steps w.clients h.0, masters_later w.steps w.masters h.1, h.2, up_to_later w.steps w.device_master h.3)
 
 -- ---- what a client's master is
@@ -54,146 +53,122 @@ none_is_zero : (last : ℕ) (o : Option ℕ) → IfSome o (λ m. m ≤ last) →
 none_is_zero last None h = omega arith
 none_is_zero last (Some m) h = h
 
-pub own_master_made : (w : Rows) (c : ℕ) → WereMade w.steps w → own_master w c ≤ w.steps
+pub own_master_made : (w : Rows) (c : ℕ) → WereMade w.steps w → caller_master w c ≤ w.steps
 own_master_made w c h = none_is_zero w.steps (master_of w c) (master_up_to w.steps w c h.0)
 
 redeemed : (last : ℕ) (o : Option MasterRow) → IfSome o (IsMadeMaster last) → IfSome (option_map (λ (row : MasterRow). row.master) o) (λ m. m ≤ last)
 redeemed last None h = tt
 redeemed last (Some row) h = h.1
 
--- ---- lists that change
-
-all_changed : {X : Type 0} (P : X → Type 0) (f : X → X) → ((x : X) → P x → P (f x)) → (xs : List X) → AllByRecursion P xs → AllByRecursion P (map f xs)
-all_changed P f keeps xs h = all_mapped P f xs (all_weaker P (λ x. P (f x)) keeps xs h)
-
-all_push : {X : Type 0} (P : X → Type 0) (xs : List X) (x : X) → AllByRecursion P xs → P x → AllByRecursion P (xs ++ x ∷ [])
-all_push P xs x h k = all_append P xs (x ∷ []) h (k, tt)
-
-untoken : (last : ℕ) (b : Bool) (row : MasterRow) → IsMadeMaster last row → IsMadeMaster last (if b then record row { lease_token = None } else row)
-untoken last true row h = h
-untoken last false row h = h
-
-authenticated : (last : ℕ) (b : Bool) (row : ClientRow) → IsMadeClient last row → IsMadeClient last (if b then record row { authenticated = true } else row)
-authenticated last true row h = h
-authenticated last false row h = h
-
-capable : (last : ℕ) (b on : Bool) (row : ClientRow) → IsMadeClient last row → IsMadeClient last (if b then record row { universal = on } else row)
-capable last true on row h = h
-capable last false on row h = h
-
-mastering : (last m : ℕ) (b : Bool) (row : ClientRow) → m ≤ last → IsMadeClient last row → IsMadeClient last (if b then record row { authenticated = true; once_master = true; is_master = true; master = Some m } else row)
-mastering last m true row old h = (h.0, old)
-mastering last m false row old h = h
-
-stamped : (b : Bool) (row : ObjectRow) (stamp : ℕ) → 1 ≤ row.object → 1 ≤ (if b then record row { stamp = stamp } else row).object
-stamped true row stamp h = h
-stamped false row stamp h = h
-
 -- ---- what an event changes
 
-ended-made : (w : Rows) (last m : ℕ) → WereMade last w → WereMade last (ended w m)
-unfolding ended
-ended-made w last m h = (h.0, all_changed (IsMadeMaster last) _ (λ row. untoken last (is_under w.masters m row.master) row) w.masters h.1, h.2, h.3)
+-- a client's master is its own before, or one of this step
+set-made : (w : Rows) (c : ℕ) (current master : Bool) (row : ClientRow) → IsMadeClient (step_number w) row → IsMadeClient (step_number w) (set_row w c current master row)
+set-made w c true master row h = h
+set-made w c false true row h = h
+set-made w c false false row h = either (IsMadeClient (step_number w)) (is_client c row) (record row { authenticated = true; once_master = true; is_master = true; master = Some (step_number w) }) row (h.0, omega arith) h
 
-no_longer : (last : ℕ) (b : Bool) (o : Option ℕ) → IfSome o (λ m. m ≤ last) → IfSome (if b then None else o) (λ m. m ≤ last)
-no_longer last true o h = tt
-no_longer last false o h = h
+client-made : (w : Rows) (event : Event) (row : ClientRow) → IsMadeClient (step_number w) row → IsMadeClient (step_number w) (client_after w event row)
+client-made w (Ask c (AuthMagic magic)) row h = either (IsMadeClient (step_number w)) (is_option row.client (magic_client w (caller_master w c) magic)) (record row { authenticated = true }) row h h
+client-made w (Ask c SetMaster) row h = set-made w c (is_current w c) (is_master w c) row h
+client-made w (Ask c (SetClientCap cap value)) row h = either (IsMadeClient (step_number w)) (is_client c row) (record row { universal = value == 1 }) row h h
+client-made w (Ask c call) row h = h
+client-made w (Open opening) row h = h
+client-made w (Close c) row h = h
 
-ended_if-made : (w : Rows) (last : ℕ) (b : Bool) (m : Option ℕ) → WereMade last w → WereMade last (ended_if w b m)
-ended_if-made w last true (Some m) h = let e = ended-made w last m h in (e.0, e.1, e.2, no_longer last (is_option m w.device_master) w.device_master h.3)
-ended_if-made w last true None h = h
-ended_if-made w last false m h = h
+primary-made : (w : Rows) (root universal : Bool) (m : Option ℕ) → IfSome m (λ m. m ≤ step_number w) → IsMadeClient (step_number w) (primary_row w root universal m)
+primary-made w root universal None old = (omega arith, omega arith)
+primary-made w root universal (Some m) old = (omega arith, old)
 
-ended_own-made : (w : Rows) (last : ℕ) (row : Option ClientRow) → WereMade last w → WereMade last (ended_own w row)
-ended_own-made w last None h = h
-ended_own-made w last (Some row) h = ended_if-made w last row.is_master row.master h
+new_client-made : (w : Rows) (event : Event) → WereMade (step_number w) w → IfSome (new_client_row w event) (IsMadeClient (step_number w))
+new_client-made w (Open (Primary root universal)) k = primary-made w root universal w.device_master k.3
+new_client-made w (Open Render) k = (omega arith, tt)
+new_client-made w (Open (Lease token root universal)) k = (omega arith, redeemed (step_number w) (lease_master w token) (all_found (IsMadeMaster (step_number w)) (λ row. is_option token row.lease_token) w.masters k.1))
+new_client-made w (Ask c call) k = tt
+new_client-made w (Close c) k = tt
 
-closed-made : (w : Rows) (last c : ℕ) → WereMade last w → WereMade last (closed w c)
-unfolding closed ended
-closed-made w last c h = let own = ended_own-made w last (client_row w c) h in (all_filter (IsMadeClient last) _ w.clients h.0, own.1, own.2, own.3)
+founded-made : (w : Rows) (m : Option ℕ) → IfSome (founded_master w m) (IsMadeMaster (step_number w))
+founded-made w None = (omega arith, omega arith, tt)
+founded-made w (Some m) = tt
 
-opened_primary-made : (w : Rows) (root universal : Bool) (m : Option ℕ) → IfSome m (λ m. m ≤ w.steps) → WereMade w.steps w → WereMade (birth w) (opened_primary w root universal m)
-opened_primary-made w root universal None old h =
+set_master-made : (w : Rows) (current master : Bool) → IfSome (set_master_row w current master) (IsMadeMaster (step_number w))
+set_master-made w true master = tt
+set_master-made w false true = tt
+set_master-made w false false = (omega arith, omega arith, tt)
+
+-- a lessor is there before its lessee
+new_master-made : (w : Rows) (event : Event) → WereMade w.steps w → IfSome (new_master_row w event) (IsMadeMaster (step_number w))
+new_master-made w (Open (Primary root universal)) h = founded-made w w.device_master
+new_master-made w (Open Render) h = tt
+new_master-made w (Open (Lease token root universal)) h = tt
+new_master-made w (Ask c SetMaster) h = set_master-made w (is_current w c) (is_master w c)
+new_master-made w (Ask c (CreateLease ids)) h = (omega arith, omega arith, let older = own_master_made w c h in omega (arith, older))
+new_master-made w (Ask c call) h = tt
+new_master-made w (Close c) h = tt
+
+-- ---- the device's master
+
+closing-device : (w : Rows) (last : ℕ) (is_master : Bool) (m : Option ℕ) → IfSome w.device_master (λ m. m ≤ last) → IfSome (ended_if w is_master m).device_master (λ m. m ≤ last)
+closing-device w last true (Some m) h = either (λ (o : Option ℕ). IfSome o (λ m. m ≤ last)) (is_option m w.device_master) None w.device_master tt h
+closing-device w last true None h = h
+closing-device w last false m h = h
+
+closed-device : (w : Rows) (last : ℕ) (row : Option ClientRow) → IfSome w.device_master (λ m. m ≤ last) → IfSome (ended_own w row).device_master (λ m. m ≤ last)
+closed-device w last None h = h
+closed-device w last (Some row) h = closing-device w last row.is_master row.master h
+
+primary-device : (w : Rows) (root universal : Bool) (m : Option ℕ) → IfSome w.device_master (λ m. m ≤ step_number w) → IfSome (opened_primary w root universal m).device_master (λ m. m ≤ step_number w)
+primary-device w root universal None h = omega arith
+primary-device w root universal (Some m) h = h
+
+set-device : (w : Rows) (c : ℕ) (current master : Bool) → WereMade (step_number w) w → IfSome (mastered w c current master).device_master (λ m. m ≤ step_number w)
+set-device w c true master k = k.3
+set-device w c false true k = master_up_to (step_number w) w c k.0
+set-device w c false false k = omega arith
+
+device-made : (w : Rows) (event : Event) → WereMade (step_number w) w → IfSome (changed w event).device_master (λ m. m ≤ step_number w)
+unfolding changed opened closed meaning with_object ended
+device-made w (Open (Primary root universal)) k = primary-device w root universal w.device_master k.3
+device-made w (Open Render) k = k.3
+device-made w (Open (Lease token root universal)) k = k.3
+device-made w (Ask c SetMaster) k = set-device w c (is_current w c) (is_master w c) k
+device-made w (Ask c DropMaster) k = tt
+device-made w (Ask c call) k = k.3
+device-made w (Close c) k = closed-device w (step_number w) (client_row w c) k.3
+
+-- ---- steps and runs
+
+pub changed-made : (w : Rows) (event : Event) → WereMade w.steps w → WereMade (step_number w) (changed w event)
+changed-made w event h =
     let k = later w h in
-    (all_push (IsMadeClient (birth w)) w.clients _ k.0 (omega arith, omega arith), all_push (IsMadeMaster (birth w)) w.masters _ k.1 (omega arith, omega arith, tt), k.2, omega arith)
-opened_primary-made w root universal (Some m) old h =
-    let k = later w h in
-    (all_push (IsMadeClient (birth w)) w.clients _ k.0 (omega arith, omega (arith, old)), k.1, k.2, k.3)
-
-mastered-made : (w : Rows) (c : ℕ) (current master : Bool) → WereMade w.steps w → WereMade (birth w) (mastered w c current master)
-unfolding with_master
-mastered-made w c true master h = later w h
-mastered-made w c false true h = let k = later w h in (k.0, k.1, k.2, master_up_to (birth w) w c k.0)
-mastered-made w c false false h =
-    let k = later w h in (
-      all_changed (IsMadeClient (birth w)) _ (λ row. mastering (birth w) (birth w) (is_client c row) row (omega arith)) w.clients k.0,
-      all_push (IsMadeMaster (birth w)) w.masters _ k.1 (omega arith, omega arith, tt),
-      k.2,
-      omega arith,
+    let is = each_edits w event in (
+      subst (AllByRecursion (IsMadeClient (step_number w))) (sym (ap (λ (v : Rows). v.clients) is))
+          (all_edited (client_stays w event) (client_after w event) (listed (new_client_row w event)) w.clients (IsMadeClient (step_number w)) (IsMadeClient (step_number w)) (λ row made _. client-made w event row made) (all_listed (IsMadeClient (step_number w)) (new_client_row w event) (new_client-made w event k)) k.0),
+      subst (AllByRecursion (IsMadeMaster (step_number w))) (sym (ap (λ (v : Rows). v.masters) is))
+          (all_edited (λ row. true) (master_after w event) (listed (new_master_row w event)) w.masters (IsMadeMaster (step_number w)) (IsMadeMaster (step_number w)) (λ row made _. either (IsMadeMaster (step_number w)) (spends_token w event row) (record row { lease_token = None }) row made made)
+          (all_listed (IsMadeMaster (step_number w)) (new_master_row w event) (new_master-made w event h)) k.1),
+      subst (AllByRecursion (λ (row : ObjectRow). 1 ≤ row.object)) (sym (ap (λ (v : Rows). v.objects) is))
+          (all_edited (λ row. true) (object_after w event) (listed (new_object_row w event)) w.objects (λ row. 1 ≤ row.object) (λ row. 1 ≤ row.object) (λ row made _. rw (object-same w event row) made)
+          (all_listed (λ (row : ObjectRow). 1 ≤ row.object) (new_object_row w event) (new_object w event (new_object_row w event) (object-new w event))) k.2),
+      device-made w event k,
     )
+  where
+    new_object : (w : Rows) (event : Event) (o : Option ObjectRow) → IfSome o (λ row. row.object ≡ step_number w) → IfSome o (λ row. 1 ≤ row.object)
+    new_object w event None e = tt
+    new_object w event (Some row) e = omega (arith, e)
 
-not_later : (last n : ℕ) → n ≤ last → n < last + 1
-not_later last n h = omega (arith, h)
-
--- a call that is not told here makes and takes no client, master or object
-asked-made : (w : Rows) (c : ℕ) (call : Call) → WereMade w.steps w → WereMade (birth w) (meaning w c call).rows
-unfolding meaning with_object with_stamp with_authenticated with_universal
-asked-made w c (BufCreate size) h = let k = later w h in (k.0, k.1, all_push (λ (row : ObjectRow). 1 ≤ row.object) w.objects _ k.2 (omega arith), k.3)
-asked-made w c (CreateDumb width height bpp) h = let k = later w h in (k.0, k.1, all_push (λ (row : ObjectRow). 1 ≤ row.object) w.objects _ k.2 (omega arith), k.3)
-asked-made w c (StampWrite handle stamp) h = let k = later w h in (k.0, k.1, all_changed (λ (row : ObjectRow). 1 ≤ row.object) _ (λ row. stamped (row.object == object_of w c handle) row stamp) w.objects k.2, k.3)
-asked-made w c (SetClientCap cap value) h = let k = later w h in (all_changed (IsMadeClient (birth w)) _ (λ row. capable (birth w) (is_client c row) (value == 1) row) w.clients k.0, k.1, k.2, k.3)
-asked-made w c (AuthMagic magic) h = let k = later w h in (all_changed (IsMadeClient (birth w)) _ (λ row. authenticated (birth w) (is_option row.client (magic_client w (own_master w c) magic)) row) w.clients k.0, k.1, k.2, k.3)
-asked-made w c SetMaster h = mastered-made w c (is_current w c) (is_master w c) h
-asked-made w c DropMaster h = let k = later w h in (k.0, k.1, k.2, tt)
-asked-made w c (CreateLease ids) h =
-    let k = later w h in
-    let older = not_later w.steps (own_master w c) (own_master_made w c h) in
-    (k.0, all_push (IsMadeMaster (birth w)) w.masters _ k.1 (omega arith, omega arith, older), k.2, k.3)
-asked-made w c (RevokeLease lessee) h = ended-made w (birth w) (lessee_master w (own_master w c) lessee) (later w h)
-asked-made w c call h = later w h
-
-pub changed-made : (w : Rows) (event : Event) → WereMade w.steps w → WereMade (birth w) (changed w event)
-unfolding changed opened
-changed-made w (Open (Primary root universal)) h = opened_primary-made w root universal w.device_master h.3 h
-changed-made w (Open Render) h = let k = later w h in (all_push (IsMadeClient (birth w)) w.clients _ k.0 (omega arith, tt), k.1, k.2, k.3)
-changed-made w (Open (Lease token root universal)) h =
-    let k = later w h in
-    let its_master = redeemed (birth w) (lease_master w token) (all_found (IsMadeMaster (birth w)) (λ row. is_option token row.lease_token) w.masters k.1) in (
-      all_push (IsMadeClient (birth w)) w.clients _ k.0 (omega arith, its_master),
-      all_changed (IsMadeMaster (birth w)) _ (λ row. untoken (birth w) (is_option token row.lease_token) row) w.masters k.1,
-      k.2,
-      k.3,
-    )
-changed-made w (Ask c call) h = asked-made w c call h
-changed-made w (Close c) h = closed-made w (birth w) c (later w h)
-
-swept-made : (w : Rows) (last : ℕ) → WereMade last w → WereMade last (swept w)
+swept-made : (w : Rows) (last : ℕ) → WereMade last w → WereMade last (journaled (swept w))
 unfolding swept
 swept-made w last h = (h.0, all_filter (IsMadeMaster last) _ w.masters h.1, all_filter (λ (row : ObjectRow). 1 ≤ row.object) _ w.objects h.2, h.3)
 
-noted-made : (w : Rows) (last : ℕ) → WereMade last w → WereMade last (noted w)
-noted-made w last h = h
-
-verdict-made : (w : Rows) (event : Event) (v : Option Rule) → WereMade w.steps w → WereMade (birth w) (after_verdict v w event)
-verdict-made w event (Some rule) h = noted-made w (birth w) (later w h)
-verdict-made w event None h = noted-made (swept (changed w event)) (birth w) (swept-made (changed w event) (birth w) (changed-made w event h))
-
-in_after : (w : Rows) (event : Event) → WereMade w.steps w → WereMade (birth w) (after w event)
-unfolding after
-in_after w event h = verdict-made w event (verdict w event) h
-
 pub after-made : (w : Rows) (event : Event) → WereMade w.steps w → WereMade (after w event).steps (after w event)
-after-made w event h = subst (λ n. WereMade n (after w event)) (sym (after-steps w event)) (in_after w event h)
-
-run-made : (w : Rows) (events : List Event) → WereMade w.steps w → WereMade (run w events).steps (run w events)
-unfolding run
-run-made w [] h = h
-run-made w (e ∷ es) h = run-made (after w e) es (after-made w e h)
+after-made w event h =
+    subst (λ n. WereMade n (after w event)) (sym (after-steps w event)) (by_verdict (WereMade (step_number w)) w event (later w h) (λ accepted. swept-made (changed w event) (step_number w) (changed-made w event h)))
 
 -- the rows of a history
-pub were_made : (h : History) → WereMade (rows_of h).steps (rows_of h)
+pub were_made : (h : DeviceValue) → WereMade (rows_of h).steps (rows_of h)
 unfolding rows_of
-were_made h = run-made (empty_rows h.topology h.limits) h.journal (tt, tt, tt, tt)
+were_made h = along (λ w. WereMade w.steps w) after-made h.journal (empty_rows h.topology h.limits) (tt, tt, tt, tt)
 
 -- ---- a lessor and its lessee
 
@@ -206,5 +181,5 @@ pub lessor_older : (last : ℕ) (rows : List MasterRow) → AllByRecursion (IsMa
 lessor_older last rows made n m e = lessor_there last n m (master_row rows n) (all_found (IsMadeMaster last) (λ row. row.master == n) rows made) (found_passes (λ row. row.master == n) rows) e
 
 -- what is above a master is less, so that its chain of lessors ends
-pub lessors_are_older : (h : History) (n m : ℕ) → lessor_of (rows_of h).masters n ≡ Some m → m < n
+pub lessors_are_older : (h : DeviceValue) (n m : ℕ) → lessor_of (rows_of h).masters n ≡ Some m → m < n
 lessors_are_older h n m e = lessor_older (rows_of h).steps (rows_of h).masters (were_made h).1 n m e

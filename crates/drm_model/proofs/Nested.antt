@@ -3,7 +3,7 @@ use Rattle.std.proofs.Common.{◌≡◌, ℕ, ◌+◌, ◌==◌, ◌<◌, ◌≤
 use Rattle.std.specs.Prelude.{if◌then◌else◌, unwrap_or, IfSome}
 use Rattle.std.specs.List.{list_any, list_all, AllByRecursion}
 use Rattle.std.specs.Option.{is_some, option_map, option_and_then}
-use Rattle.std.proofs.lemmas.Bool.{eqb-true, ltb-true, and_left}
+use Rattle.std.proofs.lemmas.Bool.{eqb-true, ltb-true, and_left, not-true, and_parts}
 use Rattle.std.proofs.lemmas.List.Folds.{list_any-append}
 use Rattle.drm_lists.specs.Chains.{is_under}
 use Rattle.drm_lists.specs.Chains as chains
@@ -17,24 +17,25 @@ use Rattle.drm_table.specs.declared.calls.Call.TheVariants.{Version, SetMaster, 
 use Rattle.drm_table.specs.declared.events.Event.{Event}
 use Rattle.drm_table.specs.declared.events.Event.TheVariants.{Open, Ask, Close}
 use Rattle.drm_table.specs.declared.events.Opening.TheVariants.{Primary, Render, Lease}
-use Rattle.drm_table.specs.declared.rules.Rule.{Rule}
 use Rattle.drm_modes.specs.Topology.{is_encoder, kind_of, is_primary_or_cursor, planes_of}
-use Rattle.drm_model.specs.Births.{IsMadeMaster, WereMade, GrantsMade}
-use Rattle.drm_model.specs.Rows.{Rows, ClientRow, MasterRow, GrantRow, birth, empty_rows, client_row, is_option, is_framebuffer}
+use Rattle.drm_model.specs.StepNumbers.{IsMadeMaster, WereMade, GrantsMade}
+use Rattle.drm_model.specs.Rows.{Rows, ClientRow, MasterRow, GrantRow, step_number, empty_rows, client_row, is_option, is_framebuffer}
 use Rattle.drm_model.specs.Masters.{new_master, master_of, lessor_of}
 use Rattle.drm_model.specs.Sees.{is_granted, master_controls, controls, has_universal, sees}
-use Rattle.drm_model.specs.Magics.{own_master, is_current, is_master, mastered}
+use Rattle.drm_model.specs.Magics.{caller_master, is_current, is_master, mastered}
 use Rattle.drm_model.specs.Buffers.{with_object}
-use Rattle.drm_model.specs.Leases.{last_depth, may_lease, ended, grant, lessee_master, is_seen, is_leasable, brought_along, leased, new_lessee_id, new_lease_token}
+use Rattle.drm_model.specs.Leases.{may_lease, ended, grant, lessee_master, is_seen, is_leasable, brought_along, leased, new_lessee_id, new_lease_token}
+use Rattle.drm_modes.specs.LeaseRules.{last_depth}
 use Rattle.drm_model.specs.Clients.{opened, opened_primary, closed, ended_own, ended_if}
 use Rattle.drm_model.specs.Calls.{meaning}
 use Rattle.drm_model.specs.Verdict.{verdict}
-use Rattle.drm_model.specs.Change.{after, after_verdict, changed, swept, is_living}
-use Rattle.drm_model.specs.Run.{run, rows_of, History}
+use Rattle.drm_model.specs.Change.{after, changed, swept, is_living, journaled}
+use Rattle.drm_model.specs.Run.{rows_of, DeviceValue}
 use Rattle.drm_model.specs.Nesting.{LeasesNest}
-use Rattle.drm_model.proofs.Leased.{rules_hold}
+use Rattle.drm_model.proofs.Leased.{rules_hold, seen_named}
 use Rattle.drm_model.proofs.Lessors.{lessor_older, own_master_made, after-made as made_after}
 use Rattle.drm_model.proofs.Grants.{after-made as granted_after}
+use Rattle.drm_model.proofs.Changes.{along, by_verdict}
 
 abbrev has : List GrantRow → ℕ → ℕ → Bool
 has grants m x = list_any (λ (row : GrantRow). (row.master == m) && (row.mode_object == x)) grants
@@ -47,14 +48,6 @@ abbrev NestIn : Rows → Type 0
 NestIn w = Nest (lessor_of w.masters) w.grants
 
 -- ---- tests
-
-both_true : (a b : Bool) → (a && b) ≡ true → (a ≡ true) × (b ≡ true)
-both_true true b h = (refl, h)
-both_true false b h = absurd (let e : false ≡ true = h in cc)
-
-not_true : (b : Bool) → not b ≡ true → b ≡ false
-not_true true h = absurd (let e : false ≡ true = h in cc)
-not_true false h = refl
 
 neither : (a b : Bool) → (a || b) ≡ false → b ≡ false
 neither true b h = absurd (let e : true ≡ false = h in cc)
@@ -136,9 +129,9 @@ module _ (above : ℕ → Option ℕ) (falls : IsFalling above) (top : ℕ) (gra
   has_left : (m x : ℕ) → has left m x ≡ true → (has grants m x ≡ true) × (under m ≡ false)
   has_left m x h =
       let it = some_passing (λ (row : GrantRow). (row.master == m) && (row.mode_object == x)) (λ (row : GrantRow). not (under row.master) ≡ true) left (filter_true (λ (row : GrantRow). not (under row.master)) grants) h in
-      let is = both_true (it.0.master == m) (it.0.mode_object == x) it.1 in (
+      let is = and_parts (it.0.master == m) (it.0.mode_object == x) it.1 in (
         true_unless (has grants m x) (has left m x) (none_filtered (λ (row : GrantRow). (row.master == m) && (row.mode_object == x)) (λ (row : GrantRow). not (under row.master)) grants) h,
-        ap under (sym (eqb-true it.0.master m is.0)) ∙ not_true (under it.0.master) it.2,
+        ap under (sym (eqb-true it.0.master m is.0)) ∙ not-true (under it.0.master) it.2,
       )
 
   apart : (n l : ℕ) → under n ≡ true → under l ≡ false → (n == l) ≡ false
@@ -239,14 +232,14 @@ module _ (rows : List MasterRow) (grants : List GrantRow) (last m id : ℕ) (tok
       let listed : list_any is (map (grant (last + 1)) ids) ≡ true =
       the_second (has grants (last + 1) x) (has (map (grant (last + 1)) ids) (last + 1) x) (no_grant x) (sym (list_any-append is grants (map (grant (last + 1)) ids)) ∙ h) in
       let it = some_passing (λ k. is (grant (last + 1) k)) (λ k. has grants m k ≡ true) ids each (sym (list_any-map is (grant (last + 1)) ids) ∙ listed) in
-      let same : it.0 ≡ x = eqb-true it.0 x (both_true (last + 1 == last + 1) (it.0 == x) it.1).1 in
+      let same : it.0 ≡ x = eqb-true it.0 x (and_parts (last + 1 == last + 1) (it.0 == x) it.1).1 in
       subst (λ k. has grants m k ≡ true) same it.2
     where
       no_grant : (x : ℕ) → has grants (last + 1) x ≡ false
       no_grant x = elim (has grants (last + 1) x) as (λ b. has grants (last + 1) x ≡ b → b ≡ false) [
         | true ↦ λ e.
             let it = some_passing (λ (row : GrantRow). (row.master == last + 1) && (row.mode_object == x)) (λ (row : GrantRow). row.master ≤ last) grants granted e in
-            let same : it.0.master ≡ last + 1 = eqb-true it.0.master (last + 1) (both_true (it.0.master == last + 1) (it.0.mode_object == x) it.1).0 in
+            let same : it.0.master ≡ last + 1 = eqb-true it.0.master (last + 1) (and_parts (it.0.master == last + 1) (it.0.mode_object == x) it.1).0 in
             let low = it.2 in
             absurd (omega (arith, same, low))
         | false ↦ λ e. refl
@@ -272,41 +265,34 @@ module _ (rows : List MasterRow) (grants : List GrantRow) (last m id : ℕ) (tok
 
 -- ---- what an accepted lease was tested for
 
-controlled : (known seen encoder framebuffer : Bool) → ((known && seen) || framebuffer) ≡ true → not (encoder || framebuffer) ≡ true → (seen ≡ true) × (encoder ≡ false)
-controlled known seen true framebuffer h k = absurd (let no : false ≡ true = k in cc)
-controlled known seen false true h k = absurd (let no : false ≡ true = k in cc)
-controlled false seen false false h k = absurd (let no : false ≡ true = h in cc)
-controlled true true false false h k = (refl, refl)
-controlled true false false false h k = absurd (let no : false ≡ true = h in cc)
-
 of_lessee : (w : Rows) (x : ℕ) (o : Option ℕ) → master_controls w o x ≡ true → is_some (lessor_of w.masters (unwrap_or o 0)) ≡ true → is_granted w (unwrap_or o 0) x ≡ true
 of_lessee w x None h lessee = absurd (let no : false ≡ true = h in cc)
 of_lessee w x (Some m) h lessee = sym (ap (λ b. not b || is_granted w m x) lessee) ∙ h
 
 -- what a lessee's client controls, its lease has
-controlled_granted : (w : Rows) (c x : ℕ) → is_some (lessor_of w.masters (own_master w c)) ≡ true → controls w c x ≡ true → is_granted w (own_master w c) x ≡ true
+controlled_granted : (w : Rows) (c x : ℕ) → is_some (lessor_of w.masters (caller_master w c)) ≡ true → controls w c x ≡ true → is_granted w (caller_master w c) x ≡ true
 unfolding controls
-controlled_granted w c x lessee controlled = of_lessee w x (master_of w c) controlled lessee
+controlled_granted w c x lessee seen_named = of_lessee w x (master_of w c) seen_named lessee
 
 -- and what it sees and can lease
-seen_granted : (w : Rows) (c x : ℕ) → is_some (lessor_of w.masters (own_master w c)) ≡ true → is_seen w c x ≡ true → is_leasable w x ≡ true → is_granted w (own_master w c) x ≡ true
+seen_granted : (w : Rows) (c x : ℕ) → is_some (lessor_of w.masters (caller_master w c)) ≡ true → is_seen w c x ≡ true → is_leasable w x ≡ true → is_granted w (caller_master w c) x ≡ true
 unfolding sees
 seen_granted w c x lessee seen leasable =
-    let it = controlled (is_some (kind_of w.topology x)) (sees w c x) (is_encoder w.topology x) (is_framebuffer w x) seen leasable in
+    let it = seen_named (is_some (kind_of w.topology x)) (sees w c x) (is_encoder w.topology x) (is_framebuffer w x) seen leasable in
     let shown = not (is_primary_or_cursor w.topology x) || has_universal w c in
-    controlled_granted w c x lessee (both_true (controls w c x) shown (the_second (is_encoder w.topology x) (controls w c x && shown) it.1 it.0)).0
+    controlled_granted w c x lessee (and_parts (controls w c x) shown (the_second (is_encoder w.topology x) (controls w c x && shown) it.1 it.0)).0
 
 -- and what comes along
-along_granted : (w : Rows) (c : ℕ) (ids : List ℕ) → is_some (lessor_of w.masters (own_master w c)) ≡ true → AllByRecursion (λ x. is_granted w (own_master w c) x ≡ true) (brought_along w c ids)
+along_granted : (w : Rows) (c : ℕ) (ids : List ℕ) → is_some (lessor_of w.masters (caller_master w c)) ≡ true → AllByRecursion (λ x. is_granted w (caller_master w c) x ≡ true) (brought_along w c ids)
 along_granted w c ids lessee =
-    elim (has_universal w c) as (λ b. AllByRecursion (λ x. is_granted w (own_master w c) x ≡ true) (if b then [] else filter (controls w c) (planes_of w.topology ids))) [
+    elim (has_universal w c) as (λ b. AllByRecursion (λ x. is_granted w (caller_master w c) x ≡ true) (if b then [] else filter (controls w c) (planes_of w.topology ids))) [
       | true ↦ tt
-      | false ↦ all_weaker (λ x. controls w c x ≡ true) (λ x. is_granted w (own_master w c) x ≡ true) (λ x e. controlled_granted w c x lessee e) (filter (controls w c) (planes_of w.topology ids)) (filter_true (controls w c) (planes_of w.topology ids))
+      | false ↦ all_weaker (λ x. controls w c x ≡ true) (λ x. is_granted w (caller_master w c) x ≡ true) (λ x e. controlled_granted w c x lessee e) (filter (controls w c) (planes_of w.topology ids)) (filter_true (controls w c) (planes_of w.topology ids))
     ]
 
 each_of : (p : ℕ → Bool) (xs : List ℕ) → list_all p xs ≡ true → AllByRecursion (λ x. p x ≡ true) xs
 each_of p [] h = tt
-each_of p (x ∷ xs) h = let is = both_true (p x) (list_all p xs) h in (is.0, each_of p xs is.1)
+each_of p (x ∷ xs) h = let is = and_parts (p x) (list_all p xs) h in (is.0, each_of p xs is.1)
 
 -- ---- what an event changes
 
@@ -330,19 +316,19 @@ founded-nest : (w : Rows) (b : ℕ) → NestIn w → Nest (lessor_of (w.masters 
 founded-nest w b h = subst (λ (other : ℕ → Option ℕ). Nest other w.grants) (sym (λ i n. lessors_yet b n w.masters i)) h
 
 opened_primary-nest : (w : Rows) (root universal : Bool) (device : Option ℕ) → NestIn w → NestIn (opened_primary w root universal device)
-opened_primary-nest w root universal None h = founded-nest w (birth w) h
+opened_primary-nest w root universal None h = founded-nest w (step_number w) h
 opened_primary-nest w root universal (Some m) h = h
 
 mastered-nest : (w : Rows) (c : ℕ) (current master : Bool) → NestIn w → NestIn (mastered w c current master)
 mastered-nest w c true master h = h
 mastered-nest w c false true h = h
-mastered-nest w c false false h = founded-nest w (birth w) h
+mastered-nest w c false false h = founded-nest w (step_number w) h
 
 leased-nest : (w : Rows) (c : ℕ) (ids : List ℕ) → verdict w (Ask c (CreateLease ids)) ≡ None → WereMade w.steps w → GrantsMade w.steps w → NestIn w → NestIn (meaning w c (CreateLease ids)).rows
 unfolding meaning
 leased-nest w c ids accepted made granted h =
     let hold = rules_hold w c (CreateLease ids) accepted in
-    let m = own_master w c in
+    let m = caller_master w c in
     nest_more w.masters w.grants w.steps m (new_lessee_id w m) (Some (new_lease_token w)) (leased w c ids) made.1 granted (own_master_made w c made) hold.0
     (λ lessee. all_append (λ x. is_granted w m x ≡ true) ids (brought_along w c ids)
     (all_both (λ x. is_seen w c x ≡ true) (λ x. is_leasable w x ≡ true) (λ x. is_granted w m x ≡ true) (λ x seen leasable. seen_granted w c x lessee seen leasable) ids (each_of (is_seen w c) ids hold.1.0) (each_of (is_leasable w) ids hold.1.1.0))
@@ -354,7 +340,7 @@ unfolding meaning with_object
 asked-nest w c Version accepted made granted h = h
 asked-nest w c SetMaster accepted made granted h = mastered-nest w c (is_current w c) (is_master w c) h
 asked-nest w c (CreateLease ids) accepted made granted h = leased-nest w c ids accepted made granted h
-asked-nest w c (RevokeLease lessee) accepted made granted h = ended-nest w (lessee_master w (own_master w c) lessee) made h
+asked-nest w c (RevokeLease lessee) accepted made granted h = ended-nest w (lessee_master w (caller_master w c) lessee) made h
 asked-nest w c call accepted made granted h = h
 
 changed-nest : (w : Rows) (event : Event) → verdict w event ≡ None → WereMade w.steps w → GrantsMade w.steps w → NestIn w → NestIn (changed w event)
@@ -365,22 +351,20 @@ changed-nest w (Open (Lease token root universal)) accepted made granted h = sub
 changed-nest w (Ask c call) accepted made granted h = asked-nest w c call accepted made granted h
 changed-nest w (Close c) accepted made granted h = ended_own-nest w (client_row w c) made h
 
-swept-nest : (w : Rows) → NestIn w → NestIn (swept w)
+swept-nest : (w : Rows) → NestIn w → NestIn (journaled (swept w))
 unfolding swept
 swept-nest w h = fewer (lessor_of w.masters) (lessor_of (filter (λ row. is_living w row.master) w.masters)) w.grants (lessors_left (is_living w) w.masters) h
 
-verdict-nest : (w : Rows) (event : Event) (v : Option Rule) → verdict w event ≡ v → WereMade w.steps w → GrantsMade w.steps w → NestIn w → NestIn (after_verdict v w event)
-verdict-nest w event (Some rule) e made granted h = h
-verdict-nest w event None e made granted h = swept-nest (changed w event) (changed-nest w event e made granted h)
+-- what a step keeps: that steps made the masters, also those of grants, and that leases nest
+abbrev Nested : Rows → Type 0
+Nested w = WereMade w.steps w × GrantsMade w.steps w × NestIn w
 
-after-nest : (w : Rows) (event : Event) → WereMade w.steps w → GrantsMade w.steps w → NestIn w → NestIn (after w event)
-unfolding after
-after-nest w event made granted h = verdict-nest w event (verdict w event) refl made granted h
-
-run-nest : (w : Rows) (events : List Event) → WereMade w.steps w → GrantsMade w.steps w → NestIn w → NestIn (run w events)
-unfolding run
-run-nest w [] made granted h = h
-run-nest w (e ∷ es) made granted h = run-nest (after w e) es (made_after w e made) (granted_after w e granted) (after-nest w e made granted h)
+after-nested : (w : Rows) (event : Event) → Nested w → Nested (after w event)
+after-nested w event h = (
+  made_after w event h.0,
+  granted_after w event h.1,
+  by_verdict NestIn w event h.2 (λ accepted. swept-nest (changed w event) (changed-nest w event accepted h.0 h.1 h.2)),
+)
 
 nothing-nest : (w : Rows) → w.masters ≡ [] → NestIn w
 nothing-nest w none =
@@ -388,9 +372,9 @@ nothing-nest w none =
     (λ m. let nobody = depth_none (lessor_of []) m refl in omega (arith, nobody), λ m l x e lessee it. absurd (let no : None ≡ Some l = e in cc))
 
 -- the rows of a history
-pub leases_nest : (h : History) → LeasesNest (rows_of h)
+pub leases_nest : (h : DeviceValue) → LeasesNest (rows_of h)
 unfolding rows_of
 leases_nest h =
     let start = empty_rows h.topology h.limits in
-    let nest = run-nest start h.journal (tt, tt, tt, tt) tt (nothing-nest start refl) in
-    record { depths = nest.0; grants = nest.1 }
+    let nested = along Nested after-nested h.journal start ((tt, tt, tt, tt), tt, nothing-nest start refl) in
+    record { depths = nested.2.0; grants = nested.2.1 }

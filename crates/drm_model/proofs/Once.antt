@@ -1,21 +1,17 @@
 -- Numbers that stand once each in two lists, one behind the other.
-use Rattle.std.proofs.Common.{◌≡◌, ℕ, zero, suc, ◌+◌, ◌<◌, ◌≤◌, ◌==◌, Bool, true, false, cond, not, ◌&&◌, ◌||◌, List, [], ◌∷◌, ◌++◌, filter, length, refl, sym, ap, ◌∙◌, arith, eq-eqb}
+use Rattle.std.proofs.Common.{◌≡◌, ℕ, zero, suc, ◌+◌, ◌<◌, ◌≤◌, ◌==◌, Bool, true, false, cond, not, ◌||◌, List, [], ◌∷◌, ◌++◌, filter, length, refl, sym, ap, ◌∙◌, arith, eq-eqb}
 use Rattle.std.specs.List.{list_all}
-use Rattle.std.proofs.lemmas.Bool.{false≢true, eqb-true}
+use Rattle.std.proofs.lemmas.Bool.{false≢true, eqb-true, and_from}
 use Rattle.std.proofs.lemmas.Bool.Decides.{nat_tests}
 use Rattle.drm_lists.specs.Numbers.{is_among, count}
 use Rattle.drm_lists.proofs.Numbers.{among-append, among-more, among-first, all_among, count-none, count-absent, count-append}
 use Rattle.drm_modes.specs.Numbers.{numbers_from}
-use Rattle.drm_model.specs.Leases.{stands_once}
-
-both : (a b : Bool) → a ≡ true → b ≡ true → (a && b) ≡ true
-both true b h k = k
-both false b h k = h
+use Rattle.drm_modes.specs.LeaseRules.{stands_once}
 
 -- what is so of each number that is there, passes in all
 each_there : (p : ℕ → Bool) (xs : List ℕ) → ((x : ℕ) → is_among xs x ≡ true → p x ≡ true) → list_all p xs ≡ true
 each_there p [] h = refl
-each_there p (x ∷ xs) h = both (p x) (list_all p xs) (h x (among-first xs x)) (each_there p xs (λ y e. h y (among-more xs x y e)))
+each_there p (x ∷ xs) h = and_from (p x) (list_all p xs) (h x (among-first xs x)) (each_there p xs (λ y e. h y (among-more xs x y e)))
 
 -- what a filter leaves passes it, and was there
 pub passes_and_was : (p : ℕ → Bool) (xs : List ℕ) (k : ℕ) → is_among (filter p xs) k ≡ true → (p k ≡ true) × (is_among xs k ≡ true)

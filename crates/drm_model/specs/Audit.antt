@@ -7,7 +7,7 @@ use Rattle.drm_table.specs.declared.audits.AuditKind.{AuditKind}
 use Rattle.drm_table.specs.declared.audits.AuditKind.TheVariants.{Client, Master, Object, Name, Token, Hold, Grant, Framebuffer, Shown, Device}
 use Rattle.drm_table.specs.declared.audits.AuditRow.{AuditRow}
 use Rattle.drm_model.specs.Meaning.{Meaning, nothing}
-use Rattle.drm_model.specs.Rows.{Rows, ClientRow, MasterRow, MagicRow, HoldRow, ObjectRow, NameRow, TokenRow, GrantRow, FramebufferRow, ShownRow, magic_row}
+use Rattle.drm_model.specs.Rows.{Rows, ClientRow, MasterRow, MagicRow, HandleRow, ObjectRow, NameRow, TokenRow, GrantRow, FramebufferRow, ShownRow, magic_row}
 
 abbrev pub audit_row : ℕ → ℕ → ℕ → ℕ → AuditRow
 audit_row a b c d = record { a = a; b = b; c = c; d = d }
@@ -19,6 +19,7 @@ or_zero number = unwrap_or number 0
 abbrev pub flag : Bool → ℕ → ℕ
 flag b n = if b then n else 0
 
+-- 1 render, 2 root, 4 authenticated, 8 once a master, 16 a master, 32 its magic is spent, 64 universal planes are off
 abbrev pub client_flags : Rows → ClientRow → ℕ
 client_flags w row =
     flag row.render 1 + flag row.root 2 + flag row.authenticated 4 + flag row.once_master 8 + flag row.is_master 16
@@ -29,8 +30,8 @@ abbrev pub client_audit : Rows → ClientRow → AuditRow
 client_audit w row =
     audit_row row.client (client_flags w row) (or_zero row.master) (option_map_or (λ (magic : MagicRow). magic.number) (magic_row w row.client) 0)
 
-abbrev pub hold_count : Rows → ℕ → ℕ
-hold_count w o = length (filter (λ row. row.object == o) w.holds)
+abbrev pub handle_count : Rows → ℕ → ℕ
+handle_count w o = length (filter (λ row. row.object == o) w.holds)
 
 abbrev pub reference_count : Rows → ℕ → ℕ
 reference_count w o = length (filter (λ row. row.object == o) w.tokens) + length (filter (λ row. row.object == o) w.framebuffers)
@@ -39,10 +40,10 @@ abbrev pub master_audit : MasterRow → AuditRow
 master_audit row = audit_row row.master (or_zero row.lessor) row.lessee_id (or_zero row.lease_token)
 
 abbrev pub object_audit : Rows → ObjectRow → AuditRow
-object_audit w row = audit_row row.object row.size (hold_count w row.object) (reference_count w row.object)
+object_audit w row = audit_row row.object row.size (handle_count w row.object) (reference_count w row.object)
 
-abbrev pub hold_audit : HoldRow → AuditRow
-hold_audit row = audit_row row.client row.handle row.object (or_zero row.place)
+abbrev pub handle_audit : HandleRow → AuditRow
+handle_audit row = audit_row row.client row.handle row.object (or_zero row.export_order)
 
 abbrev pub name_audit : NameRow → AuditRow
 name_audit row = audit_row row.name row.object 0 0
@@ -54,7 +55,7 @@ abbrev pub framebuffer_audit : FramebufferRow → AuditRow
 framebuffer_audit row = audit_row row.framebuffer row.client row.object 0
 
 abbrev pub shown_audit : ShownRow → AuditRow
-shown_audit row = audit_row row.shower row.framebuffer 0 0
+shown_audit row = audit_row row.engine row.framebuffer 0 0
 
 abbrev pub grant_audit : GrantRow → AuditRow
 grant_audit row = audit_row row.master row.mode_object 0 0
@@ -66,7 +67,7 @@ audit_rows w Master = map master_audit w.masters
 audit_rows w Object = map (object_audit w) w.objects
 audit_rows w Name = map name_audit w.names
 audit_rows w Token = map token_audit w.tokens
-audit_rows w Hold = map hold_audit w.holds
+audit_rows w Hold = map handle_audit w.holds
 audit_rows w Grant = map grant_audit w.grants
 audit_rows w Framebuffer = map framebuffer_audit w.framebuffers
 audit_rows w Shown = map shown_audit w.shown

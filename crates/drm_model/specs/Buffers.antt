@@ -6,7 +6,7 @@ use Rattle.drm_table.specs.declared.answers.Answer.TheVariants.{Number, Dumb, Bu
 use Rattle.drm_table.specs.declared.rules.Rule.TheVariants.{NoHandle, NoHandleToClose, BadSize, Full}
 use Rattle.drm_table.specs.Permit.{check}
 use Rattle.drm_model.specs.Numbers.{rising}
-use Rattle.drm_model.specs.Rows.{Rows, ObjectRow, birth, without, is_hold, has_handle, object_of, object_row, handles_of, free_handle, has_object_room, with_hold}
+use Rattle.drm_model.specs.Rows.{Rows, ObjectRow, step_number, without, is_handle, has_handle, object_of, object_row, handles_of, free_handle, has_object_room, with_handle_row}
 use Rattle.drm_model.specs.Meaning.{Meaning, nothing}
 
 -- sizes (the ranges and the roundings are own)
@@ -40,8 +40,8 @@ buffer_size size = rounded_up 4096 size
 -- a new object, and a handle of it
 unfoldable pub with_object : Rows → ℕ → ℕ → Rows
 with_object w c size = record w {
-  objects = w.objects ++ record { object = birth w; size = size; stamp = 0 } ∷ [];
-  holds = with_hold w c (birth w) None;
+  objects = w.objects ++ record { object = step_number w; size = size; stamp = 0 } ∷ [];
+  holds = with_handle_row w c (step_number w) None;
 }
 
 -- whether the client may have one more handle, and one more object may be there
@@ -71,7 +71,7 @@ buf_create w c size = record {
 abbrev pub gem_close : Rows → ℕ → ℕ → Meaning
 gem_close w c handle = record (nothing w) {
   checks = check NoHandleToClose (has_handle w c handle) ∷ [];
-  rows = record w { holds = without (is_hold c handle) w.holds };
+  rows = record w { holds = without (is_handle c handle) w.holds };
 }
 
 -- the objects, of which one has another stamp

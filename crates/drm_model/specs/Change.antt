@@ -41,13 +41,13 @@ swept w = record w {
 }
 
 -- one more step is noted
-abbrev pub noted : Rows → Rows
-noted w = record w { steps = w.steps + 1 }
+abbrev pub journaled : Rows → Rows
+journaled w = record w { steps = w.steps + 1 }
 
 -- a denial changes no row
 abbrev pub after_verdict : Option Rule → Rows → Event → Rows
-after_verdict (Some rule) w event = noted w
-after_verdict None w event = noted (swept (changed w event))
+after_verdict (Some rule) w event = journaled w
+after_verdict None w event = journaled (swept (changed w event))
 
 -- the rows after a step
 unfoldable pub after : Rows → Event → Rows

@@ -1,4 +1,4 @@
--- Openings and closings of clients (drm-uapi, drm(7); births, root and universal planes by opening, and lease tokens are this
+-- Openings and closings of clients (drm-uapi, drm(7); step numbers, root and universal planes by opening, and lease tokens are this
 -- project's own).
 use Rattle.std.specs.Prelude.{ℕ, ◌==◌, Bool, true, false, List, [], ◌∷◌, ◌++◌, Option, None, Some, map, if◌then◌else◌}
 use Rattle.std.specs.Option.{is_some, option_map}
@@ -6,7 +6,7 @@ use Rattle.drm_table.specs.declared.events.Opening.{Opening}
 use Rattle.drm_table.specs.declared.events.Opening.TheVariants.{Primary, Render, Lease}
 use Rattle.drm_table.specs.declared.rules.Rule.TheVariants.{NoLeaseToken, Full}
 use Rattle.drm_table.specs.Permit.{Check, check}
-use Rattle.drm_model.specs.Rows.{Rows, ClientRow, MasterRow, birth, without, is_option, client_row, has_client_room}
+use Rattle.drm_model.specs.Rows.{Rows, ClientRow, MasterRow, step_number, without, is_option, client_row, has_client_room}
 use Rattle.drm_model.specs.Masters.{new_master}
 use Rattle.drm_model.specs.Leases.{lease_master, ended}
 
@@ -19,15 +19,15 @@ opening_checks w (Lease token root universal) = check NoLeaseToken (is_some (lea
 -- the first master of a device without one: its client is a master
 abbrev pub founded : Rows → Bool → Bool → Rows
 founded w root universal = record w {
-  masters = w.masters ++ new_master (birth w) ∷ [];
-  device_master = Some (birth w);
-  clients = w.clients ++ record { client = birth w; render = false; root = root; authenticated = true; once_master = true; is_master = true; master = Some (birth w); universal = universal } ∷ [];
+  masters = w.masters ++ new_master (step_number w) ∷ [];
+  device_master = Some (step_number w);
+  clients = w.clients ++ record { client = step_number w; render = false; root = root; authenticated = true; once_master = true; is_master = true; master = Some (step_number w); universal = universal } ∷ [];
 }
 
 -- a client of the device's master, which isn't one itself; root is authenticated from its opening (own)
 abbrev pub joined : Rows → Bool → Bool → ℕ → Rows
 joined w root universal m = record w {
-  clients = w.clients ++ record { client = birth w; render = false; root = root; authenticated = root; once_master = false; is_master = false; master = Some m; universal = universal } ∷ [];
+  clients = w.clients ++ record { client = step_number w; render = false; root = root; authenticated = root; once_master = false; is_master = false; master = Some m; universal = universal } ∷ [];
 }
 
 -- the first primary client of a device without a master founds one (drm(7))
@@ -38,14 +38,14 @@ opened_primary w root universal (Some m) = joined w root universal m
 -- a render client has no master (drm-uapi), and universal planes on (own)
 abbrev pub opened_render : Rows → Rows
 opened_render w = record w {
-  clients = w.clients ++ record { client = birth w; render = true; root = false; authenticated = false; once_master = false; is_master = false; master = None; universal = true } ∷ [];
+  clients = w.clients ++ record { client = step_number w; render = true; root = false; authenticated = false; once_master = false; is_master = false; master = None; universal = true } ∷ [];
 }
 
 -- the token is spent, and the client is a master of the lessee
 abbrev pub opened_lease : Rows → ℕ → Bool → Bool → Rows
 opened_lease w token root universal = record w {
   masters = map (λ (row : MasterRow). if is_option token row.lease_token then record row { lease_token = None } else row) w.masters;
-  clients = w.clients ++ record { client = birth w; render = false; root = root; authenticated = true; once_master = false; is_master = true; master = option_map (λ (row : MasterRow). row.master) (lease_master w token); universal = universal } ∷ [];
+  clients = w.clients ++ record { client = step_number w; render = false; root = root; authenticated = true; once_master = false; is_master = true; master = option_map (λ (row : MasterRow). row.master) (lease_master w token); universal = universal } ∷ [];
 }
 
 -- what an accepted opening does

@@ -2,13 +2,13 @@
 use Rattle.std.specs.Prelude.{◌≡◌, ℕ, ◌==◌, Bool, false, ◌&&◌}
 use Rattle.std.specs.List.{list_any}
 use Rattle.std.specs.Option.{is_some}
-use Rattle.drm_model.specs.Rows.{Rows, ClientRow, MasterRow, MagicRow, HoldRow, TokenRow, GrantRow, FramebufferRow}
+use Rattle.drm_model.specs.Rows.{Rows, ClientRow, MasterRow, MagicRow, HandleRow, TokenRow, GrantRow, FramebufferRow}
 
 -- no row names the client
 pub record IsForgotten (w : Rows) (c : ℕ) : Type 0 where
   pub clients : list_any (λ (row : ClientRow). row.client == c) w.clients ≡ false
   pub magics : list_any (λ (row : MagicRow). row.client == c) w.magics ≡ false
-  pub holds : list_any (λ (row : HoldRow). row.client == c) w.holds ≡ false
+  pub holds : list_any (λ (row : HandleRow). row.client == c) w.holds ≡ false
   pub tokens : list_any (λ (row : TokenRow). row.client == c) w.tokens ≡ false
   pub framebuffers : list_any (λ (row : FramebufferRow). row.client == c) w.framebuffers ≡ false
 

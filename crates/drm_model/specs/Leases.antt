@@ -1,21 +1,21 @@
 -- MODE_CREATE_LEASE, MODE_LIST_LESSEES, MODE_GET_LEASE and MODE_REVOKE_LEASE (drm-uapi, leases). Lease tokens, the limits, how
 -- deep lessees may lease, that each rule is tested of all ids before the next, which planes come along with a CRTC, and that an
 -- owner has a lease of all, are this project's own.
-use Rattle.std.specs.Prelude.{ℕ, ◌==◌, nat_lt, Bool, false, not, ◌&&◌, ◌||◌, List, [], ◌∷◌, ◌++◌, Option, None, Some, unwrap_or, find, map, filter, if◌then◌else◌}
-use Rattle.std.specs.List.{list_any, list_all}
+use Rattle.std.specs.Prelude.{ℕ, ◌==◌, Bool, false, not, ◌&&◌, List, [], ◌∷◌, ◌++◌, Option, None, Some, unwrap_or, find, map, filter, if◌then◌else◌}
+use Rattle.std.specs.List.{list_any}
 use Rattle.std.specs.Option.{is_some, option_map, option_map_or}
-use Rattle.drm_lists.specs.Numbers.{count}
 use Rattle.drm_index_array.specs.Least.{least}
 use Rattle.drm_table.specs.declared.answers.Answer.TheVariants.{Lease, List as ListIs}
-use Rattle.drm_table.specs.declared.rules.Rule.TheVariants.{NoModeObject, NotLeasable, Repeated, LeaseShape, LeasedOut, SubLease, NoLessee, NotYourLessee, Full}
+use Rattle.drm_table.specs.declared.rules.Rule.TheVariants.{NoLessee, NotYourLessee}
 use Rattle.drm_table.specs.Permit.{check}
+use Rattle.drm_modes.specs.LeaseRules as rules
 use Rattle.drm_modes.specs.Numbers.{numbers_from}
-use Rattle.drm_modes.specs.Topology.{Topology, crtc_ids, plane_ids, connector_ids, is_crtc, is_plane, is_encoder, is_connector, kind_of, planes_of}
+use Rattle.drm_modes.specs.Topology.{Topology, crtc_ids, plane_ids, connector_ids}
 use Rattle.drm_model.specs.Numbers.{rising, next_in_turn}
-use Rattle.drm_model.specs.Rows.{Rows, MasterRow, GrantRow, birth, without, is_option, is_framebuffer}
+use Rattle.drm_model.specs.Rows.{Rows, MasterRow, GrantRow, step_number, without, is_option, is_framebuffer}
 use Rattle.drm_model.specs.Masters.{master_row, lessor_of, is_lessee, owner_of, depth_of, is_under}
 use Rattle.drm_model.specs.Sees.{controls, has_universal, sees}
-use Rattle.drm_model.specs.Magics.{own_master}
+use Rattle.drm_model.specs.Magics.{caller_master}
 use Rattle.drm_model.specs.Meaning.{Meaning, nothing}
 
 -- ---- open lease tokens, and what ends
@@ -33,31 +33,20 @@ ended w top = record w {
 
 -- ---- what is asked of who leases, and of the ids
 
--- the depth at which a lessee makes no lease any more (own)
-abbrev pub last_depth : ℕ
-last_depth = 8
-
 -- whether the master may lease: an owner, or a lessee that isn't so deep
 abbrev pub may_lease : List MasterRow → ℕ → Bool
-may_lease rows m = nat_lt (depth_of rows m) last_depth
+may_lease rows m = rules.may_lease (depth_of rows m)
 
 -- a fixed object that the client sees, or a framebuffer of any client
 abbrev pub is_seen : Rows → ℕ → ℕ → Bool
-is_seen w c x = (is_some (kind_of w.topology x) && sees w c x) || is_framebuffer w x
+is_seen w c x = rules.is_seen w.topology (sees w c x) (is_framebuffer w x) x
 
 abbrev pub is_leasable : Rows → ℕ → Bool
-is_leasable w x = not (is_encoder w.topology x || is_framebuffer w x)
-
-abbrev pub stands_once : List ℕ → ℕ → Bool
-stands_once ids x = count ids x == 1
-
--- a CRTC and a connector at least, and a plane where the caller has universal planes on (that an empty list is refused is own)
-abbrev pub is_lease : Topology → Bool → List ℕ → Bool
-is_lease t universal ids = list_any (is_crtc t) ids && list_any (is_connector t) ids && (not universal || list_any (is_plane t) ids)
+is_leasable w x = rules.is_leasable w.topology (is_framebuffer w x) x
 
 -- what comes along: with universal planes off, of each listed CRTC the primary and the cursor plane that the client controls
 abbrev pub brought_along : Rows → ℕ → List ℕ → List ℕ
-brought_along w c ids = if has_universal w c then [] else filter (controls w c) (planes_of w.topology ids)
+brought_along w c ids = rules.brought_along w.topology (has_universal w c) (controls w c) ids
 
 -- all that is leased
 abbrev pub leased : Rows → ℕ → List ℕ → List ℕ
@@ -94,7 +83,7 @@ new_lease_token w = unwrap_or (next_lease_token w) 0
 
 -- a master that this one lent, with its lease token
 abbrev pub new_lessee : Rows → ℕ → MasterRow
-new_lessee w m = record { master = birth w; lessor = Some m; lessee_id = new_lessee_id w m; lease_token = Some (new_lease_token w) }
+new_lessee w m = record { master = step_number w; lessor = Some m; lessee_id = new_lessee_id w m; lease_token = Some (new_lease_token w) }
 
 abbrev pub grant : ℕ → ℕ → GrantRow
 grant m x = record { master = m; mode_object = x }
@@ -105,17 +94,10 @@ grant m x = record { master = m; mode_object = x }
 abbrev pub create_lease_of : Rows → ℕ → ℕ → List ℕ → Meaning
 create_lease_of w c m ids = record {
   checks =
-      check SubLease (may_lease w.masters m)
-      ∷ check NoModeObject (list_all (is_seen w c) ids)
-      ∷ check NotLeasable (list_all (is_leasable w) ids)
-      ∷ check Repeated (list_all (stands_once ids) ids)
-      ∷ check LeaseShape (is_lease w.topology (has_universal w c) ids)
-      ∷ check LeasedOut (not (list_any (is_leased_out w m) (leased w c ids)))
-      ∷ check Full (is_some (free_lessee w m) && is_some (next_lease_token w))
-      ∷ [];
+      rules.lease_checks w.topology (depth_of w.masters m) (sees w c) (is_framebuffer w) (has_universal w c) (list_any (is_leased_out w m) (leased w c ids)) (is_some (free_lessee w m) && is_some (next_lease_token w)) ids;
   rows = record w {
     masters = w.masters ++ new_lessee w m ∷ [];
-    grants = w.grants ++ map (grant (birth w)) (leased w c ids);
+    grants = w.grants ++ map (grant (step_number w)) (leased w c ids);
     last_lease_token = new_lease_token w;
   };
   answer = Lease (new_lessee_id w m) (new_lease_token w);
@@ -123,7 +105,7 @@ create_lease_of w c m ids = record {
 
 -- MODE_CREATE_LEASE: a new lessee of the caller's master, which has these mode objects and what comes along
 abbrev pub create_lease : Rows → ℕ → List ℕ → Meaning
-create_lease w c ids = create_lease_of w c (own_master w c) ids
+create_lease w c ids = create_lease_of w c (caller_master w c) ids
 
 -- whether the grant is in the lease of a direct lessee that has the id
 abbrev pub is_lessee_grant : List MasterRow → ℕ → ℕ → GrantRow → Bool
@@ -135,7 +117,7 @@ has_lessee w m id = list_any (is_lessee_grant w.masters m id) w.grants
 
 -- MODE_LIST_LESSEES: the ids of the direct lessees whose lease isn't empty, rising (own)
 abbrev pub list_lessees : Rows → ℕ → Meaning
-list_lessees w c = record (nothing w) { answer = ListIs (filter (has_lessee w (own_master w c)) (numbers_from 1 w.limits.lessees)) }
+list_lessees w c = record (nothing w) { answer = ListIs (filter (has_lessee w (caller_master w c)) (numbers_from 1 w.limits.lessees)) }
 
 -- what is in the lease of a master
 abbrev pub granted_of : Rows → ℕ → List ℕ
@@ -147,13 +129,13 @@ leasable_ids t = crtc_ids t ++ plane_ids t ++ connector_ids t
 
 -- MODE_GET_LEASE: what the lease of the caller's master has, rising; all that can be leased where it is no lessee
 abbrev pub get_lease : Rows → ℕ → Meaning
-get_lease w c = record (nothing w) { answer = ListIs (if is_lessee w c then rising (granted_of w (own_master w c)) else leasable_ids w.topology) }
+get_lease w c = record (nothing w) { answer = ListIs (if is_lessee w c then rising (granted_of w (caller_master w c)) else leasable_ids w.topology) }
 
 -- the lessee of this id with the owner of the master
 abbrev pub lessee_row : Rows → ℕ → ℕ → Option MasterRow
 lessee_row w m id = find (is_lessee_of w.masters (owner_of w.masters m) id) w.masters
 
--- its birth; 0 where there is none
+-- its step number; 0 where there is none
 abbrev pub lessee_master : Rows → ℕ → ℕ → ℕ
 lessee_master w m id = unwrap_or (option_map (λ (row : MasterRow). row.master) (lessee_row w m id)) 0
 
@@ -169,4 +151,4 @@ revoke_lease_of w m id = record (nothing w) {
 
 -- MODE_REVOKE_LEASE: the lease of a direct lessee ends, and all that was lent from it; a lessee with a client keeps its id
 abbrev pub revoke_lease : Rows → ℕ → ℕ → Meaning
-revoke_lease w c id = revoke_lease_of w (own_master w c) id
+revoke_lease w c id = revoke_lease_of w (caller_master w c) id

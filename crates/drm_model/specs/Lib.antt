@@ -1,7 +1,7 @@
 pub mod Numbers
 pub mod Rows
 pub mod Parts
-pub mod Births
+pub mod StepNumbers
 pub mod Shown
 pub mod Masters
 pub mod Sees

@@ -7,15 +7,15 @@ use Rattle.drm_table.specs.declared.answers.Answer.TheVariants.{Number}
 use Rattle.drm_table.specs.declared.rules.Rule.TheVariants.{NoMagic, MasterPerm, MasterBusy, NotCurrent, IsLessee}
 use Rattle.drm_table.specs.Permit.{check}
 use Rattle.drm_index_array.specs.Least.{least}
-use Rattle.drm_model.specs.Rows.{Rows, ClientRow, MagicRow, birth, without, is_option, is_client, client_has, magic_row}
-use Rattle.drm_model.specs.Masters.{new_master, master_of, is_lessee, standing_of}
+use Rattle.drm_model.specs.Rows.{Rows, ClientRow, MagicRow, step_number, without, is_option, is_client, client_has, magic_row}
+use Rattle.drm_model.specs.Masters.{new_master, master_of, is_lessee, credentials_of}
 use Rattle.drm_model.specs.Meaning.{Meaning, nothing}
 
 -- ---- magics
 
 -- the master of a client; 0 where it has none
-abbrev pub own_master : Rows → ℕ → ℕ
-own_master w c = unwrap_or (master_of w c) 0
+abbrev pub caller_master : Rows → ℕ → ℕ
+caller_master w c = unwrap_or (master_of w c) 0
 
 -- the magic of a client, spent or not, if it has one
 abbrev pub magic_of : Rows → ℕ → Option ℕ
@@ -39,8 +39,8 @@ with_magic w c m None = w.magics ++ record { master = m; number = unwrap_or (fre
 abbrev pub get_magic : Rows → ℕ → Meaning
 get_magic w c = record {
   checks = [];
-  rows = record w { magics = with_magic w c (own_master w c) (magic_of w c) };
-  answer = Number (unwrap_or (option_or (magic_of w c) (free_magic w (own_master w c))) 0);
+  rows = record w { magics = with_magic w c (caller_master w c) (magic_of w c) };
+  answer = Number (unwrap_or (option_or (magic_of w c) (free_magic w (caller_master w c))) 0);
 }
 
 -- a magic of the master that isn't spent
@@ -68,12 +68,12 @@ auth_under w m number = record (nothing w) {
 
 -- AUTH_MAGIC: the client that has this magic of the caller's master is authenticated, and the magic is spent
 abbrev pub auth_magic : Rows → ℕ → ℕ → Meaning
-auth_magic w c number = auth_under w (own_master w c) number
+auth_magic w c number = auth_under w (caller_master w c) number
 
 -- ---- masters
 
 abbrev pub is_current : Rows → ℕ → Bool
-is_current w c = (standing_of w c).current
+is_current w c = (credentials_of w c).current
 
 -- whether the client is a master of its own
 abbrev pub is_master : Rows → ℕ → Bool
@@ -81,24 +81,24 @@ is_master w c = client_has (λ row. row.is_master) w c
 
 -- whether the client was a master once, or is root
 abbrev pub may_be_master : Rows → ℕ → Bool
-may_be_master w c = client_has (λ row. row.once_master) w c || (standing_of w c).root
+may_be_master w c = client_has (λ row. row.once_master) w c || (credentials_of w c).root
 
 -- the clients, of which this one is a master, authenticated, of the new master
 unfoldable pub with_master : ℕ → ℕ → List ClientRow → List ClientRow
 with_master c m clients = map (λ (row : ClientRow). if is_client c row then record row { authenticated = true; once_master = true; is_master = true; master = Some m } else row) clients
 
 -- a new master for the client, which is the device's; its magic of the master before goes
-abbrev pub with_own_master : Rows → ℕ → Rows
-with_own_master w c = record w {
-  clients = with_master c (birth w) w.clients;
-  masters = w.masters ++ new_master (birth w) ∷ [];
+abbrev pub with_new_master : Rows → ℕ → Rows
+with_new_master w c = record w {
+  clients = with_master c (step_number w) w.clients;
+  masters = w.masters ++ new_master (step_number w) ∷ [];
   magics = without (λ row. row.client == c) w.magics;
-  device_master = Some (birth w);
+  device_master = Some (step_number w);
 }
 
 -- a client that is current stays so, one that is a master has its own set again, and any other gets a new one
 abbrev pub mastered : Rows → ℕ → Bool → Bool → Rows
-mastered w c current master = if current then w else if master then record w { device_master = master_of w c } else with_own_master w c
+mastered w c current master = if current then w else if master then record w { device_master = master_of w c } else with_new_master w c
 
 -- SET_MASTER: a client that is current is done at once
 abbrev pub set_master : Rows → ℕ → Meaning

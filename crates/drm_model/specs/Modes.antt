@@ -1,6 +1,6 @@
 -- MODE_GETRESOURCES, GETCRTC, SETCRTC, GETENCODER, GETCONNECTOR, GETFB, ADDFB, RMFB, GETPLANERESOURCES, GETPLANE and SETPLANE
 -- (drm-uapi, kernel mode setting). The ranges of sizes, the limits, and that one connector is named at most are this project's
--- own.
+-- own. The flags of a call's row, as that SETCRTC and SETPLANE want a current master, are tested before the checks here (`Permit`).
 use Rattle.std.specs.Prelude.{ℕ, ◌+◌, ◌*◌, ◌==◌, nat_le, Bool, not, ◌&&◌, ◌||◌, List, [], ◌∷◌, ◌++◌, Option, None, Some, unwrap_or, find, map, if◌then◌else◌}
 use Rattle.std.specs.Option.{is_some, option_map}
 use Rattle.drm_lists.specs.Numbers.{is_among}
@@ -9,10 +9,10 @@ use Rattle.drm_table.specs.declared.answers.Answer.{Answer}
 use Rattle.drm_table.specs.declared.answers.Answer.TheVariants.{Done, Number, Resources, List as ListIs, Plane, Framebuffer}
 use Rattle.drm_table.specs.declared.rules.Rule.TheVariants.{NoHandle, NoModeObject, NoFb, BadSize, BadRoute, Full}
 use Rattle.drm_table.specs.Permit.{check}
-use Rattle.drm_modes.specs.Topology.{encoder_ids, is_encoder, object_count, drives, reaches, encoder_of}
+use Rattle.drm_modes.specs.Topology.{encoder_ids, is_encoder, object_count, is_route, is_plane_route, encoder_of}
 use Rattle.drm_modes.specs.Modes.{first_framebuffer}
-use Rattle.drm_model.specs.Rows.{Rows, FramebufferRow, ShownRow, without, has_handle, object_of, free_handle, with_hold, framebuffer_row, is_framebuffer}
-use Rattle.drm_model.specs.Masters.{standing_of}
+use Rattle.drm_model.specs.Rows.{Rows, FramebufferRow, ShownRow, without, has_handle, object_of, free_handle, with_handle_row, framebuffer_row, is_framebuffer}
+use Rattle.drm_model.specs.Masters.{credentials_of}
 use Rattle.drm_model.specs.Meaning.{Meaning, nothing}
 use Rattle.drm_model.specs.Buffers.{is_dumb_shape, bytes_per_pixel, new_handle}
 use Rattle.drm_model.specs.Sharing.{size_of}
@@ -46,11 +46,11 @@ get_connector w c connector = record (nothing w) {
 
 -- the framebuffer that a CRTC or a plane shows; 0 where it is dark
 abbrev pub shown_by : Rows → ℕ → ℕ
-shown_by w x = unwrap_or (option_map (λ (row : ShownRow). row.framebuffer) (find (λ (row : ShownRow). row.shower == x) w.shown)) 0
+shown_by w x = unwrap_or (option_map (λ (row : ShownRow). row.framebuffer) (find (λ (row : ShownRow). row.engine == x) w.shown)) 0
 
 -- it shows the framebuffer now, and is dark where that is 0
 abbrev pub with_shown : Rows → ℕ → ℕ → List ShownRow
-with_shown w x f = without (λ (row : ShownRow). row.shower == x) w.shown ++ (if f == 0 then [] else record { shower = x; framebuffer = f } ∷ [])
+with_shown w x f = without (λ (row : ShownRow). row.engine == x) w.shown ++ (if f == 0 then [] else record { engine = x; framebuffer = f } ∷ [])
 
 -- 0 for none, or a framebuffer of any client
 abbrev pub is_framebuffer_or_none : Rows → ℕ → Bool
@@ -63,17 +63,14 @@ get_crtc w c crtc = record (nothing w) {
   answer = Number (shown_by w crtc);
 }
 
--- a framebuffer with a connector that the CRTC reaches, or neither
-abbrev pub is_route : Rows → ℕ → ℕ → ℕ → Bool
-is_route w crtc f connector = if connector == 0 then f == 0 else not (f == 0) && reaches w.topology connector crtc
-
--- MODE_SETCRTC: the CRTC shows the framebuffer, or goes dark. The connector is checked and not kept
+-- MODE_SETCRTC: the CRTC shows the framebuffer, or goes dark. BadRoute: the connector reaches the CRTC, or there is neither connector
+-- nor framebuffer. The connector is checked and not kept
 abbrev pub set_crtc : Rows → ℕ → ℕ → ℕ → ℕ → Meaning
 set_crtc w c crtc f connector = record (nothing w) {
   checks =
       check NoModeObject (sees_crtc w c crtc && ((connector == 0) || sees_connector w c connector))
       ∷ check NoFb (is_framebuffer_or_none w f)
-      ∷ check BadRoute (is_route w crtc f connector)
+      ∷ check BadRoute (is_route w.topology crtc f connector)
       ∷ [];
   rows = record w { shown = with_shown w crtc f };
 }
@@ -85,13 +82,14 @@ get_plane w c plane = record (nothing w) {
   answer = Plane (shown_by w plane) (visible_mask w c plane);
 }
 
--- MODE_SETPLANE: the plane shows the framebuffer on a CRTC, or goes dark, whichever CRTC is named then
+-- MODE_SETPLANE: the plane shows the framebuffer on a CRTC, or goes dark, whichever CRTC is named then. BadRoute: the CRTC is one of
+-- the plane's possible CRTCs, or there is no framebuffer
 abbrev pub set_plane : Rows → ℕ → ℕ → ℕ → ℕ → Meaning
 set_plane w c plane crtc f = record (nothing w) {
   checks =
       check NoModeObject (sees_plane w c plane && ((f == 0) || sees_crtc w c crtc))
       ∷ check NoFb (is_framebuffer_or_none w f)
-      ∷ check BadRoute ((f == 0) || drives w.topology plane crtc)
+      ∷ check BadRoute (is_plane_route w.topology plane crtc f)
       ∷ [];
   rows = record w { shown = with_shown w plane f };
 }
@@ -100,7 +98,7 @@ set_plane w c plane crtc f = record (nothing w) {
 
 -- a current caller and a root one get a handle, others none
 abbrev pub gives_handle : Rows → ℕ → Bool
-gives_handle w c = (standing_of w c).current || (standing_of w c).root
+gives_handle w c = (credentials_of w c).current || (credentials_of w c).root
 
 -- the object of a framebuffer; 0 where it is not there
 abbrev pub framebuffer_object : Rows → ℕ → ℕ
@@ -115,7 +113,7 @@ framebuffer_answer handle None = Done
 abbrev pub get_fb : Rows → ℕ → ℕ → Meaning
 get_fb w c f = record {
   checks = check NoFb (is_framebuffer w f) ∷ check Full (not (gives_handle w c) || is_some (free_handle w c)) ∷ [];
-  rows = record w { holds = if gives_handle w c then with_hold w c (framebuffer_object w f) None else w.holds };
+  rows = record w { holds = if gives_handle w c then with_handle_row w c (framebuffer_object w f) None else w.holds };
   answer = framebuffer_answer (if gives_handle w c then new_handle w c else 0) (framebuffer_row w f);
 }
 

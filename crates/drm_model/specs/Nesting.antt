@@ -4,7 +4,7 @@ use Rattle.std.specs.Option.{is_some}
 use Rattle.drm_model.specs.Rows.{Rows}
 use Rattle.drm_model.specs.Masters.{lessor_of, depth_of}
 use Rattle.drm_model.specs.Sees.{is_granted}
-use Rattle.drm_model.specs.Leases.{last_depth}
+use Rattle.drm_modes.specs.LeaseRules.{last_depth}
 
 -- no master is deeper than the last depth; and what the lease of a lessee has, that of its lessor has too, where that is a
 -- lessee

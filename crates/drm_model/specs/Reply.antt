@@ -5,13 +5,13 @@ use Rattle.drm_table.specs.declared.answers.Answer.TheVariants.{Opened, Closed, 
 use Rattle.drm_table.specs.declared.events.Event.{Event}
 use Rattle.drm_table.specs.declared.events.Event.TheVariants.{Open, Ask, Close}
 use Rattle.drm_table.specs.declared.rules.Rule.{Rule}
-use Rattle.drm_model.specs.Rows.{Rows, birth}
+use Rattle.drm_model.specs.Rows.{Rows, step_number}
 use Rattle.drm_model.specs.Verdict.{verdict}
 use Rattle.drm_model.specs.Calls.{meaning}
 
 -- the answer to an accepted event
 unfoldable pub answer_of : Rows → Event → Answer
-answer_of w (Open opening) = Opened (birth w)
+answer_of w (Open opening) = Opened (step_number w)
 answer_of w (Ask c call) = (meaning w c call).answer
 answer_of w (Close c) = Closed
 

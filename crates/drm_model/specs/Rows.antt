@@ -1,5 +1,5 @@
--- The rows of a device: flat lists, in which a client, a master or an object is named by its birth, the number of the
--- step that made it (births are this project's own; what a row stands for is in drm-uapi, drm-mm, drm(7) and drm-gem(7)).
+-- The rows of a device: flat lists, in which a client, a master or an object is named by its step number, the number of the
+-- step that made it (step numbers are this project's own; what a row stands for is in drm-uapi, drm-mm, drm(7) and drm-gem(7)).
 use Rattle.std.specs.Prelude.{ℕ, ◌+◌, ◌==◌, Bool, false, not, ◌&&◌, nat_lt, List, [], ◌∷◌, ◌++◌, length, Option, None, Some, unwrap_or, find, map, filter}
 use Rattle.std.specs.Option.{is_some, option_map, option_map_or}
 use Rattle.drm_lists.specs.Numbers.{is_among}
@@ -33,11 +33,11 @@ pub record MagicRow : Type 0 where
   pub spent : Bool
 
 -- a client's handle of an object (drm-gem(7)); the PRIME place is the step that exported or imported it (own)
-pub record HoldRow : Type 0 where
+pub record HandleRow : Type 0 where
   pub client : ℕ
   pub handle : ℕ
   pub object : ℕ
-  pub place : Option ℕ
+  pub export_order : Option ℕ
 
 -- a buffer, its size in bytes (drm-mm); the stamp stands for its contents (own)
 pub record ObjectRow : Type 0 where
@@ -73,7 +73,7 @@ pub record FramebufferRow : Type 0 where
 
 -- what a CRTC or a plane shows (drm-uapi)
 pub record ShownRow : Type 0 where
-  pub shower : ℕ
+  pub engine : ℕ
   pub framebuffer : ℕ
 
 -- all that a device holds
@@ -84,7 +84,7 @@ pub record Rows : Type 0 where
   pub clients : List ClientRow
   pub masters : List MasterRow
   pub magics : List MagicRow
-  pub holds : List HoldRow
+  pub holds : List HandleRow
   pub objects : List ObjectRow
   pub names : List NameRow
   pub tokens : List TokenRow
@@ -117,8 +117,8 @@ empty_rows topology limits = record {
 }
 
 -- the number of the step that is being made (own)
-abbrev pub birth : Rows → ℕ
-birth w = w.steps + 1
+abbrev pub step_number : Rows → ℕ
+step_number w = w.steps + 1
 
 -- the rows that don't pass the test
 abbrev pub without : {X : Type 0} → (X → Bool) → List X → List X
@@ -155,18 +155,18 @@ magic_row w c = find (λ row. row.client == c) w.magics
 
 -- handles and objects
 
-abbrev pub is_hold : ℕ → ℕ → HoldRow → Bool
-is_hold c h row = (row.client == c) && (row.handle == h)
+abbrev pub is_handle : ℕ → ℕ → HandleRow → Bool
+is_handle c h row = (row.client == c) && (row.handle == h)
 
-abbrev pub hold_row : Rows → ℕ → ℕ → Option HoldRow
-hold_row w c h = find (is_hold c h) w.holds
+abbrev pub handle_row : Rows → ℕ → ℕ → Option HandleRow
+handle_row w c h = find (is_handle c h) w.holds
 
 abbrev pub has_handle : Rows → ℕ → ℕ → Bool
-has_handle w c h = is_some (hold_row w c h)
+has_handle w c h = is_some (handle_row w c h)
 
 -- the object that the client's handle names; 0 where it has no such handle
 abbrev pub object_of : Rows → ℕ → ℕ → ℕ
-object_of w c h = unwrap_or (option_map (λ (row : HoldRow). row.object) (hold_row w c h)) 0
+object_of w c h = unwrap_or (option_map (λ (row : HandleRow). row.object) (handle_row w c h)) 0
 
 abbrev pub object_row : Rows → ℕ → Option ObjectRow
 object_row w o = find (λ row. row.object == o) w.objects
@@ -183,8 +183,8 @@ abbrev pub has_object_room : Rows → Bool
 has_object_room w = nat_lt (length w.objects) w.limits.objects
 
 -- a fresh handle of the object, with or without a PRIME place
-abbrev pub with_hold : Rows → ℕ → ℕ → Option ℕ → List HoldRow
-with_hold w c o place = w.holds ++ record { client = c; handle = unwrap_or (free_handle w c) 0; object = o; place = place } ∷ []
+abbrev pub with_handle_row : Rows → ℕ → ℕ → Option ℕ → List HandleRow
+with_handle_row w c o export_order = w.holds ++ record { client = c; handle = unwrap_or (free_handle w c) 0; object = o; export_order = export_order } ∷ []
 
 -- framebuffers
 

@@ -58,26 +58,26 @@ FoundRoom w [] = Unit {0}
 FoundRoom w (event ∷ events) = (no_room w event ≡ false) × FoundRoom (after w event) events
 
 -- the events that were noted: those that nothing apart was answered to
-abbrev pub noted_events : List Event → List (Result Answer Apart) → List Event
-noted_events [] results = []
-noted_events (event ∷ events) [] = []
-noted_events (event ∷ events) (Ok answer ∷ results) = event ∷ noted_events events results
-noted_events (event ∷ events) (Err apart ∷ results) = noted_events events results
+abbrev pub journaled_events : List Event → List (Result Answer Apart) → List Event
+journaled_events [] results = []
+journaled_events (event ∷ events) [] = []
+journaled_events (event ∷ events) (Ok answer ∷ results) = event ∷ journaled_events events results
+journaled_events (event ∷ events) (Err apart ∷ results) = journaled_events events results
 
 -- a device, as its contracts see it
-pub record History : Type 0 where
+pub record DeviceValue : Type 0 where
   pub topology : Topology
   pub limits : Limits
   pub journal : List Event
 
 -- the history with one more event
-abbrev pub noted_in : History → Event → History
-noted_in h event = record h { journal = h.journal ++ event ∷ [] }
+abbrev pub journaled_in : DeviceValue → Event → DeviceValue
+journaled_in h event = record h { journal = h.journal ++ event ∷ [] }
 
 -- what a device starts from
-abbrev pub start_of : History → Rows
+abbrev pub start_of : DeviceValue → Rows
 start_of h = empty_rows h.topology h.limits
 
 -- the rows of a device: those of running its journal
-unfoldable pub rows_of : History → Rows
+unfoldable pub rows_of : DeviceValue → Rows
 rows_of h = run (start_of h) h.journal

@@ -3,7 +3,8 @@
 use Rattle.std.specs.Prelude.{ℕ, ◌==◌, Bool, false, not, ◌&&◌, ◌||◌, List, Option, None, Some, map, filter}
 use Rattle.std.specs.List.{list_any}
 use Rattle.std.specs.Option.{is_some}
-use Rattle.drm_modes.specs.Topology.{crtc_ids, plane_ids, connector_ids, is_crtc, is_plane, is_encoder, is_connector, is_primary_or_cursor, mask_over}
+use Rattle.drm_modes.specs.LeaseRules as rules
+use Rattle.drm_modes.specs.Topology.{crtc_ids, plane_ids, connector_ids, is_crtc, is_plane, is_connector, mask_over}
 use Rattle.drm_model.specs.Numbers.{rising}
 use Rattle.drm_model.specs.Rows.{Rows, GrantRow, FramebufferRow, client_has}
 use Rattle.drm_model.specs.Masters.{master_of, lessor_of}
@@ -25,10 +26,9 @@ controls w c x = master_controls w (master_of w c) x
 abbrev pub has_universal : Rows → ℕ → Bool
 has_universal w c = client_has (λ row. row.universal) w c
 
--- whether the client sees a fixed mode object: all see an encoder, and of the rest each client what it controls, but primary
--- and cursor planes with universal planes on alone
+-- whether the client sees a fixed mode object
 unfoldable pub sees : Rows → ℕ → ℕ → Bool
-sees w c x = is_encoder w.topology x || (controls w c x && (not (is_primary_or_cursor w.topology x) || has_universal w c))
+sees w c x = rules.sees w.topology (controls w c x) (has_universal w c) x
 
 abbrev pub sees_crtc : Rows → ℕ → ℕ → Bool
 sees_crtc w c x = is_crtc w.topology x && sees w c x

@@ -9,7 +9,7 @@ use Rattle.drm_table.specs.declared.rules.Rule.TheVariants.{NoHandle, NoName, No
 use Rattle.drm_table.specs.Permit.{check}
 use Rattle.drm_index_array.specs.Least.{least, least_of}
 use Rattle.drm_model.specs.Numbers.{next_in_turn}
-use Rattle.drm_model.specs.Rows.{Rows, HoldRow, ObjectRow, NameRow, TokenRow, birth, without, is_option, is_hold, has_handle, object_of, object_row, free_handle, with_hold}
+use Rattle.drm_model.specs.Rows.{Rows, HandleRow, ObjectRow, NameRow, TokenRow, step_number, without, is_option, is_handle, has_handle, object_of, object_row, free_handle, with_handle_row}
 use Rattle.drm_model.specs.Meaning.{Meaning, nothing}
 use Rattle.drm_model.specs.Buffers.{new_handle}
 
@@ -56,7 +56,7 @@ gem_flink w c handle = flink_of w (has_handle w c handle) (object_of w c handle)
 abbrev pub open_of : Rows → ℕ → Option ℕ → ℕ → Meaning
 open_of w c named o = record {
   checks = check NoName (is_some named) ∷ check Full (is_some (free_handle w c)) ∷ [];
-  rows = record w { holds = with_hold w c o None };
+  rows = record w { holds = with_handle_row w c o None };
   answer = Buffer (new_handle w c) (size_of w o);
 }
 
@@ -79,8 +79,8 @@ abbrev pub new_token : Rows → ℕ
 new_token w = unwrap_or (next_token w) 0
 
 -- the handles, of which the client's has this PRIME place, unless it has one already
-unfoldable pub with_place : ℕ → ℕ → ℕ → List HoldRow → List HoldRow
-with_place c handle place holds = map (λ (row : HoldRow). if is_hold c handle row then record row { place = Some (unwrap_or row.place place) } else row) holds
+unfoldable pub with_export_order : ℕ → ℕ → ℕ → List HandleRow → List HandleRow
+with_export_order c handle export_order holds = map (λ (row : HandleRow). if is_handle c handle row then record row { export_order = Some (unwrap_or row.export_order export_order) } else row) holds
 
 -- PRIME_HANDLE_TO_FD: a new token, and a PRIME place for the handle
 abbrev pub prime_export : Rows → ℕ → ℕ → Meaning
@@ -89,7 +89,7 @@ prime_export w c handle = record {
   rows = record w {
     tokens = w.tokens ++ record { token = new_token w; client = c; object = object_of w c handle } ∷ [];
     last_token = new_token w;
-    holds = with_place c handle (birth w) w.holds;
+    holds = with_export_order c handle (step_number w) w.holds;
   };
   answer = Number (new_token w);
 }
@@ -99,25 +99,25 @@ abbrev pub exported_object : Rows → ℕ → Option ℕ
 exported_object w token = option_map (λ (row : TokenRow). row.object) (find (λ row. row.token == token) w.tokens)
 
 -- a handle of the client for the object
-abbrev pub is_hold_of : ℕ → ℕ → HoldRow → Bool
-is_hold_of c o row = (row.client == c) && (row.object == o)
+abbrev pub is_handle_of : ℕ → ℕ → HandleRow → Bool
+is_handle_of c o row = (row.client == c) && (row.object == o)
 
 -- the PRIME places of the client's handles of the object
-abbrev pub places_of : Rows → ℕ → ℕ → List ℕ
-places_of w c o = filter_map (λ (row : HoldRow). row.place) (filter (is_hold_of c o) w.holds)
+abbrev pub export_orders_of : Rows → ℕ → ℕ → List ℕ
+export_orders_of w c o = filter_map (λ (row : HandleRow). row.export_order) (filter (is_handle_of c o) w.holds)
 
 -- the client's handles of the object that have this place
 abbrev pub handles_at : Rows → ℕ → ℕ → ℕ → List ℕ
-handles_at w c o place = map (λ (row : HoldRow). row.handle) (filter (λ row. is_option place row.place) (filter (is_hold_of c o) w.holds))
+handles_at w c o export_order = map (λ (row : HandleRow). row.handle) (filter (λ row. is_option export_order row.export_order) (filter (is_handle_of c o) w.holds))
 
 -- the client's handle of the object with the least PRIME place, at a tie the least handle
 unfoldable pub prime_handle : Rows → ℕ → ℕ → Option ℕ
-prime_handle w c o = option_and_then (λ place. least_of (handles_at w c o place)) (least_of (places_of w c o))
+prime_handle w c o = option_and_then (λ export_order. least_of (handles_at w c o export_order)) (least_of (export_orders_of w c o))
 
 -- the handles, with one of the client for the object if it had none with a PRIME place
-abbrev pub imported : Rows → ℕ → ℕ → Option ℕ → List HoldRow
+abbrev pub imported : Rows → ℕ → ℕ → Option ℕ → List HandleRow
 imported w c o (Some handle) = w.holds
-imported w c o None = with_hold w c o (Some (birth w))
+imported w c o None = with_handle_row w c o (Some (step_number w))
 
 -- the handle that the import answers, if there is one
 abbrev pub import_handle : Rows → ℕ → ℕ → Option ℕ

@@ -5,10 +5,10 @@ use Rattle.drm_lists.specs.Orders.{InOrder}
 use Rattle.drm_model.specs.Rows.{Rows, ShownRow, is_framebuffer}
 
 -- the rows are of two CRTCs or planes
-abbrev pub IsOtherShower : ShownRow → ShownRow → Type 0
-IsOtherShower x y = (x.shower == y.shower) ≡ false
+abbrev pub IsOtherEngine : ShownRow → ShownRow → Type 0
+IsOtherEngine x y = (x.engine == y.engine) ≡ false
 
 -- no CRTC and no plane has two rows, and each shows a framebuffer that is there
 pub record EachShowsOne (w : Rows) : Type 0 where
-  pub one : InOrder IsOtherShower w.shown
+  pub one : InOrder IsOtherEngine w.shown
   pub there : AllByRecursion (λ (row : ShownRow). is_framebuffer w row.framebuffer ≡ true) w.shown

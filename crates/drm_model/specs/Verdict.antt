@@ -10,7 +10,7 @@ use Rattle.drm_table.specs.declared.rules.Rule.TheVariants.{Unknown, Layout, NoC
 use Rattle.drm_table.specs.Permit.{Check, check, first_failing, permit_checks}
 use Rattle.drm_table.specs.Table.{flags_of}
 use Rattle.drm_model.specs.Rows.{Rows, is_open}
-use Rattle.drm_model.specs.Masters.{standing_of}
+use Rattle.drm_model.specs.Masters.{credentials_of}
 use Rattle.drm_model.specs.Calls.{meaning}
 use Rattle.drm_model.specs.Clients.{opening_checks}
 
@@ -31,7 +31,7 @@ admission_checks w c call =
     check Unknown (is_known call)
     ∷ check Layout (is_laid_out call)
     ∷ check NoClient (is_open w c)
-    ∷ permit_checks (flags_of call) (standing_of w c)
+    ∷ permit_checks (flags_of call) (credentials_of w c)
 
 -- all that an event is tested for, in order
 unfoldable pub checks : Rows → Event → List Check

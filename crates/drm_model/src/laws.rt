@@ -10,19 +10,19 @@ ghost use Rattle.drm_table.specs.declared.calls.Call.TheVariants.{RevokeLease};
 ghost use Rattle.drm_table.specs.declared.rules.Rule.{Rule};
 ghost use Rattle.drm_model.specs.Rows.{Rows, is_open};
 ghost use Rattle.drm_model.specs.Verdict.{verdict};
-ghost use Rattle.drm_model.specs.Change.{after, noted};
-ghost use Rattle.drm_model.specs.Births.{BirthsRise, WereMade};
+ghost use Rattle.drm_model.specs.Change.{after, journaled};
+ghost use Rattle.drm_model.specs.StepNumbers.{StepNumbersRise, WereMade};
 ghost use Rattle.drm_model.specs.Shown.{EachShowsOne};
 ghost use Rattle.drm_model.specs.Masters.{lessor_of, master_of, is_under};
-ghost use Rattle.drm_model.specs.Magics.{own_master, is_master};
+ghost use Rattle.drm_model.specs.Magics.{caller_master, is_master};
 ghost use Rattle.drm_model.specs.Leases.{lessee_master};
 ghost use Rattle.drm_model.specs.Endings.{IsForgotten, HasEnded};
 ghost use Rattle.drm_model.specs.Nesting.{LeasesNest};
-ghost use Rattle.drm_model.specs.Run.{Step, Answers, History, run, noted_events, noted_in, rows_of};
+ghost use Rattle.drm_model.specs.Run.{Step, Answers, DeviceValue, run, journaled_events, journaled_in, rows_of};
 
 /// A denial changes no row: it is noted, and that is all.
 pub fn denials_change_no_row()
-    ensures { (w : Rows) (event : Event) (rule : Rule) → verdict w event ≡ Some rule → after w event ≡ noted w }
+    ensures { (w : Rows) (event : Event) (rule : Rule) → verdict w event ≡ Some rule → after w event ≡ journaled w }
 {}
 
 /// A step answers one more event of a list, so that steps one after another answer any list of events.
@@ -33,9 +33,9 @@ pub fn answers_go_on()
 {}
 
 /// What stands apart leaves no trace: the rows are those of the noted events alone.
-pub fn rows_are_those_of_noted_events()
+pub fn rows_are_those_of_journaled_events()
     ensures { (w : Rows) (events : List Event) (results : List (Result Answer Apart)) (v : Rows)
-        → Answers w events results v → v ≡ run w (noted_events events results) }
+        → Answers w events results v → v ≡ run w (journaled_events events results) }
 {}
 
 /// The closing of an open client is always carried out: the journal has its place, and it takes no memory.
@@ -43,22 +43,22 @@ pub fn closings_are_carried_out()
     ensures { (w : Rows) (c : ℕ) (result : Result Answer Apart) (v : Rows) → is_open w c ≡ true → Step w (Close c) result v → result ≡ Ok Closed }
 {}
 
-/// Births rise: after any events clients, masters and objects stand in the order of the steps that made them, and no two of
+/// Step numbers rise: after any events clients, masters and objects stand in the order of the steps that made them, and no two of
 /// a kind have the same number.
-pub fn births_rise()
-    ensures { (h : History) → BirthsRise (rows_of h).steps (rows_of h) }
+pub fn step_numbers_rise()
+    ensures { (h : DeviceValue) → StepNumbersRise (rows_of h).steps (rows_of h) }
 {}
 
 /// The rows of a longer journal are those after one more step.
 pub fn rows_follow_the_journal()
-    ensures { (h : History) (event : Event) → rows_of (noted_in h event) ≡ after (rows_of h) event }
+    ensures { (h : DeviceValue) (event : Event) → rows_of (journaled_in h event) ≡ after (rows_of h) event }
 {}
 
 /// Lessors are older: after any events clients, masters and objects are those of steps that were made, and what is above a
 /// master was made before it, so that its chain of lessors ends.
 pub fn lessors_are_older()
-    ensures made { (h : History) → WereMade (rows_of h).steps (rows_of h) }
-    ensures older { (h : History) (n m : ℕ) → lessor_of (rows_of h).masters n ≡ Some m → m < n }
+    ensures made { (h : DeviceValue) → WereMade (rows_of h).steps (rows_of h) }
+    ensures older { (h : DeviceValue) (n m : ℕ) → lessor_of (rows_of h).masters n ≡ Some m → m < n }
 {}
 
 /// A closing leaves no right: no row names its client, and where the client was a master, neither its own master nor any below
@@ -71,18 +71,18 @@ pub fn closings_leave_no_right()
 /// A lease ends for good: after its revocation neither the lessee nor any below has a grant or an open lease token, and none of
 /// them gets one by any later event; nor does a master whose client's closing ended what it lent.
 pub fn leases_end_for_good()
-    ensures revoked { (w : Rows) (c lessee m : ℕ) → verdict w (Ask c (RevokeLease lessee)) ≡ None → is_under w.masters (lessee_master w (own_master w c) lessee) m ≡ true → HasEnded (after w (Ask c (RevokeLease lessee))) m }
+    ensures revoked { (w : Rows) (c lessee m : ℕ) → verdict w (Ask c (RevokeLease lessee)) ≡ None → is_under w.masters (lessee_master w (caller_master w c) lessee) m ≡ true → HasEnded (after w (Ask c (RevokeLease lessee))) m }
     ensures stays { (w : Rows) (events : List Event) (m : ℕ) → m ≤ w.steps → HasEnded w m → HasEnded (run w events) m }
 {}
 
 /// Leases nest: after any events no master is deeper than the last depth, and what the lease of a lessee has, that of its
 /// lessor has too, where that is a lessee.
 pub fn leases_nest()
-    ensures { (h : History) → LeasesNest (rows_of h) }
+    ensures { (h : DeviceValue) → LeasesNest (rows_of h) }
 {}
 
 /// Each shows one framebuffer: after any events no CRTC and no plane has two rows of what it shows, and each row shows a framebuffer
 /// that is there.
 pub fn each_shows_one_framebuffer()
-    ensures { (h : History) → EachShowsOne (rows_of h) }
+    ensures { (h : DeviceValue) → EachShowsOne (rows_of h) }
 {}

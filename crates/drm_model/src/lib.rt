@@ -4,7 +4,7 @@
 mod laws;
 
 pub use laws::{
-    answers_go_on, births_rise, closings_are_carried_out, closings_leave_no_right,
-    denials_change_no_row, each_shows_one_framebuffer, leases_end_for_good, leases_nest,
-    lessors_are_older, rows_are_those_of_noted_events, rows_follow_the_journal,
+    answers_go_on, closings_are_carried_out, closings_leave_no_right, denials_change_no_row,
+    each_shows_one_framebuffer, leases_end_for_good, leases_nest, lessors_are_older,
+    rows_are_those_of_journaled_events, rows_follow_the_journal, step_numbers_rise,
 };

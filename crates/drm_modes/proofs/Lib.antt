@@ -4,6 +4,5 @@ pub mod Listed
 mod PlanesAre
 mod Masks
 mod Mapped
-mod Numbered
 mod ModeFacts
 pub mod Crossing

@@ -1,4 +1,4 @@
--- The lists that the table and the screens stand for, and how they change.
+-- The lists that the table and the scanouts stand for, and how they change.
 use Rattle.std.proofs.Common.{◌≡◌, ℕ, zero, suc, ◌+◌, ◌≤◌, ◌<◌, ◌==◌, eqb, nat_lt, length, Bool, true, false, cond, ◌||◌, find, is_some, List, [], ◌∷◌, replicate, map, set, Option, Some, None, option_map, option_and_then, refl, sym, ap, ◌∙◌, arith, nat_cmp}
 use Rattle.std.proofs.lemmas.List.{length-map, length-set, length-replicate}
 use Rattle.std.specs.List.{AllByRecursion, list_any}
@@ -12,11 +12,11 @@ use Rattle.drm_id_alloc.proofs.TableLemmas.{IsWithin-empty, IsWithin-insert, IsW
 use Rattle.drm_modes.specs.declared.rows.Framebuffer.{Framebuffer}
 use Rattle.drm_modes.specs.declared.modes.Pixels.{Pixels}
 use Rattle.drm_modes.specs.Topology.{Topology, IsTopology, object_count}
-use Rattle.drm_modes.specs.Modes.{ModeSet, AreModes, IsFramebufferFrom, empty_modes, is_framebuffer, is_framebuffer_of, is_made_by, framebuffer_before, free_framebuffer, with_framebuffer, without_framebuffer, dark_of, screen_count, first_framebuffer}
-use Rattle.drm_modes.specs.Tables.{framebuffer_row, framebuffers_in, mode_set, is_screen, HasModes}
+use Rattle.drm_modes.specs.Modes.{ModeSet, AreModes, IsFramebufferFrom, empty_modes, is_framebuffer, is_framebuffer_of, is_made_by, framebuffer_before, free_framebuffer, with_framebuffer, without_framebuffer, dark_of, scanout_count, first_framebuffer}
+use Rattle.drm_modes.specs.Tables.{framebuffer_row, framebuffers_in, mode_set, is_scanout, HasModes}
 use Rattle.drm_index_array.specs.Rows.{InOrder}
 use Rattle.drm_modes.proofs.Fixed.{few_rising}
-use Rattle.drm_modes.proofs.Numbered.{find_number, find_also, rows_added, rows_removed, rows_rise, least_free_is, rows_all, no_rows}
+use Rattle.drm_id_alloc.proofs.Numbered.{find_number, find_also, rows_added, rows_removed, rows_rise, least_free_is, rows_all, no_rows}
 
 abbrev number : Framebuffer → ℕ
 number row = row.framebuffer
@@ -25,7 +25,7 @@ number row = row.framebuffer
 abbrev pub removes : ℕ → ℕ → Option Pixels → Option ℕ
 removes c n x = option_map (λ (row : Framebuffer). row.object) (option_and_then (λ (v : Pixels). cond (v.client == c) (Some (framebuffer_row (n, v))) None) x)
 
-all_dark : (slots : fin.FinMap nat_cmp Pixels) (n : ℕ) → AllByRecursion (λ f. is_screen slots f ≡ true) (replicate n 0)
+all_dark : (slots : fin.FinMap nat_cmp Pixels) (n : ℕ) → AllByRecursion (λ f. is_scanout slots f ≡ true) (replicate n 0)
 all_dark slots zero = tt
 all_dark slots (suc n) = (refl, all_dark slots n)
 
@@ -57,8 +57,8 @@ few_between low last le fs between rise =
     numbers_rise [] rise = tt
     numbers_rise (x ∷ xs) rise = (above x xs rise.0, numbers_rise xs rise.1)
 
-module _ (t : Topology) (table : Table Pixels) (screens : List ℕ) where
-  pub free_is : table.first ≡ first_framebuffer t → free_framebuffer (mode_set t table screens) ≡ least_free table
+module _ (t : Topology) (table : Table Pixels) (scanouts : List ℕ) where
+  pub free_is : table.first ≡ first_framebuffer t → free_framebuffer (mode_set t table scanouts) ≡ least_free table
   free_is first = least_free_is framebuffer_row number (λ e. refl) table.slots (first_framebuffer t) table.last ∙ ap (λ n. least (is_free_in table) n table.last) (sym first)
 
   pub found_is : (f : ℕ) → find (is_framebuffer f) (framebuffers_in table.slots) ≡ option_map (λ v. framebuffer_row (f, v)) (fin.get table.slots f)
@@ -68,7 +68,7 @@ module _ (t : Topology) (table : Table Pixels) (screens : List ℕ) where
   found_of_is c f = find_also framebuffer_row number (λ e. refl) table.slots f (is_made_by c)
 
   -- the same of the value that contracts see
-  module _ (seen : ModeSet) (is : mode_set t table screens ≡ seen) where
+  module _ (seen : ModeSet) (is : mode_set t table scanouts ≡ seen) where
     pub framebuffer_is : (f : ℕ) → option_map (λ v. framebuffer_row (f, v)) (fin.get table.slots f) ≡ find (is_framebuffer f) seen.framebuffers
     framebuffer_is f = sym (found_is f) ∙ ap (λ (set : ModeSet). find (is_framebuffer f) set.framebuffers) is
 
@@ -80,13 +80,13 @@ module _ (t : Topology) (table : Table Pixels) (screens : List ℕ) where
   pub has_is : (f : ℕ) → list_any (is_framebuffer f) (framebuffers_in table.slots) ≡ fin.contains_key table.slots f
   has_is f = sym (is_some-find (is_framebuffer f) (framebuffers_in table.slots)) ∙ ap is_some (found_is f) ∙ is_some-map (λ v. framebuffer_row (f, v)) (fin.get table.slots f)
 
-  pub added : (n : ℕ) (v : Pixels) → fin.get table.slots n ≡ None → mode_set t (with_entry table n v) screens ≡ with_framebuffer (mode_set t table screens) (framebuffer_row (n, v))
-  added n v none = λ i. record { topology = t; framebuffers = rows_added framebuffer_row number (λ e. refl) table.slots n v none i; screens = screens; last = table.last }
+  pub added : (n : ℕ) (v : Pixels) → fin.get table.slots n ≡ None → mode_set t (with_entry table n v) scanouts ≡ with_framebuffer (mode_set t table scanouts) (framebuffer_row (n, v))
+  added n v none = λ i. record { topology = t; framebuffers = rows_added framebuffer_row number (λ e. refl) table.slots n v none i; scanouts = scanouts; last = table.last }
 
-  pub removed : (n : ℕ) → mode_set t (without_entry table n) (map (dark_of n) screens) ≡ without_framebuffer (mode_set t table screens) n
-  removed n = λ i. record { topology = t; framebuffers = rows_removed framebuffer_row number (λ e. refl) table.slots n i; screens = map (dark_of n) screens; last = table.last }
+  pub removed : (n : ℕ) → mode_set t (without_entry table n) (map (dark_of n) scanouts) ≡ without_framebuffer (mode_set t table scanouts) n
+  removed n = λ i. record { topology = t; framebuffers = rows_removed framebuffer_row number (λ e. refl) table.slots n i; scanouts = map (dark_of n) scanouts; last = table.last }
 
-  module _ (has : HasModes t table screens) where
+  module _ (has : HasModes t table scanouts) where
     framebuffers_between : AllByRecursion (IsFramebufferFrom (first_framebuffer t) table.last) (framebuffers_in table.slots)
     framebuffers_between = rows_all framebuffer_row table.slots (IsFramebufferFrom (first_framebuffer t) table.last) (λ n v found. record {
       low = omega (arith, has.first_is, has.within.low n (ap is_some found));
@@ -98,7 +98,7 @@ module _ (t : Topology) (table : Table Pixels) (screens : List ℕ) where
         let fits = few_between (first_framebuffer t) table.last (omega (arith, has.first_is, has.within.in_order)) (framebuffers_in table.slots) framebuffers_between (rows_rise framebuffer_row number (λ e. refl) table.slots) in
         omega (arith, fits, has.last_high)
 
-    pub modes_are : AreModes (mode_set t table screens)
+    pub modes_are : AreModes (mode_set t table scanouts)
     modes_are = record {
       topology = has.topology;
       last_low = omega (arith, has.first_is, has.within.in_order);
@@ -106,56 +106,56 @@ module _ (t : Topology) (table : Table Pixels) (screens : List ℕ) where
       framebuffers_rise = rows_rise framebuffer_row number (λ e. refl) table.slots;
       few = few_framebuffers;
       framebuffers_are = framebuffers_between;
-      each_has_a_screen = has.each_has_a_screen;
-      screens_are = all_weaker (λ f. is_screen table.slots f ≡ true) (λ f. ((f == 0) || list_any (is_framebuffer f) (framebuffers_in table.slots)) ≡ true) (λ f h. ap (λ b. (f == 0) || b) (has_is f) ∙ h) screens has.screens_are;
+      each_has_a_scanout = has.each_has_a_scanout;
+      scanouts_are = all_weaker (λ f. is_scanout table.slots f ≡ true) (λ f. ((f == 0) || list_any (is_framebuffer f) (framebuffers_in table.slots)) ≡ true) (λ f h. ap (λ b. (f == 0) || b) (has_is f) ∙ h) scanouts has.scanouts_are;
     }
 
-    pub has-added : (n : ℕ) (v : Pixels) → table.first ≤ n → n ≤ table.last → HasModes t (with_entry table n v) screens
+    pub has-added : (n : ℕ) (v : Pixels) → table.first ≤ n → n ≤ table.last → HasModes t (with_entry table n v) scanouts
     has-added n v low high = record {
       topology = has.topology;
       first_is = has.first_is;
       last_high = has.last_high;
       within = IsWithin-insert table.slots table.first table.last table.last_given has.within n v low high;
-      each_has_a_screen = has.each_has_a_screen;
-      screens_are = all_weaker (λ f. is_screen table.slots f ≡ true) (λ f. is_screen (fin.insert table.slots n v) f ≡ true)
-          (λ f h. ap (λ o. (f == 0) || is_some o) (get-insert table.slots n v f) ∙ still_there (f == 0) (eqb f n) v (fin.get table.slots f) h) screens has.screens_are;
+      each_has_a_scanout = has.each_has_a_scanout;
+      scanouts_are = all_weaker (λ f. is_scanout table.slots f ≡ true) (λ f. is_scanout (fin.insert table.slots n v) f ≡ true)
+          (λ f h. ap (λ o. (f == 0) || is_some o) (get-insert table.slots n v f) ∙ still_there (f == 0) (eqb f n) v (fin.get table.slots f) h) scanouts has.scanouts_are;
     }
 
-    stays : (n f : ℕ) (b : Bool) → (f == n) ≡ b → is_screen table.slots f ≡ true → is_screen (fin.remove table.slots n) (cond b 0 f) ≡ true
+    stays : (n f : ℕ) (b : Bool) → (f == n) ≡ b → is_scanout table.slots f ≡ true → is_scanout (fin.remove table.slots n) (cond b 0 f) ≡ true
     stays n f true same h = refl
     stays n f false other h = ap (λ o. (f == 0) || is_some o) (get-remove table.slots n f ∙ ap (λ b. cond b None (fin.get table.slots f)) other) ∙ h
 
-    pub has-removed : (n : ℕ) → HasModes t (without_entry table n) (map (dark_of n) screens)
+    pub has-removed : (n : ℕ) → HasModes t (without_entry table n) (map (dark_of n) scanouts)
     has-removed n = record {
       topology = has.topology;
       first_is = has.first_is;
       last_high = has.last_high;
       within = IsWithin-remove table.slots table.first table.last table.last_given has.within n;
-      each_has_a_screen = length-map screens (dark_of n) ∙ has.each_has_a_screen;
-      screens_are = all_mapped (λ f. is_screen (fin.remove table.slots n) f ≡ true) (dark_of n) screens
-          (all_weaker (λ f. is_screen table.slots f ≡ true) (λ f. is_screen (fin.remove table.slots n) (dark_of n f) ≡ true) (λ f h. stays n f (f == n) refl h) screens has.screens_are);
+      each_has_a_scanout = length-map scanouts (dark_of n) ∙ has.each_has_a_scanout;
+      scanouts_are = all_mapped (λ f. is_scanout (fin.remove table.slots n) f ≡ true) (dark_of n) scanouts
+          (all_weaker (λ f. is_scanout table.slots f ≡ true) (λ f. is_scanout (fin.remove table.slots n) (dark_of n f) ≡ true) (λ f h. stays n f (f == n) refl h) scanouts has.scanouts_are);
     }
 
-    pub has-shown : (i f : ℕ) → is_screen table.slots f ≡ true → HasModes t table (set screens i f)
+    pub has-shown : (i f : ℕ) → is_scanout table.slots f ≡ true → HasModes t table (set scanouts i f)
     has-shown i f there = record {
       topology = has.topology;
       first_is = has.first_is;
       last_high = has.last_high;
       within = has.within;
-      each_has_a_screen = length-set screens i f ∙ has.each_has_a_screen;
-      screens_are = all_set (λ f. is_screen table.slots f ≡ true) f there screens i has.screens_are;
+      each_has_a_scanout = length-set scanouts i f ∙ has.each_has_a_scanout;
+      scanouts_are = all_set (λ f. is_scanout table.slots f ≡ true) f there scanouts i has.scanouts_are;
     }
 
 -- before the first framebuffer
-pub has-none : (t : Topology) (n : ℕ) → IsTopology t → 1 ≤ n → n ≤ 64 → HasModes t (empty_table (first_framebuffer t) (object_count t + n)) (replicate (screen_count t) 0)
+pub has-none : (t : Topology) (n : ℕ) → IsTopology t → 1 ≤ n → n ≤ 64 → HasModes t (empty_table (first_framebuffer t) (object_count t + n)) (replicate (scanout_count t) 0)
 has-none t n is some few = record {
   topology = is;
   first_is = refl;
   last_high = omega (arith, few);
   within = IsWithin-empty (first_framebuffer t) (object_count t + n) (omega (arith, some)) (omega (arith, few, is.few));
-  each_has_a_screen = length-replicate (screen_count t) 0;
-  screens_are = all_dark fin.empty (screen_count t);
+  each_has_a_scanout = length-replicate (scanout_count t) 0;
+  scanouts_are = all_dark fin.empty (scanout_count t);
 }
 
-pub none_made : (t : Topology) (n : ℕ) → mode_set t (empty_table (first_framebuffer t) (object_count t + n)) (replicate (screen_count t) 0) ≡ empty_modes t n
-none_made t n = λ i. record { topology = t; framebuffers = no_rows framebuffer_row i; screens = replicate (screen_count t) 0; last = object_count t + n }
+pub none_made : (t : Topology) (n : ℕ) → mode_set t (empty_table (first_framebuffer t) (object_count t + n)) (replicate (scanout_count t) 0) ≡ empty_modes t n
+none_made t n = λ i. record { topology = t; framebuffers = no_rows framebuffer_row i; scanouts = replicate (scanout_count t) 0; last = object_count t + n }

@@ -1,6 +1,7 @@
 pub mod Numbers
 pub mod PlaneKinds
 pub mod Topology
+pub mod LeaseRules
 pub mod Topologies
 pub mod Modes
 pub mod Tables

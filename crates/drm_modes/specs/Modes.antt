@@ -9,17 +9,17 @@ use Rattle.drm_modes.specs.declared.rows.Shape.{Shape}
 use Rattle.drm_modes.specs.declared.rows.Framebuffer.{Framebuffer}
 use Rattle.drm_modes.specs.declared.rows.Shown.{Shown}
 
--- The framebuffers rise by their ids, which end at `last`. `screens` has what each CRTC and then each plane shows, a
+-- The framebuffers rise by their ids, which end at `last`. `scanouts` has what each CRTC and then each plane shows, a
 -- framebuffer or 0 where it is dark, so that the first is that of id 1.
 pub record ModeSet : Type 0 where
   pub topology : Topology
   pub framebuffers : List Framebuffer
-  pub screens : List ℕ
+  pub scanouts : List ℕ
   pub last : ℕ
 
 -- how many CRTCs and planes there are, with ids from 1
-abbrev pub screen_count : Topology → ℕ
-screen_count t = t.crtcs + length t.planes
+abbrev pub scanout_count : Topology → ℕ
+scanout_count t = t.crtcs + length t.planes
 
 -- ids of framebuffers follow those of the fixed objects
 abbrev pub first_framebuffer : Topology → ℕ
@@ -27,7 +27,7 @@ first_framebuffer t = object_count t + 1
 
 -- no framebuffer, of so many that there may be; all is dark
 abbrev pub empty_modes : Topology → ℕ → ModeSet
-empty_modes t framebuffers = record { topology = t; framebuffers = []; screens = replicate (screen_count t) 0; last = object_count t + framebuffers }
+empty_modes t framebuffers = record { topology = t; framebuffers = []; scanouts = replicate (scanout_count t) 0; last = object_count t + framebuffers }
 
 abbrev pub is_framebuffer : ℕ → Framebuffer → Bool
 is_framebuffer f row = row.framebuffer == f
@@ -62,11 +62,11 @@ abbrev pub with_framebuffer : ModeSet → Framebuffer → ModeSet
 with_framebuffer set row = record set { framebuffers = placed framebuffer_before row set.framebuffers }
 
 abbrev pub dark_of : ℕ → ℕ → ℕ
-dark_of f screen = if screen == f then 0 else screen
+dark_of f scanout = if scanout == f then 0 else scanout
 
 -- what shows it goes dark
 abbrev pub without_framebuffer : ModeSet → ℕ → ModeSet
-without_framebuffer set f = record set { framebuffers = filter (λ row. not (is_framebuffer f row)) set.framebuffers; screens = map (dark_of f) set.screens }
+without_framebuffer set f = record set { framebuffers = filter (λ row. not (is_framebuffer f row)) set.framebuffers; scanouts = map (dark_of f) set.scanouts }
 
 -- what can be shown: a framebuffer, and 0 for none
 abbrev pub can_show : ModeSet → ℕ → Bool
@@ -74,28 +74,28 @@ can_show set f = (f == 0) || has_framebuffer set f
 
 -- what a CRTC or a plane shows; 0 where it is dark, and of anything else
 abbrev pub shown_by : ModeSet → ℕ → ℕ
-shown_by set x = if x == 0 then 0 else slice_index_or set.screens (x - 1) 0
+shown_by set x = if x == 0 then 0 else slice_index_or set.scanouts (x - 1) 0
 
 abbrev pub with_shown : ModeSet → ℕ → ℕ → ModeSet
-with_shown set x f = record set { screens = slice_set set.screens (x - 1) f }
+with_shown set x f = record set { scanouts = slice_set set.scanouts (x - 1) f }
 
 abbrev pub shown : ℕ → ℕ → Shown
-shown x f = record { shower = x; framebuffer = f }
+shown x f = record { engine = x; framebuffer = f }
 
 -- what shows what, where the first has this id
-abbrev pub screen_rows : ℕ → List ℕ → List Shown
-screen_rows x [] = []
-screen_rows x (f ∷ fs) = shown x f ∷ screen_rows (x + 1) fs
+abbrev pub scanout_rows : ℕ → List ℕ → List Shown
+scanout_rows x [] = []
+scanout_rows x (f ∷ fs) = shown x f ∷ scanout_rows (x + 1) fs
 
 abbrev pub is_lit : Shown → Bool
 is_lit row = not (row.framebuffer == 0)
 
 abbrev pub lit_rows : ℕ → List ℕ → List Shown
-lit_rows x screens = filter is_lit (screen_rows x screens)
+lit_rows x scanouts = filter is_lit (scanout_rows x scanouts)
 
 -- the CRTCs and planes that show something, rising
 abbrev pub shown_rows : ModeSet → List Shown
-shown_rows set = lit_rows 1 set.screens
+shown_rows set = lit_rows 1 set.scanouts
 
 pub record IsFramebufferFrom (first last : ℕ) (row : Framebuffer) : Type 0 where
   pub low : first ≤ row.framebuffer
@@ -109,5 +109,5 @@ pub record AreModes (set : ModeSet) : Type 0 where
   pub framebuffers_rise : InOrder framebuffer_before set.framebuffers
   pub few : length set.framebuffers ≤ 64
   pub framebuffers_are : AllByRecursion (IsFramebufferFrom (first_framebuffer set.topology) set.last) set.framebuffers
-  pub each_has_a_screen : length set.screens ≡ screen_count set.topology
-  pub screens_are : AllByRecursion (λ f. can_show set f ≡ true) set.screens
+  pub each_has_a_scanout : length set.scanouts ≡ scanout_count set.topology
+  pub scanouts_are : AllByRecursion (λ f. can_show set f ≡ true) set.scanouts

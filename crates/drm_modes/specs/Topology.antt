@@ -1,7 +1,6 @@
 -- The fixed mode objects (drm-uapi, mode setting): CRTCs, planes, encoders and connectors, with ids from 1 in that order.
-use Rattle.std.specs.Prelude.{◌≡◌, ℕ, ◌+◌, ◌-◌, ◌*◌, ◌^◌, ◌≤◌, ◌==◌, Bool, true, false, ◌&&◌, nat_le, nat_lt, if◌then◌else◌, List, [], ◌∷◌, length, filter, slice_get, slice_index_or, Option, None, Some, is_some}
+use Rattle.std.specs.Prelude.{◌≡◌, ℕ, ◌+◌, ◌-◌, ◌*◌, ◌^◌, ◌≤◌, ◌==◌, Bool, true, false, ◌&&◌, nat_le, nat_lt, if◌then◌else◌, List, [], ◌∷◌, length, filter, slice_get, slice_index_or, Option, None, Some, is_some, not, ◌||◌}
 use Rattle.std.specs.Option.{option_map_or, option_and_then}
-use Rattle.std.specs.Int.{bit_at}
 use Rattle.std.specs.List.{list_all, AllByRecursion}
 use Rattle.drm_index_array.specs.Rows.{InOrder}
 use Rattle.drm_lists.specs.Numbers.{is_among}
@@ -134,6 +133,14 @@ encoder_of t x = if is_connector t x then slice_get t.connectors (x - first_conn
 -- whether the CRTC is a possible one of the connector's encoder
 abbrev pub reaches : Topology → ℕ → ℕ → Bool
 reaches t connector crtc = option_map_or (λ encoder. drives t encoder crtc) (encoder_of t connector) false
+
+-- a framebuffer with a connector that the CRTC reaches, or neither, where 0 is none
+abbrev pub is_route : Topology → ℕ → ℕ → ℕ → Bool
+is_route t crtc framebuffer connector = if connector == 0 then framebuffer == 0 else not (framebuffer == 0) && reaches t connector crtc
+
+-- whether the plane can be shown on the CRTC, or shows no framebuffer
+abbrev pub is_plane_route : Topology → ℕ → ℕ → ℕ → Bool
+is_plane_route t plane crtc framebuffer = (framebuffer == 0) || drives t plane crtc
 
 -- a list of CRTCs that rise
 pub record AreCrtcs (t : Topology) (crtcs : List ℕ) : Type 0 where

@@ -1,6 +1,15 @@
 //! Why no framebuffer was made.
 
 /// Why no framebuffer was made. Everything is then as it was.
+///
+/// ```rust
+/// let Some(topology) = Topology::new(2, &[1, 2], &[3, 2], &[5, 6]) else { return };
+/// let mut modes = Modes::new(alloc, topology, 1);
+/// let shape = Shape { width: 640, height: 480, pitch: 2560, bpp: 32 };
+/// let Ok(_first) = modes.addfb(1, shape, ObjectKey::from_number(7)) else { return };
+/// let second = modes.addfb(1, shape, ObjectKey::from_number(7));
+/// assert!(second == Err(AddFbFault::Full));
+/// ```
 #[derive(Clone, Copy, PartialEq, Eq, Debug)]
 pub enum AddFbFault {
     /// No id is free.

@@ -7,7 +7,7 @@ mod kinds;
 mod modes;
 mod planes;
 mod rows;
-mod screens;
+mod scanouts;
 mod topologies;
 
 pub use faults::AddFbFault;

@@ -4,14 +4,14 @@ ghost use Rattle.std.specs.Prelude.{◌≡◌, ℕ, ◌==◌, false, ◌≤◌, 
 ghost use Rattle.std.specs.Int.{bit_at};
 ghost use Rattle.std.specs.Option.{option_map_or};
 ghost use Rattle.drm_modes.specs.Topology.{kind_of, ids_of_kind, is_of_kind, encoder_of, reaches, drives, possible_crtcs, plane_kind, crtc_of_plane, planes_of, mask_over, is_crtc, is_plane, is_encoder, object_count, AreCrtcs};
-ghost use Rattle.drm_modes.specs.Modes.{AreModes, empty_modes, has_framebuffer, is_framebuffer, is_framebuffer_of, is_made_by, framebuffers_of, framebuffer, free_framebuffer, with_framebuffer, without_framebuffer, can_show, shown_by, with_shown, shown_rows, screen_count, first_framebuffer};
+ghost use Rattle.drm_modes.specs.Modes.{AreModes, empty_modes, has_framebuffer, is_framebuffer, is_framebuffer_of, is_made_by, framebuffers_of, framebuffer, free_framebuffer, with_framebuffer, without_framebuffer, can_show, shown_by, with_shown, shown_rows, scanout_count, first_framebuffer};
 ghost use Rattle.drm_modes.specs.AddFbFault.{IsFull};
 ghost use Rattle.drm_modes.specs.Tables.{framebuffer_row, framebuffers_in};
 
 use crate::faults::AddFbFault;
 use crate::kinds::{Kind, PlaneKind};
 use crate::rows::{Framebuffer, Shape, Shown};
-use crate::screens;
+use crate::scanouts;
 use crate::topologies::Topology;
 use arrayvec::ArrayVec;
 use drm_gem::ObjectKey;
@@ -30,12 +30,20 @@ pub(crate) struct Pixels {
 
 /// The fixed mode objects, the framebuffers, and what CRTCs and planes show (drm-uapi, mode setting). Contracts see the
 /// topology, and flat lists.
+///
+/// ```rust
+/// let Some(topology) = Topology::new(2, &[1, 2], &[3, 2], &[5, 6]) else { return };
+/// let mut modes = Modes::new(alloc, topology, 4);
+/// let shape = Shape { width: 640, height: 480, pitch: 2560, bpp: 32 };
+/// let object = ObjectKey::from_number(7);
+/// let Ok(framebuffer) = modes.addfb(1, shape, object) else { return };
+/// ```
 #[derive(Drop)]
 pub struct Modes {
     topology: Topology,
     framebuffers: IdTable<Pixels>,
     // What each CRTC and then each plane shows, 0 where it is dark.
-    screens: ArrayVec<u32, 64>,
+    scanouts: ArrayVec<u32, 64>,
 }
 
 impl Model for Modes {
@@ -44,14 +52,18 @@ impl Model for Modes {
 
     ghost Value = { ModeSet };
 
-    ghost view = { λ modes. mode_set modes.topology modes.framebuffers modes.screens.items };
+    ghost view = { λ modes. mode_set modes.topology modes.framebuffers modes.scanouts.items };
 
-    ghost invariant = { λ modes. HasModes modes.topology modes.framebuffers modes.screens.items };
+    ghost invariant = { λ modes. HasModes modes.topology modes.framebuffers modes.scanouts.items };
 }
 
 impl Modes {
     /// No framebuffer, of so many that there may be; all is dark. Their ids follow those of the fixed objects. It takes no
     /// memory.
+    ///
+    /// ```rust
+    /// assert!(modes.object_count() == 8);
+    /// ```
     pub fn new(alloc: Global, topology: Topology, framebuffers: u32) -> Modes
         requires some { 1 ≤ framebuffers }
         requires few { framebuffers ≤ 64 }
@@ -59,11 +71,11 @@ impl Modes {
     {
         topology.laws();
         let objects = topology.object_count();
-        let count = topology.screen_count();
+        let count = topology.scanout_count();
         Modes {
             topology,
             framebuffers: IdTable::new(alloc, objects + 1, objects + framebuffers),
-            screens: screens::dark(count),
+            scanouts: scanouts::dark(count),
         }
     }
 
@@ -75,6 +87,10 @@ impl Modes {
     }
 
     /// What an id is, if it is that of a fixed mode object (drm-uapi, mode setting). It takes no memory.
+    ///
+    /// ```rust
+    /// assert!(modes.kind(3) == Some(Kind::Plane));
+    /// ```
     pub fn kind(&self, id: u32) -> Option<Kind>
         ensures kind { result ≡ kind_of self.now.topology id }
         ensures is { IfSome result (λ kind. is_of_kind self.now.topology kind id ≡ true) }
@@ -84,6 +100,10 @@ impl Modes {
 
     /// How many fixed mode objects there are: their ids run from 1 to that (drm-uapi, mode setting; the ids are own). It takes
     /// no memory.
+    ///
+    /// ```rust
+    /// assert!(framebuffer > modes.object_count());
+    /// ```
     pub fn object_count(&self) -> u32
         ensures count { result ≡ object_count self.now.topology }
         ensures few { result ≤ 64 }
@@ -92,6 +112,10 @@ impl Modes {
     }
 
     /// Whether an id is that of a fixed mode object of a kind (drm-uapi, mode setting). It takes no memory.
+    ///
+    /// ```rust
+    /// assert!(modes.is_of_kind(Kind::Crtc, 2));
+    /// ```
     pub fn is_of_kind(&self, kind: Kind, id: u32) -> bool
         ensures { result ≡ is_of_kind self.now.topology kind id }
     {
@@ -100,6 +124,10 @@ impl Modes {
 
     /// The ids of the fixed mode objects of a kind, rising (drm-uapi, mode setting; that they rise is own). It takes no
     /// memory.
+    ///
+    /// ```rust
+    /// assert!(modes.ids(Kind::Connector).ids() == [7, 8].as_slice());
+    /// ```
     pub fn ids(&self, kind: Kind) -> ShownList
         ensures { result ≡ ids_of_kind self.now.topology kind }
     {
@@ -108,6 +136,10 @@ impl Modes {
 
     /// The encoder of a connector (drm-uapi, mode setting; that a connector has one is own); none where the id is no
     /// connector's. It takes no memory.
+    ///
+    /// ```rust
+    /// assert!(modes.encoder_of(8) == Some(6));
+    /// ```
     pub fn encoder_of(&self, connector: u32) -> Option<u32>
         ensures { result ≡ encoder_of self.now.topology connector }
     {
@@ -115,6 +147,10 @@ impl Modes {
     }
 
     /// What a plane is for; none where the id is no plane's (drm-uapi, universal planes). It takes no memory.
+    ///
+    /// ```rust
+    /// assert!(modes.plane_kind(4) == Some(PlaneKind::Overlay));
+    /// ```
     pub fn plane_kind(&self, id: u32) -> Option<PlaneKind>
         ensures { result ≡ plane_kind self.now.topology id }
     {
@@ -122,6 +158,10 @@ impl Modes {
     }
 
     /// The CRTC whose primary or cursor plane it is; none of anything else (drm-uapi, universal planes). It takes no memory.
+    ///
+    /// ```rust
+    /// assert!(modes.crtc_of_plane(4).is_none());
+    /// ```
     pub fn crtc_of_plane(&self, id: u32) -> Option<u32>
         ensures { result ≡ crtc_of_plane self.now.topology id }
     {
@@ -130,6 +170,10 @@ impl Modes {
 
     /// The primary and cursor planes of the CRTCs in a list, rising (drm-uapi, universal planes; that they rise is own). It
     /// takes no memory.
+    ///
+    /// ```rust
+    /// assert!(modes.planes_of(&[1, 2]).ids().is_empty());
+    /// ```
     pub fn planes_of(&self, crtcs: &[u32]) -> ShownList
         ensures { result ≡ planes_of self.now.topology crtcs.now }
     {
@@ -138,6 +182,10 @@ impl Modes {
 
     /// The possible CRTCs of a plane or an encoder: bit i is CRTC i + 1. It is 0 where the id is neither. It takes no
     /// memory.
+    ///
+    /// ```rust
+    /// assert!(modes.possible_crtcs(4) == 2);
+    /// ```
     pub fn possible_crtcs(&self, id: u32) -> u32
         ensures { result ≡ possible_crtcs self.now.topology id }
     {
@@ -146,6 +194,10 @@ impl Modes {
 
     /// Whether a CRTC is a possible one of a plane or an encoder: false where the ids are none of these. It takes no
     /// memory.
+    ///
+    /// ```rust
+    /// assert!(modes.drives(5, 1));
+    /// ```
     pub fn drives(&self, id: u32, crtc: u32) -> bool
         ensures { result ≡ drives self.now.topology id crtc }
     {
@@ -154,6 +206,10 @@ impl Modes {
 
     /// Whether a CRTC is a possible one of a connector's encoder: false where the ids are none of these. It takes no
     /// memory.
+    ///
+    /// ```rust
+    /// assert!(modes.reaches(7, 1));
+    /// ```
     pub fn reaches(&self, connector: u32, crtc: u32) -> bool
         ensures { result ≡ reaches self.now.topology connector crtc }
     {
@@ -162,6 +218,11 @@ impl Modes {
 
     /// The possible CRTCs of a plane or an encoder among those that are seen: bit i is the i-th of `visible` (drm-uapi,
     /// leases; for planes own). It is 0 where the id is neither. It takes no memory.
+    ///
+    /// ```rust
+    /// let none_seen = ShownList::new();
+    /// assert!(modes.mask(4, &none_seen) == 0);
+    /// ```
     pub fn mask(&self, id: u32, visible: &ShownList) -> u32
         requires { AreCrtcs self.now.topology visible.now }
         ensures mask { result ≡ mask_over self.now.topology id visible.now }
@@ -173,6 +234,10 @@ impl Modes {
 
     /// Makes a framebuffer of a client over an object, at the least free id (the kernel's IDR gives the least). It is
     /// refused as full where no id is free, and then, as without memory, nothing changes.
+    ///
+    /// ```rust
+    /// assert!(framebuffer == 9);
+    /// ```
     pub fn addfb(&mut self, client: u32, shape: Shape, object: ObjectKey) -> Result<u32, AddFbFault>
         ensures given { IfOk result (λ f. free_framebuffer self.old ≡ Some f) }
         ensures low { IfOk result (λ f. first_framebuffer self.old.topology ≤ f) }
@@ -194,6 +259,10 @@ impl Modes {
     }
 
     /// Whether no id is free. It takes no memory.
+    ///
+    /// ```rust
+    /// assert!(!modes.is_full());
+    /// ```
     pub fn is_full(&self) -> bool
         ensures { IsTrue result ↔ (free_framebuffer self.now ≡ None) }
     {
@@ -201,6 +270,10 @@ impl Modes {
     }
 
     /// The framebuffer of an id, if there is one. It takes no memory.
+    ///
+    /// ```rust
+    /// assert!(modes.fb(framebuffer).is_some_and(|row| row.object == object));
+    /// ```
     pub fn fb(&self, id: u32) -> Option<Framebuffer>
         ensures found { result ≡ find (is_framebuffer id) self.now.framebuffers }
         ensures there { is_some result ≡ has_framebuffer self.now id }
@@ -211,23 +284,32 @@ impl Modes {
 
     /// The ids of a client's framebuffers, rising (drm-uapi, mode setting; that they rise is own). It takes no memory, and
     /// goes through the framebuffers.
+    ///
+    /// ```rust
+    /// assert!(modes.framebuffers_of(1).ids() == [framebuffer].as_slice());
+    /// ```
     pub fn framebuffers_of(&self, client: u32) -> ShownList
         ensures { result ≡ framebuffers_of self.now client }
     {
         self.laws();
         let mut list = ShownList::new();
-        let mut place = 0;
-        while let Some(row) = self.nth_framebuffer(place) {
+        let mut position = 0;
+        while let Some(row) = self.nth_framebuffer(position) {
             if row.client == client {
                 list.push(row.framebuffer);
             }
-            place += 1;
+            position += 1;
         }
         list
     }
 
     /// Removes a framebuffer of a client, and gives its object. What shows it goes dark (drm-uapi, mode setting). Where
     /// there is no such framebuffer, or another client made it, nothing changes. It takes no memory.
+    ///
+    /// ```rust
+    /// assert!(modes.rmfb(2, framebuffer).is_none());
+    /// assert!(modes.rmfb(1, framebuffer) == Some(object));
+    /// ```
     pub fn rmfb(&mut self, client: u32, framebuffer: u32) -> Option<ObjectKey>
         ensures object { result ≡ option_map (λ row. row.object) (find (is_framebuffer_of client framebuffer) self.old.framebuffers) }
         ensures removed { OnSome result (self.new ≡ without_framebuffer self.old framebuffer) }
@@ -243,6 +325,11 @@ impl Modes {
 
     /// Removes the framebuffer with the least id of a client, and gives its id and its object. What shows it goes dark.
     /// There is none exactly where the client has no framebuffer. It takes no memory, and goes through the framebuffers.
+    ///
+    /// ```rust
+    /// let Ok(framebuffer) = modes.addfb(1, shape, object) else { return };
+    /// assert!(modes.take_first_fb_of(1) == Some((framebuffer, object)));
+    /// ```
     pub fn take_first_fb_of(&mut self, client: u32) -> Option<(u32, ObjectKey)>
         ensures first { result ≡ option_map (λ row. (row.framebuffer, row.object)) (find (is_made_by client) self.old.framebuffers) }
         ensures removed { IfSome result (λ taken. self.new ≡ without_framebuffer self.old taken.0) }
@@ -257,10 +344,17 @@ impl Modes {
         ensures { self.new ≡ without_framebuffer self.old framebuffer }
     {
         let _pixels = self.framebuffers.remove(framebuffer);
-        screens::darken(self.screens.as_mut_slice(), framebuffer);
+        scanouts::darken(self.scanouts.as_mut_slice(), framebuffer);
     }
 
     /// Has a CRTC show a framebuffer, or nothing where that is 0 (drm-uapi, mode setting). It takes no memory.
+    ///
+    /// ```rust
+    /// let Ok(framebuffer) = modes.addfb(1, shape, object) else { return };
+    /// if modes.is_of_kind(Kind::Crtc, 1) && modes.fb(framebuffer).is_some() {
+    ///     modes.setcrtc(1, framebuffer);
+    /// }
+    /// ```
     pub fn setcrtc(&mut self, crtc: u32, framebuffer: u32)
         requires crtc { is_crtc self.old.topology crtc ≡ true }
         requires there { can_show self.old framebuffer ≡ true }
@@ -270,6 +364,12 @@ impl Modes {
     }
 
     /// Has a plane show a framebuffer, or nothing where that is 0 (drm-uapi, mode setting). It takes no memory.
+    ///
+    /// ```rust
+    /// if modes.is_of_kind(Kind::Plane, 3) && modes.fb(framebuffer).is_some() {
+    ///     modes.setplane(3, framebuffer);
+    /// }
+    /// ```
     pub fn setplane(&mut self, plane: u32, framebuffer: u32)
         requires plane { is_plane self.old.topology plane ≡ true }
         requires there { can_show self.old framebuffer ≡ true }
@@ -278,39 +378,51 @@ impl Modes {
         self.show(plane, framebuffer);
     }
 
-    fn show(&mut self, shower: u32, framebuffer: u32)
-        requires low { 1 ≤ shower }
-        requires high { shower ≤ screen_count self.old.topology }
+    fn show(&mut self, engine: u32, framebuffer: u32)
+        requires low { 1 ≤ engine }
+        requires high { engine ≤ scanout_count self.old.topology }
         requires there { can_show self.old framebuffer ≡ true }
-        ensures { self.new ≡ with_shown self.old shower framebuffer }
+        ensures { self.new ≡ with_shown self.old engine framebuffer }
     {
-        self.screens.as_mut_slice()[shower as usize - 1] = framebuffer;
+        self.scanouts.as_mut_slice()[engine as usize - 1] = framebuffer;
     }
 
     /// The framebuffer that a CRTC or a plane shows; 0 where it is dark, and of any other id. It takes no memory.
+    ///
+    /// ```rust
+    /// assert!(modes.shown(1) == framebuffer && modes.shown(2) == 0);
+    /// ```
     pub fn shown(&self, id: u32) -> u32
         ensures { result ≡ shown_by self.now id }
     {
-        if id == 0 || id as usize > self.screens.len() {
+        if id == 0 || id as usize > self.scanouts.len() {
             return 0;
         }
-        self.screens[id as usize - 1]
+        self.scanouts[id as usize - 1]
     }
 
     /// The framebuffer at a place of the list of framebuffers, where 0 is the first. It takes no memory.
-    pub fn nth_framebuffer(&self, place: usize) -> Option<Framebuffer>
-        ensures { result ≡ slice_get self.now.framebuffers place }
+    ///
+    /// ```rust
+    /// assert!(modes.nth_framebuffer(0).is_some_and(|row| row.framebuffer == framebuffer));
+    /// ```
+    pub fn nth_framebuffer(&self, position: usize) -> Option<Framebuffer>
+        ensures { result ≡ slice_get self.now.framebuffers position }
     {
-        let framebuffer = self.framebuffers.nth(place)?;
+        let framebuffer = self.framebuffers.nth(position)?;
         self.fb(framebuffer)
     }
 
     /// The one at a place of the list of the CRTCs and planes that show something, where 0 is the first. It takes no
     /// memory, and goes through the CRTCs and planes.
-    pub fn nth_shown(&self, place: usize) -> Option<Shown>
-        ensures { result ≡ slice_get (shown_rows self.now) place }
+    ///
+    /// ```rust
+    /// assert!(modes.nth_shown(1).is_some_and(|row| row.engine == 3 && row.framebuffer == framebuffer));
+    /// ```
+    pub fn nth_shown(&self, position: usize) -> Option<Shown>
+        ensures { result ≡ slice_get (shown_rows self.now) position }
     {
-        screens::nth_lit(self.screens.as_slice(), place)
+        scanouts::nth_lit(self.scanouts.as_slice(), position)
     }
 }
 

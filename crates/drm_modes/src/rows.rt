@@ -3,6 +3,10 @@
 use drm_gem::ObjectKey;
 
 /// How the pixels of a framebuffer lie (drm-uapi, mode setting: MODE_ADDFB).
+///
+/// ```rust
+/// let shape = Shape { width: 640, height: 480, pitch: 2560, bpp: 32 };
+/// ```
 #[derive(Clone, Copy, PartialEq, Eq, Debug)]
 pub struct Shape {
     /// In pixels.
@@ -16,6 +20,14 @@ pub struct Shape {
 }
 
 /// A framebuffer: an object whose pixels can be shown (drm-uapi, mode setting).
+///
+/// ```rust
+/// let Some(topology) = Topology::new(2, &[1, 2], &[3, 2], &[5, 6]) else { return };
+/// let mut modes = Modes::new(alloc, topology, 4);
+/// let object = ObjectKey::from_number(7);
+/// let Ok(framebuffer) = modes.addfb(1, shape, object) else { return };
+/// assert!(modes.fb(framebuffer) == Some(Framebuffer { framebuffer, client: 1, shape, object }));
+/// ```
 #[derive(Clone, Copy, PartialEq, Eq, Debug)]
 pub struct Framebuffer {
     /// Its id, above those of the fixed mode objects.
@@ -29,10 +41,17 @@ pub struct Framebuffer {
 }
 
 /// A CRTC or a plane that shows a framebuffer.
+///
+/// ```rust
+/// if modes.is_of_kind(Kind::Crtc, 1) && modes.fb(framebuffer).is_some() {
+///     modes.setcrtc(1, framebuffer);
+/// }
+/// assert!(modes.nth_shown(0) == Some(Shown { engine: 1, framebuffer }));
+/// ```
 #[derive(Clone, Copy, PartialEq, Eq, Debug)]
 pub struct Shown {
     /// The id of the CRTC or plane.
-    pub shower: u32,
+    pub engine: u32,
     /// The framebuffer that it shows.
     pub framebuffer: u32,
 }

@@ -10,7 +10,7 @@ ghost use Rattle.drm_modes.specs.Topology.{IsTopology, AreCrtcs};
 ghost use Rattle.drm_modes.specs.Numbers.{numbers_from};
 ghost use Rattle.drm_lists.specs.Numbers.{is_among};
 ghost use Rattle.drm_modes.specs.Topologies.{topology_of, topology_with};
-ghost use Rattle.drm_modes.specs.Modes.{screen_count};
+ghost use Rattle.drm_modes.specs.Modes.{scanout_count};
 
 use crate::kinds::{Kind, PlaneKind};
 use crate::planes::{are_kinds, is_possible, overlays};
@@ -19,6 +19,10 @@ use drm_table::ShownList;
 use std::marker::Model;
 
 /// CRTCs, planes, encoders and connectors, with ids from 1 in that order (drm-uapi, mode setting).
+///
+/// ```rust
+/// let Some(topology) = Topology::new(2, &[1, 2], &[3, 2], &[5, 6]) else { return };
+/// ```
 #[derive(Drop)]
 pub struct Topology {
     crtcs: u32,
@@ -46,6 +50,10 @@ impl Topology {
     /// So many CRTCs; for each plane and each encoder the mask of the CRTCs that it may drive, in which bit i is CRTC
     /// i + 1 (0 is allowed); for each connector the id of its encoder. None where there aren't 1 to 8 CRTCs, where there
     /// are more than 64 objects (both own), and where a mask or a connector names what isn't there. Takes no memory.
+    ///
+    /// ```rust
+    /// assert!(Topology::new(1, &[2], &[1], &[1]).is_none());
+    /// ```
     pub fn new(crtcs: u32, planes: &[u32], encoders: &[u32], connectors: &[u32]) -> Option<Topology>
         ensures made { IsSome result ↔ IsTrue (fixed.is_topology (topology_of crtcs planes.now encoders.now connectors.now)) }
         ensures value { IfSome result (λ topology. topology ≡ topology_of crtcs planes.now encoders.now connectors.now) }
@@ -65,6 +73,11 @@ impl Topology {
     /// The same, where what each plane is for is said too (drm-uapi, universal planes). None also where there isn't one kind
     /// for each plane, where the CRTC of a kind isn't a possible one of its plane, and where a CRTC has two primary or two
     /// cursor planes. Takes no memory.
+    ///
+    /// ```rust
+    /// let kinds = [PlaneKind::Primary(1), PlaneKind::Overlay];
+    /// assert!(Topology::with_kinds(2, &[1, 2], &kinds, &[3, 2], &[5, 6]).is_some());
+    /// ```
     pub fn with_kinds(
         crtcs: u32,
         planes: &[u32],
@@ -98,6 +111,10 @@ impl Topology {
     }
 
     /// What an id is, if it is that of a fixed mode object. Takes no memory.
+    ///
+    /// ```rust
+    /// assert!(topology.kind(3) == Some(Kind::Plane) && topology.kind(9).is_none());
+    /// ```
     pub fn kind(&self, id: u32) -> Option<Kind>
         ensures kind { result ≡ fixed.kind_of self.now id }
         ensures is { IfSome result (λ kind. fixed.is_of_kind self.now kind id ≡ true) }
@@ -119,6 +136,10 @@ impl Topology {
     }
 
     /// Whether an id is that of an object of a kind. Takes no memory.
+    ///
+    /// ```rust
+    /// assert!(topology.is_of_kind(Kind::Connector, 7));
+    /// ```
     pub fn is_of_kind(&self, kind: Kind, id: u32) -> bool
         ensures { result ≡ fixed.is_of_kind self.now kind id }
     {
@@ -132,6 +153,10 @@ impl Topology {
     }
 
     /// The ids of the objects of a kind, rising. Takes no memory.
+    ///
+    /// ```rust
+    /// assert!(topology.ids(Kind::Encoder).ids() == [5, 6].as_slice());
+    /// ```
     pub fn ids(&self, kind: Kind) -> ShownList
         ensures { result ≡ fixed.ids_of_kind self.now kind }
     {
@@ -145,6 +170,10 @@ impl Topology {
     }
 
     /// How many fixed mode objects there are.
+    ///
+    /// ```rust
+    /// assert!(topology.object_count() == 8);
+    /// ```
     pub fn object_count(&self) -> u32
         ensures count { result ≡ fixed.object_count self.now }
         ensures few { result ≤ 64 }
@@ -157,8 +186,12 @@ impl Topology {
     }
 
     /// How many CRTCs and planes there are.
-    pub fn screen_count(&self) -> u32
-        ensures count { result ≡ screen_count self.now }
+    ///
+    /// ```rust
+    /// assert!(topology.scanout_count() == 4);
+    /// ```
+    pub fn scanout_count(&self) -> u32
+        ensures count { result ≡ scanout_count self.now }
         ensures few { result ≤ 64 }
     {
         self.laws();
@@ -193,6 +226,10 @@ impl Topology {
     }
 
     /// The possible CRTCs of a plane or an encoder: bit i is CRTC i + 1. It is 0 where the id is neither. Takes no memory.
+    ///
+    /// ```rust
+    /// assert!(topology.possible_crtcs(5) == 3);
+    /// ```
     pub fn possible_crtcs(&self, id: u32) -> u32
         ensures { result ≡ fixed.possible_crtcs self.now id }
     {
@@ -209,6 +246,10 @@ impl Topology {
     }
 
     /// Whether a CRTC is a possible one of a plane or an encoder: false where the ids are none of these. Takes no memory.
+    ///
+    /// ```rust
+    /// assert!(topology.drives(6, 2) && !topology.drives(6, 1));
+    /// ```
     pub fn drives(&self, id: u32, crtc: u32) -> bool
         ensures { result ≡ fixed.drives self.now id crtc }
     {
@@ -217,6 +258,10 @@ impl Topology {
     }
 
     /// What a plane is for; none where the id is no plane's. Takes no memory.
+    ///
+    /// ```rust
+    /// assert!(topology.plane_kind(3) == Some(PlaneKind::Overlay));
+    /// ```
     pub fn plane_kind(&self, id: u32) -> Option<PlaneKind>
         ensures { result ≡ fixed.plane_kind self.now id }
     {
@@ -229,6 +274,10 @@ impl Topology {
     }
 
     /// The CRTC whose primary or cursor plane it is; none of anything else. Takes no memory.
+    ///
+    /// ```rust
+    /// assert!(topology.crtc_of_plane(3).is_none());
+    /// ```
     pub fn crtc_of_plane(&self, id: u32) -> Option<u32>
         ensures { result ≡ fixed.crtc_of_plane self.now id }
     {
@@ -236,6 +285,10 @@ impl Topology {
     }
 
     /// The primary and cursor planes of the CRTCs in a list, rising. Takes no memory.
+    ///
+    /// ```rust
+    /// assert!(topology.planes_of(&[1]).ids().is_empty());
+    /// ```
     pub fn planes_of(&self, crtcs: &[u32]) -> ShownList
         ensures { result ≡ fixed.planes_of self.now crtcs.now }
     {
@@ -259,6 +312,10 @@ impl Topology {
     }
 
     /// The encoder of a connector; none where the id is no connector's. Takes no memory.
+    ///
+    /// ```rust
+    /// assert!(topology.encoder_of(7) == Some(5));
+    /// ```
     pub fn encoder_of(&self, connector: u32) -> Option<u32>
         ensures { result ≡ fixed.encoder_of self.now connector }
     {
@@ -272,6 +329,10 @@ impl Topology {
 
     /// Whether a connector can show what a CRTC does: the CRTC is a possible one of the connector's encoder. It is false
     /// where the ids are none of these. Takes no memory.
+    ///
+    /// ```rust
+    /// assert!(topology.reaches(8, 2) && !topology.reaches(8, 1));
+    /// ```
     pub fn reaches(&self, connector: u32, crtc: u32) -> bool
         ensures { result ≡ fixed.reaches self.now connector crtc }
     {
@@ -283,6 +344,11 @@ impl Topology {
 
     /// The possible CRTCs of a plane or an encoder among those that are seen: bit i is the i-th of `visible` (drm-uapi,
     /// leases). It is 0 where the id is neither. Takes no memory.
+    ///
+    /// ```rust
+    /// let none_seen = ShownList::new();
+    /// assert!(topology.mask(5, &none_seen) == 0);
+    /// ```
     pub fn mask(&self, id: u32, visible: &ShownList) -> u32
         requires { AreCrtcs self.now visible.now }
         ensures mask { result ≡ fixed.mask_over self.now id visible.now }

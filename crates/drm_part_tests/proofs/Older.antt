@@ -9,7 +9,7 @@ use Rattle.drm_lists.proofs.Rising.{found, all_found}
 use Rattle.drm_modes.specs.Modes.{ModeSet}
 use Rattle.drm_masters.specs.declared.rows.Master.{Master}
 use Rattle.drm_masters.specs.declared.rows.Member.{Member}
-use Rattle.drm_masters.specs.Masters.{MasterSet, AreMasters, is_key, is_birth, master_at, lessor_of, is_below, is_living, swept, IsKeyOf}
+use Rattle.drm_masters.specs.Masters.{MasterSet, AreMasters, is_key, is_step_number, master_at, lessor_of, is_below, is_living, swept, IsKeyOf}
 use Rattle.drm_masters.specs.Calls as masters_calls
 use Rattle.drm_leases.specs.declared.faults.LeaseFault.{LeaseFault}
 use Rattle.drm_leases.specs.declared.faults.LeaseFault.TheVariants.{Denied, NoMemory}
@@ -25,34 +25,25 @@ later_still : {X : Type 0} (f : X → ℕ) (n : ℕ) (xs : List X) → AllByRecu
 later_still f n xs h = all_weaker (λ x. f x < n) (λ x. f x < n + 1) (λ x lt. omega (arith, lt)) xs h
 
 pub later : (v : MasterSet) (n : ℕ) → IsBefore v n → IsBefore v (n + 1)
-later v n h = record { births = later_still (λ (x : Master). x.birth) n v.masters h.births; clients = later_still (λ (x : Member). x.client) n v.members h.clients; few = h.few; four = h.four }
+later v n h = record { step_numbers = later_still (λ (x : Master). x.step_number) n v.masters h.step_numbers; clients = later_still (λ (x : Member). x.client) n v.members h.clients; few = h.few; four = h.four }
 
 pub later_lessees : (l : LeaseSet) (n : ℕ) → IsNewLessee l n → IsNewLessee l (n + 1)
 later_lessees l n h = record { tokens = later_still (λ (row : LeaseToken). row.master) n l.tokens h.tokens; grants = later_still (λ (g : Grant). g.master) n l.grants h.grants }
 
 -- ---- leases made
 
-module _ (l : LeaseSet) (v : MasterSet) (s : ModeSet) (m : ℕ) (universal : Bool) (ids : List ℕ) (birth : ℕ) where
-  pub created_before : (result : Result Leased LeaseFault) (l2 : LeaseSet) (v2 : MasterSet) → IsBefore v birth → Created l v s m universal ids birth result l2 v2 → IsBefore v2 (birth + 1)
-  created_before (Ok made) l2 v2 h c =
-      let z = masters_calls.lessee c.4.0 birth m made.id in
-      let k = later v birth h in
-      subst (λ (w : MasterSet). IsBefore w (birth + 1)) (sym c.4.2)
-      (record { births = all_append (λ (x : Master). x.birth < birth + 1) v.masters (z ∷ []) k.births (omega arith, tt); clients = k.clients; few = k.few; four = k.four })
-  created_before (Err (Denied rule)) l2 v2 h c = subst (λ (w : MasterSet). IsBefore w (birth + 1)) (sym c.2) (later v birth h)
-  created_before (Err NoMemory) l2 v2 h c = subst (λ (w : MasterSet). IsBefore w (birth + 1)) (sym c.2) (later v birth h)
-
-  pub created_lessees : (result : Result Leased LeaseFault) (l2 : LeaseSet) (v2 : MasterSet) → IsNewLessee l birth → Created l v s m universal ids birth result l2 v2 → IsNewLessee l2 (birth + 1)
+module _ (l : LeaseSet) (v : MasterSet) (s : ModeSet) (m : ℕ) (universal : Bool) (ids : List ℕ) (step_number : ℕ) where
+  pub created_lessees : (result : Result Leased LeaseFault) (l2 : LeaseSet) (v2 : MasterSet) → IsNewLessee l step_number → Created l v s m universal ids step_number result l2 v2 → IsNewLessee l2 (step_number + 1)
   created_lessees (Ok made) l2 v2 h c =
-      let k = later_lessees l birth h in
+      let k = later_lessees l step_number h in
       let objects = listed_objects s.topology (leased l v s m universal ids) in
-      subst (λ (w : LeaseSet). IsNewLessee w (birth + 1)) (sym c.3)
+      subst (λ (w : LeaseSet). IsNewLessee w (step_number + 1)) (sym c.3)
       (record {
-        tokens = all_append (λ (row : LeaseToken). row.master < birth + 1) l.tokens (lease_token made.token birth ∷ []) k.tokens (omega arith, tt);
-        grants = all_append (λ (g : Grant). g.master < birth + 1) l.grants (map (grant birth) objects) k.grants (all_mapped (λ (g : Grant). g.master < birth + 1) (grant birth) objects (all_each (λ x. (grant birth x).master < birth + 1) (λ x. omega arith) objects));
+        tokens = all_append (λ (row : LeaseToken). row.master < step_number + 1) l.tokens (lease_token made.token step_number ∷ []) k.tokens (omega arith, tt);
+        grants = all_append (λ (g : Grant). g.master < step_number + 1) l.grants (map (grant step_number) objects) k.grants (all_mapped (λ (g : Grant). g.master < step_number + 1) (grant step_number) objects (all_each (λ x. (grant step_number x).master < step_number + 1) (λ x. omega arith) objects));
       })
-  created_lessees (Err (Denied rule)) l2 v2 h c = subst (λ (w : LeaseSet). IsNewLessee w (birth + 1)) (sym c.1) (later_lessees l birth h)
-  created_lessees (Err NoMemory) l2 v2 h c = subst (λ (w : LeaseSet). IsNewLessee w (birth + 1)) (sym c.1) (later_lessees l birth h)
+  created_lessees (Err (Denied rule)) l2 v2 h c = subst (λ (w : LeaseSet). IsNewLessee w (step_number + 1)) (sym c.1) (later_lessees l step_number h)
+  created_lessees (Err NoMemory) l2 v2 h c = subst (λ (w : LeaseSet). IsNewLessee w (step_number + 1)) (sym c.1) (later_lessees l step_number h)
 
 -- what is so of a client that is there
 pub of_some : {X : Type 0} (o : Option X) (P : X → Type 0) (Q : Type 0) → is_some o ≡ true → IfSome o P → ((x : X) → P x → Q) → Q
@@ -62,13 +53,13 @@ of_some (Some x) P Q h k f = f x k
 -- ---- what goes
 
 module _ (v : MasterSet) (n : ℕ) (p : ℕ → Bool) (h : IsBefore v n) where
-  released_older : IsBefore (swept (record v { masters = map (λ (x : Master). if p x.birth then masters_calls.kept_as false x else x) v.masters })) n
+  released_older : IsBefore (swept (record v { masters = map (λ (x : Master). if p x.step_number then masters_calls.kept_as false x else x) v.masters })) n
   released_older =
-      let g = λ (x : Master). if p x.birth then masters_calls.kept_as false x else x in
+      let g = λ (x : Master). if p x.step_number then masters_calls.kept_as false x else x in
       let now = map g v.masters in
-      let older = λ (x : Master) (lt : x.birth < n). elim (p x.birth) as (λ b. (if b then masters_calls.kept_as false x else x).birth < n) [ true ↦ lt | false ↦ lt ] in
+      let older = λ (x : Master) (lt : x.step_number < n). elim (p x.step_number) as (λ b. (if b then masters_calls.kept_as false x else x).step_number < n) [ true ↦ lt | false ↦ lt ] in
       record {
-        births = all_filter (λ (x : Master). x.birth < n) (λ (x : Master). is_living v.members now x.birth) now (all_mapped (λ (x : Master). x.birth < n) g v.masters (all_weaker (λ (x : Master). x.birth < n) (λ x. (g x).birth < n) older v.masters h.births));
+        step_numbers = all_filter (λ (x : Master). x.step_number < n) (λ (x : Master). is_living v.members now x.step_number) now (all_mapped (λ (x : Master). x.step_number < n) g v.masters (all_weaker (λ (x : Master). x.step_number < n) (λ x. (g x).step_number < n) older v.masters h.step_numbers));
         clients = h.clients;
         few = h.few;
         four = h.four;
@@ -102,12 +93,12 @@ spent_lessees l l2 t n h e =
 pub entered_before : (v v2 : MasterSet) (c m : ℕ) → IsBefore v c → v2 ≡ masters_calls.redeemed c m v → IsBefore v2 (c + 1)
 entered_before v v2 c m h e =
     let k = later v c h in
-    let g = λ (x : Master). if is_birth m x then masters_calls.kept_as false x else x in
-    let older = λ (x : Master) (lt : x.birth < c + 1). elim (is_birth m x) as (λ b. (if b then masters_calls.kept_as false x else x).birth < c + 1) [ true ↦ lt | false ↦ lt ] in
+    let g = λ (x : Master). if is_step_number m x then masters_calls.kept_as false x else x in
+    let older = λ (x : Master) (lt : x.step_number < c + 1). elim (is_step_number m x) as (λ b. (if b then masters_calls.kept_as false x else x).step_number < c + 1) [ true ↦ lt | false ↦ lt ] in
     subst (λ (w : MasterSet). IsBefore w (c + 1)) (sym e)
     (record {
-      births = all_mapped (λ (x : Master). x.birth < c + 1) g v.masters (all_weaker (λ (x : Master). x.birth < c + 1) (λ x. (g x).birth < c + 1) older v.masters k.births);
-      clients = all_append (λ (x : Member). x.client < c + 1) v.members (masters_calls.redeemer c m ∷ []) k.clients (omega arith, tt);
+      step_numbers = all_mapped (λ (x : Master). x.step_number < c + 1) g v.masters (all_weaker (λ (x : Master). x.step_number < c + 1) (λ x. (g x).step_number < c + 1) older v.masters k.step_numbers);
+      clients = all_append (λ (x : Member). x.client < c + 1) v.members (masters_calls.lease_client c m ∷ []) k.clients (omega arith, tt);
       few = k.few;
       four = k.four;
     })
@@ -115,20 +106,16 @@ entered_before v v2 c m h e =
 pub same_before : (v v2 : MasterSet) (c : ℕ) → IsBefore v c → v2 ≡ v → IsBefore v2 (c + 1)
 same_before v v2 c h e = subst (λ (w : MasterSet). IsBefore w (c + 1)) (sym e) (later v c h)
 
--- a master of a birth is the master of its key
+-- a master of a step number is the master of its key
 pub of_its_key : (v : MasterSet) → AreMasters v → (b : ℕ) (x : Master) → master_at v.masters b ≡ Some x → IsKeyOf v.masters b x.key → find (is_key x.key) v.masters ≡ Some x
 of_its_key v are b x at keyed = by_row (find (is_key x.key) v.masters) refl keyed
   where
-    by_row : (o : Option Master) → find (is_key x.key) v.masters ≡ o → option_map (λ (y : Master). y.birth) o ≡ Some b → find (is_key x.key) v.masters ≡ Some x
+    by_row : (o : Option Master) → find (is_key x.key) v.masters ≡ o → option_map (λ (y : Master). y.step_number) o ≡ Some b → find (is_key x.key) v.masters ≡ Some x
     by_row None e h = absurd (let n : None ≡ Some b = h in cc)
     by_row (Some y) e h =
-        let num : y.birth ≡ b = let s : Some y.birth ≡ Some b = h in cc in
-        let here = (found (is_key x.key) (λ (z : Master). master_at v.masters z.birth ≡ Some z) y v.masters (all_found (λ (z : Master). z.birth) v.masters are.masters_rise) e).1 in
+        let num : y.step_number ≡ b = let s : Some y.step_number ≡ Some b = h in cc in
+        let here = (found (is_key x.key) (λ (z : Master). master_at v.masters z.step_number ≡ Some z) y v.masters (all_found (λ (z : Master). z.step_number) v.masters are.masters_rise) e).1 in
         e ∙ sym here ∙ ap (master_at v.masters) num ∙ at
 
 pub unredeemed : (v : MasterSet) → AreMasters v → (b : ℕ) (x : Master) → master_at v.masters b ≡ Some x → IsKeyOf v.masters b x.key → x.kept ≡ true → is_some x.lessor ≡ true → option_map_or (λ (y : Master). y.kept && is_some y.lessor) (find (is_key x.key) v.masters) false ≡ true
 unredeemed v are b x at keyed kept lessee = ap (λ o. option_map_or (λ (y : Master). y.kept && is_some y.lessor) o false) (of_its_key v are b x at keyed) ∙ ap (λ k. k && is_some x.lessor) kept ∙ lessee
-
--- the first client
-pub opened_before : (v : MasterSet) (key : ℕ) → v ≡ masters_calls.with_device (Some 1) (masters_calls.with_member (masters_calls.owner 1 1) (masters_calls.with_master (masters_calls.own_master key 1) (record { members = []; masters = []; device_master = None; last_magic = 4; last_lessee = 4 }))) → IsBefore v 2
-opened_before v key e = subst (λ (w : MasterSet). IsBefore w 2) (sym e) (record { births = (omega arith, tt); clients = (omega arith, tt); few = omega arith; four = refl })

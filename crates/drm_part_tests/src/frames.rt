@@ -2,7 +2,7 @@
 
 ghost use Rattle.std.specs.Prelude.{◌≡◌, true};
 ghost use Rattle.drm_frames.specs.Hellos.{is_version};
-ghost use Rattle.drm_table.specs.Results.{IsFew};
+ghost use Rattle.drm_table.specs.Results.{FitsOneFrame};
 
 use crate::lists::{list_of, named, page_of, resources_of, row};
 use drm_frames::{
@@ -13,7 +13,7 @@ use drm_table::{Answer, Apart, AuditKind, AuditRow, Call, Rule};
 use std::process::Abort;
 
 /// The frame that is all of the bytes.
-fn frame_in(bytes: &[u8]) -> Option<Frame> {
+fn frame_in(bytes: &[u8]) -> Option<Frame<'_>> {
     match decode(bytes) {
         Decoded::Whole(frame, used) if used == bytes.len() => Some(frame),
         _ => None,
@@ -61,7 +61,7 @@ fn call_bytes(call: &Call) -> Option<FrameBytes> {
 
 /// Whether the lists of an answer have 251 ids at most, which one frame takes.
 fn is_few(outcome: &Result<Answer, Apart>) -> bool
-    ensures { result ≡ true → IsFew outcome.now }
+    ensures { result ≡ true → FitsOneFrame outcome.now }
 {
     match outcome {
         Ok(
@@ -72,10 +72,10 @@ fn is_few(outcome: &Result<Answer, Apart>) -> bool
                 framebuffers,
             },
         ) => {
-            crtcs.ids().len()
-                + connectors.ids().len()
-                + encoders.ids().len()
-                + framebuffers.ids().len()
+            crtcs.list().ids().len()
+                + connectors.list().ids().len()
+                + encoders.list().ids().len()
+                + framebuffers.list().ids().len()
                 <= 251
         }
         _ => true,
@@ -580,9 +580,9 @@ const RESOURCES: [(&[u8], [&[u32]; 4]); 3] = [
     (
         &[
             30, 0, 0, 0, 6, 16, 0, 0, 0, 0, 1, 0, 0, 0, 8, 0, 0, 0, 0, 0, 0, 0, 2, 0, 0, 0, 2, 1,
-            0, 0, 255, 255, 255, 255,
+            0, 0, 255, 255, 0, 0,
         ],
-        [&[], &[8], &[], &[258, 4_294_967_295]],
+        [&[], &[8], &[], &[258, 65_535]],
     ),
 ];
 
@@ -657,8 +657,8 @@ fn longest_answers_have_their_bytes(rt: HostRuntime) {
 }
 
 /// Frames that are no answer: the errno of another rule, no rule, a rule that stands apart, more behind an answer, no answer's
-/// number, and lists, pages and resources whose lengths are others.
-const NO_ANSWERS: [&[u8]; 19] = [
+/// number, lists, pages and resources whose lengths are others, and resources with an id above 65,535.
+const NO_ANSWERS: [&[u8]; 20] = [
     &[10, 0, 0, 0, 0, 32, 2, 0, 0, 0, 2, 0, 0, 0],
     &[10, 0, 0, 0, 0, 32, 4, 0, 0, 0, 22, 0, 0, 0],
     &[10, 0, 0, 0, 1, 32, 2, 0, 0, 0, 22, 0, 0, 0],
@@ -683,6 +683,9 @@ const NO_ANSWERS: [&[u8]; 19] = [
     ],
     &[
         21, 0, 0, 0, 6, 16, 0, 0, 0, 0, 0, 0, 0, 0, 0, 0, 0, 0, 1, 0, 0, 0, 9, 0, 0,
+    ],
+    &[
+        22, 0, 0, 0, 6, 16, 0, 0, 0, 0, 0, 0, 0, 0, 0, 0, 0, 0, 1, 0, 0, 0, 0, 0, 1, 0,
     ],
 ];
 

@@ -1,10 +1,10 @@
 //! Open clients and their handles, call by call.
 
 ghost use Rattle.std.specs.Prelude.{◌≡◌, ◌≤◌, false, true};
-ghost use Rattle.drm_files.specs.Files.{is_present};
+ghost use Rattle.drm_files.specs.Files.{is_open_client};
 
 use crate::asking::{Call, Told, check};
-use drm_files::{FileClient, FileFault, FileFlags, FileHold, Files};
+use drm_files::{FileClient, FileFault, FileFlags, FileHandle, Files};
 use drm_gem::ObjectKey;
 use std::alloc::Global;
 use std::process::Abort;
@@ -25,7 +25,7 @@ enum Ask {
     Drop(u32),
     Object(u32),
     Prime(u32),
-    Place(u32, u32),
+    ExportOrder(u32, u32),
     FirstFrom(u32),
     /// Closes the client, which leaves these two handles with their objects.
     Close([(u32, u32); 2]),
@@ -61,15 +61,15 @@ fn is_nth_hold(
     client: u32,
     handle: u32,
     object: u32,
-    place: Option<u32>,
+    export_order: Option<u32>,
 ) -> bool {
-    let hold = FileHold {
+    let hold = FileHandle {
         client,
         handle,
         object: ObjectKey::from_number(object),
-        place,
+        export_order,
     };
-    files.nth_hold(nth) == Some(hold)
+    files.nth_handle(nth) == Some(hold)
 }
 
 /// What is asked of all.
@@ -78,11 +78,11 @@ fn asked_of_all(files: &Files, client: u32, ask: Ask) -> Told {
         Ask::IsNth(nth, flags) => {
             Told::Whether(files.nth_client(nth) == Some(FileClient { client, flags }))
         }
-        Ask::IsNthHold(nth, handle, object, place) => {
-            Told::Whether(is_nth_hold(files, nth, client, handle, object, place))
+        Ask::IsNthHold(nth, handle, object, export_order) => {
+            Told::Whether(is_nth_hold(files, nth, client, handle, object, export_order))
         }
         Ask::HasNth(nth) => Told::Whether(files.nth_client(nth).is_some()),
-        Ask::HasNthHold(nth) => Told::Whether(files.nth_hold(nth).is_some()),
+        Ask::HasNthHold(nth) => Told::Whether(files.nth_handle(nth).is_some()),
         Ask::Len => Told::Length(files.len()),
         Ask::IsFull => Told::Whether(files.is_full()),
         _ => Told::Unasked,
@@ -91,7 +91,7 @@ fn asked_of_all(files: &Files, client: u32, ask: Ask) -> Told {
 
 /// Opens a client that isn't open.
 fn open(files: &mut Files, client: u32, render: bool, root: bool, universal: bool) -> Told
-    requires { is_present files.old client ≡ false }
+    requires { is_open_client files.old client ≡ false }
 {
     match files.open(client, render, root, universal) {
         Ok(()) => Told::Done,
@@ -99,29 +99,29 @@ fn open(files: &mut Files, client: u32, render: bool, root: bool, universal: boo
     }
 }
 
-fn add(files: &mut Files, client: u32, object: u32, place: Option<u32>) -> Told
-    requires { is_present files.old client ≡ true }
+fn add(files: &mut Files, client: u32, object: u32, export_order: Option<u32>) -> Told
+    requires { is_open_client files.old client ≡ true }
 {
-    match files.add_handle(client, ObjectKey::from_number(object), place) {
+    match files.add_handle(client, ObjectKey::from_number(object), export_order) {
         Ok(handle) => Told::Number(handle),
         Err(fault) => told_fault(fault),
     }
 }
 
 /// Gives a handle its place, if the client has it.
-fn placed(files: &mut Files, client: u32, handle: u32, place: u32) -> Told
-    requires { is_present files.old client ≡ true }
+fn placed(files: &mut Files, client: u32, handle: u32, export_order: u32) -> Told
+    requires { is_open_client files.old client ≡ true }
 {
     let Some(_object) = files.object_of(client, handle) else {
         return Told::Nothing;
     };
-    files.set_prime(client, handle, place);
+    files.set_prime(client, handle, export_order);
     Told::Done
 }
 
 /// Closes a client, and tells whether it leaves these two handles with their objects.
 fn closed(files: &mut Files, client: u32, pairs: [(u32, u32); 2]) -> Told
-    requires { is_present files.old client ≡ true }
+    requires { is_open_client files.old client ≡ true }
 {
     let mut rest = files.close(client);
     let mut are_left = true;
@@ -134,7 +134,7 @@ fn closed(files: &mut Files, client: u32, pairs: [(u32, u32); 2]) -> Told
 
 /// What an open client asks, or what is asked of it.
 fn asked(files: &mut Files, client: u32, flags: FileFlags, ask: Ask) -> Told
-    requires { is_present files.old client ≡ true }
+    requires { is_open_client files.old client ≡ true }
 {
     match ask {
         Ask::Authenticate => {
@@ -146,13 +146,13 @@ fn asked(files: &mut Files, client: u32, flags: FileFlags, ask: Ask) -> Told
             Told::Done
         }
         Ask::HasRoom => Told::Whether(files.has_room(client)),
-        Ask::Add(object, place) => add(files, client, object, place),
+        Ask::Add(object, export_order) => add(files, client, object, export_order),
         Ask::Drop(handle) => told_object(files.drop_handle(client, handle)),
         Ask::Object(handle) => told_object(files.object_of(client, handle)),
         Ask::Prime(object) => {
             Told::of(files.prime_handle(client, ObjectKey::from_number(object)))
         }
-        Ask::Place(handle, place) => placed(files, client, handle, place),
+        Ask::ExportOrder(handle, export_order) => placed(files, client, handle, export_order),
         Ask::FirstFrom(handle) => {
             Told::of(files.handles_of(client, handle).ids().first().copied())
         }
@@ -293,9 +293,9 @@ const PLACES_STAY: [Case; 10] = [
     ((1, CARD), Told::Done),
     ((1, Ask::Add(5, None)), Told::Number(1)),
     ((1, Ask::Add(5, Some(3))), Told::Number(2)),
-    ((1, Ask::Place(1, 4)), Told::Done),
-    ((1, Ask::Place(2, 5)), Told::Done),
-    ((1, Ask::Place(3, 6)), Told::Nothing),
+    ((1, Ask::ExportOrder(1, 4)), Told::Done),
+    ((1, Ask::ExportOrder(2, 5)), Told::Done),
+    ((1, Ask::ExportOrder(3, 6)), Told::Nothing),
     ((1, Ask::Prime(5)), Told::Number(2)),
     ((1, Ask::IsNthHold(0, 1, 5, Some(4))), Told::Whether(true)),
     ((1, Ask::IsNthHold(1, 2, 5, Some(3))), Told::Whether(true)),

@@ -64,20 +64,20 @@ fn lease(
     client: u32,
     universal: bool,
     ids: &[u32],
-    birth: u32,
+    step_number: u32,
 ) -> Option<Result<Leased, LeaseFault>>
-    requires before { IsBefore masters.old birth }
-    requires lessees { IsNewLessee leases.old birth }
+    requires before { IsBefore masters.old step_number }
+    requires lessees { IsNewLessee leases.old step_number }
     requires agreed { AreAgreed leases.old masters.old }
-    ensures before { IsBefore masters.new (birth + 1) }
-    ensures lessees { IsNewLessee leases.new (birth + 1) }
+    ensures before { IsBefore masters.new (step_number + 1) }
+    ensures lessees { IsNewLessee leases.new (step_number + 1) }
     ensures agreed { AreAgreed leases.new masters.new }
     ensures refused { (fault : AFault) → result ≡ Some (Err fault) → (leases.new ≡ leases.old) × (masters.new ≡ masters.old) }
 {
     if masters.member(client).is_none() {
         return None;
     }
-    Some(leases.create(masters, modes, client, universal, ids, birth))
+    Some(leases.create(masters, modes, client, universal, ids, step_number))
 }
 
 /// The same, and once more where memory was refused: nothing has changed then.
@@ -88,28 +88,32 @@ fn lease_again(
     client: u32,
     universal: bool,
     ids: &[u32],
-    birth: u32,
+    step_number: u32,
 ) -> Option<Result<Leased, LeaseFault>>
-    requires before { IsBefore masters.old birth }
-    requires lessees { IsNewLessee leases.old birth }
+    requires before { IsBefore masters.old step_number }
+    requires lessees { IsNewLessee leases.old step_number }
     requires agreed { AreAgreed leases.old masters.old }
-    ensures before { IsBefore masters.new (birth + 1) }
-    ensures lessees { IsNewLessee leases.new (birth + 1) }
+    ensures before { IsBefore masters.new (step_number + 1) }
+    ensures lessees { IsNewLessee leases.new (step_number + 1) }
     ensures agreed { AreAgreed leases.new masters.new }
 {
-    let first = lease(leases, masters, modes, client, universal, ids, birth);
+    let first = lease(leases, masters, modes, client, universal, ids, step_number);
     match first {
         Some(Err(LeaseFault::NoMemory)) => {
-            lease(leases, masters, modes, client, universal, ids, birth)
+            lease(leases, masters, modes, client, universal, ids, step_number)
         }
         _ => first,
     }
 }
 
 /// What came of a lease by the step of this number: its id and its token, if its lessee is the one that the step made.
-fn told_lease(masters: &Masters, birth: u32, made: Option<Result<Leased, LeaseFault>>) -> Told {
+fn told_lease(
+    masters: &Masters,
+    step_number: u32,
+    made: Option<Result<Leased, LeaseFault>>,
+) -> Told {
     match made {
-        Some(Ok(made)) => match masters.master(birth) {
+        Some(Ok(made)) => match masters.master(step_number) {
             Some(row) if row.key == made.master => Told::Two(made.id, made.token),
             _ => Told::Unasked,
         },
@@ -153,33 +157,33 @@ fn enter_again(masters: &mut Masters, lessee: u32, client: u32) -> Told
 }
 
 /// Spends a token before the step of this number.
-fn redeem(leases: &mut Leases, token: u32, birth: u32) -> Option<u32>
-    requires { IsNewLessee leases.old birth }
-    ensures lessees { IsNewLessee leases.new birth }
+fn redeem(leases: &mut Leases, token: u32, step_number: u32) -> Option<u32>
+    requires { IsNewLessee leases.old step_number }
+    ensures lessees { IsNewLessee leases.new step_number }
     ensures agreed { (v : MasterSet) → AreAgreed leases.old v → AreAgreed leases.new v }
 {
     leases.redeem(token)
 }
 
 /// Revokes before the step of this number.
-fn revoke(leases: &mut Leases, masters: &mut Masters, master: u32, birth: u32)
-    requires before { IsBefore masters.old birth }
-    requires lessees { IsNewLessee leases.old birth }
+fn revoke(leases: &mut Leases, masters: &mut Masters, master: u32, step_number: u32)
+    requires before { IsBefore masters.old step_number }
+    requires lessees { IsNewLessee leases.old step_number }
     requires agreed { AreAgreed leases.old masters.old }
-    ensures before { IsBefore masters.new birth }
-    ensures lessees { IsNewLessee leases.new birth }
+    ensures before { IsBefore masters.new step_number }
+    ensures lessees { IsNewLessee leases.new step_number }
     ensures agreed { AreAgreed leases.new masters.new }
 {
     leases.revoke(masters, master);
 }
 
 /// The same of all below a master.
-fn revoke_below(leases: &mut Leases, masters: &mut Masters, master: u32, birth: u32)
-    requires before { IsBefore masters.old birth }
-    requires lessees { IsNewLessee leases.old birth }
+fn revoke_below(leases: &mut Leases, masters: &mut Masters, master: u32, step_number: u32)
+    requires before { IsBefore masters.old step_number }
+    requires lessees { IsNewLessee leases.old step_number }
     requires agreed { AreAgreed leases.old masters.old }
-    ensures before { IsBefore masters.new birth }
-    ensures lessees { IsNewLessee leases.new birth }
+    ensures before { IsBefore masters.new step_number }
+    ensures lessees { IsNewLessee leases.new step_number }
     ensures agreed { AreAgreed leases.new masters.new }
 {
     leases.revoke_below(masters, master);
@@ -229,22 +233,22 @@ fn told_of(leases: &Leases, masters: &Masters, ask: Ask) -> Told
 }
 
 /// Asks before the step of this number.
-fn asked(leases: &mut Leases, masters: &mut Masters, ask: Ask, birth: u32) -> Told
-    requires before { IsBefore masters.old birth }
-    requires lessees { IsNewLessee leases.old birth }
+fn asked(leases: &mut Leases, masters: &mut Masters, ask: Ask, step_number: u32) -> Told
+    requires before { IsBefore masters.old step_number }
+    requires lessees { IsNewLessee leases.old step_number }
     requires agreed { AreAgreed leases.old masters.old }
-    ensures before { IsBefore masters.new birth }
-    ensures lessees { IsNewLessee leases.new birth }
+    ensures before { IsBefore masters.new step_number }
+    ensures lessees { IsNewLessee leases.new step_number }
     ensures agreed { AreAgreed leases.new masters.new }
 {
     match ask {
-        Ask::Redeem(token) => Told::of(redeem(leases, token, birth)),
+        Ask::Redeem(token) => Told::of(redeem(leases, token, step_number)),
         Ask::Revoke(master) => {
-            revoke(leases, masters, master, birth);
+            revoke(leases, masters, master, step_number);
             Told::Done
         }
         Ask::RevokeBelow(master) => {
-            revoke_below(leases, masters, master, birth);
+            revoke_below(leases, masters, master, step_number);
             Told::Done
         }
         _ => told_of(leases, masters, ask),
@@ -253,22 +257,28 @@ fn asked(leases: &mut Leases, masters: &mut Masters, ask: Ask, birth: u32) -> To
 
 /// Makes a lease or opens a client by the step of this number.
 #[tactic(auto, using(crate::proofs::Older::later, crate::proofs::Older::later_lessees))]
-fn made(leases: &mut Leases, masters: &mut Masters, modes: &Modes, ask: Ask, birth: u32) -> Told
-    requires before { IsBefore masters.old birth }
-    requires lessees { IsNewLessee leases.old birth }
+fn made(
+    leases: &mut Leases,
+    masters: &mut Masters,
+    modes: &Modes,
+    ask: Ask,
+    step_number: u32,
+) -> Told
+    requires before { IsBefore masters.old step_number }
+    requires lessees { IsNewLessee leases.old step_number }
     requires agreed { AreAgreed leases.old masters.old }
-    ensures before { IsBefore masters.new (birth + 1) }
-    ensures lessees { IsNewLessee leases.new (birth + 1) }
+    ensures before { IsBefore masters.new (step_number + 1) }
+    ensures lessees { IsNewLessee leases.new (step_number + 1) }
     ensures agreed { AreAgreed leases.new masters.new }
 {
     let (client, universal, ids) = match ask {
         Ask::Lease(client, ids) => (client, true, ids),
         Ask::LeaseUnseen(client, ids) => (client, false, ids),
-        Ask::Enter(lessee) => return enter_again(masters, lessee, birth),
+        Ask::Enter(lessee) => return enter_again(masters, lessee, step_number),
         _ => return Told::Unasked,
     };
-    let made = lease_again(leases, masters, modes, client, universal, ids, birth);
-    told_lease(masters, birth, made)
+    let made = lease_again(leases, masters, modes, client, universal, ids, step_number);
+    told_lease(masters, step_number, made)
 }
 
 fn is_step(ask: Ask) -> bool {
@@ -287,21 +297,21 @@ fn check(
     requires lessees { IsNewLessee leases.old 2 }
     requires agreed { AreAgreed leases.old masters.old }
 {
-    let mut birth = 2_u32;
+    let mut step_number = 2_u32;
     for (ask, told) in cases {
         if !is_step(*ask) {
             assert_eq!(rt;
-                asked(leases, masters, *ask, birth),
+                asked(leases, masters, *ask, step_number),
                 *told,
-                "before step {birth}"
+                "before step {step_number}"
             );
-        } else if let Some(next) = birth.checked_add(1) {
+        } else if let Some(next) = step_number.checked_add(1) {
             assert_eq!(rt;
-                made(leases, masters, modes, *ask, birth),
+                made(leases, masters, modes, *ask, step_number),
                 *told,
-                "step {birth}"
+                "step {step_number}"
             );
-            birth = next;
+            step_number = next;
         }
     }
 }

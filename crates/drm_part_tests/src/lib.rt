@@ -3,9 +3,13 @@
 #![tactic(auto)]
 
 #[cfg(test)]
+mod answer_lines;
+#[cfg(test)]
 mod arrays;
 #[cfg(test)]
 mod asking;
+#[cfg(test)]
+mod examples;
 #[cfg(test)]
 mod frames;
 #[cfg(test)]
@@ -16,6 +20,8 @@ mod leases;
 mod lines;
 #[cfg(test)]
 mod lists;
+#[cfg(test)]
+mod malformed_lines;
 #[cfg(test)]
 mod master_calls;
 #[cfg(test)]

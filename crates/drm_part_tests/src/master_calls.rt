@@ -1,7 +1,7 @@
 //! Calls of masters as data, each made where it may be.
 
 ghost use Rattle.std.specs.Prelude.{◌≡◌, ◌<◌, true, length, IfSome};
-ghost use Rattle.drm_masters.specs.Calls.{IsNewClient, IsNewBirth};
+ghost use Rattle.drm_masters.specs.Calls.{IsNewClient, IsNewStepNumber};
 ghost use Rattle.drm_masters.specs.Masters.{is_there};
 
 use drm_masters::{LesseeFault, Master, MasterKey, Masters, Member, SetDone, SetFault};
@@ -58,7 +58,7 @@ pub(crate) enum Told {
     NoMemory,
     Client(Member),
     Master {
-        birth: u32,
+        step_number: u32,
         lessor: Option<u32>,
         lessee_id: u32,
         kept: bool,
@@ -74,11 +74,11 @@ fn is_older_client(row: Option<Member>, client: u32) -> bool
     }
 }
 
-fn is_older(row: Option<Master>, birth: u32) -> bool
-    ensures { result ≡ true → IfSome row (λ x. x.birth < birth) }
+fn is_older(row: Option<Master>, step_number: u32) -> bool
+    ensures { result ≡ true → IfSome row (λ x. x.step_number < step_number) }
 {
     match row {
-        Some(row) => row.birth < birth,
+        Some(row) => row.step_number < step_number,
         None => true,
     }
 }
@@ -96,33 +96,33 @@ fn is_new_client(masters: &Masters, client: u32) -> bool
 }
 
 /// Whether a step may make a master: there are three at most, which are older.
-fn is_new_birth(masters: &Masters, birth: u32) -> bool
-    ensures { result ≡ true → IsNewBirth masters.now birth }
+fn is_new_step_number(masters: &Masters, step_number: u32) -> bool
+    ensures { result ≡ true → IsNewStepNumber masters.now step_number }
 {
-    let is_first = is_older(masters.nth_master(0), birth);
-    let is_second = is_older(masters.nth_master(1), birth);
-    let is_third = is_older(masters.nth_master(2), birth);
+    let is_first = is_older(masters.nth_master(0), step_number);
+    let is_second = is_older(masters.nth_master(1), step_number);
+    let is_third = is_older(masters.nth_master(2), step_number);
     let is_last = masters.nth_master(3).is_none();
     is_last && is_first && is_second && is_third
 }
 
 /// The key of a master that is there.
 #[tactic(auto, using(crate::proofs::Keyed::there_keyed))]
-fn key_of(masters: &Masters, birth: u32) -> Option<MasterKey>
+fn key_of(masters: &Masters, step_number: u32) -> Option<MasterKey>
     ensures { IfSome result (λ key. is_there masters.now.masters key ≡ true) }
 {
-    match masters.master(birth) {
+    match masters.master(step_number) {
         Some(row) => Some(row.key),
         None => None,
     }
 }
 
 /// The master that has a key.
-fn birth_of(masters: &Masters, key: MasterKey) -> Option<u32> {
+fn step_number_of(masters: &Masters, key: MasterKey) -> Option<u32> {
     for place in 0..8usize {
         let row = masters.nth_master(place)?;
         if row.key == key {
-            return Some(row.birth);
+            return Some(row.step_number);
         }
     }
     None
@@ -137,7 +137,7 @@ fn told_number(number: Option<u32>) -> Told {
 
 fn told_key(masters: &Masters, key: Option<MasterKey>) -> Told {
     match key {
-        Some(key) => told_number(birth_of(masters, key)),
+        Some(key) => told_number(step_number_of(masters, key)),
         None => Told::Nothing,
     }
 }
@@ -154,11 +154,11 @@ fn told_master(masters: &Masters, row: Option<Master>) -> Told {
     let Some(row) = row else {
         return Told::Nothing;
     };
-    if birth_of(masters, row.key) != Some(row.birth) {
+    if step_number_of(masters, row.key) != Some(row.step_number) {
         return Told::Unasked;
     }
     Told::Master {
-        birth: row.birth,
+        step_number: row.step_number,
         lessor: row.lessor,
         lessee_id: row.lessee_id,
         kept: row.kept,
@@ -169,7 +169,7 @@ fn opened(masters: &mut Masters, client: u32) -> Told
     requires { masters.old.last_magic ≡ 4 }
     ensures { masters.new.last_magic ≡ 4 }
 {
-    if !is_new_client(masters, client) || !is_new_birth(masters, client) {
+    if !is_new_client(masters, client) || !is_new_step_number(masters, client) {
         return Told::Unasked;
     }
     match masters.on_open(client, client) {
@@ -195,14 +195,14 @@ fn redeemed(masters: &mut Masters, client: u32, lessee: u32) -> Told
     }
 }
 
-fn set(masters: &mut Masters, client: u32, root: bool, birth: u32) -> Told
+fn set(masters: &mut Masters, client: u32, root: bool, step_number: u32) -> Told
     requires { masters.old.last_magic ≡ 4 }
     ensures { masters.new.last_magic ≡ 4 }
 {
-    if masters.member(client).is_none() || !is_new_birth(masters, birth) {
+    if masters.member(client).is_none() || !is_new_step_number(masters, step_number) {
         return Told::Unasked;
     }
-    match masters.set(client, root, birth) {
+    match masters.set(client, root, step_number) {
         Ok(done) => Told::Set(done),
         Err(SetFault::Denied(rule)) => Told::Denied(rule),
         Err(SetFault::NoMemory) => Told::NoMemory,
@@ -256,19 +256,19 @@ fn closed(masters: &mut Masters, client: u32) -> Told
     told_key(masters, key)
 }
 
-fn lent(masters: &mut Masters, lessor: u32, birth: u32) -> Told
+fn lent(masters: &mut Masters, lessor: u32, step_number: u32) -> Told
     requires { masters.old.last_magic ≡ 4 }
     ensures { masters.new.last_magic ≡ 4 }
 {
-    if !is_new_birth(masters, birth) {
+    if !is_new_step_number(masters, step_number) {
         return Told::Unasked;
     }
     let Some(key) = key_of(masters, lessor) else {
         return Told::Unasked;
     };
-    match masters.make_lessee(key, birth) {
-        Ok((key, id)) => match birth_of(masters, key) {
-            Some(birth) => Told::Lent(birth, id),
+    match masters.make_lessee(key, step_number) {
+        Ok((key, id)) => match step_number_of(masters, key) {
+            Some(step_number) => Told::Lent(step_number, id),
             None => Told::Nothing,
         },
         Err(LesseeFault::Full) => Told::Full,
@@ -318,7 +318,7 @@ fn told_of(masters: &Masters, ask: Ask) -> Told {
         Ask::MasterOf(client) => told_key(masters, masters.master_of(client)),
         Ask::Member(client) => told_client(masters.member(client)),
         Ask::NthMember(place) => told_client(masters.nth_member(place)),
-        Ask::Master(birth) => told_master(masters, masters.master(birth)),
+        Ask::Master(step_number) => told_master(masters, masters.master(step_number)),
         Ask::NthMaster(place) => told_master(masters, masters.nth_master(place)),
         Ask::Lessor(master) => lessor_of(masters, master),
         Ask::Lessee(owner, id) => lessee_of(masters, owner, id),
@@ -337,14 +337,14 @@ pub(crate) fn asked(masters: &mut Masters, ask: Ask) -> Told
     match ask {
         Ask::Open(client) => opened(masters, client),
         Ask::Redeem(client, lessee) => redeemed(masters, client, lessee),
-        Ask::Set(client, birth) => set(masters, client, false, birth),
-        Ask::SetAsRoot(client, birth) => set(masters, client, true, birth),
+        Ask::Set(client, step_number) => set(masters, client, false, step_number),
+        Ask::SetAsRoot(client, step_number) => set(masters, client, true, step_number),
         Ask::Drop(client) => dropped(masters, client, false),
         Ask::DropAsRoot(client) => dropped(masters, client, true),
         Ask::Magic(client) => magic(masters, client),
         Ask::Auth(client, number) => authenticated(masters, client, number),
         Ask::Close(client) => closed(masters, client),
-        Ask::Lend(lessor, birth) => lent(masters, lessor, birth),
+        Ask::Lend(lessor, step_number) => lent(masters, lessor, step_number),
         Ask::Release(master) => released(masters, master),
         Ask::ReleaseUnder(top) => released_under(masters, top),
         _ => told_of(masters, ask),

@@ -35,7 +35,7 @@ fn check_new(rt: &impl Abort, alloc: Global, cases: &[Case]) {
 
 /// The first client's master, which it founded.
 const OWNER: Told = Told::Master {
-    birth: 1,
+    step_number: 1,
     lessor: None,
     lessee_id: 0,
     kept: false,
@@ -120,7 +120,7 @@ fn magics_of_a_master(rt: HostRuntime) {
     check_new(&rt, rt.alloc(), &NEW_MASTER);
 }
 
-/// Client 1 is current, and client 2 a guest.
+/// Client 1 is current, and client 2 a client that is no master.
 const DROPS: [Case; 10] = [
     (Ask::Open(1), Told::Whether(true)),
     (Ask::Open(2), Told::Whether(false)),
@@ -150,7 +150,7 @@ const LEFT: [Case; 12] = [
     (
         Ask::NthMaster(1),
         Told::Master {
-            birth: 5,
+            step_number: 5,
             lessor: None,
             lessee_id: 0,
             kept: true,
@@ -158,8 +158,8 @@ const LEFT: [Case; 12] = [
     ),
 ];
 
-/// A guest sets no master.
-const GUEST: [Case; 5] = [
+/// A client that is no master sets no master.
+const NON_MASTER: [Case; 5] = [
     (Ask::Open(1), Told::Whether(true)),
     (Ask::Open(2), Told::Whether(false)),
     (Ask::Set(2, 3), Told::Denied(Rule::MasterPerm)),
@@ -192,7 +192,7 @@ const SET_AFTER_MAGIC: [Case; 8] = [
 fn device_master_is_set_and_dropped(rt: HostRuntime) {
     check_new(&rt, rt.alloc(), &DROPS);
     check_new(&rt, rt.alloc(), &LEFT);
-    check_new(&rt, rt.alloc(), &GUEST);
+    check_new(&rt, rt.alloc(), &NON_MASTER);
     check_new(&rt, rt.alloc(), &SET_AGAIN);
     check_new(&rt, rt.alloc(), &SET_AFTER_MAGIC);
 }
@@ -222,7 +222,7 @@ const LENT: [Case; 11] = [
     (
         Ask::Lessee(1, 1),
         Told::Master {
-            birth: 7,
+            step_number: 7,
             lessor: Some(1),
             lessee_id: 1,
             kept: true,
@@ -236,7 +236,7 @@ const LENT: [Case; 11] = [
     (
         Ask::Lessee(7, 1),
         Told::Master {
-            birth: 7,
+            step_number: 7,
             lessor: Some(1),
             lessee_id: 1,
             kept: true,
@@ -284,7 +284,7 @@ const OWNER_STAYS: [Case; 6] = [
     (
         Ask::NthMaster(1),
         Told::Master {
-            birth: 2,
+            step_number: 2,
             lessor: Some(1),
             lessee_id: 1,
             kept: true,
@@ -321,7 +321,7 @@ fn masters_are_released(rt: HostRuntime) {
     check_new(&rt, rt.alloc(), &ALL_BELOW);
 }
 
-/// A guest that was authenticated.
+/// A client that is no master that was authenticated.
 const AUTHENTICATED: Told = Told::Client(Member {
     client: 2,
     once_master: false,
@@ -335,13 +335,13 @@ const AUTHENTICATED: Told = Told::Client(Member {
 
 /// The second lessee.
 const LESSEE: Told = Told::Master {
-    birth: 5,
+    step_number: 5,
     lessor: Some(1),
     lessee_id: 1,
     kept: true,
 };
 
-/// Clients and masters stand in the order of their births.
+/// Clients and masters stand in the order of their step numbers.
 const ROWS: [Case; 15] = [
     (Ask::Open(1), Told::Whether(true)),
     (Ask::Open(2), Told::Whether(false)),
@@ -361,7 +361,7 @@ const ROWS: [Case; 15] = [
 ];
 
 #[test]
-fn rows_in_the_order_of_births(rt: HostRuntime) {
+fn rows_in_the_order_of_step_numbers(rt: HostRuntime) {
     check_new(&rt, rt.alloc(), &ROWS);
 }
 

@@ -86,7 +86,7 @@ fn planes_of_topologies(rt: HostRuntime) -> Result<(), Fail> {
     small.laws();
     let told = [
         small.object_count() == 8,
-        small.screen_count() == 4,
+        small.scanout_count() == 4,
         are_planes_of(&kinds, &[2], &[3, 5]),
         are_planes_of(&kinds, &[1, 2], &[3, 5, 6]),
         are_planes_of(&plain, &[1, 2], &[]),
@@ -167,7 +167,7 @@ fn told_framebuffer(found: Option<Framebuffer>) -> Told {
 
 fn told_shown(shown: Option<Shown>) -> Told {
     match shown {
-        Some(row) => Told::Two(row.shower, row.framebuffer),
+        Some(row) => Told::Two(row.engine, row.framebuffer),
         None => Told::Nothing,
     }
 }
@@ -296,7 +296,7 @@ const FRAMEBUFFERS: [(Ask, Told); 20] = [
 ];
 
 /// Two framebuffers of client 1 are shown, and what showed one that goes is dark.
-const SCREENS: [(Ask, Told); 25] = [
+const SCANOUTS: [(Ask, Told); 25] = [
     (Ask::Add(1, 7), Told::Number(9)),
     (Ask::Add(1, 7), Told::Number(10)),
     (Ask::Show(2, 9), Told::Done),
@@ -347,7 +347,7 @@ fn mode_objects(rt: HostRuntime) -> Result<(), Fail> {
 #[test]
 fn framebuffers_and_what_is_shown(rt: HostRuntime) -> Result<(), Fail> {
     check_modes(&rt, rt.alloc(), &FRAMEBUFFERS)?;
-    check_modes(&rt, rt.alloc(), &SCREENS)
+    check_modes(&rt, rt.alloc(), &SCANOUTS)
 }
 
 /// Where a request for memory is refused, nothing has changed, and the same call is carried out once there is memory.

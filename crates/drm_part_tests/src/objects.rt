@@ -1,7 +1,7 @@
 //! Objects and what refers to them, call by call.
 
 ghost use Rattle.std.specs.Prelude.{◌≡◌, ◌<◌, true, IfSome};
-ghost use Rattle.drm_gem.specs.Objects.{IsNewBirth, is_there};
+ghost use Rattle.drm_gem.specs.Objects.{IsNewStepNumber, is_there};
 
 use crate::asking::{Call, Told, check};
 use drm_gem::{CreateFault, Dead, Object, ObjectKey, Objects};
@@ -11,7 +11,7 @@ use std::process::Abort;
 /// What is told of an object.
 #[derive(Clone, Copy, PartialEq, Eq)]
 struct Counts {
-    birth: u32,
+    step_number: u32,
     size: u64,
     stamp: u64,
     holds: u32,
@@ -37,31 +37,31 @@ enum Ask {
     HasNth(usize),
 }
 
-fn is_older(object: Option<Object>, birth: u32) -> bool
-    ensures { result ≡ true → IfSome object (λ x. x.birth < birth) }
+fn is_older(object: Option<Object>, step_number: u32) -> bool
+    ensures { result ≡ true → IfSome object (λ x. x.step_number < step_number) }
 {
     match object {
-        Some(object) => object.birth < birth,
+        Some(object) => object.step_number < step_number,
         None => true,
     }
 }
 
 /// Whether a step may make an object: there are three at most, which are older.
-fn is_new_birth(objects: &Objects, birth: u32) -> bool
-    ensures { result ≡ true → IsNewBirth objects.now birth }
+fn is_new_step_number(objects: &Objects, step_number: u32) -> bool
+    ensures { result ≡ true → IsNewStepNumber objects.now step_number }
 {
-    let is_first = is_older(objects.nth(0), birth);
-    let is_second = is_older(objects.nth(1), birth);
-    let is_third = is_older(objects.nth(2), birth);
+    let is_first = is_older(objects.nth(0), step_number);
+    let is_second = is_older(objects.nth(1), step_number);
+    let is_third = is_older(objects.nth(2), step_number);
     let is_last = objects.nth(3).is_none();
     is_last && is_first && is_second && is_third
 }
 
-fn created(objects: &mut Objects, birth: u32, size: u64) -> Told {
-    if !is_new_birth(objects, birth) {
+fn created(objects: &mut Objects, step_number: u32, size: u64) -> Told {
+    if !is_new_step_number(objects, step_number) {
         return Told::Unasked;
     }
-    match objects.create(birth, size) {
+    match objects.create(step_number, size) {
         Ok(key) => Told::Number(key.number()),
         Err(CreateFault::Full) => Told::Full,
         Err(CreateFault::NoMemory) => Told::NoMemory,
@@ -74,7 +74,7 @@ fn is_told(object: Option<Object>, counts: Counts) -> Told {
         return Told::Nothing;
     };
     let told = Counts {
-        birth: object.birth,
+        step_number: object.step_number,
         size: object.size,
         stamp: object.stamp,
         holds: object.holds,
@@ -95,7 +95,7 @@ fn read(objects: &Objects, key: ObjectKey) -> Counts
     requires { is_there objects.now key ≡ true }
 {
     Counts {
-        birth: objects.birth(key),
+        step_number: objects.step_number(key),
         size: objects.size(key),
         stamp: objects.stamp(key),
         holds: objects.holds(key),
@@ -132,7 +132,7 @@ fn asked_of(objects: &mut Objects, number: u32, ask: Ask) -> Told {
 impl Call<Objects> for Ask {
     fn ask(self, objects: &mut Objects) -> Told {
         match self {
-            Ask::Create(birth, size) => created(objects, birth, size),
+            Ask::Create(step_number, size) => created(objects, step_number, size),
             Ask::Get(number, counts) => {
                 is_told(objects.get(ObjectKey::from_number(number)), counts)
             }
@@ -156,7 +156,7 @@ type Case = (Ask, Told);
 
 /// An object that two handles and three tokens refer to.
 const REFERRED: Counts = Counts {
-    birth: 3,
+    step_number: 3,
     size: 4096,
     stamp: 0,
     holds: 2,
@@ -164,7 +164,7 @@ const REFERRED: Counts = Counts {
 };
 
 const STAMPED: Counts = Counts {
-    birth: 3,
+    step_number: 3,
     size: 4096,
     stamp: 1 << 40,
     holds: 2,
@@ -188,7 +188,7 @@ const REFERENCES: [Case; 12] = [
 ];
 
 const FIRST: Told = Told::Gone(Dead {
-    birth: 1,
+    step_number: 1,
     size: 4096,
 });
 
@@ -217,7 +217,7 @@ const LAST_TOKEN: [Case; 8] = [
 ];
 
 const SMALL: Counts = Counts {
-    birth: 1,
+    step_number: 1,
     size: 4096,
     stamp: 0,
     holds: 1,
@@ -225,7 +225,7 @@ const SMALL: Counts = Counts {
 };
 
 const LARGE: Counts = Counts {
-    birth: 9,
+    step_number: 9,
     size: 12288,
     stamp: 0,
     holds: 1,
@@ -240,7 +240,7 @@ const MIDDLE: [Case; 10] = [
     (
         Ask::Unhold(1),
         Told::Gone(Dead {
-            birth: 5,
+            step_number: 5,
             size: 8192,
         }),
     ),

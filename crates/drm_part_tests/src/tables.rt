@@ -4,8 +4,8 @@ use crate::asking::same;
 use crate::lists::{named, row as audit_row};
 use bitflags::Flags;
 use drm_table::{
-    Apart, AuditKind, AuditPage, Call, CallKind, Event, Field, IdList, Limits, RowFlags, Rule,
-    ShownList, Standing, are_in_range, permit, row,
+    Apart, AuditKind, AuditPage, Call, CallKind, Credentials, Event, Field, IdList, Limits,
+    RowFlags, Rule, ShownList, are_in_range, permit, row,
 };
 use std::alloc::AllocError;
 use std::process::Abort;
@@ -67,8 +67,8 @@ const RULES: [(Rule, u32, u32, &str); 30] = [
     (Rule::Full, 43, 28, "Full"),
 ];
 
-fn standing(bits: u8) -> Standing {
-    Standing {
+fn credentials(bits: u8) -> Credentials {
+    Credentials {
         root: bits & 1 != 0,
         render: bits & 2 != 0,
         authenticated: bits & 4 != 0,
@@ -77,7 +77,7 @@ fn standing(bits: u8) -> Standing {
 }
 
 fn refusal(flags: u8, bits: u8) -> u32 {
-    match permit(RowFlags::from_bits_retain(flags), standing(bits)) {
+    match permit(RowFlags::from_bits_retain(flags), credentials(bits)) {
         Some(rule) => rule.number(),
         None => 0,
     }

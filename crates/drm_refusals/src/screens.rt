@@ -53,15 +53,55 @@ fn unseen(
         )?;
         return tell_own_lease(alloc, scene, client, text);
     }
-    match scene.topology.crtc_of_plane(id) {
-        Some(crtc) if !scene.ledger.has_universal(client) => {
-            writeln!(
-                text,
-                "{name} does not see plane {id}: it is the primary or the cursor plane of CRTC {crtc}"
-            )?;
-            tell(alloc, scene, Subject::UniversalPlanes(client), text)
-        }
-        _ => Ok(()),
+    unseen_plane(alloc, scene, client, id, text)
+}
+
+/// Puts why a client with universal planes off doesn't see a primary or a cursor plane; nothing of any other mode object.
+fn unseen_plane(
+    alloc: Global,
+    scene: Scene<'_>,
+    client: u64,
+    id: u32,
+    text: &mut String,
+) -> Result<(), AllocError> {
+    let Some(crtc) = scene.topology.crtc_of_plane(id) else {
+        return Ok(());
+    };
+    if scene.ledger.has_universal(client) {
+        return Ok(());
+    }
+    let name = scene.name(client);
+    writeln!(
+        text,
+        "{name} does not see plane {id}: it is the primary or the cursor plane of CRTC {crtc}"
+    )?;
+    tell(alloc, scene, Subject::UniversalPlanes(client), text)
+}
+
+/// The mode objects that a call names, each with the kind that it has to be of, in the order of the tests.
+fn named_by(call: &Call) -> [Option<(u32, Kind)>; 2] {
+    match *call {
+        Call::GetCrtc { crtc } => [Some((crtc, Kind::Crtc)), None],
+        Call::GetEncoder { encoder } => [Some((encoder, Kind::Encoder)), None],
+        Call::GetConnector { connector } => [Some((connector, Kind::Connector)), None],
+        Call::GetPlane { plane } => [Some((plane, Kind::Plane)), None],
+        Call::SetCrtc {
+            crtc,
+            connector,
+            ..
+        } => [
+            Some((crtc, Kind::Crtc)),
+            (connector != 0).then_some((connector, Kind::Connector)),
+        ],
+        Call::SetPlane {
+            plane,
+            crtc,
+            framebuffer,
+        } => [
+            Some((plane, Kind::Plane)),
+            (framebuffer != 0).then_some((crtc, Kind::Crtc)),
+        ],
+        _ => [None, None],
     }
 }
 
@@ -73,54 +113,15 @@ pub(crate) fn no_mode_object(
     call: &Call,
     text: &mut String,
 ) -> Result<(), AllocError> {
-    match call {
-        Call::GetCrtc { crtc } => unseen(alloc, scene, client, *crtc, Some(Kind::Crtc), text),
-        Call::GetEncoder { encoder } => {
-            unseen(alloc, scene, client, *encoder, Some(Kind::Encoder), text)
-        }
-        Call::GetConnector { connector } => {
-            unseen(
-                alloc,
-                scene,
-                client,
-                *connector,
-                Some(Kind::Connector),
-                text,
-            )
-        }
-        Call::GetPlane { plane } => unseen(alloc, scene, client, *plane, Some(Kind::Plane), text),
-        Call::SetCrtc {
-            crtc,
-            connector,
-            ..
-        } => {
-            unseen(alloc, scene, client, *crtc, Some(Kind::Crtc), text)?;
-            if *connector == 0 {
-                return Ok(());
-            }
-            unseen(
-                alloc,
-                scene,
-                client,
-                *connector,
-                Some(Kind::Connector),
-                text,
-            )
-        }
-        Call::SetPlane {
-            plane,
-            crtc,
-            framebuffer,
-        } => {
-            unseen(alloc, scene, client, *plane, Some(Kind::Plane), text)?;
-            if *framebuffer == 0 {
-                return Ok(());
-            }
-            unseen(alloc, scene, client, *crtc, Some(Kind::Crtc), text)
-        }
-        Call::CreateLease { ids } => unseen_of(alloc, scene, client, ids.ids(), text),
-        _ => Ok(()),
+    if let Call::CreateLease { ids } = call {
+        return unseen_of(alloc, scene, client, ids.ids(), text);
     }
+    for named in named_by(call) {
+        if let Some((id, kind)) = named {
+            unseen(alloc, scene, client, id, Some(kind), text)?;
+        }
+    }
+    Ok(())
 }
 
 /// Puts why a client doesn't see some of the ids of a lease, of which those above the mode objects may be framebuffers.

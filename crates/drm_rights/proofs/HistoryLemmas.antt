@@ -2,7 +2,7 @@
 use Rattle.std.proofs.Common.{◌≡◌, ℕ, ◌+◌, ◌-◌, ◌<◌, ◌≤◌, List, [], ◌∷◌, ◌++◌, Option, None, length, get_or, take, refl, sym, ◌∙◌, ap, arith, add-zero}
 use Rattle.std.specs.Option.{option_map}
 use Rattle.std.proofs.lemmas.List.{take_more, length-take-le}
-use Rattle.drm_history.specs.History.{Entry, next_number}
+use Rattle.drm_history.specs.History.{AnsweredEvent, next_number}
 use Rattle.drm_history.specs.Steps.{Key, Publishing, given, published}
 use Rattle.drm_rights.specs.Steps.{entry_of, followed_by, givings_of, history_of, source_of}
 use Rattle.drm_rights.specs.Searches.{source_for, sharing_or, last_sharing}
@@ -10,7 +10,7 @@ use Rattle.drm_rights.specs.declared.steps.Step.{Step}
 use Rattle.drm_rights.specs.declared.steps.Giving.{Giving as GivenHandle}
 use Rattle.drm_rights.specs.declared.steps.Source.{Source as HandleSource}
 
-pub followed_by-append : (past : List Entry) (front : List Step) (step : Step) → followed_by past (front ++ step ∷ []) ≡ entry_of step ∷ followed_by past front
+pub followed_by-append : (past : List AnsweredEvent) (front : List Step) (step : Step) → followed_by past (front ++ step ∷ []) ≡ entry_of step ∷ followed_by past front
 unfolding followed_by
 followed_by-append past [] step = refl
 followed_by-append past (x ∷ front) step = followed_by-append (entry_of x ∷ past) front step
@@ -43,7 +43,7 @@ pub source_of_step : (c h : ℕ) (step : Step) (found : Option GivenHandle) (sou
     source_for c h (given (entry_of step)) ≡ option_map source_of answer
 source_of_step c h step found source answer its_giving its_source same = ap (source_for c h) (sym its_giving) ∙ sym its_source ∙ ap (option_map source_of) same
 
-followed_by-length : (past : List Entry) (steps : List Step) → length (followed_by past steps) ≡ length past + length steps
+followed_by-length : (past : List AnsweredEvent) (steps : List Step) → length (followed_by past steps) ≡ length past + length steps
 unfolding followed_by
 followed_by-length past [] = sym (add-zero (length past))
 followed_by-length past (step ∷ steps) = let rest = followed_by-length (entry_of step ∷ past) steps in omega (arith, rest)

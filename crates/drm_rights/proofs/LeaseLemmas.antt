@@ -11,10 +11,10 @@ use Rattle.drm_lists.proofs.Found.{find-same}
 use Rattle.drm_lists.proofs.Orders.{in_order_append}
 use Rattle.drm_lists.proofs.Chains.{IsFalling, under_none}
 use Rattle.drm_lists.proofs.Numbers.{less-differ, flipped}
-use Rattle.drm_history.specs.History.{Entry, next_number}
-use Rattle.drm_authority.specs.Deeds as told
-use Rattle.drm_authority.specs.Deeds.{deed}
-use Rattle.drm_authority.specs.Standing.{standing, is_master_in, master_in, own_master_in, lease_in, leased_by}
+use Rattle.drm_history.specs.History.{AnsweredEvent, next_number}
+use Rattle.drm_authority.specs.Effects as told
+use Rattle.drm_authority.specs.Effects.{effect}
+use Rattle.drm_authority.specs.MasterState.{master_state, is_master_in, master_in, caller_master_in, lease_in, leased_by}
 use Rattle.drm_authority.specs.Lessees.{lessor_by, lessor_in, top_in, is_under_in, lessee_by, lessee_in, ended_by, is_under_any, ends, has_ended}
 use Rattle.drm_authority.specs.Shown.{is_universal_in}
 use Rattle.drm_authority.proofs.Falls.{UpTo, none_up, some_up, later_up, if_up, master_up, lessee_born, under_still}
@@ -22,9 +22,10 @@ use Rattle.drm_rights.specs.Leases.{lease_at, lease_of_token, lease_of_id, if_ol
 use Rattle.drm_rights.specs.declared.notes.Lease.{Lease}
 use Rattle.drm_rights.specs.declared.notes.End.{End}
 use Rattle.drm_rights.proofs.NoteLemmas.{find-newest, append-none}
+use Rattle.drm_authority.proofs.SeesNothing.{ended_up}
 
-abbrev pub note_of : List Entry → ℕ → ℕ → ℕ → Lease
-note_of past c lessee token = record { master = next_number past; client = c; lessor = master_in past c; owner = top_in past (own_master_in past c); id = lessee; token = token; universal = is_universal_in past c }
+abbrev pub note_of : List AnsweredEvent → ℕ → ℕ → ℕ → Lease
+note_of past c lessee token = record { master = next_number past; client = c; lessor = master_in past c; owner = top_in past (caller_master_in past c); id = lessee; token = token; universal = is_universal_in past c }
 
 -- ---- by tokens and by ids
 
@@ -32,7 +33,7 @@ if-master : (b : Bool) (note : Lease) (older : Option Lease) → master_of_lease
 if-master true note older = refl
 if-master false note older = refl
 
-token_by : (past : List Entry) (token : ℕ) (d : told.Deed) → master_of_lease (lease_of_token (leases_in past) token) ≡ lease_in past token →
+token_by : (past : List AnsweredEvent) (token : ℕ) (d : told.Effect) → master_of_lease (lease_of_token (leases_in past) token) ≡ lease_in past token →
     master_of_lease (lease_of_token (leases_in past ++ option_to_list (new_lease d past)) token) ≡ leased_by d token (next_number past) (lease_in past token)
 token_by past token (told.Leases c ids lessee answered) k =
     ap master_of_lease (find-newest (λ (l : Lease). l.token == token) (leases_in past) (note_of past c lessee answered))
@@ -40,30 +41,30 @@ token_by past token (told.Leases c ids lessee answered) k =
 token_by past token _ k = ap (λ l. master_of_lease (lease_of_token l token)) (append-none (leases_in past)) ∙ k
 
 -- the last lease that was answered a token
-pub token_noted : (history : List Entry) (token : ℕ) → master_of_lease (lease_of_token (leases_in history) token) ≡ lease_in history token
+pub token_noted : (history : List AnsweredEvent) (token : ℕ) → master_of_lease (lease_of_token (leases_in history) token) ≡ lease_in history token
 unfolding leases_in lease_in
 token_noted [] token = refl
-token_noted (step ∷ past) token = token_by past token (deed step) (token_noted past token)
+token_noted (step ∷ past) token = token_by past token (effect step) (token_noted past token)
 
-id_by : (past : List Entry) (owner id : ℕ) (d : told.Deed) → master_of_lease (lease_of_id (leases_in past) owner id) ≡ lessee_in past owner id →
+id_by : (past : List AnsweredEvent) (owner id : ℕ) (d : told.Effect) → master_of_lease (lease_of_id (leases_in past) owner id) ≡ lessee_in past owner id →
     master_of_lease (lease_of_id (leases_in past ++ option_to_list (new_lease d past)) owner id) ≡ lessee_by d past owner id (lessee_in past owner id)
 id_by past owner id (told.Leases c ids lessee answered) k =
     let note = note_of past c lessee answered in
-    let its = (lessee == id) && (top_in past (own_master_in past c) == owner) in
+    let its = (lessee == id) && (top_in past (caller_master_in past c) == owner) in
     ap master_of_lease (find-newest (λ (l : Lease). (l.id == id) && (l.owner == owner)) (leases_in past) note)
     ∙ if-master its note (lease_of_id (leases_in past) owner id) ∙ ap (cond its (Some (next_number past))) k
 id_by past owner id _ k = ap (λ l. master_of_lease (lease_of_id l owner id)) (append-none (leases_in past)) ∙ k
 
 -- the last lease that was answered an id under an owner
-pub id_noted : (history : List Entry) (owner id : ℕ) → master_of_lease (lease_of_id (leases_in history) owner id) ≡ lessee_in history owner id
+pub id_noted : (history : List AnsweredEvent) (owner id : ℕ) → master_of_lease (lease_of_id (leases_in history) owner id) ≡ lessee_in history owner id
 unfolding leases_in lessee_in
 id_noted [] owner id = refl
-id_noted (step ∷ past) owner id = id_by past owner id (deed step) (id_noted past owner id)
+id_noted (step ∷ past) owner id = id_by past owner id (effect step) (id_noted past owner id)
 
 -- ---- lessors
 
 -- no master has a lessor before its step
-pub unborn : (past : List Entry) (m : ℕ) → length past < m → lessor_in past m ≡ None
+pub unborn : (past : List AnsweredEvent) (m : ℕ) → length past < m → lessor_in past m ≡ None
 unborn past m late = (elim (lessor_in past m) as (λ o. lessor_in past m ≡ o → o ≡ None) [
   | None ↦ λ e. refl
   | Some k ↦ λ e. let born = lessee_born past m k e in absurd (omega (arith, born, late))
@@ -81,31 +82,31 @@ then-if : (m : ℕ) (b : Bool) (note : Lease) (others : Option Lease) →
 then-if m true note others = refl
 then-if m false note others = refl
 
-pub at-newest : (past : List Entry) (m c lessee token : ℕ) → lease_at (leases_in past ++ note_of past c lessee token ∷ []) m ≡ cond (m == next_number past) (Some (note_of past c lessee token)) (lease_at (leases_in past) m)
+pub at-newest : (past : List AnsweredEvent) (m c lessee token : ℕ) → lease_at (leases_in past ++ note_of past c lessee token ∷ []) m ≡ cond (m == next_number past) (Some (note_of past c lessee token)) (lease_at (leases_in past) m)
 at-newest past m c lessee token = find-newest (λ (l : Lease). m == l.master) (leases_in past) (note_of past c lessee token)
 
-if_number : (past : List Entry) (m : ℕ) (x y : Option ℕ) → ((m == next_number past) ≡ true → x ≡ y) → (z w : Option ℕ) → z ≡ w → cond (m == next_number past) x z ≡ cond (m == next_number past) y w
+if_number : (past : List AnsweredEvent) (m : ℕ) (x y : Option ℕ) → ((m == next_number past) ≡ true → x ≡ y) → (z w : Option ℕ) → z ≡ w → cond (m == next_number past) x z ≡ cond (m == next_number past) y w
 if_number past m x y same z w k = (elim (m == next_number past) as (λ b. (m == next_number past) ≡ b → cond b x z ≡ cond b y w) [ true ↦ λ e. same e | false ↦ λ e. k ]) refl
 
-lessor_by_deed : (past : List Entry) (m : ℕ) (d : told.Deed) → lessor_noted (leases_in past) m ≡ lessor_in past m →
-    lessor_noted (leases_in past ++ option_to_list (new_lease d past)) m ≡ (if m == next_number past then lessor_by d (standing past) else lessor_in past m)
-lessor_by_deed past m (told.Leases c ids lessee token) k =
+lessor_by_effect : (past : List AnsweredEvent) (m : ℕ) (d : told.Effect) → lessor_noted (leases_in past) m ≡ lessor_in past m →
+    lessor_noted (leases_in past ++ option_to_list (new_lease d past)) m ≡ (if m == next_number past then lessor_by d (master_state past) else lessor_in past m)
+lessor_by_effect past m (told.Leases c ids lessee token) k =
     ap (option_and_then (λ (l : Lease). if_older m l.lessor)) (at-newest past m c lessee token)
     ∙ then-if m (m == next_number past) (note_of past c lessee token) (lease_at (leases_in past) m)
     ∙ if_number past m (if_older m (master_in past c)) (master_in past c) (λ e. let same = eqb-true m (next_number past) e in older (length past) m (master_in past c) (master_up past c) (omega (arith, same))) _ _ k
-lessor_by_deed past m _ k =
+lessor_by_effect past m _ k =
     ap (λ l. lessor_noted l m) (append-none (leases_in past)) ∙ k
     ∙ (elim (m == next_number past) as (λ b. (m == next_number past) ≡ b → lessor_in past m ≡ cond b None (lessor_in past m)) [
       | true ↦ λ e. let same = eqb-true m (next_number past) e in unborn past m (omega (arith, same))
       | false ↦ λ e. refl
     ]) refl
 
-pub lessor_told : (history : List Entry) (m : ℕ) → lessor_noted (leases_in history) m ≡ lessor_in history m
+pub lessor_told : (history : List AnsweredEvent) (m : ℕ) → lessor_noted (leases_in history) m ≡ lessor_in history m
 unfolding leases_in lessor_in
 lessor_told [] m = refl
-lessor_told (step ∷ past) m = lessor_by_deed past m (deed step) (lessor_told past m)
+lessor_told (step ∷ past) m = lessor_by_effect past m (effect step) (lessor_told past m)
 
-pub lessors_told : (history : List Entry) → lessor_noted (leases_in history) ≡ lessor_in history
+pub lessors_told : (history : List AnsweredEvent) → lessor_noted (leases_in history) ≡ lessor_in history
 lessors_told history = λ i. λ m. lessor_told history m i
 
 -- in the notes too a lessor is older
@@ -126,61 +127,45 @@ noted_falls notes n m e = of_lease (lease_at notes n) e
 
 -- ---- ends
 
-pub lessee_up : (past : List Entry) (owner id : ℕ) → UpTo (length past) (lessee_in past owner id)
-unfolding lessee_in
-lessee_up [] owner id m e = none_up 0 m e
-lessee_up (step ∷ past) owner id m e = let up = by (deed step) (later_up (length past) (lessee_in past owner id) (lessee_up past owner id)) m e in omega (arith, up)
-  where
-    by : (d : told.Deed) → UpTo (next_number past) (lessee_in past owner id) → UpTo (next_number past) (lessee_by d past owner id (lessee_in past owner id))
-    by (told.Leases c ids lessee token) k = if_up (next_number past) ((lessee == id) && (top_in past (own_master_in past c) == owner)) (Some (next_number past)) (lessee_in past owner id) (some_up (next_number past) (next_number past) (omega arith)) k
-    by told.Nothing k = k
-    by _ k = k
-
-pub ended_up : (past : List Entry) (d : told.Deed) → UpTo (length past) (ended_by d past)
-ended_up past (told.Revokes c lessee) = lessee_up past (top_in past (own_master_in past c)) lessee
-ended_up past (told.Closes c) = if_up (length past) (is_master_in past c) (master_in past c) None (master_up past c) (none_up (length past))
-ended_up past told.Nothing = none_up (length past)
-ended_up past _ = none_up (length past)
-
 -- what a step ends was made before
-pub ends_none : (past : List Entry) (o : Option ℕ) (m : ℕ) → UpTo (length past) o → length past < m → is_under_any past o m ≡ false
+pub ends_none : (past : List AnsweredEvent) (o : Option ℕ) (m : ℕ) → UpTo (length past) o → length past < m → is_under_any past o m ≡ false
 ends_none past None m up late = refl
 ends_none past (Some top) m up late =
     let old = up top refl in
     under_none (lessor_in past) top m (unborn past m late) ∙ flipped top m (less-differ top m (omega (arith, old, late)))
 
-pub not_ended : (past : List Entry) (m : ℕ) → length past < m → has_ended past m ≡ false
+pub not_ended : (past : List AnsweredEvent) (m : ℕ) → length past < m → has_ended past m ≡ false
 unfolding has_ended ends
 not_ended [] m late = refl
 not_ended (step ∷ past) m late =
-    ap (λ b. b || has_ended past m) (ends_none past (ended_by (deed step) past) m (ended_up past (deed step)) (omega (arith, late))) ∙ not_ended past m (omega (arith, late))
+    ap (λ b. b || has_ended past m) (ends_none past (ended_by (effect step) past) m (ended_up (effect step) past) (omega (arith, late))) ∙ not_ended past m (omega (arith, late))
 
 -- whether a master was made before an end, and is the one that ended or below it, by the history
-abbrev ended_told : List Entry → ℕ → End → Bool
+abbrev ended_told : List AnsweredEvent → ℕ → End → Bool
 ended_told history m e = nat_lt m e.step && is_under_in history e.master m
 
-ended_by_told : (history : List Entry) (m : ℕ) → is_ended_by (leases_in history) m ≡ ended_told history m
+ended_by_told : (history : List AnsweredEvent) (m : ℕ) → is_ended_by (leases_in history) m ≡ ended_told history m
 ended_by_told history m = λ i. λ e. nat_lt m e.step && is_under (lessors_told history i) e.master m
 
-ends_born : (past : List Entry) → AllByRecursion (λ (e : End). e.step ≤ length past) (ends_in past)
+ends_born : (past : List AnsweredEvent) → AllByRecursion (λ (e : End). e.step ≤ length past) (ends_in past)
 unfolding ends_in
 ends_born [] = tt
 ends_born (step ∷ past) =
-    all_append (λ (e : End). e.step ≤ length (step ∷ past)) (ends_in past) (option_to_list (end_with past (ended_by (deed step) past)))
-    (all_weaker (λ (e : End). e.step ≤ length past) (λ (e : End). e.step ≤ length (step ∷ past)) (λ e old. omega (arith, old)) (ends_in past) (ends_born past)) (newest (ended_by (deed step) past))
+    all_append (λ (e : End). e.step ≤ length (step ∷ past)) (ends_in past) (option_to_list (end_with past (ended_by (effect step) past)))
+    (all_weaker (λ (e : End). e.step ≤ length past) (λ (e : End). e.step ≤ length (step ∷ past)) (λ e old. omega (arith, old)) (ends_in past) (ends_born past)) (newest (ended_by (effect step) past))
   where
     newest : (o : Option ℕ) → AllByRecursion (λ (e : End). e.step ≤ length (step ∷ past)) (option_to_list (end_with past o))
     newest None = tt
     newest (Some m) = (omega arith, tt)
 
-told_still : (step : Entry) (past : List Entry) (m : ℕ) (e : End) → e.step ≤ length past → ended_told (step ∷ past) m e ≡ ended_told past m e
+told_still : (step : AnsweredEvent) (past : List AnsweredEvent) (m : ℕ) (e : End) → e.step ≤ length past → ended_told (step ∷ past) m e ≡ ended_told past m e
 told_still step past m e old =
     (elim (nat_lt m e.step) as (λ b. nat_lt m e.step ≡ b → (b && is_under_in (step ∷ past) e.master m) ≡ (b && is_under_in past e.master m)) [
       | true ↦ λ less. let lt : m < e.step = grind (arith, nat_tests) in under_still step past e.master m (omega (arith, lt, old))
       | false ↦ λ less. refl
     ]) refl
 
-ends_still : (step : Entry) (past : List Entry) (m : ℕ) → find (ended_told (step ∷ past) m) (ends_in past) ≡ find (ended_told past m) (ends_in past)
+ends_still : (step : AnsweredEvent) (past : List AnsweredEvent) (m : ℕ) → find (ended_told (step ∷ past) m) (ends_in past) ≡ find (ended_told past m) (ends_in past)
 ends_still step past m =
     find-same (ended_told (step ∷ past) m) (ended_told past m) (ends_in past)
     (all_weaker (λ (e : End). e.step ≤ length past) (λ (e : End). ended_told (step ∷ past) m e ≡ ended_told past m e) (told_still step past m) (ends_in past) (ends_born past))
@@ -197,7 +182,7 @@ step_of-or None b = refl
 step_of-or (Some e) b = refl
 
 -- what the newest step ends
-newest_end : (step : Entry) (past : List Entry) (m : ℕ) (o : Option ℕ) → UpTo (length past) o →
+newest_end : (step : AnsweredEvent) (past : List AnsweredEvent) (m : ℕ) (o : Option ℕ) → UpTo (length past) o →
     step_of (find (ended_told (step ∷ past) m) (option_to_list (end_with past o))) ≡ (if is_under_any past o m then Some (next_number past) else None)
 newest_end step past m None up = refl
 newest_end step past m (Some top) up = by (nat_lt m (next_number past)) refl
@@ -213,18 +198,18 @@ newest_end step past m (Some top) up = by (nat_lt m (next_number past)) refl
     by true e = let lt : m < next_number past = grind (arith, nat_tests) in is (is_under_in (step ∷ past) top m) (under_still step past top m (omega (arith, lt)))
     by false e = let le : next_number past ≤ m = grind (arith, nat_tests) in is false (sym (ends_none past (Some top) m up (omega (arith, le))))
 
-end_told : (history : List Entry) (m : ℕ) → step_of (find (ended_told history m) (ends_in history)) ≡ ended_at history m
+end_told : (history : List AnsweredEvent) (m : ℕ) → step_of (find (ended_told history m) (ends_in history)) ≡ ended_at history m
 unfolding ends_in ended_at ends
 end_told [] m = refl
 end_told (step ∷ past) m =
-    let new = option_to_list (end_with past (ended_by (deed step) past)) in
+    let new = option_to_list (end_with past (ended_by (effect step) past)) in
     let before = ap step_of (ends_still step past m) ∙ end_told past m in
     ap step_of (find-append (ended_told (step ∷ past) m) (ends_in past) new)
     ∙ step_of-or (find (ended_told (step ∷ past) m) (ends_in past)) (find (ended_told (step ∷ past) m) new)
-    ∙ (λ i. option_or (before i) (newest_end step past m (ended_by (deed step) past) (ended_up past (deed step)) i))
+    ∙ (λ i. option_or (before i) (newest_end step past m (ended_by (effect step) past) (ended_up (effect step) past) i))
 
 -- the first end of a master
-pub end_noted : (history : List Entry) (m : ℕ) → step_of (find (is_ended_by (leases_in history) m) (ends_in history)) ≡ ended_at history m
+pub end_noted : (history : List AnsweredEvent) (m : ℕ) → step_of (find (is_ended_by (leases_in history) m) (ends_in history)) ≡ ended_at history m
 end_noted history m = ap (λ p. step_of (find p (ends_in history))) (ended_by_told history m) ∙ end_told history m
 
 is_some-or : (a : Option ℕ) (b : Bool) (n : ℕ) → is_some (option_or a (cond b (Some n) None)) ≡ (b || is_some a)
@@ -233,39 +218,39 @@ is_some-or None false n = refl
 is_some-or (Some k) true n = refl
 is_some-or (Some k) false n = refl
 
-pub has_ended_at : (history : List Entry) (m : ℕ) → is_some (ended_at history m) ≡ has_ended history m
+pub has_ended_at : (history : List AnsweredEvent) (m : ℕ) → is_some (ended_at history m) ≡ has_ended history m
 unfolding ended_at has_ended
 has_ended_at [] m = refl
 has_ended_at (step ∷ past) m = is_some-or (ended_at past m) (ends step past m) (next_number past) ∙ ap (λ b. ends step past m || b) (has_ended_at past m)
 
 -- ---- notes rise
 
-leases_born : (past : List Entry) → AllByRecursion (λ (l : Lease). l.master ≤ length past) (leases_in past)
+leases_born : (past : List AnsweredEvent) → AllByRecursion (λ (l : Lease). l.master ≤ length past) (leases_in past)
 unfolding leases_in
 leases_born [] = tt
 leases_born (step ∷ past) =
-    all_append (λ (l : Lease). l.master ≤ length (step ∷ past)) (leases_in past) (option_to_list (new_lease (deed step) past))
-    (all_weaker (λ (l : Lease). l.master ≤ length past) (λ (l : Lease). l.master ≤ length (step ∷ past)) (λ l old. omega (arith, old)) (leases_in past) (leases_born past)) (newest (deed step))
+    all_append (λ (l : Lease). l.master ≤ length (step ∷ past)) (leases_in past) (option_to_list (new_lease (effect step) past))
+    (all_weaker (λ (l : Lease). l.master ≤ length past) (λ (l : Lease). l.master ≤ length (step ∷ past)) (λ l old. omega (arith, old)) (leases_in past) (leases_born past)) (newest (effect step))
   where
-    newest : (d : told.Deed) → AllByRecursion (λ (l : Lease). l.master ≤ length (step ∷ past)) (option_to_list (new_lease d past))
+    newest : (d : told.Effect) → AllByRecursion (λ (l : Lease). l.master ≤ length (step ∷ past)) (option_to_list (new_lease d past))
     newest (told.Leases c ids lessee token) = (omega arith, tt)
     newest _ = tt
 
-pub leases_rise : (history : List Entry) → LeasesRise (leases_in history)
+pub leases_rise : (history : List AnsweredEvent) → LeasesRise (leases_in history)
 unfolding leases_in
 leases_rise [] = tt
-leases_rise (step ∷ past) = newest (leases_rise past) (deed step)
+leases_rise (step ∷ past) = newest (leases_rise past) (effect step)
   where
-    newest : LeasesRise (leases_in past) → (d : told.Deed) → LeasesRise (leases_in past ++ option_to_list (new_lease d past))
+    newest : LeasesRise (leases_in past) → (d : told.Effect) → LeasesRise (leases_in past ++ option_to_list (new_lease d past))
     newest rise (told.Leases c ids lessee token) =
         in_order_append (λ (x y : Lease). x.master < y.master) (leases_in past) (note_of past c lessee token) rise
         (all_weaker (λ (l : Lease). l.master ≤ length past) (λ (l : Lease). l.master < next_number past) (λ l old. omega (arith, old)) (leases_in past) (leases_born past))
     newest rise _ = subst LeasesRise (sym (append-none (leases_in past))) rise
 
-pub ends_rise : (history : List Entry) → EndsRise (ends_in history)
+pub ends_rise : (history : List AnsweredEvent) → EndsRise (ends_in history)
 unfolding ends_in
 ends_rise [] = tt
-ends_rise (step ∷ past) = newest (ends_rise past) (ended_by (deed step) past)
+ends_rise (step ∷ past) = newest (ends_rise past) (ended_by (effect step) past)
   where
     newest : EndsRise (ends_in past) → (o : Option ℕ) → EndsRise (ends_in past ++ option_to_list (end_with past o))
     newest rise None = subst EndsRise (sym (append-none (ends_in past))) rise

@@ -19,39 +19,41 @@ use Rattle.drm_table.specs.declared.events.Event.{Event}
 use Rattle.drm_table.specs.declared.events.Event.TheVariants.{Open, Ask, Close}
 use Rattle.drm_table.specs.declared.events.Opening.{Opening}
 use Rattle.drm_table.specs.declared.events.Opening.TheVariants.{Primary, Render, Lease as Redeemed}
-use Rattle.drm_history.specs.History.{Entry, next_number}
-use Rattle.drm_authority.specs.Deeds as told
-use Rattle.drm_authority.specs.Deeds.{deed}
-use Rattle.drm_authority.specs.Standing.{master_in}
+use Rattle.drm_history.specs.History.{AnsweredEvent, next_number}
+use Rattle.drm_authority.specs.Effects as told
+use Rattle.drm_authority.specs.Effects.{effect}
+use Rattle.drm_authority.specs.MasterState.{master_in}
 use Rattle.drm_authority.specs.Lessees.{lessor_in, ended_by, ends, has_ended, is_plane_of, is_controlled, is_lent, granted}
 use Rattle.drm_authority.specs.Shown.{is_universal_in}
 use Rattle.drm_authority.proofs.Falls.{UpTo, none_up, master_up, lessor_still}
-use Rattle.drm_rights.specs.Deeds.{leased_by}
+use Rattle.drm_rights.specs.Effects.{leased_by}
 use Rattle.drm_rights.specs.Steps.{entry_of, history_of}
 use Rattle.drm_rights.specs.Leases.{lease_at, if_older, new_lease, leases_in, ended_at, listed_by, listed_in, lent_in, is_ended_before, had_to_lend, comes_along, lent_by}
 use Rattle.drm_rights.specs.declared.steps.Step.{Step}
 use Rattle.drm_rights.specs.declared.notes.Lease.{Lease}
 use Rattle.drm_rights.proofs.NoteLemmas.{append-none, among-filter}
 use Rattle.drm_rights.proofs.HistoryLemmas.{followed_by-append, next_number-take}
-use Rattle.drm_rights.proofs.LeaseLemmas.{note_of, at-newest, ended_up, ends_none, not_ended, has_ended_at, lessor_told}
+use Rattle.drm_authority.proofs.SeesNothing.{ended_up}
+use Rattle.drm_rights.proofs.LeaseLemmas.{note_of, at-newest, ends_none, not_ended, has_ended_at, lessor_told}
+use Rattle.drm_rights.proofs.HandleLemmas.{and_true}
 
-abbrev is_next : List Entry → ℕ → Bool
+abbrev is_next : List AnsweredEvent → ℕ → Bool
 is_next past m = m == next_number past
 
 -- ---- one more step
 
-still_number : (past : List Entry) (m : ℕ) → m ≤ length past → is_next past m ≡ false
+still_number : (past : List AnsweredEvent) (m : ℕ) → m ≤ length past → is_next past m ≡ false
 still_number past m old = less-differ m (next_number past) (omega (arith, old))
 
-lent_still : (t : Topology) (step : Entry) (past : List Entry) (m x : ℕ) → m ≤ length past → lent_in t (step ∷ past) m x ≡ lent_in t past m x
+lent_still : (t : Topology) (step : AnsweredEvent) (past : List AnsweredEvent) (m x : ℕ) → m ≤ length past → lent_in t (step ∷ past) m x ≡ lent_in t past m x
 unfolding lent_in
-lent_still t step past m x old = ap (λ b. cond b (is_lent t (deed step) past x (λ n. granted t past n x)) (lent_in t past m x)) (still_number past m old)
+lent_still t step past m x old = ap (λ b. cond b (is_lent t (effect step) past x (λ n. granted t past n x)) (lent_in t past m x)) (still_number past m old)
 
-listed_still : (step : Entry) (past : List Entry) (m : ℕ) → m ≤ length past → listed_in (step ∷ past) m ≡ listed_in past m
+listed_still : (step : AnsweredEvent) (past : List AnsweredEvent) (m : ℕ) → m ≤ length past → listed_in (step ∷ past) m ≡ listed_in past m
 unfolding listed_in
-listed_still step past m old = ap (λ b. cond b (listed_by (deed step)) (listed_in past m)) (still_number past m old)
+listed_still step past m old = ap (λ b. cond b (listed_by (effect step)) (listed_in past m)) (still_number past m old)
 
-ended_at_up : (past : List Entry) (m : ℕ) → UpTo (length past) (ended_at past m)
+ended_at_up : (past : List AnsweredEvent) (m : ℕ) → UpTo (length past) (ended_at past m)
 unfolding ended_at
 ended_at_up [] m k e = none_up 0 k e
 ended_at_up (step ∷ past) m k e = by (ended_at past m) (ends step past m) (ended_at_up past m) e
@@ -62,7 +64,7 @@ ended_at_up (step ∷ past) m k e = by (ended_at past m) (ends step past m) (end
     by (Some n) b up is = let old = up k is in omega (arith, old)
 
 -- a step that comes no earlier than the next says nothing of what ended before it
-before_still : (step : Entry) (past : List Entry) (k m : ℕ) → m ≤ next_number past → is_ended_before (step ∷ past) k m ≡ is_ended_before past k m
+before_still : (step : AnsweredEvent) (past : List AnsweredEvent) (k m : ℕ) → m ≤ next_number past → is_ended_before (step ∷ past) k m ≡ is_ended_before past k m
 unfolding ended_at
 before_still step past k m early = by (ended_at past k) (ends step past k)
   where
@@ -75,7 +77,7 @@ before_still step past k m early = by (ended_at past k) (ends step past k)
     by None false = refl
 
 -- what ended before the next step has ended
-before_next : (past : List Entry) (k : ℕ) → is_ended_before past k (next_number past) ≡ has_ended past k
+before_next : (past : List AnsweredEvent) (k : ℕ) → is_ended_before past k (next_number past) ≡ has_ended past k
 before_next past k = by (ended_at past k) (ended_at_up past k) ∙ has_ended_at past k
   where
     by : (o : Option ℕ) → UpTo (length past) o → option_map_or (λ ended. nat_lt ended (next_number past)) o false ≡ is_some o
@@ -89,28 +91,24 @@ and_not true true h = refl
 and_not true false h = refl
 and_not false l h = refl
 
-pub all_of : (b : Bool) → b ≡ (b && true)
-all_of true = refl
-all_of false = refl
-
-pub granted_was_lent : (t : Topology) (past : List Entry) (m x : ℕ) → granted t past m x ≡ (lent_in t past m x && not (has_ended past m))
+pub granted_was_lent : (t : Topology) (past : List AnsweredEvent) (m x : ℕ) → granted t past m x ≡ (lent_in t past m x && not (has_ended past m))
 unfolding granted lent_in has_ended ends
 granted_was_lent t [] m x = refl
 granted_was_lent t (step ∷ past) m x =
     (elim (is_next past m) as (λ b. is_next past m ≡ b →
-    cond b (is_lent t (deed step) past x (λ n. granted t past n x)) (not (ends step past m) && granted t past m x)
-    ≡ (cond b (is_lent t (deed step) past x (λ n. granted t past n x)) (lent_in t past m x) && not (ends step past m || has_ended past m))) [
+    cond b (is_lent t (effect step) past x (λ n. granted t past n x)) (not (ends step past m) && granted t past m x)
+    ≡ (cond b (is_lent t (effect step) past x (λ n. granted t past n x)) (lent_in t past m x) && not (ends step past m || has_ended past m))) [
       | true ↦ λ e. now (eqb-true m (next_number past) e)
       | false ↦ λ e. ap (λ g. not (ends step past m) && g) (granted_was_lent t past m x) ∙ and_not (ends step past m) (lent_in t past m x) (has_ended past m)
     ]) refl
   where
-    now : m ≡ next_number past → is_lent t (deed step) past x (λ n. granted t past n x) ≡ (is_lent t (deed step) past x (λ n. granted t past n x) && not (ends step past m || has_ended past m))
+    now : m ≡ next_number past → is_lent t (effect step) past x (λ n. granted t past n x) ≡ (is_lent t (effect step) past x (λ n. granted t past n x) && not (ends step past m || has_ended past m))
     now same =
         let late : length past < m = omega (arith, same) in
-        let none = ends_none past (ended_by (deed step) past) m (ended_up past (deed step)) late in
+        let none = ends_none past (ended_by (effect step) past) m (ended_up (effect step) past) late in
         let never = not_ended past m late in
-        all_of (is_lent t (deed step) past x (λ n. granted t past n x))
-        ∙ (λ i. is_lent t (deed step) past x (λ n. granted t past n x) && not (sym none i || sym never i))
+        and_true (is_lent t (effect step) past x (λ n. granted t past n x))
+        ∙ (λ i. is_lent t (effect step) past x (λ n. granted t past n x) && not (sym none i || sym never i))
 
 pub none_of : (b : Bool) → false ≡ (b && false)
 none_of true = refl
@@ -119,19 +117,19 @@ none_of false = refl
 -- ---- a lease lends what its note says
 
 -- a lease that is noted is of a step that was made, and its lessor is older
-record Fits (past : List Entry) (m : ℕ) (l : Lease) : Type 0 where
+record Fits (past : List AnsweredEvent) (m : ℕ) (l : Lease) : Type 0 where
   born : m ≤ length past
   lessor : (k : ℕ) → l.lessor ≡ Some k → k < m
 
-fits_still : (step : Entry) (past : List Entry) (m : ℕ) (l : Lease) → Fits past m l → Fits (step ∷ past) m l
+fits_still : (step : AnsweredEvent) (past : List AnsweredEvent) (m : ℕ) (l : Lease) → Fits past m l → Fits (step ∷ past) m l
 fits_still step past m l f = let born = f.born in record { born = omega (arith, born); lessor = f.lessor }
 
-lease_fits : (past : List Entry) (m : ℕ) (l : Lease) → lease_at (leases_in past) m ≡ Some l → Fits past m l
+lease_fits : (past : List AnsweredEvent) (m : ℕ) (l : Lease) → lease_at (leases_in past) m ≡ Some l → Fits past m l
 unfolding leases_in
 lease_fits [] m l e = absurd (let no : None ≡ Some l = e in cc)
-lease_fits (step ∷ past) m l e = by (deed step) (λ k. fits_still step past m l (lease_fits past m l k)) e
+lease_fits (step ∷ past) m l e = by (effect step) (λ k. fits_still step past m l (lease_fits past m l k)) e
   where
-    by : (d : told.Deed) → (lease_at (leases_in past) m ≡ Some l → Fits (step ∷ past) m l) → lease_at (leases_in past ++ option_to_list (new_lease d past)) m ≡ Some l → Fits (step ∷ past) m l
+    by : (d : told.Effect) → (lease_at (leases_in past) m ≡ Some l → Fits (step ∷ past) m l) → lease_at (leases_in past ++ option_to_list (new_lease d past)) m ≡ Some l → Fits (step ∷ past) m l
     by (told.Leases c ids lessee token) k is = of (is_next past m) refl (sym (at-newest past m c lessee token) ∙ is)
       where
         of : (b : Bool) → is_next past m ≡ b → cond b (Some (note_of past c lessee token)) (lease_at (leases_in past) m) ≡ Some l → Fits (step ∷ past) m l
@@ -145,11 +143,11 @@ lease_fits (step ∷ past) m l e = by (deed step) (λ k. fits_still step past m 
         of false same found = k found
     by _ k is = k (ap (λ l. lease_at l m) (sym (append-none (leases_in past))) ∙ is)
 
-lessor_up : (past : List Entry) (m : ℕ) (l : Lease) → Fits past m l → UpTo (length past) l.lessor
+lessor_up : (past : List AnsweredEvent) (m : ℕ) (l : Lease) → Fits past m l → UpTo (length past) l.lessor
 lessor_up past m l f k e = let less = f.lessor k e in let born = f.born in omega (arith, less, born)
 
 -- a noted lease tells the lessor
-lease_lessor : (past : List Entry) (m : ℕ) (l : Lease) → lease_at (leases_in past) m ≡ Some l → l.lessor ≡ lessor_in past m
+lease_lessor : (past : List AnsweredEvent) (m : ℕ) (l : Lease) → lease_at (leases_in past) m ≡ Some l → l.lessor ≡ lessor_in past m
 lease_lessor past m l e =
     of_lessor l.lessor (lease_fits past m l e).lessor ∙ ap (option_and_then (λ (l : Lease). if_older m l.lessor)) (sym e) ∙ lessor_told past m
   where
@@ -158,19 +156,19 @@ lease_lessor past m l e =
     of_lessor (Some k) less = let lt = less k refl in let is : nat_lt k m ≡ true = grind (arith, nat_tests) in ap (λ b. cond b (Some k) None) (sym is)
 
 -- what the lessor had to lend, one step later
-had_still : (t : Topology) (step : Entry) (past : List Entry) (m x : ℕ) (o : Option ℕ) → m ≤ next_number past → UpTo (length past) o → had_to_lend t (step ∷ past) m x o ≡ had_to_lend t past m x o
+had_still : (t : Topology) (step : AnsweredEvent) (past : List AnsweredEvent) (m x : ℕ) (o : Option ℕ) → m ≤ next_number past → UpTo (length past) o → had_to_lend t (step ∷ past) m x o ≡ had_to_lend t past m x o
 had_still t step past m x None early up = refl
 had_still t step past m x (Some k) early up =
     let old = up k refl in
     (λ i. not (is_some (lessor_still step past k old i)) || (lent_still t step past k x old i && not (before_still step past k m early i)))
 
 -- and as its lease was made
-had_now : (t : Topology) (past : List Entry) (x : ℕ) (o : Option ℕ) → is_controlled past o (λ n. granted t past n x) ≡ had_to_lend t past (next_number past) x o
+had_now : (t : Topology) (past : List AnsweredEvent) (x : ℕ) (o : Option ℕ) → is_controlled past o (λ n. granted t past n x) ≡ had_to_lend t past (next_number past) x o
 had_now t past x None = refl
 had_now t past x (Some k) =
     ap (λ g. not (is_some (lessor_in past k)) || g) (granted_was_lent t past k x ∙ ap (λ b. lent_in t past k x && not b) (sym (before_next past k)))
 
-lent_by_still : (t : Topology) (step : Entry) (past : List Entry) (m x : ℕ) (o : Option Lease) → ((l : Lease) → o ≡ Some l → Fits past m l) → lent_by t past m x o ≡ lent_by t (step ∷ past) m x o
+lent_by_still : (t : Topology) (step : AnsweredEvent) (past : List AnsweredEvent) (m x : ℕ) (o : Option Lease) → ((l : Lease) → o ≡ Some l → Fits past m l) → lent_by t past m x o ≡ lent_by t (step ∷ past) m x o
 lent_by_still t step past m x None fits = refl
 lent_by_still t step past m x (Some l) fits =
     let f = fits l refl in
@@ -180,14 +178,14 @@ lent_by_still t step past m x (Some l) fits =
     (λ i. is_among (listed i) x || (comes_along t l.universal (listed i) x && had i))
 
 -- no lease is noted of the next step
-none_yet : (past : List Entry) (m : ℕ) → m ≡ next_number past → lease_at (leases_in past) m ≡ None
+none_yet : (past : List AnsweredEvent) (m : ℕ) → m ≡ next_number past → lease_at (leases_in past) m ≡ None
 none_yet past m next = (elim (lease_at (leases_in past) m) as (λ o. lease_at (leases_in past) m ≡ o → o ≡ None) [
   | None ↦ λ e. refl
   | Some l ↦ λ e. let born = (lease_fits past m l e).born in absurd (omega (arith, born, next))
 ]) refl
 
 -- the lease that the step makes
-lent_now : (t : Topology) (step : Entry) (past : List Entry) (c x : ℕ) (ids listed : List ℕ) (lessee token m : ℕ) → m ≡ next_number past → listed ≡ ids →
+lent_now : (t : Topology) (step : AnsweredEvent) (past : List AnsweredEvent) (c x : ℕ) (ids listed : List ℕ) (lessee token m : ℕ) → m ≡ next_number past → listed ≡ ids →
     is_lent t (told.Leases c ids lessee token) past x (λ n. granted t past n x)
     ≡ (is_among listed x || (comes_along t (is_universal_in past c) listed x && had_to_lend t (step ∷ past) m x (master_in past c)))
 lent_now t step past c x ids listed lessee token m number same =
@@ -195,11 +193,11 @@ lent_now t step past c x ids listed lessee token m number same =
     (had_now t past x (master_in past c) ∙ sym (had_still t step past (next_number past) x (master_in past c) (omega arith) (master_up past c)) ∙ ap (λ n. had_to_lend t (step ∷ past) n x (master_in past c)) (sym number))
     ∙ (λ i. is_among (sym same i) x || (comes_along t (is_universal_in past c) (sym same i) x && had_to_lend t (step ∷ past) m x (master_in past c)))
 
-listed_now : (step : Entry) (past : List Entry) (m : ℕ) (d : told.Deed) → is_next past m ≡ true → deed step ≡ d → listed_in (step ∷ past) m ≡ listed_by d
+listed_now : (step : AnsweredEvent) (past : List AnsweredEvent) (m : ℕ) (d : told.Effect) → is_next past m ≡ true → effect step ≡ d → listed_in (step ∷ past) m ≡ listed_by d
 unfolding listed_in
 listed_now step past m d next is = (λ i. cond (next i) (listed_by (is i)) (listed_in past m))
 
-lent_with : (t : Topology) (step : Entry) (past : List Entry) (m x : ℕ) (d : told.Deed) → deed step ≡ d → lent_in t past m x ≡ lent_by t past m x (lease_at (leases_in past) m) →
+lent_with : (t : Topology) (step : AnsweredEvent) (past : List AnsweredEvent) (m x : ℕ) (d : told.Effect) → effect step ≡ d → lent_in t past m x ≡ lent_by t past m x (lease_at (leases_in past) m) →
     cond (is_next past m) (is_lent t d past x (λ n. granted t past n x)) (lent_in t past m x) ≡ lent_by t (step ∷ past) m x (lease_at (leases_in past ++ option_to_list (new_lease d past)) m)
 lent_with t step past m x (told.Leases c ids lessee token) is k = of (is_next past m) refl ∙ ap (lent_by t (step ∷ past) m x) (sym (at-newest past m c lessee token))
   where
@@ -212,13 +210,13 @@ lent_with t step past m x _ is k = other (is_next past m) refl ∙ ap (λ l. len
     other true next = ap (lent_by t (step ∷ past) m x) (sym (none_yet past m (eqb-true m (next_number past) next)))
     other false next = k ∙ lent_by_still t step past m x (lease_at (leases_in past) m) (λ l e. lease_fits past m l e)
 
-pub lent_told : (t : Topology) (past : List Entry) (m x : ℕ) → lent_in t past m x ≡ lent_by t past m x (lease_at (leases_in past) m)
+pub lent_told : (t : Topology) (past : List AnsweredEvent) (m x : ℕ) → lent_in t past m x ≡ lent_by t past m x (lease_at (leases_in past) m)
 unfolding leases_in lent_in
 lent_told t [] m x = refl
-lent_told t (step ∷ past) m x = lent_with t step past m x (deed step) refl (lent_told t past m x)
+lent_told t (step ∷ past) m x = lent_with t step past m x (effect step) refl (lent_told t past m x)
 
 -- what is noted of a lease, by what was found of it: whether it lists the mode object, and whether that comes along
-pub lends_by : (t : Topology) (past : List Entry) (m x : ℕ) (l : Lease) (listed : List ℕ) (has along : Bool) (lessor : Option ℕ) →
+pub lends_by : (t : Topology) (past : List AnsweredEvent) (m x : ℕ) (l : Lease) (listed : List ℕ) (has along : Bool) (lessor : Option ℕ) →
     lease_at (leases_in past) m ≡ Some l → listed ≡ listed_in past m → has ≡ is_among listed x → along ≡ comes_along t l.universal listed x → lessor ≡ lessor_in past m →
     (has || (along && had_to_lend t past m x lessor)) ≡ lent_in t past m x
 lends_by t past m x l listed has along lessor e its_list its_place its_plane its_lessor =
@@ -227,12 +225,12 @@ lends_by t past m x l listed has along lessor e its_list its_place its_plane its
 
 -- ---- all that a lease lends
 
-none_listed : (past : List Entry) (m : ℕ) → lease_at (leases_in past) m ≡ None → listed_in past m ≡ []
+none_listed : (past : List AnsweredEvent) (m : ℕ) → lease_at (leases_in past) m ≡ None → listed_in past m ≡ []
 unfolding leases_in listed_in
 none_listed [] m e = refl
-none_listed (step ∷ past) m e = by (deed step) (none_listed past m) e
+none_listed (step ∷ past) m e = by (effect step) (none_listed past m) e
   where
-    by : (d : told.Deed) → (lease_at (leases_in past) m ≡ None → listed_in past m ≡ []) → lease_at (leases_in past ++ option_to_list (new_lease d past)) m ≡ None → cond (is_next past m) (listed_by d) (listed_in past m) ≡ []
+    by : (d : told.Effect) → (lease_at (leases_in past) m ≡ None → listed_in past m ≡ []) → lease_at (leases_in past ++ option_to_list (new_lease d past)) m ≡ None → cond (is_next past m) (listed_by d) (listed_in past m) ≡ []
     by (told.Leases c ids lessee token) k is = of (is_next past m) (sym (at-newest past m c lessee token) ∙ is)
       where
         of : (b : Bool) → cond b (Some (note_of past c lessee token)) (lease_at (leases_in past) m) ≡ None → cond b ids (listed_in past m) ≡ []
@@ -256,7 +254,7 @@ among-planes : (t : Topology) (ids : List ℕ) (x : ℕ) → is_among (planes_of
 among-planes t ids x = among-filter (is_plane_of t ids) (plane_ids t) x ∙ plane_if t ids x
 
 -- it lists what it lends, or that is a plane of a CRTC that it lists
-pub all_lent : (t : Topology) (past : List Entry) (m x : ℕ) → (is_among (listed_in past m) x || (is_among (planes_of t (listed_in past m)) x && lent_in t past m x)) ≡ lent_in t past m x
+pub all_lent : (t : Topology) (past : List AnsweredEvent) (m x : ℕ) → (is_among (listed_in past m) x || (is_among (planes_of t (listed_in past m)) x && lent_in t past m x)) ≡ lent_in t past m x
 all_lent t past m x = ap (λ b. is_among (listed_in past m) x || (b && lent_in t past m x)) (among-planes t (listed_in past m) x) ∙ of (lease_at (leases_in past) m) refl
   where
     parts : (a u p h : Bool) → (a || (p && (a || ((not u && p) && h)))) ≡ (a || ((not u && p) && h))
@@ -280,12 +278,12 @@ all_lent t past m x = ap (λ b. is_among (listed_in past m) x || (b && lent_in t
 
 -- ---- what a step listed
 
-listed_by_opening : (opening : Opening) → listed_by (told.opening_deed opening) ≡ []
+listed_by_opening : (opening : Opening) → listed_by (told.opening_effect opening) ≡ []
 listed_by_opening (Primary root universal) = refl
 listed_by_opening Render = refl
 listed_by_opening (Redeemed token root universal) = refl
 
-listed_by_call : (c : ℕ) (call : Call) (answer : Answer) → listed_by (told.call_deed c call answer) ≡ leased_by (Ask c call) answer
+listed_by_call : (c : ℕ) (call : Call) (answer : Answer) → listed_by (told.call_effect c call answer) ≡ leased_by (Ask c call) answer
 listed_by_call c (CreateLease ids) (LeaseIs lessee token) = refl
 listed_by_call c (CreateLease ids) _ = refl
 listed_by_call c GetMagic (Number magic) = refl
@@ -302,15 +300,15 @@ listed_by_call c (RevokeLease lessee) Done = refl
 listed_by_call c (RevokeLease lessee) _ = refl
 listed_by_call c _ answer = refl
 
-listed_by_event : (event : Event) (answer : Answer) → listed_by (told.deed_by event answer) ≡ leased_by event answer
+listed_by_event : (event : Event) (answer : Answer) → listed_by (told.effect_by event answer) ≡ leased_by event answer
 listed_by_event (Open opening) (Opened client) = listed_by_opening opening
 listed_by_event (Open opening) _ = refl
 listed_by_event (Ask c call) answer = listed_by_call c call answer
 listed_by_event (Close c) Closed = refl
 listed_by_event (Close c) _ = refl
 
-listed_of_step : (step : Step) → listed_by (deed (entry_of step)) ≡ leased_by step.event step.answer
-unfolding deed
+listed_of_step : (step : Step) → listed_by (effect (entry_of step)) ≡ leased_by step.event step.answer
+unfolding effect
 listed_of_step step = listed_by_event step.event step.answer
 
 listed_take : (steps : List Step) (n m : ℕ) (step : Step) → n ≤ length steps → 0 < m → m ≤ n → step ≡ get_or steps (m - 1) step → listed_in (history_of (take n steps)) m ≡ leased_by step.event step.answer
@@ -324,7 +322,7 @@ listed_take steps (suc n) m step within some low is =
     let number : next_number past ≡ n + 1 = next_number-take steps n (omega (arith, before)) in
     let all : history_of (take (n + 1) steps) ≡ entry_of newest ∷ past = ap history_of (take_more steps n step before) ∙ followed_by-append [] (take n steps) newest in
     ap (λ k. listed_in (history_of (take k steps)) m) next ∙ ap (λ h. listed_in h m) all
-    ∙ (elim (m == next_number past) as (λ b. (m == next_number past) ≡ b → cond b (listed_by (deed (entry_of newest))) (listed_in past m) ≡ leased_by step.event step.answer) [
+    ∙ (elim (m == next_number past) as (λ b. (m == next_number past) ≡ b → cond b (listed_by (effect (entry_of newest))) (listed_in past m) ≡ leased_by step.event step.answer) [
       | true ↦ λ e.
           let same : m - 1 ≡ n = (let same = eqb-true m (next_number past) e in omega (arith, same, number)) in
           let it : newest ≡ step = ap (λ k. get_or steps k step) (sym same) ∙ sym is in
@@ -337,11 +335,11 @@ pub listed_at : (steps : List Step) (m : ℕ) (step : Step) → 0 < m → m ≤ 
 listed_at steps m step some within is = ap (λ xs. listed_in (history_of xs) m) (sym (take-length steps)) ∙ listed_take steps (length steps) m step (omega arith) some within is
 
 -- no step has another number
-pub listed_none : (history : List Entry) (m : ℕ) → (m ≡ 0) ⊎ (length history < m) → listed_in history m ≡ []
+pub listed_none : (history : List AnsweredEvent) (m : ℕ) → (m ≡ 0) ⊎ (length history < m) → listed_in history m ≡ []
 unfolding listed_in
 listed_none [] m out = refl
 listed_none (step ∷ past) m out =
-    ap (λ b. cond b (listed_by (deed step)) (listed_in past m)) (differ out) ∙ listed_none past m (before out)
+    ap (λ b. cond b (listed_by (effect step)) (listed_in past m)) (differ out) ∙ listed_none past m (before out)
   where
     differ : (m ≡ 0) ⊎ (length (step ∷ past) < m) → (m == next_number past) ≡ false
     differ (inl none) = less-differ m (next_number past) (omega (arith, none))

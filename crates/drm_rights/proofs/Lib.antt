@@ -7,6 +7,6 @@ mod RisingLemmas
 mod LendingLemmas
 mod LedgerLemmas
 mod HandleLemmas
-mod RedeemerLemmas
+mod LeaseClientLemmas
 mod TrailLemmas
 mod TouchLemmas

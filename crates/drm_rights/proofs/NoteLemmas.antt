@@ -29,10 +29,6 @@ pub append-none : {X : Type 0} (notes : List X) → notes ++ [] ≡ notes
 append-none [] = refl
 append-none (x ∷ xs) = ap (λ l. x ∷ l) (append-none xs)
 
-pub or_first : (b : Bool) → (b || false) ≡ b
-or_first true = refl
-or_first false = refl
-
 -- ---- lists of numbers
 
 pub among-filter : (p : ℕ → Bool) (xs : List ℕ) (n : ℕ) → is_among (filter p xs) n ≡ (is_among xs n && p n)

@@ -9,7 +9,7 @@ use Rattle.drm_table.specs.declared.calls.Call.{Call}
 use Rattle.drm_table.specs.declared.calls.Call.TheVariants.{GemClose, DestroyDumb}
 use Rattle.drm_table.specs.declared.events.Event.{Event}
 use Rattle.drm_table.specs.declared.events.Event.TheVariants.{Open, Ask, Close}
-use Rattle.drm_history.specs.History.{Entry}
+use Rattle.drm_history.specs.History.{AnsweredEvent}
 use Rattle.drm_history.specs.Steps.{Source, Giving, given, given_by, takes, taken_by}
 use Rattle.drm_rights.specs.Answers.{closed_by}
 use Rattle.drm_rights.specs.Steps.{entry_of, followed_by, history_of}
@@ -21,6 +21,7 @@ use Rattle.drm_lists.proofs.Orders.{in_order_append}
 use Rattle.drm_rights.proofs.HistoryLemmas.{followed_by-append}
 use Rattle.drm_rights.proofs.NoteLemmas.{append-none, find-newest}
 use Rattle.drm_rights.proofs.TrailLemmas.{found_before, lt_of, no_steps}
+use Rattle.drm_rights.proofs.HandleLemmas.{and_true}
 
 pub touch_before : (notes : List Touch) (moment c h : ℕ) → IfSome (touch_in notes moment c h) (λ (t : Touch). t.past < moment)
 touch_before notes moment c h = found_before (λ (t : Touch). t.past) moment (concerns c h) (reverse notes)
@@ -41,10 +42,6 @@ takes_untouched past client c h (DestroyDumb handle) Done e = e
 takes_untouched past client c h (DestroyDumb handle) _ e = refl
 takes_untouched past client c h _ answer e = refl
 
-and_true : (b : Bool) → b ≡ (b && true)
-and_true true = refl
-and_true false = refl
-
 closing_untouched : (client c h : ℕ) (answer : Answer) → ((client == c) && true) ≡ false → taken_by (Close client) answer c h ≡ false
 closing_untouched client c h Closed e = and_true (client == c) ∙ e
 closing_untouched client c h _ e = refl
@@ -54,7 +51,7 @@ untouched_by past c h (Open opening) answer e = (refl, refl)
 untouched_by past c h (Ask client call) answer e = (source_untouched past client c h (given_by (Ask client call) answer) (closed_by call) e, takes_untouched past client c h call answer e)
 untouched_by past c h (Close client) answer e = (refl, closing_untouched client c h answer e)
 
-untouched : (past c h : ℕ) (step : Entry) → is_touched c h (touch_in_step past step) ≡ false → (source_for c h (given step) ≡ None) × (takes step c h ≡ false)
+untouched : (past c h : ℕ) (step : AnsweredEvent) → is_touched c h (touch_in_step past step) ≡ false → (source_for c h (given step) ≡ None) × (takes step c h ≡ false)
 unfolding given takes
 untouched past c h step e = untouched_by past c h step.event step.answer e
 

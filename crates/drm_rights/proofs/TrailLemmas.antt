@@ -119,8 +119,8 @@ module _ (steps : List Step) (step : Step) where
       told_if moment key true past = told_later moment key (is_key (key_of p.key) key) refl (lt_of (length steps) moment past)
       told_if moment key false past = told_still moment key ∙ sym (earlier moment key (grind (arith, nat_tests)))
 
-      noted_one : AreNoted longer (notes ++ note ∷ [])
-      noted_one = record {
+      journaled_one : AreNoted longer (notes ++ note ∷ [])
+      journaled_one = record {
         rise = in_order_append (λ (x y : Publication). x.past < y.past) notes note noted.rise noted.among;
         among = all_append (λ (q : Publication). q.past < length longer) notes (note ∷ []) (all_weaker (λ (q : Publication). q.past < length steps) (λ (q : Publication). q.past < length longer) (λ q lt. omega (arith, lt, one_longer)) notes noted.among) (omega (arith, one_longer), tt);
         within = λ moment key. subst (λ (o : Option Publication). IfSome o (λ q. q.past < length longer)) (sym (find-newest (is_before moment key) notes note)) (within_if moment key (is_before moment key note));
@@ -130,7 +130,7 @@ module _ (steps : List Step) (step : Step) where
     -- the notes with that of the step, if it published
     pub noted_more : (p : Option PublishedHandle) → publishings_of p ≡ published (entry_of step) → AreNoted longer (notes ++ option_to_list (publications_of p (length steps)))
     noted_more None is = subst (AreNoted longer) (sym (append-none notes)) (noted_none (sym is))
-    noted_more (Some p) is = noted_one p (sym is)
+    noted_more (Some p) is = journaled_one p (sym is)
 
 pub noted_along : (steps same : List Step) (notes also : List Publication) → same ≡ steps → also ≡ notes → AreNoted steps notes → AreNoted same also
 noted_along steps same notes also is are noted = subst (λ (x : List Step × List Publication). AreNoted x.0 x.1) (λ i. (sym is i, sym are i)) noted

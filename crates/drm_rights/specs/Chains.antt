@@ -1,7 +1,7 @@
 -- The links that code finds, and that they are a chain.
 use Rattle.std.specs.Prelude.{◌≡◌, ℕ, ◌<◌, List, [], ◌∷◌, map}
-use Rattle.drm_model.specs.Run.{History}
-use Rattle.drm_history.specs.History.{Entry, next_number}
+use Rattle.drm_model.specs.Run.{DeviceValue}
+use Rattle.drm_history.specs.History.{AnsweredEvent, next_number}
 use Rattle.drm_history.specs.History as told
 use Rattle.drm_history.specs.Steps.{Creation, Transfer}
 use Rattle.drm_history.specs.Holds.{Has, WasGiven, WasPublished}
@@ -19,23 +19,23 @@ abbrev pub links_of : List Link → List chains.Link
 links_of links = map link_of links
 
 -- the links are a chain that leads to the client's handle
-abbrev pub LeadsTo : List Entry → ℕ → ℕ → ℕ → List chains.Link → Type 0
+abbrev pub LeadsTo : List AnsweredEvent → ℕ → ℕ → ℕ → List chains.Link → Type 0
 LeadsTo history c h o [] = ⊥
 LeadsTo history c h o (link ∷ links) = (link.client ≡ c) × (link.handle ≡ h) × IsChain history o (link ∷ links)
 
 -- The links are a chain, and each tells rightly where its object comes from: the first of all, which stands last, that its step made
 -- it; any other under which key, and by the step of which number, it was published.
-unfoldable pub IsExplained : List Entry → ℕ → List Link → Type 0
+unfoldable pub IsExplained : List AnsweredEvent → ℕ → List Link → Type 0
 IsExplained history o [] = ⊥
-IsExplained history o (link ∷ []) = (past : List Entry) × WasGiven history link.client link.handle Creation past × (link.step ≡ next_number past) × (link.step ≡ o) × (link.origin ≡ Made)
+IsExplained history o (link ∷ []) = (past : List AnsweredEvent) × WasGiven history link.client link.handle Creation past × (link.step ≡ next_number past) × (link.step ≡ o) × (link.origin ≡ Made)
 IsExplained history o (link ∷ before ∷ links) =
-    (past older : List Entry) × (key : Key) × WasGiven history link.client link.handle (Transfer (key_of key)) past × (link.step ≡ next_number past)
+    (past older : List AnsweredEvent) × (key : Key) × WasGiven history link.client link.handle (Transfer (key_of key)) past × (link.step ≡ next_number past)
     × WasPublished past (key_of key) before.client before.handle older × (before.step < link.step) × (link.origin ≡ Published key (next_number older)) × IsExplained older o (before ∷ links)
 
 -- the history is that of a device
-abbrev pub IsOfDevice : List Entry → Type 0
-IsOfDevice history = (h : History) × (history ≡ told.history_of h)
+abbrev pub IsOfDevice : List AnsweredEvent → Type 0
+IsOfDevice history = (h : DeviceValue) × (history ≡ told.history_of h)
 
 -- the client has the handle of no object
-abbrev pub HasNone : List Entry → ℕ → ℕ → Type 0
+abbrev pub HasNone : List AnsweredEvent → ℕ → ℕ → Type 0
 HasNone history c h = (o : ℕ) → Has history c h o → ⊥

@@ -5,10 +5,10 @@ use Rattle.drm_lists.specs.Numbers.{is_among}
 use Rattle.drm_lists.specs.Chains.{is_under}
 use Rattle.drm_lists.specs.Orders.{InOrder}
 use Rattle.drm_modes.specs.Topology.{Topology}
-use Rattle.drm_history.specs.History.{Entry, next_number}
-use Rattle.drm_authority.specs.Deeds as told
-use Rattle.drm_authority.specs.Deeds.{deed}
-use Rattle.drm_authority.specs.Standing.{master_in, own_master_in}
+use Rattle.drm_history.specs.History.{AnsweredEvent, next_number}
+use Rattle.drm_authority.specs.Effects as told
+use Rattle.drm_authority.specs.Effects.{effect}
+use Rattle.drm_authority.specs.MasterState.{master_in, caller_master_in}
 use Rattle.drm_authority.specs.Lessees.{top_in, lessor_in, ended_by, ends, is_plane_of, is_lent, granted}
 use Rattle.drm_authority.specs.Shown.{is_universal_in}
 use Rattle.drm_rights.specs.declared.notes.Lease.{Lease}
@@ -51,51 +51,51 @@ is_ended_by notes m e = nat_lt m e.step && is_under (lessor_noted notes) e.maste
 -- ---- the notes of a history
 
 -- the lease that a step makes
-abbrev pub new_lease : told.Deed → List Entry → Option Lease
+abbrev pub new_lease : told.Effect → List AnsweredEvent → Option Lease
 new_lease (told.Leases c ids lessee token) past =
-    Some (record { master = next_number past; client = c; lessor = master_in past c; owner = top_in past (own_master_in past c); id = lessee; token = token; universal = is_universal_in past c })
+    Some (record { master = next_number past; client = c; lessor = master_in past c; owner = top_in past (caller_master_in past c); id = lessee; token = token; universal = is_universal_in past c })
 new_lease _ past = None
 
 -- all leases, the oldest first
-unfoldable pub leases_in : List Entry → List Lease
+unfoldable pub leases_in : List AnsweredEvent → List Lease
 leases_in [] = []
-leases_in (step ∷ past) = leases_in past ++ option_to_list (new_lease (deed step) past)
+leases_in (step ∷ past) = leases_in past ++ option_to_list (new_lease (effect step) past)
 
-abbrev pub end_with : List Entry → Option ℕ → Option End
+abbrev pub end_with : List AnsweredEvent → Option ℕ → Option End
 end_with past master = option_map (λ m. record { step = next_number past; master = m }) master
 
 -- the masters that steps ended, the oldest step first
-unfoldable pub ends_in : List Entry → List End
+unfoldable pub ends_in : List AnsweredEvent → List End
 ends_in [] = []
-ends_in (step ∷ past) = ends_in past ++ option_to_list (end_with past (ended_by (deed step) past))
+ends_in (step ∷ past) = ends_in past ++ option_to_list (end_with past (ended_by (effect step) past))
 
 -- ---- what a history says
 
 -- the first step that ended the master
-unfoldable pub ended_at : List Entry → ℕ → Option ℕ
+unfoldable pub ended_at : List AnsweredEvent → ℕ → Option ℕ
 ended_at [] m = None
 ended_at (step ∷ past) m = option_or (ended_at past m) (if ends step past m then Some (next_number past) else None)
 
-abbrev pub listed_by : told.Deed → List ℕ
+abbrev pub listed_by : told.Effect → List ℕ
 listed_by (told.Leases c ids lessee token) = ids
 listed_by _ = []
 
 -- the mode objects that the step of this number listed for a lease
-unfoldable pub listed_in : List Entry → ℕ → List ℕ
+unfoldable pub listed_in : List AnsweredEvent → ℕ → List ℕ
 listed_in [] m = []
-listed_in (step ∷ past) m = if m == next_number past then listed_by (deed step) else listed_in past m
+listed_in (step ∷ past) m = if m == next_number past then listed_by (effect step) else listed_in past m
 
 -- whether the step of this number lent the mode object
-unfoldable pub lent_in : Topology → List Entry → ℕ → ℕ → Bool
+unfoldable pub lent_in : Topology → List AnsweredEvent → ℕ → ℕ → Bool
 lent_in t [] m x = false
-lent_in t (step ∷ past) m x = if m == next_number past then is_lent t (deed step) past x (λ n. granted t past n x) else lent_in t past m x
+lent_in t (step ∷ past) m x = if m == next_number past then is_lent t (effect step) past x (λ n. granted t past n x) else lent_in t past m x
 
 -- whether a step before this one ended the master
-abbrev pub is_ended_before : List Entry → ℕ → ℕ → Bool
+abbrev pub is_ended_before : List AnsweredEvent → ℕ → ℕ → Bool
 is_ended_before history m step = option_map_or (λ ended. nat_lt ended step) (ended_at history m) false
 
 -- whether the lessor of a lease, made by the step of this number, had the mode object to lend
-abbrev pub had_to_lend : Topology → List Entry → ℕ → ℕ → Option ℕ → Bool
+abbrev pub had_to_lend : Topology → List AnsweredEvent → ℕ → ℕ → Option ℕ → Bool
 had_to_lend t history step x None = false
 had_to_lend t history step x (Some m) = not (is_some (lessor_in history m)) || (lent_in t history m x && not (is_ended_before history m step))
 
@@ -104,6 +104,6 @@ abbrev pub comes_along : Topology → Bool → List ℕ → ℕ → Bool
 comes_along t universal ids x = not universal && is_plane_of t ids x
 
 -- what a lease lends, by what is noted of it
-abbrev pub lent_by : Topology → List Entry → ℕ → ℕ → Option Lease → Bool
+abbrev pub lent_by : Topology → List AnsweredEvent → ℕ → ℕ → Option Lease → Bool
 lent_by t history m x None = false
 lent_by t history m x (Some l) = is_among (listed_in history m) x || (comes_along t l.universal (listed_in history m) x && had_to_lend t history m x l.lessor)

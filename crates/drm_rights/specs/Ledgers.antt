@@ -4,30 +4,30 @@ use Rattle.std.specs.List.{list_any}
 use Rattle.std.specs.Option.{option_map_or, option_or}
 use Rattle.drm_modes.specs.Topology.{Topology}
 use Rattle.drm_model.specs.Rows.{is_option}
-use Rattle.drm_history.specs.History.{Entry, next_number}
-use Rattle.drm_authority.specs.Deeds as told
-use Rattle.drm_authority.specs.Deeds.{deed}
-use Rattle.drm_authority.specs.Standing as standings
-use Rattle.drm_authority.specs.Standing.{owner_in, is_master_in, master_in, own_master_in, lease_in}
+use Rattle.drm_history.specs.History.{AnsweredEvent, next_number}
+use Rattle.drm_authority.specs.Effects as told
+use Rattle.drm_authority.specs.Effects.{effect}
+use Rattle.drm_authority.specs.MasterState as standings
+use Rattle.drm_authority.specs.MasterState.{owner_in, is_master_in, master_in, caller_master_in, lease_in}
 use Rattle.drm_authority.specs.Lessees.{top_in, is_controlled, granted}
 use Rattle.drm_authority.specs.Magics.{magic_in, is_root_in, is_named_in}
 use Rattle.drm_authority.specs.Shown.{is_universal_in}
 use Rattle.drm_rights.specs.Leases.{leases_in, ends_in}
-use Rattle.drm_rights.specs.declared.notes.Standing.{Standing}
+use Rattle.drm_rights.specs.declared.notes.MasterState.{MasterState}
 use Rattle.drm_rights.specs.declared.notes.Lease.{Lease}
 use Rattle.drm_rights.specs.declared.notes.End.{End}
 use Rattle.drm_rights.specs.declared.notes.Magic.{Magic}
 use Rattle.drm_rights.specs.declared.notes.Authentication.{Authentication}
 use Rattle.drm_rights.specs.declared.notes.Capability.{Capability}
 
-abbrev pub standing_of : List Standing → ℕ → Option Standing
-standing_of notes c = find (λ (s : Standing). c == s.client) (reverse notes)
+abbrev pub master_state_of : List MasterState → ℕ → Option MasterState
+master_state_of notes c = find (λ (s : MasterState). c == s.client) (reverse notes)
 
-abbrev pub is_master_noted : List Standing → ℕ → Bool
-is_master_noted notes c = option_map_or (λ (s : Standing). s.is_master) (standing_of notes c) false
+abbrev pub is_master_noted : List MasterState → ℕ → Bool
+is_master_noted notes c = option_map_or (λ (s : MasterState). s.is_master) (master_state_of notes c) false
 
-abbrev pub master_noted : List Standing → ℕ → Option ℕ
-master_noted notes c = option_and_then (λ (s : Standing). s.master) (standing_of notes c)
+abbrev pub master_noted : List MasterState → ℕ → Option ℕ
+master_noted notes c = option_and_then (λ (s : MasterState). s.master) (master_state_of notes c)
 
 abbrev pub magic_of : List Magic → ℕ → ℕ → Option Magic
 magic_of notes master number = find (λ (g : Magic). (g.number == number) && (g.master == master)) (reverse notes)
@@ -48,22 +48,22 @@ abbrev pub is_universal_noted : List Capability → ℕ → Bool
 is_universal_noted notes c = option_map_or (λ (k : Capability). k.universal) (capability_of notes c) false
 
 -- how a client stands to masters from a step on
-abbrev pub noted : ℕ → ℕ → Bool → Option ℕ → Standing
+abbrev pub noted : ℕ → ℕ → Bool → Option ℕ → MasterState
 noted number c is_master master = record { step = number; client = c; is_master = is_master; master = master }
 
-abbrev pub opened : ℕ → Option ℕ → Standing
+abbrev pub opened : ℕ → Option ℕ → MasterState
 opened number None = noted number number true (Some number)
 opened number (Some owner) = noted number number false (Some owner)
 
 -- what a step of this number notes of the client whose standing it changes
-abbrev pub new_standing : told.Deed → ℕ → (ℕ → Option ℕ) → standings.Standing → Option Standing
-new_standing (told.OpensPrimary root universal) number lease s = Some (opened number s.owner)
-new_standing told.OpensRender number lease s = Some (noted number number false None)
-new_standing (told.Redeems token root universal) number lease s = Some (noted number number true (lease token))
-new_standing (told.SetsMaster c) number lease s = if s.is_master c then None else Some (noted number c true (Some number))
-new_standing _ number lease s = None
+abbrev pub new_master_state : told.Effect → ℕ → (ℕ → Option ℕ) → standings.MasterState → Option MasterState
+new_master_state (told.OpensPrimary root universal) number lease s = Some (opened number s.owner)
+new_master_state told.OpensRender number lease s = Some (noted number number false None)
+new_master_state (told.Redeems token root universal) number lease s = Some (noted number number true (lease token))
+new_master_state (told.SetsMaster c) number lease s = if s.is_master c then None else Some (noted number c true (Some number))
+new_master_state _ number lease s = None
 
-abbrev pub new_magic : told.Deed → ℕ → (ℕ → ℕ) → Option Magic
+abbrev pub new_magic : told.Effect → ℕ → (ℕ → ℕ) → Option Magic
 new_magic (told.GetsMagic c answered) number own = Some (record { step = number; master = own c; number = answered; client = c })
 new_magic _ number own = None
 
@@ -71,11 +71,11 @@ abbrev pub authenticated_by : ℕ → ℕ → ℕ → Option ℕ → Option Auth
 authenticated_by number caller magic None = None
 authenticated_by number caller magic (Some c) = Some (record { step = number; client = c; by = caller; magic = magic })
 
-abbrev pub new_authentication : told.Deed → ℕ → (ℕ → ℕ) → (ℕ → ℕ → Option ℕ) → Option Authentication
+abbrev pub new_authentication : told.Effect → ℕ → (ℕ → ℕ) → (ℕ → ℕ → Option ℕ) → Option Authentication
 new_authentication (told.Authenticates caller magic) number own client = authenticated_by number caller magic (client (own caller) magic)
 new_authentication _ number own client = None
 
-abbrev pub new_root : told.Deed → ℕ → Option ℕ
+abbrev pub new_root : told.Effect → ℕ → Option ℕ
 new_root (told.OpensPrimary root universal) number = if root then Some number else None
 new_root (told.Redeems token root universal) number = if root then Some number else None
 new_root _ number = None
@@ -84,7 +84,7 @@ new_root _ number = None
 abbrev pub capable : ℕ → ℕ → Bool → Capability
 capable number c universal = record { step = number; client = c; universal = universal }
 
-abbrev pub new_capability : told.Deed → ℕ → Option Capability
+abbrev pub new_capability : told.Effect → ℕ → Option Capability
 new_capability (told.OpensPrimary root universal) number = Some (capable number number universal)
 new_capability told.OpensRender number = Some (capable number number true)
 new_capability (told.Redeems token root universal) number = Some (capable number number universal)
@@ -93,17 +93,17 @@ new_capability _ number = None
 
 -- ---- the notes of a history, the oldest first
 
-unfoldable pub standings_in : List Entry → List Standing
+unfoldable pub standings_in : List AnsweredEvent → List MasterState
 standings_in [] = []
-standings_in (step ∷ past) = standings_in past ++ option_to_list (new_standing (deed step) (next_number past) (lease_in past) (standings.standing past))
+standings_in (step ∷ past) = standings_in past ++ option_to_list (new_master_state (effect step) (next_number past) (lease_in past) (standings.master_state past))
 
-unfoldable pub authentications_in : List Entry → List Authentication
+unfoldable pub authentications_in : List AnsweredEvent → List Authentication
 authentications_in [] = []
-authentications_in (step ∷ past) = authentications_in past ++ option_to_list (new_authentication (deed step) (next_number past) (own_master_in past) (magic_in past))
+authentications_in (step ∷ past) = authentications_in past ++ option_to_list (new_authentication (effect step) (next_number past) (caller_master_in past) (magic_in past))
 
-unfoldable pub capabilities_in : List Entry → List Capability
+unfoldable pub capabilities_in : List AnsweredEvent → List Capability
 capabilities_in [] = []
-capabilities_in (step ∷ past) = capabilities_in past ++ option_to_list (new_capability (deed step) (next_number past))
+capabilities_in (step ∷ past) = capabilities_in past ++ option_to_list (new_capability (effect step) (next_number past))
 
 -- the first AUTH_MAGIC that named a client's magic
 abbrev pub authentication_of : List Authentication → ℕ → Option Authentication
@@ -115,25 +115,25 @@ is_same_master (Some m) (Some n) = m == n
 is_same_master _ _ = false
 
 -- the step since which the device's master is what it is; 0 where it was never otherwise
-unfoldable pub owner_since_in : List Entry → ℕ
+unfoldable pub owner_since_in : List AnsweredEvent → ℕ
 owner_since_in [] = 0
 owner_since_in (step ∷ past) = if is_same_master (owner_in past) (owner_in (step ∷ past)) then owner_since_in past else next_number past
 
 -- whether a standing is that of a client that opened by the token of this lessee
-abbrev pub is_redemption : ℕ → Standing → Bool
+abbrev pub is_redemption : ℕ → MasterState → Bool
 is_redemption lessee s = (s.step == s.client) && (s.is_master && (is_option lessee s.master && not (s.client == lessee)))
 
-abbrev pub redeemed_by : told.Deed → List Entry → ℕ → Option ℕ
+abbrev pub redeemed_by : told.Effect → List AnsweredEvent → ℕ → Option ℕ
 redeemed_by (told.Redeems token root universal) past lessee = if is_option lessee (lease_in past token) then Some (next_number past) else None
 redeemed_by _ past lessee = None
 
 -- the client that redeemed the lease of a lessee, which is named by the step that opened it
-unfoldable pub redeemer_in : List Entry → ℕ → Option ℕ
-redeemer_in [] lessee = None
-redeemer_in (step ∷ past) lessee = option_or (redeemer_in past lessee) (redeemed_by (deed step) past lessee)
+unfoldable pub lease_client_in : List AnsweredEvent → ℕ → Option ℕ
+lease_client_in [] lessee = None
+lease_client_in (step ∷ past) lessee = option_or (lease_client_in past lessee) (redeemed_by (effect step) past lessee)
 
 -- the notes are those of the history
-pub record IsLedger (history : List Entry) (owner : Option ℕ) (owner_since : ℕ) (standings : List Standing) (leases : List Lease) (ends : List End) (magics : List Magic) (authentications : List Authentication) (roots : List ℕ) (capabilities : List Capability) : Type 0 where
+pub record IsLedger (history : List AnsweredEvent) (owner : Option ℕ) (owner_since : ℕ) (standings : List MasterState) (leases : List Lease) (ends : List End) (magics : List Magic) (authentications : List Authentication) (roots : List ℕ) (capabilities : List Capability) : Type 0 where
   pub owners : owner ≡ owner_in history
   pub since : owner_since ≡ owner_since_in history
   pub stand : standings ≡ standings_in history
@@ -149,9 +149,9 @@ pub record IsLedger (history : List Entry) (owner : Option ℕ) (owner_since : �
   pub universals : (c : ℕ) → is_universal_noted capabilities c ≡ is_universal_in history c
 
 -- whether the client is current: it is a master, whose owner is the device's master
-abbrev pub is_current_in : List Entry → ℕ → Bool
+abbrev pub is_current_in : List AnsweredEvent → ℕ → Bool
 is_current_in history c = is_master_in history c && option_map_or (λ m. is_option (top_in history m) (owner_in history)) (master_in history c) false
 
 -- whether the client's master controls a mode object: one without a lessor all, a lessee what its lease has
-abbrev pub controls_in : Topology → List Entry → ℕ → ℕ → Bool
+abbrev pub controls_in : Topology → List AnsweredEvent → ℕ → ℕ → Bool
 controls_in t history c x = is_controlled history (master_in history c) (λ m. granted t history m x)

@@ -3,6 +3,6 @@ pub mod Answers
 pub mod Searches
 pub mod Handles
 pub mod Chains
-pub mod Deeds
+pub mod Effects
 pub mod Leases
 pub mod Ledgers

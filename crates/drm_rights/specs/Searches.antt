@@ -5,7 +5,7 @@ use Rattle.std.specs.Option.{option_map}
 use Rattle.drm_table.specs.declared.events.Event.{Event}
 use Rattle.drm_table.specs.declared.events.Event.TheVariants.{Open, Ask, Close}
 use Rattle.drm_lists.specs.Orders.{InOrder}
-use Rattle.drm_history.specs.History.{Entry}
+use Rattle.drm_history.specs.History.{AnsweredEvent}
 use Rattle.drm_history.specs.Steps.{Key, is_key, Source, Giving, Publishing, given, takes, published}
 use Rattle.drm_rights.specs.Answers.{closed_by}
 use Rattle.drm_rights.specs.Steps.{history_of, key_of, source_of}
@@ -24,15 +24,15 @@ source_for c h (Some g) = if (g.client == c) && (g.handle == h) then Some g.sour
 -- a step gave the handle from this source; what came before it
 pub record Gift : Type 0 where
   pub source : Source
-  pub past : List Entry
+  pub past : List AnsweredEvent
 
-abbrev pub gift_or : Option Source → Bool → List Entry → Option Gift → Option Gift
+abbrev pub gift_or : Option Source → Bool → List AnsweredEvent → Option Gift → Option Gift
 gift_or (Some source) taken past older = Some (record { source = source; past = past })
 gift_or None true past older = None
 gift_or None false past older = older
 
 -- the last step that gave the client the handle, if no later one took it
-unfoldable pub last_gift : List Entry → ℕ → ℕ → Option Gift
+unfoldable pub last_gift : List AnsweredEvent → ℕ → ℕ → Option Gift
 last_gift [] c h = None
 last_gift (step ∷ past) c h = gift_or (source_for c h (given step)) (takes step c h) past (last_gift past c h)
 
@@ -46,14 +46,14 @@ gifts_at steps found = option_map (gift_at steps) found
 pub record Sharing : Type 0 where
   pub client : ℕ
   pub handle : ℕ
-  pub past : List Entry
+  pub past : List AnsweredEvent
 
-abbrev pub sharing_or : Key → Option Publishing → List Entry → Option Sharing → Option Sharing
+abbrev pub sharing_or : Key → Option Publishing → List AnsweredEvent → Option Sharing → Option Sharing
 sharing_or key None past older = older
 sharing_or key (Some p) past older = if is_key p.key key then Some (record { client = p.client; handle = p.handle; past = past }) else older
 
 -- the last step that published under the key
-unfoldable pub last_sharing : List Entry → Key → Option Sharing
+unfoldable pub last_sharing : List AnsweredEvent → Key → Option Sharing
 last_sharing [] key = None
 last_sharing (step ∷ past) key = sharing_or key (published step) past (last_sharing past key)
 
@@ -80,7 +80,7 @@ touch_in_event past given (Ask c call) = touched_by past given c (closed_by call
 touch_in_event past given (Close c) = Some (record { past = past; client = c; handle = None })
 
 -- the note of a step behind so many others
-abbrev pub touch_in_step : ℕ → Entry → Option Touch
+abbrev pub touch_in_step : ℕ → AnsweredEvent → Option Touch
 touch_in_step past step = touch_in_event past (given step) step.event
 
 -- a note without a handle is of all that the client has

@@ -1,7 +1,7 @@
 -- The steps of a history as code has them: the oldest first, and with types of its own for what the definitions tell.
 use Rattle.std.specs.Prelude.{List, [], ◌∷◌, Option}
 use Rattle.std.specs.Option.{option_map}
-use Rattle.drm_history.specs.History.{Entry}
+use Rattle.drm_history.specs.History.{AnsweredEvent}
 use Rattle.drm_history.specs.Steps as told
 use Rattle.drm_rights.specs.declared.steps.Step.{Step}
 use Rattle.drm_rights.specs.declared.steps.Key.{Key}
@@ -11,16 +11,16 @@ use Rattle.drm_rights.specs.declared.steps.Source.TheVariants as sources
 use Rattle.drm_rights.specs.declared.steps.Giving.{Giving}
 use Rattle.drm_rights.specs.declared.steps.Publishing.{Publishing}
 
-abbrev pub entry_of : Step → Entry
+abbrev pub entry_of : Step → AnsweredEvent
 entry_of step = record { event = step.event; answer = step.answer }
 
 -- what came before, and then these steps
-unfoldable pub followed_by : List Entry → List Step → List Entry
+unfoldable pub followed_by : List AnsweredEvent → List Step → List AnsweredEvent
 followed_by past [] = past
 followed_by past (step ∷ steps) = followed_by (entry_of step ∷ past) steps
 
 -- the history of these steps, which has the newest first
-abbrev pub history_of : List Step → List Entry
+abbrev pub history_of : List Step → List AnsweredEvent
 history_of steps = followed_by [] steps
 
 abbrev pub key_of : Key → told.Key

@@ -3,17 +3,17 @@
 ghost use Rattle.std.specs.Prelude.{◌≡◌, ◌&&◌, ◌∷◌, ◌++◌, ℕ, not, List, [], IfOk, option_and_then};
 ghost use Rattle.std.specs.Option.{is_some, option_map_or};
 ghost use Rattle.drm_lists.specs.Numbers as numbers;
-ghost use Rattle.drm_rights.specs.Deeds.{deed_of};
+ghost use Rattle.drm_rights.specs.Effects.{effect_of};
 ghost use Rattle.drm_rights.specs.Steps.{history_of};
 ghost use Rattle.drm_rights.specs.Leases as lending;
 ghost use Rattle.drm_rights.specs.Leases.{end_with, ended_at, leases_in, lent_in, listed_in, new_lease};
 ghost use Rattle.drm_rights.specs.Ledgers as ledgers;
-ghost use Rattle.drm_rights.specs.Ledgers.{authentication_of, authentications_in, capabilities_in, capability_of, controls_in, is_current_in, is_same_master, new_capability, new_root, owner_since_in, redeemer_in, standing_of, standings_in};
+ghost use Rattle.drm_rights.specs.Ledgers.{authentication_of, authentications_in, capabilities_in, capability_of, controls_in, is_current_in, is_same_master, new_capability, new_root, owner_since_in, lease_client_in, master_state_of, standings_in};
 
-use crate::deeds::Deed;
+use crate::effects::Effect;
 use crate::notes::{
-    Authentication, Capability, End, Lease, Magic, Standing, first_authentication, first_end,
-    first_redemption, is_named, is_root, last_capability, last_magic, last_standing, lease_at,
+    Authentication, Capability, End, Lease, Magic, MasterState, first_authentication, first_end,
+    first_redemption, is_named, is_root, last_capability, last_magic, last_master_state, lease_at,
     lease_of_id, lease_of_token, lessor_of, top_of, with_item,
 };
 use crate::steps::Step;
@@ -30,7 +30,7 @@ pub struct Ledger {
     /// The device's master, and the step since which it is that.
     owner: Option<u64>,
     owner_since: u64,
-    standings: Vec<Standing>,
+    standings: Vec<MasterState>,
     leases: Vec<Lease>,
     ends: Vec<End>,
     magics: Vec<Magic>,
@@ -42,11 +42,11 @@ pub struct Ledger {
 
 impl Model for Ledger {
     ghost use Rattle.std.specs.Prelude.{List};
-    ghost use Rattle.drm_history.specs.History.{Entry};
+    ghost use Rattle.drm_history.specs.History.{AnsweredEvent};
     ghost use Rattle.drm_rights.specs.Steps.{history_of};
     ghost use Rattle.drm_rights.specs.Ledgers.{IsLedger};
 
-    ghost Value = { List Entry };
+    ghost Value = { List AnsweredEvent };
 
     ghost view = { λ l. history_of l.trail };
 
@@ -56,12 +56,12 @@ impl Model for Ledger {
 impl Ledger {
     ghost use Rattle.std.specs.Prelude.{◌≡◌, Some, None, false, if◌then◌else◌};
     ghost use Rattle.drm_history.specs.History as past;
-    ghost use Rattle.drm_authority.specs.Standing.{is_master_in, lease_in, master_in, own_master_in, owner_in, standing, stood};
+    ghost use Rattle.drm_authority.specs.MasterState.{is_master_in, lease_in, master_in, caller_master_in, owner_in, master_state, transition};
     ghost use Rattle.drm_authority.specs.Shown.{is_universal_in};
     ghost use Rattle.drm_authority.specs.Magics.{is_named_in, is_root_in, known, magic_in};
     ghost use Rattle.drm_authority.specs.Lessees as lessees;
     ghost use Rattle.drm_authority.specs.Lessees.{granted, has_ended, lessee_in, lessor_in, top_in};
-    ghost use Rattle.drm_rights.specs.Ledgers.{new_authentication, new_magic, new_standing};
+    ghost use Rattle.drm_rights.specs.Ledgers.{new_authentication, new_magic, new_master_state};
     ghost use Rattle.drm_rights.specs.Steps.{entry_of, history_of};
 
     /// No step yet.
@@ -87,38 +87,38 @@ impl Ledger {
         ensures { IfOk result (λ ledger. ledger ≡ entry_of step ∷ self) }
     {
         let number = self.next_number();
-        let deed = step.deed();
-        let owner = self.owner_after(deed, number);
-        let standing = self.standing_by(deed, number);
-        let lease = self.lease_by(deed);
-        let end = self.end_by(deed);
-        let magic = self.magic_by(deed, number);
-        let authentication = self.authentication_by(deed, number);
+        let effect = step.effect();
+        let owner = self.owner_after(effect, number);
+        let master_state = self.master_state_by(effect, number);
+        let lease = self.lease_by(effect);
+        let end = self.end_by(effect);
+        let magic = self.magic_by(effect, number);
+        let authentication = self.authentication_by(effect, number);
         let owner_since = self.owner_since_after(owner);
         Ok(Ledger {
             trail: self.trail.push(step)?,
             owner,
             owner_since,
-            standings: with_item(self.standings, standing)?,
+            standings: with_item(self.standings, master_state)?,
             leases: with_item(self.leases, lease)?,
             ends: with_item(self.ends, end)?,
             magics: with_item(self.magics, magic)?,
             authentications: with_item(self.authentications, authentication)?,
-            roots: with_item(self.roots, root_by(deed, number))?,
-            capabilities: with_item(self.capabilities, capability_by(deed, number))?,
+            roots: with_item(self.roots, root_by(effect, number))?,
+            capabilities: with_item(self.capabilities, capability_by(effect, number))?,
         })
     }
 
     /// The device's master after a step. A primary client founds it where there is none; it goes with its client.
-    fn owner_after(&self, deed: Deed, number: u64) -> Option<u64>
-        ensures { (ids : List ℕ) → result ≡ (stood (deed_of ids deed) number (lease_in self.now) (standing self.now)).owner }
+    fn owner_after(&self, effect: Effect, number: u64) -> Option<u64>
+        ensures { (ids : List ℕ) → result ≡ (transition (effect_of ids effect) number (lease_in self.now) (master_state self.now)).owner }
     {
         let owner = self.owner();
-        match deed {
-            Deed::OpensPrimary { .. } => owner.or(Some(number)),
-            Deed::SetsMaster { client } => owner.or(self.set_by(client, number)),
-            Deed::DropsMaster => None,
-            Deed::Closes { client } => {
+        match effect {
+            Effect::OpensPrimary { .. } => owner.or(Some(number)),
+            Effect::SetsMaster { client } => owner.or(self.set_by(client, number)),
+            Effect::DropsMaster => None,
+            Effect::Closes { client } => {
                 if self.is_master(client) && owner == self.master_of(client) {
                     None
                 } else {
@@ -152,14 +152,19 @@ impl Ledger {
     }
 
     /// How a client stands to masters from the step on, where that changes.
-    fn standing_by(&self, deed: Deed, number: u64) -> Option<Standing>
-        ensures { (ids : List ℕ) → result ≡ new_standing (deed_of ids deed) number (lease_in self.now) (standing self.now) }
+    fn master_state_by(&self, effect: Effect, number: u64) -> Option<MasterState>
+        ensures { (ids : List ℕ) → result ≡ new_master_state (effect_of ids effect) number (lease_in self.now) (master_state self.now) }
     {
-        match deed {
-            Deed::OpensPrimary { .. } => Some(opened(number, self.owner())),
-            Deed::OpensRender => Some(noted(number, number, false, None)),
-            Deed::Redeems { token, .. } => Some(noted(number, number, true, self.lessee_of(token))),
-            Deed::SetsMaster { client } => {
+        match effect {
+            Effect::OpensPrimary { .. } => Some(opened(number, self.owner())),
+            Effect::OpensRender => Some(noted(number, number, false, None)),
+            Effect::Redeems { token, .. } => Some(noted(
+                number,
+                number,
+                true,
+                self.lessee_of(token),
+            )),
+            Effect::SetsMaster { client } => {
                 if self.is_master(client) {
                     None
                 } else {
@@ -190,11 +195,11 @@ impl Ledger {
         }
     }
 
-    fn lease_by(&self, deed: Deed) -> Option<Lease>
-        ensures { (ids : List ℕ) → result ≡ new_lease (deed_of ids deed) self.now }
+    fn lease_by(&self, effect: Effect) -> Option<Lease>
+        ensures { (ids : List ℕ) → result ≡ new_lease (effect_of ids effect) self.now }
     {
-        match deed {
-            Deed::Leases {
+        match effect {
+            Effect::Leases {
                 client,
                 lessee,
                 token,
@@ -212,23 +217,23 @@ impl Ledger {
     }
 
     /// The master that a step ends: the lessee that is revoked, and the master of a closed client that is one.
-    fn ended_by(&self, deed: Deed) -> Option<u64>
-        ensures { (ids : List ℕ) → result ≡ lessees.ended_by (deed_of ids deed) self.now }
+    fn ended_by(&self, effect: Effect) -> Option<u64>
+        ensures { (ids : List ℕ) → result ≡ lessees.ended_by (effect_of ids effect) self.now }
     {
-        match deed {
-            Deed::Revokes { client, lessee } => {
+        match effect {
+            Effect::Revokes { client, lessee } => {
                 let owner = self.owner_of(self.master_or_none(client));
                 self.lessee_of_id(owner, lessee)
             }
-            Deed::Closes { client } => self.own_master(client),
+            Effect::Closes { client } => self.own_master(client),
             _ => None,
         }
     }
 
-    fn end_by(&self, deed: Deed) -> Option<End>
-        ensures { (ids : List ℕ) → result ≡ end_with self.now (lessees.ended_by (deed_of ids deed) self.now) }
+    fn end_by(&self, effect: Effect) -> Option<End>
+        ensures { (ids : List ℕ) → result ≡ end_with self.now (lessees.ended_by (effect_of ids effect) self.now) }
     {
-        match self.ended_by(deed) {
+        match self.ended_by(effect) {
             Some(master) => Some(End {
                 step: self.next_number(),
                 master,
@@ -247,11 +252,11 @@ impl Ledger {
         }
     }
 
-    fn magic_by(&self, deed: Deed, number: u64) -> Option<Magic>
-        ensures { (ids : List ℕ) → result ≡ new_magic (deed_of ids deed) number (own_master_in self.now) }
+    fn magic_by(&self, effect: Effect, number: u64) -> Option<Magic>
+        ensures { (ids : List ℕ) → result ≡ new_magic (effect_of ids effect) number (caller_master_in self.now) }
     {
-        match deed {
-            Deed::GetsMagic { client, magic } => Some(Magic {
+        match effect {
+            Effect::GetsMagic { client, magic } => Some(Magic {
                 step: number,
                 master: self.master_or_none(client),
                 number: magic,
@@ -261,11 +266,11 @@ impl Ledger {
         }
     }
 
-    fn authentication_by(&self, deed: Deed, number: u64) -> Option<Authentication>
-        ensures { (ids : List ℕ) → result ≡ new_authentication (deed_of ids deed) number (own_master_in self.now) (magic_in self.now) }
+    fn authentication_by(&self, effect: Effect, number: u64) -> Option<Authentication>
+        ensures { (ids : List ℕ) → result ≡ new_authentication (effect_of ids effect) number (caller_master_in self.now) (magic_in self.now) }
     {
-        match deed {
-            Deed::Authenticates { client, magic } => {
+        match effect {
+            Effect::Authenticates { client, magic } => {
                 match self.client_of(self.master_or_none(client), magic) {
                     Some(named) => Some(Authentication {
                         step: number,
@@ -282,7 +287,7 @@ impl Ledger {
 
     /// The client's master; 0 where it has none.
     fn master_or_none(&self, client: u64) -> u64
-        ensures { result ≡ own_master_in self.now client }
+        ensures { result ≡ caller_master_in self.now client }
     {
         self.master_of(client).unwrap_or(0)
     }
@@ -334,20 +339,20 @@ impl Ledger {
     }
 
     /// How the client stands to masters, and since which step; none where it was never opened.
-    pub fn standing(&self, client: u64) -> Option<Standing>
-        ensures note { result ≡ standing_of (standings_in self.now) client }
-        ensures is_master { option_map_or (λ standing. standing.is_master) result false ≡ is_master_in self.now client }
-        ensures master { option_and_then (λ standing. standing.master) result ≡ master_in self.now client }
+    pub fn master_state(&self, client: u64) -> Option<MasterState>
+        ensures note { result ≡ master_state_of (standings_in self.now) client }
+        ensures is_master { option_map_or (λ master_state. master_state.is_master) result false ≡ is_master_in self.now client }
+        ensures master { option_and_then (λ master_state. master_state.master) result ≡ master_in self.now client }
     {
-        last_standing(&self.standings, client)
+        last_master_state(&self.standings, client)
     }
 
     /// Whether the client is a master of its own.
     pub fn is_master(&self, client: u64) -> bool
         ensures { result ≡ is_master_in self.now client }
     {
-        match self.standing(client) {
-            Some(standing) => standing.is_master,
+        match self.master_state(client) {
+            Some(master_state) => master_state.is_master,
             None => false,
         }
     }
@@ -356,8 +361,8 @@ impl Ledger {
     pub fn master_of(&self, client: u64) -> Option<u64>
         ensures { result ≡ master_in self.now client }
     {
-        match self.standing(client) {
-            Some(standing) => standing.master,
+        match self.master_state(client) {
+            Some(master_state) => master_state.master,
             None => None,
         }
     }
@@ -525,11 +530,11 @@ impl Ledger {
     }
 
     /// The client that redeemed the lease of a lessee: it has been of this master since the step that opened it.
-    pub fn redeemer(&self, lessee: u64) -> Option<u64>
-        ensures { result ≡ redeemer_in self.now lessee }
+    pub fn lease_client(&self, lessee: u64) -> Option<u64>
+        ensures { result ≡ lease_client_in self.now lessee }
     {
         match first_redemption(&self.standings, lessee) {
-            Some(standing) => Some(standing.client),
+            Some(master_state) => Some(master_state.client),
             None => None,
         }
     }
@@ -606,10 +611,10 @@ fn is_same_master(one: Option<u64>, other: Option<u64>) -> bool
 }
 
 /// How a client stands to masters from a step on.
-fn noted(number: u64, client: u64, is_master: bool, master: Option<u64>) -> Standing
+fn noted(number: u64, client: u64, is_master: bool, master: Option<u64>) -> MasterState
     ensures { result ≡ ledgers.noted number client is_master master }
 {
-    Standing {
+    MasterState {
         step: number,
         client,
         is_master,
@@ -618,7 +623,7 @@ fn noted(number: u64, client: u64, is_master: bool, master: Option<u64>) -> Stan
 }
 
 /// How a primary client stands that opens where the device has this master: it founds one where there is none, and else joins it.
-fn opened(number: u64, owner: Option<u64>) -> Standing
+fn opened(number: u64, owner: Option<u64>) -> MasterState
     ensures { result ≡ ledgers.opened number owner }
 {
     match owner {
@@ -628,12 +633,12 @@ fn opened(number: u64, owner: Option<u64>) -> Standing
 }
 
 /// The client of an opening as root: an opening is a step of the client that it opens.
-fn root_by(deed: Deed, number: u64) -> Option<u64>
-    ensures { (ids : List ℕ) → result ≡ new_root (deed_of ids deed) number }
+fn root_by(effect: Effect, number: u64) -> Option<u64>
+    ensures { (ids : List ℕ) → result ≡ new_root (effect_of ids effect) number }
 {
-    let root = match deed {
-        Deed::OpensPrimary { root, .. } => root,
-        Deed::Redeems { root, .. } => root,
+    let root = match effect {
+        Effect::OpensPrimary { root, .. } => root,
+        Effect::Redeems { root, .. } => root,
         _ => false,
     };
     if root { Some(number) } else { None }
@@ -651,14 +656,14 @@ fn capable(number: u64, client: u64, universal: bool) -> Capability
 }
 
 /// What a step says of a client's universal planes: its opening, and SET_CLIENT_CAP, which sets no other capability.
-fn capability_by(deed: Deed, number: u64) -> Option<Capability>
-    ensures { (ids : List ℕ) → result ≡ new_capability (deed_of ids deed) number }
+fn capability_by(effect: Effect, number: u64) -> Option<Capability>
+    ensures { (ids : List ℕ) → result ≡ new_capability (effect_of ids effect) number }
 {
-    match deed {
-        Deed::OpensPrimary { universal, .. } => Some(capable(number, number, universal)),
-        Deed::OpensRender => Some(capable(number, number, true)),
-        Deed::Redeems { universal, .. } => Some(capable(number, number, universal)),
-        Deed::SetsUniversal { client, on } => Some(capable(number, client, on)),
+    match effect {
+        Effect::OpensPrimary { universal, .. } => Some(capable(number, number, universal)),
+        Effect::OpensRender => Some(capable(number, number, true)),
+        Effect::Redeems { universal, .. } => Some(capable(number, number, universal)),
+        Effect::SetsUniversal { client, on } => Some(capable(number, client, on)),
         _ => None,
     }
 }

@@ -5,7 +5,7 @@
 #![tactic(auto)]
 
 mod chains;
-mod deeds;
+mod effects;
 mod handles;
 mod ledger;
 mod notes;
@@ -14,10 +14,10 @@ mod steps;
 mod trail;
 
 pub use chains::{Link, Origin};
-pub use deeds::Deed;
+pub use effects::Effect;
 pub use handles::{Held, handles_of};
 pub use ledger::Ledger;
-pub use notes::{Authentication, Capability, Lease, Magic, Standing};
+pub use notes::{Authentication, Capability, Lease, Magic, MasterState};
 pub use searches::{LastPublishing, last_publishing};
 pub use steps::{Giving, Key, Publishing, Source, Step, step_at};
 pub use trail::Trail;

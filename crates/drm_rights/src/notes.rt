@@ -5,7 +5,7 @@ ghost use Rattle.std.specs.Prelude.{◌≡◌, ◌<◌, ◌≤◌, ◌++◌, fin
 ghost use Rattle.std.specs.List.{AllWithin};
 ghost use Rattle.drm_lists.specs.Chains as chains;
 ghost use Rattle.drm_rights.specs.Ledgers as ledgers;
-ghost use Rattle.drm_rights.specs.Ledgers.{authentication_of, capability_of, is_named_noted, is_root_noted, magic_of, standing_of};
+ghost use Rattle.drm_rights.specs.Ledgers.{authentication_of, capability_of, is_named_noted, is_root_noted, magic_of, master_state_of};
 ghost use Rattle.drm_rights.specs.Leases as lending;
 ghost use Rattle.drm_rights.specs.Leases.{is_ended_by, lessor_noted};
 
@@ -14,7 +14,7 @@ use std::alloc::AllocError;
 /// How a client stands to masters from a step on: whether it is one of its own, and which is its master, its own or one that it
 /// joined.
 #[derive(Clone, Copy, PartialEq, Eq, Debug)]
-pub struct Standing {
+pub struct MasterState {
     pub step: u64,
     pub client: u64,
     pub is_master: bool,
@@ -94,37 +94,37 @@ pub(crate) fn last_capability(capabilities: &[Capability], client: u64) -> Optio
 }
 
 /// How a client stands to masters.
-pub(crate) fn last_standing(standings: &[Standing], client: u64) -> Option<Standing>
-    ensures { result ≡ standing_of standings.now client }
+pub(crate) fn last_master_state(standings: &[MasterState], client: u64) -> Option<MasterState>
+    ensures { result ≡ master_state_of standings.now client }
 {
     standings
         .iter()
         .rev()
         .copied()
-        .find(|standing| client == standing.client)
+        .find(|master_state| client == master_state.client)
 }
 
 /// Whether a standing is that of a client that opened by the token of a lessee, and not of one that founded a master.
-fn is_redemption(standing: Standing, lessee: u64) -> bool
-    ensures { result ≡ ledgers.is_redemption lessee standing }
+fn is_redemption(master_state: MasterState, lessee: u64) -> bool
+    ensures { result ≡ ledgers.is_redemption lessee master_state }
 {
-    let is_of_lessee = match standing.master {
+    let is_of_lessee = match master_state.master {
         Some(master) => master == lessee,
         None => false,
     };
-    standing.step == standing.client
-        && standing.is_master
+    master_state.step == master_state.client
+        && master_state.is_master
         && is_of_lessee
-        && standing.client != lessee
+        && master_state.client != lessee
 }
 
 /// The first standing of a client that opened by the token of a lessee.
-pub(crate) fn first_redemption(standings: &[Standing], lessee: u64) -> Option<Standing>
+pub(crate) fn first_redemption(standings: &[MasterState], lessee: u64) -> Option<MasterState>
     ensures { result ≡ find (ledgers.is_redemption lessee) standings.now }
 {
-    for standing in standings {
-        if is_redemption(*standing, lessee) {
-            return Some(*standing);
+    for master_state in standings {
+        if is_redemption(*master_state, lessee) {
+            return Some(*master_state);
         }
     }
     None

@@ -6,9 +6,9 @@ use Rattle.drm_table.specs.declared.events.Event.{Event}
 use Rattle.drm_table.specs.declared.limits.Limits.{Limits}
 use Rattle.drm_modes.specs.Topology.{Topology}
 use Rattle.drm_model.specs.Rows.{Rows, empty_rows}
-use Rattle.drm_model.specs.Run.{History, Answers, noted_events, noted_in, rows_of, run}
+use Rattle.drm_model.specs.Run.{DeviceValue, Answers, journaled_events, journaled_in, rows_of, run}
 use Rattle.drm_model.proofs.Runs.{answers_push}
-use Rattle.drm_runs.specs.Script.{Setting, Place, Script, AskFor, IsAt, IsNowhere, event_of, noted_by, empty_device, limited_to, AnswersFromEmpty}
+use Rattle.drm_runs.specs.Script.{Setting, Place, Script, AskFor, IsAt, IsNowhere, event_of, journaled_by, empty_device, limited_to, AnswersFromEmpty}
 use Rattle.drm_runs.specs.Script.Place.{Planned, Made, Refused}
 use Rattle.drm_runs.specs.Script.Script.{start, line}
 use Rattle.drm_runs.specs.Script.Uses.{skipped, limited, asked}
@@ -16,7 +16,7 @@ use Rattle.drm_runs.specs.Script.AskFor.{nothing, skipped_line, limits_line, com
 use Rattle.drm_runs.proofs.RunLemmas.{unmade}
 
 -- the device of a place is one
-one_place : (device : Place) (a b : History) → IsAt device a → IsAt device b → a ≡ b
+one_place : (device : Place) (a b : DeviceValue) → IsAt device a → IsAt device b → a ≡ b
 one_place (Planned setting) a b p q = p ∙ sym q
 one_place (Made made) a b p q = p ∙ sym q
 one_place Refused a b p q = absurd p
@@ -30,21 +30,21 @@ same_setting : (a b : Setting) → Planned a ≡ Planned b → a ≡ b
 same_setting a b e = cc
 
 -- the events that were noted, where one more was answered
-noted-push : (w : Rows) (events : List Event) (results : List (Result Answer Apart)) (v : Rows) (event : Event) (result : Result Answer Apart) → Answers w events results v
-    → noted_events (events ++ event ∷ []) (results ++ result ∷ []) ≡ noted_events events results ++ noted_events (event ∷ []) (result ∷ [])
+journaled-push : (w : Rows) (events : List Event) (results : List (Result Answer Apart)) (v : Rows) (event : Event) (result : Result Answer Apart) → Answers w events results v
+    → journaled_events (events ++ event ∷ []) (results ++ result ∷ []) ≡ journaled_events events results ++ journaled_events (event ∷ []) (result ∷ [])
 unfolding Answers
-noted-push w [] [] v event result a = refl
-noted-push w (e ∷ es) (Ok x ∷ rs) v event result a = ap (λ (z : List Event). e ∷ z) (noted-push a.0 es rs v event result a.2)
-noted-push w (e ∷ es) (Err x ∷ rs) v event result a = noted-push a.0 es rs v event result a.2
-noted-push w [] (r ∷ rs) v event result a = absurd a
-noted-push w (e ∷ es) [] v event result a = absurd a
+journaled-push w [] [] v event result a = refl
+journaled-push w (e ∷ es) (Ok x ∷ rs) v event result a = ap (λ (z : List Event). e ∷ z) (journaled-push a.0 es rs v event result a.2)
+journaled-push w (e ∷ es) (Err x ∷ rs) v event result a = journaled-push a.0 es rs v event result a.2
+journaled-push w [] (r ∷ rs) v event result a = absurd a
+journaled-push w (e ∷ es) [] v event result a = absurd a
 
-abbrev with_journal : Topology → Limits → List Event → History
+abbrev with_journal : Topology → Limits → List Event → DeviceValue
 with_journal topology limits journal = record { topology = topology; limits = limits; journal = journal }
 
-one_more : (topology : Topology) (limits : Limits) (journal : List Event) (before after : History) (event : Event) (result : Result Answer Apart) → before ≡ with_journal topology limits journal
-    → after ≡ noted_by before event result → after ≡ with_journal topology limits (journal ++ noted_events (event ∷ []) (result ∷ []))
-one_more topology limits journal before after event (Ok answer) h e = e ∙ ap (λ (b : History). noted_in b event) h
+one_more : (topology : Topology) (limits : Limits) (journal : List Event) (before after : DeviceValue) (event : Event) (result : Result Answer Apart) → before ≡ with_journal topology limits journal
+    → after ≡ journaled_by before event result → after ≡ with_journal topology limits (journal ++ journaled_events (event ∷ []) (result ∷ []))
+one_more topology limits journal before after event (Ok answer) h e = e ∙ ap (λ (b : DeviceValue). journaled_in b event) h
 one_more topology limits journal before after event (Err apart) h e = e ∙ h ∙ ap (with_journal topology limits) (sym (append-nil journal))
 
 pub answered : {setting : Setting} {lines : List (List ℕ)} {results : List (Result Answer Apart)} {device : Place} {labels : List ℕ} → Script setting lines results device labels
@@ -75,9 +75,9 @@ answered {setting} (line {lines = lines} {results = results} {device = device} {
     let a = answered s in
     let here : a.3 ≡ before = one_place device a.3 before a.4 i in
     let event = event_of labels command in
-    let until : Answers (empty_rows setting.topology a.0) a.1 results (rows_of before) = subst (λ (d : History). Answers (empty_rows setting.topology a.0) a.1 results (rows_of d)) here a.5 in
-    let journal = one_more setting.topology a.0 (noted_events a.1 results) before after event result (sym here ∙ a.6) t.noted in
-    let more = noted-push (empty_rows setting.topology a.0) a.1 results (rows_of a.3) event result a.5 in (
+    let until : Answers (empty_rows setting.topology a.0) a.1 results (rows_of before) = subst (λ (d : DeviceValue). Answers (empty_rows setting.topology a.0) a.1 results (rows_of d)) here a.5 in
+    let journal = one_more setting.topology a.0 (journaled_events a.1 results) before after event result (sym here ∙ a.6) t.journaled in
+    let more = journaled-push (empty_rows setting.topology a.0) a.1 results (rows_of a.3) event result a.5 in (
       a.0,
       a.1 ++ event ∷ [],
       command_line next command result a.2 h,

@@ -5,7 +5,7 @@ use Rattle.drm_table.specs.declared.answers.Answer.{Answer}
 use Rattle.drm_table.specs.declared.apart.Apart.{Apart}
 use Rattle.drm_table.specs.declared.events.Event.{Event}
 use Rattle.drm_table.specs.declared.limits.Limits.{Limits}
-use Rattle.drm_model.specs.Run.{History, Step, noted_in, rows_of}
+use Rattle.drm_model.specs.Run.{DeviceValue, Step, journaled_in, rows_of}
 use Rattle.drm_script.specs.declared.commands.Command.{Command}
 use Rattle.drm_script.specs.declared.reading.Reading.TheVariants as readings
 use Rattle.drm_script.specs.Reading.{reading_of}
@@ -14,61 +14,61 @@ use Rattle.drm_runs.specs.Script.Place.{Made, Planned}
 use Rattle.drm_runs.specs.Script.Uses.{limited, asked}
 use Rattle.drm_runs.specs.Script.IsMisplaced.{late}
 use Rattle.drm_runs.specs.Script.WantsDevice.{limits as wants_limits}
-use Rattle.drm_runs.specs.Interpreter.{HasLimits, Standing, Steps, Interprets, SetsLimits, place_of}
+use Rattle.drm_runs.specs.Interpreter.{HasLimits, InterpreterState, Steps, Interprets, SetsLimits, place_of}
 use Rattle.drm_runs.specs.declared.interpreter.LineResult.{LineResult}
 use Rattle.drm_runs.specs.declared.interpreter.LineResult.TheVariants as results
 
-pub at_some : (d : Option History) (p : Option Setting) (x : History) → d ≡ Some x → IsAt (place_of d p) x
+pub at_some : (d : Option DeviceValue) (p : Option Setting) (x : DeviceValue) → d ≡ Some x → IsAt (place_of d p) x
 at_some d p x e = subst (λ o. IsAt (place_of o p) x) (sym e) refl
 
-pub at_none : (d : Option History) (p : Option Setting) (s : Setting) (x : History) → d ≡ None → p ≡ Some s → x ≡ empty_device s → IsAt (place_of d p) x
+pub at_none : (d : Option DeviceValue) (p : Option Setting) (s : Setting) (x : DeviceValue) → d ≡ None → p ≡ Some s → x ≡ empty_device s → IsAt (place_of d p) x
 at_none d p s x e f h = subst (λ o. IsAt (place_of o p) x) (sym e) (subst (λ q. IsAt (place_of None q) x) (sym f) h)
 
-pub nowhere : (d : Option History) (p : Option Setting) → d ≡ None → IsNowhere (place_of d p)
+pub nowhere : (d : Option DeviceValue) (p : Option Setting) → d ≡ None → IsNowhere (place_of d p)
 nowhere d None e = subst (λ o. IsNowhere (place_of o None)) (sym e) tt
 nowhere d (Some s) e = subst (λ o. IsNowhere (place_of o (Some s))) (sym e) tt
 
-pub planned_is : (d : Option History) (p : Option Setting) (s : Setting) → d ≡ None → p ≡ Some s → place_of d p ≡ Planned s
+pub planned_is : (d : Option DeviceValue) (p : Option Setting) (s : Setting) → d ≡ None → p ≡ Some s → place_of d p ≡ Planned s
 planned_is d p s e f = ap (λ o. place_of o p) e ∙ ap (place_of None) f
 
-pub made_is : (d : Option History) (p : Option Setting) (x : History) → d ≡ Some x → place_of d p ≡ Made x
+pub made_is : (d : Option DeviceValue) (p : Option Setting) (x : DeviceValue) → d ≡ Some x → place_of d p ≡ Made x
 made_is d p x e = ap (λ o. place_of o p) e
 
 -- a step, as the device tells of it
-pub steps_on : (old new : History) (event : Event) (r : Result Answer Apart) → Step (rows_of old) event r (rows_of new) → OnOk r (new ≡ noted_in old event) → OnErr r (new ≡ old)
+pub steps_on : (old new : DeviceValue) (event : Event) (r : Result Answer Apart) → Step (rows_of old) event r (rows_of new) → OnOk r (new ≡ journaled_in old event) → OnErr r (new ≡ old)
     → StepsOn old event r new
-steps_on old new event (Ok answer) s h k = record { answered = s; noted = h }
-steps_on old new event (Err apart) s h k = record { answered = s; noted = k }
+steps_on old new event (Ok answer) s h k = record { answered = s; journaled = h }
+steps_on old new event (Err apart) s h k = record { answered = s; journaled = k }
 
 -- the limits that are kept beside the device
 
-pub step_limits : (old new : History) (event : Event) (r : Result Answer Apart) → OnOk r (new ≡ noted_in old event) → OnErr r (new ≡ old) → new.limits ≡ old.limits
-step_limits old new event (Ok answer) h k = ap (λ (x : History). x.limits) h
-step_limits old new event (Err apart) h k = ap (λ (x : History). x.limits) k
+pub step_limits : (old new : DeviceValue) (event : Event) (r : Result Answer Apart) → OnOk r (new ≡ journaled_in old event) → OnErr r (new ≡ old) → new.limits ≡ old.limits
+step_limits old new event (Ok answer) h k = ap (λ (x : DeviceValue). x.limits) h
+step_limits old new event (Err apart) h k = ap (λ (x : DeviceValue). x.limits) k
 
-pub limits_stay : (d : Option History) (p : Option Setting) (limits : Limits) (x y : History) → d ≡ Some x → HasLimits (place_of d p) limits → y.limits ≡ x.limits
+pub limits_stay : (d : Option DeviceValue) (p : Option Setting) (limits : Limits) (x y : DeviceValue) → d ≡ Some x → HasLimits (place_of d p) limits → y.limits ≡ x.limits
     → HasLimits (Made y) limits
 limits_stay d p limits x y e h s =
     let was : limits ≡ x.limits = subst (λ o. HasLimits (place_of o p) limits) e h in
     was ∙ sym s
 
-pub limits_begin : (d : Option History) (p : Option Setting) (limits : Limits) (s : Setting) (x y : History) → d ≡ None → p ≡ Some s → HasLimits (place_of d p) limits
+pub limits_begin : (d : Option DeviceValue) (p : Option Setting) (limits : Limits) (s : Setting) (x y : DeviceValue) → d ≡ None → p ≡ Some s → HasLimits (place_of d p) limits
     → x ≡ empty_device s → y.limits ≡ x.limits → HasLimits (Made y) limits
 limits_begin d p limits s x y e f h n k =
     let planned : HasLimits (Planned s) limits = subst (λ q. HasLimits (place_of None q) limits) f (subst (λ o. HasLimits (place_of o p) limits) e h) in
-    planned ∙ ap (λ (x : History). x.limits) (sym n) ∙ sym k
+    planned ∙ ap (λ (x : DeviceValue). x.limits) (sym n) ∙ sym k
 
-pub some_of : (d : Option History) → is_some d ≡ true → (x : History) × (d ≡ Some x)
+pub some_of : (d : Option DeviceValue) → is_some d ≡ true → (x : DeviceValue) × (d ≡ Some x)
 some_of None h = absurd (cc)
 some_of (Some x) h = (x, refl)
 
-pub none_of : (d : Option History) → is_some d ≡ false → d ≡ None
+pub none_of : (d : Option DeviceValue) → is_some d ≡ false → d ≡ None
 none_of None h = refl
 none_of (Some x) h = absurd (cc)
 
 -- a line of limits
 
-pub sets_interprets : (old new : Standing) (line : List ℕ) (limits : Limits) (result : LineResult)
+pub sets_interprets : (old new : InterpreterState) (line : List ℕ) (limits : Limits) (result : LineResult)
     → reading_of line ≡ Some (readings.Limits limits) → SetsLimits old new limits result → Interprets old new line result
 sets_interprets old new line limits results.Unanswered h s =
     let made : Place = Made (empty_device (limited_to s.0 limits)) in
@@ -80,7 +80,7 @@ sets_interprets old new line limits results.NoMemory h s = (s.0, wants_limits h,
 
 -- a line that asks the device
 
-pub uses_asked : (old new : Standing) (line : List ℕ) (command : Command) (r : Result Answer Apart) → reading_of line ≡ Some (readings.Says command)
+pub uses_asked : (old new : InterpreterState) (line : List ℕ) (command : Command) (r : Result Answer Apart) → reading_of line ≡ Some (readings.Says command)
     → Steps old new (label_bound command) (event_of old.labels command) r → Uses old.device old.labels line (r ∷ []) new.device new.labels
 uses_asked old new line command r h s =
     subst (λ o. Uses old.device old.labels line (r ∷ []) o new.labels) (sym s.device)

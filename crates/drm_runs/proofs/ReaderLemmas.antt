@@ -1,30 +1,17 @@
 -- A line that is read piece by piece.
 use Rattle.std.proofs.Common.{◌≡◌, ℕ, List, [], ◌++◌, length, refl, sym, ap, subst, ◌∙◌, arith, append-nil, None}
-use Rattle.drm_streams.specs.Streams.{SourceAccount}
-use Rattle.drm_streams.specs.Turns.{Spends, Refills}
+use Rattle.drm_streams.specs.Streams.{SourceTrace}
+use Rattle.drm_streams.specs.Turns.{ReadCost, Refills}
 use Rattle.drm_streams.specs.declared.turns.Refill.{Refill}
 use Rattle.drm_streams.specs.declared.turns.Refill.TheVariants as refill
-use Rattle.drm_streams.proofs.Accounts.{Gave-none, Spends-then}
+use Rattle.drm_streams.proofs.Traces.{Gave-none, ReadCost-then}
 use Rattle.drm_runs.specs.Lines.{IsBare}
 use Rattle.drm_runs.specs.Reader.{Buffered, Scans, Refilled, ReadsOn, ReadsSoFar}
 use Rattle.drm_runs.specs.declared.reader.Scan.TheVariants as scan
 use Rattle.drm_runs.proofs.LineLemmas.{more_given, more_fuel, more_chunks}
 
-Spends-none : (account : SourceAccount) (turns : ℕ) → Spends account account [] turns turns
-Spends-none account turns = record { gave = Gave-none account; cost = refl }
-
--- nothing was read of the line yet
-pub reads_so_far_none : (old : Buffered) (account : SourceAccount) (turns : ℕ) → ReadsSoFar old (record { held = []; pending = old.pending }) account account turns turns []
-reads_so_far_none old account turns = record {
-  spent = Spends-none account turns;
-  whole = append-nil old.pending;
-  bare = tt;
-  chunks = omega arith;
-  fuel = omega arith;
-}
-
 -- no byte came, and the line stays as it was
-pub refilled_other : (r : Refill) (old new : Buffered) (before after : SourceAccount) (buffer : List ℕ) (had has : ℕ) → ((n : ℕ) → r ≡ refill.Got n → ⊥)
+pub refilled_other : (r : Refill) (old new : Buffered) (before after : SourceTrace) (buffer : List ℕ) (had has : ℕ) → ((n : ℕ) → r ≡ refill.Got n → ⊥)
     → new ≡ old → Refills r before after buffer had has → Refilled r old new before after had has
 refilled_other (refill.Got n) old new before after buffer had has got same h = absurd (got n refl)
 refilled_other refill.End old new before after buffer had has got same h = (h.0, same, h.2)
@@ -32,13 +19,13 @@ refilled_other refill.Fault old new before after buffer had has got same h = (h.
 refilled_other refill.TurnsUsed old new before after buffer had has got same h = (h.0, same, h.1)
 
 -- more bytes came for a line whose bytes at hand are all used
-pub reads_piece : {mid scanned new : Buffered} {between after : SourceAccount} {left has : ℕ} (n : ℕ) → Scans mid scanned scan.Wanting → Refilled (refill.Got n) scanned new between after left has
+pub reads_piece : {mid scanned new : Buffered} {between after : SourceTrace} {left has : ℕ} (n : ℕ) → Scans mid scanned scan.Wanting → Refilled (refill.Got n) scanned new between after left has
     → ReadsOn mid new between after left has None
 reads_piece {mid} {scanned} {new} {between} {after} {left} {has} n s r = (
-  λ (old : Buffered) (before : SourceAccount) (had : ℕ) (given : List ℕ) (so : ReadsSoFar old mid before between had left given). (
+  λ (old : Buffered) (before : SourceTrace) (had : ℕ) (given : List ℕ) (so : ReadsSoFar old mid before between had left given). (
     given ++ new.pending,
     record {
-      spent = Spends-then so.spent r.0;
+      spent = ReadCost-then so.spent r.0;
       whole = more_given old.pending given mid.held mid.pending scanned.held new.pending so.whole s.0 ∙ ap (λ z. z ++ new.pending) (sym r.1);
       bare = subst IsBare (sym r.1) (s.2 so.bare);
       chunks = more_chunks given new.pending _ _ _ _ _ so.chunks r.2 r.0.cost r.3;

@@ -5,9 +5,9 @@ use Rattle.drm_table.specs.declared.answers.Answer.{Answer}
 use Rattle.drm_table.specs.declared.apart.Apart.{Apart}
 use Rattle.drm_script.specs.Lines.{answer_line}
 use Rattle.drm_script.proofs.ReadingLaws.{reading_of-long}
-use Rattle.drm_streams.specs.Streams.{SourceAccount, SinkAccount}
-use Rattle.drm_streams.specs.Turns.{Took, Spends, Pays, PaysPart}
-use Rattle.drm_streams.proofs.Accounts.{Gave-none, Gave-then, Took-none, Took-then}
+use Rattle.drm_streams.specs.Streams.{SourceTrace, SinkTrace}
+use Rattle.drm_streams.specs.Turns.{Took, ReadCost, WriteCost, PartialWriteCost}
+use Rattle.drm_streams.proofs.Traces.{Gave-none, Gave-then, Took-none, Took-then}
 use Rattle.drm_runs.specs.Lines.{IsBare, joined}
 use Rattle.drm_runs.specs.Reader.{IsTooLong}
 use Rattle.drm_runs.specs.Script.{Setting, Place, Script, Uses, IsMisplaced, IsNowhere, WantsDevice, script_text, unbound}
@@ -15,7 +15,7 @@ use Rattle.drm_runs.specs.Script.Place.{Planned}
 use Rattle.drm_runs.specs.Script.Script.{start, line}
 use Rattle.drm_runs.specs.Script.Uses.{skipped, limited, asked}
 use Rattle.drm_runs.specs.Script.IsMisplaced.{malformed}
-use Rattle.drm_runs.specs.Interpreter.{Standing}
+use Rattle.drm_runs.specs.Interpreter.{InterpreterState}
 use Rattle.drm_runs.specs.Writing.{UsesLine}
 use Rattle.drm_runs.specs.Runs.{Results, EndsLine, RunsOn, IsCutInLast, IsStopped}
 use Rattle.drm_runs.specs.RunSteps.{SoFar, stop_of}
@@ -41,8 +41,8 @@ unmade (line s b (skipped h)) e = let u = unmade s e in (ap (λ r. r ++ []) u.0,
 unmade (line s b (limited n h)) e = absurd e
 unmade (line s b (asked w h i t)) e = absurd e
 
-module _ {setting : Setting} {s0 s : SourceAccount} {k0 k : SinkAccount} {turns has n : ℕ} {rest : List ℕ} {device : Place} {labels : List ℕ} (so : SoFar setting s0 s k0 k turns has n rest device labels) where
-  pub so_far_read : (s' : SourceAccount) (given : List ℕ) (has' : ℕ) (rest' : List ℕ) → Spends s s' given has has' → length given + 256 * s.counts.calls ≤ 256 * s'.counts.calls → rest ++ given ≡ rest'
+module _ {setting : Setting} {s0 s : SourceTrace} {k0 k : SinkTrace} {turns has n : ℕ} {rest : List ℕ} {device : Place} {labels : List ℕ} (so : SoFar setting s0 s k0 k turns has n rest device labels) where
+  pub so_far_read : (s' : SourceTrace) (given : List ℕ) (has' : ℕ) (rest' : List ℕ) → ReadCost s s' given has has' → length given + 256 * s.counts.calls ≤ 256 * s'.counts.calls → rest ++ given ≡ rest'
       → SoFar setting s0 s' k0 k turns has' n rest' device labels
   so_far_read s' given has' rest' p m e = record {
     read = so.read ++ given;
@@ -57,8 +57,8 @@ module _ {setting : Setting} {s0 s : SourceAccount} {k0 k : SinkAccount} {turns 
     number = so.number;
   }
 
-  pub so_far_line : (next more : List ℕ) (results : Results) (device' : Place) (labels' : List ℕ) (k' : SinkAccount) (has' : ℕ) → rest ≡ next ++ 10 ∷ more → IsBare next → Uses device labels next results device' labels'
-      → Pays k k' (script_text results) has has' → SoFar setting s0 s k0 k' turns has' (n + 1) more device' labels'
+  pub so_far_line : (next more : List ℕ) (results : Results) (device' : Place) (labels' : List ℕ) (k' : SinkTrace) (has' : ℕ) → rest ≡ next ++ 10 ∷ more → IsBare next → Uses device labels next results device' labels'
+      → WriteCost k k' (script_text results) has has' → SoFar setting s0 s k0 k' turns has' (n + 1) more device' labels'
   so_far_line next more results device' labels' k' has' e bare u p = record {
     read = so.read;
     lines = so.lines ++ next ∷ [];
@@ -137,8 +137,8 @@ module _ {setting : Setting} {s0 s : SourceAccount} {k0 k : SinkAccount} {turns 
     ends = (record { lines = so.lines; results = so.results; script = so.script; covers = inl (so.whole ∙ ap (λ z. joined so.lines ++ z) e); text = refl }, f);
   }
 
-  pub run_done_last : (results : Results) (device' : Place) (labels' : List ℕ) (k' : SinkAccount) (has' : ℕ) → IsBare rest → Uses device labels rest results device' labels'
-      → Pays k k' (script_text results) has has' → s0.counts.ends < s.counts.ends → RunsOn setting s0 s k0 k' turns ends.Done device' labels'
+  pub run_done_last : (results : Results) (device' : Place) (labels' : List ℕ) (k' : SinkTrace) (has' : ℕ) → IsBare rest → Uses device labels rest results device' labels'
+      → WriteCost k k' (script_text results) has has' → s0.counts.ends < s.counts.ends → RunsOn setting s0 s k0 k' turns ends.Done device' labels'
   run_done_last results device' labels' k' has' bare u p f = record {
     read = so.read;
     written = script_text so.results ++ script_text results;
@@ -182,8 +182,8 @@ module _ {setting : Setting} {s0 s : SourceAccount} {k0 k : SinkAccount} {turns 
         cut = cut;
       }
 
-  run_stopped : (next more : List ℕ) (result : Result Answer Apart) (device' : Place) (labels' : List ℕ) (k' : SinkAccount) (has' : ℕ) → rest ≡ next ++ more → EndsLine (s0.counts.ends < s.counts.ends) more → length more ≤ 256 → IsBare next
-      → Uses device labels next (result ∷ []) device' labels' → PaysPart k k' (answer_line result) has has'
+  run_stopped : (next more : List ℕ) (result : Result Answer Apart) (device' : Place) (labels' : List ℕ) (k' : SinkTrace) (has' : ℕ) → rest ≡ next ++ more → EndsLine (s0.counts.ends < s.counts.ends) more → length more ≤ 256 → IsBare next
+      → Uses device labels next (result ∷ []) device' labels' → PartialWriteCost k k' (answer_line result) has has'
       → (written : List ℕ) × Took k0 k' written × (k'.counts.calls + has' ≡ k.counts.calls + has) × IsStopped setting (s0.counts.ends < s.counts.ends) so.read written device' labels'
   run_stopped next more result device' labels' k' has' e ending m bare u p =
       let written = script_text so.results ++ p.front in
@@ -220,12 +220,12 @@ some_end : (a b : ScriptEnd) → Some a ≡ Some b → a ≡ b
 some_end a b e = cc
 
 -- a line that doesn't let the run go on
-pub run_stop : {setting : Setting} {s0 s : SourceAccount} {k0 k : SinkAccount} {turns has n : ℕ} {rest : List ℕ} (old new : Standing) (next more : List ℕ) (k' : SinkAccount) (has' : ℕ) (end : LineEnd) (stop : ScriptEnd)
+pub run_stop : {setting : Setting} {s0 s : SourceTrace} {k0 k : SinkTrace} {turns has n : ℕ} {rest : List ℕ} (old new : InterpreterState) (next more : List ℕ) (k' : SinkTrace) (has' : ℕ) (end : LineEnd) (stop : ScriptEnd)
     → SoFar setting s0 s k0 k turns has n rest old.device old.labels → rest ≡ next ++ more → EndsLine (s0.counts.ends < s.counts.ends) more → length next ≤ 255 → length more ≤ 256 → IsBare next
     → UsesLine old new next k k' has has' end → stop_of end (n + 1) ≡ Some stop → RunsOn setting s0 s k0 k' turns stop new.device new.labels
 run_stop old new next more k' has' line_ends.Used stop so e t l m b u h = absurd (cc)
 run_stop {setting} {s0} {s} {k0} {k} {turns} old new next more k' has' (line_ends.Malformed cause) stop so e t l m b u h =
-    let P : Standing → Type 0 = λ z. RunsOn setting s0 s k0 k' turns stop z.device z.labels in
+    let P : InterpreterState → Type 0 = λ z. RunsOn setting s0 s k0 k' turns stop z.device z.labels in
     subst P (sym u.3)
     (subst (λ q. RunsOn setting s0 s k0 q turns stop old.device old.labels) (sym u.1)
     (subst (λ x. RunsOn setting s0 s k0 k turns x old.device old.labels) (some_end _ _ h) (run_malformed so next more e u.0 b (inl t) (omega arith) m)))
@@ -257,7 +257,7 @@ run_stop {setting} {s0} {s} {k0} {k} {turns} old new next more k' has' line_ends
     (subst (λ x. RunsOn setting s0 s k0 k turns x new.device old.labels) (some_end _ _ h) (run_unmade so next more e t m b u.0 u.1 new.device u.4)))
 
 -- the last line
-pub run_last : {setting : Setting} {s0 s : SourceAccount} {k0 k : SinkAccount} {turns has n : ℕ} {rest : List ℕ} (old new : Standing) (k' : SinkAccount) (has' : ℕ) (end : LineEnd)
+pub run_last : {setting : Setting} {s0 s : SourceTrace} {k0 k : SinkTrace} {turns has n : ℕ} {rest : List ℕ} (old new : InterpreterState) (k' : SinkTrace) (has' : ℕ) (end : LineEnd)
     → SoFar setting s0 s k0 k turns has n rest old.device old.labels → IsBare rest → length rest ≤ 255 → s0.counts.ends < s.counts.ends
     → UsesLine old new rest k k' has has' end → RunsOn setting s0 s k0 k' turns (unwrap_or (stop_of end (n + 1)) ends.Done) new.device new.labels
 run_last {rest} old new k' has' line_ends.Used so b l f u = run_done_last so u.0 new.device new.labels k' has' b u.1 u.2 f
@@ -266,11 +266,11 @@ run_last {rest} old new k' has' line_ends.WriteFault so b l f u = run_stop old n
 run_last {rest} old new k' has' line_ends.TurnsUsed so b l f u = run_stop old new rest [] k' has' line_ends.TurnsUsed _ so (sym (append-nil rest)) (inl (refl, f)) l (omega arith) b u refl
 run_last {rest} old new k' has' line_ends.NoMemory so b l f u = run_stop old new rest [] k' has' line_ends.NoMemory _ so (sym (append-nil rest)) (inl (refl, f)) l (omega arith) b u refl
 
-pub run_too_long : {setting : Setting} {s0 s : SourceAccount} {k0 k : SinkAccount} {turns has n : ℕ} {rest : List ℕ} {device : Place} {labels : List ℕ} (front more : List ℕ)
+pub run_too_long : {setting : Setting} {s0 s : SourceTrace} {k0 k : SinkTrace} {turns has n : ℕ} {rest : List ℕ} {device : Place} {labels : List ℕ} (front more : List ℕ)
     → SoFar setting s0 s k0 k turns has n rest device labels → IsTooLong rest front more → RunsOn setting s0 s k0 k turns (ends.Malformed (n + 1)) device labels
 run_too_long front more so t = run_malformed so front more t.whole (malformed (reading_of-long front (omega (arith, t.long)))) t.bare (inr t.long) (omega (arith, t.long)) (omega (arith, t.behind))
 
-pub so_far_none : (setting : Setting) (source : SourceAccount) (sink : SinkAccount) (turns : ℕ) (rest : List ℕ) (device : Place) (labels : List ℕ) → rest ≡ [] → device ≡ Planned setting → labels ≡ unbound
+pub so_far_none : (setting : Setting) (source : SourceTrace) (sink : SinkTrace) (turns : ℕ) (rest : List ℕ) (device : Place) (labels : List ℕ) → rest ≡ [] → device ≡ Planned setting → labels ≡ unbound
     → SoFar setting source source sink sink turns turns 0 rest device labels
 so_far_none setting source sink turns rest device labels e f h = record {
   read = [];
@@ -286,7 +286,7 @@ so_far_none setting source sink turns rest device labels e f h = record {
 }
 
 -- a line that lets the run go on
-pub so_far_used : {setting : Setting} {s0 s : SourceAccount} {k0 k : SinkAccount} {turns has n : ℕ} {rest : List ℕ} (old new : Standing) (next more : List ℕ) (k' : SinkAccount) (has' m : ℕ) (end : LineEnd)
+pub so_far_used : {setting : Setting} {s0 s : SourceTrace} {k0 k : SinkTrace} {turns has n : ℕ} {rest : List ℕ} (old new : InterpreterState) (next more : List ℕ) (k' : SinkTrace) (has' m : ℕ) (end : LineEnd)
     → SoFar setting s0 s k0 k turns has n rest old.device old.labels → rest ≡ next ++ 10 ∷ more → IsBare next
     → UsesLine old new next k k' has has' end → stop_of end m ≡ None → SoFar setting s0 s k0 k' turns has' (n + 1) more new.device new.labels
 so_far_used old new next more k' has' m line_ends.Used so e b u h = so_far_line so next more u.0 new.device new.labels k' has' e b u.1 u.2
@@ -296,7 +296,7 @@ so_far_used old new next more k' has' m line_ends.TurnsUsed so e b u h = absurd 
 so_far_used old new next more k' has' m line_ends.NoMemory so e b u h = absurd (cc)
 
 -- what it cost
-pub used_cost : (old new : Standing) (next : List ℕ) (k k' : SinkAccount) (has has' m : ℕ) (end : LineEnd) → UsesLine old new next k k' has has' end → stop_of end m ≡ None
+pub used_cost : (old new : InterpreterState) (next : List ℕ) (k k' : SinkTrace) (has has' m : ℕ) (end : LineEnd) → UsesLine old new next k k' has has' end → stop_of end m ≡ None
     → (k'.counts.calls + has' ≡ k.counts.calls + has) × (has' ≤ has)
 used_cost old new next k k' has has' m line_ends.Used u h = (u.2.cost, (let a = u.2.cost in let b = u.2.took.counts.calls in omega arith))
 used_cost old new next k k' has has' m (line_ends.Malformed cause) u h = absurd (cc)
@@ -305,6 +305,6 @@ used_cost old new next k k' has has' m line_ends.TurnsUsed u h = absurd (cc)
 used_cost old new next k k' has has' m line_ends.NoMemory u h = absurd (cc)
 
 -- a run that is told to have ended as it did
-pub ends_as : {setting : Setting} {s0 s : SourceAccount} {k0 k : SinkAccount} {turns : ℕ} {device : Place} {labels : List ℕ} {told end : ScriptEnd} → told ≡ end
+pub ends_as : {setting : Setting} {s0 s : SourceTrace} {k0 k : SinkTrace} {turns : ℕ} {device : Place} {labels : List ℕ} {told end : ScriptEnd} → told ≡ end
     → RunsOn setting s0 s k0 k turns end device labels → RunsOn setting s0 s k0 k turns told device labels
 ends_as {setting} {s0} {s} {k0} {k} {turns} {device} {labels} same ran = subst (λ (e : ScriptEnd). RunsOn setting s0 s k0 k turns e device labels) (sym same) ran

@@ -4,29 +4,29 @@ use Rattle.drm_table.specs.declared.answers.Answer.{Answer}
 use Rattle.drm_table.specs.declared.apart.Apart.{Apart}
 use Rattle.drm_table.specs.declared.events.Event.{Event}
 use Rattle.drm_table.specs.declared.limits.Limits.{Limits}
-use Rattle.drm_model.specs.Run.{History}
+use Rattle.drm_model.specs.Run.{DeviceValue}
 use Rattle.drm_runs.specs.Script.{Setting, Place, StepsOn, Uses, IsMisplaced, IsAt, IsNowhere, WantsDevice, bound, unbound, empty_device, limited_to}
 use Rattle.drm_runs.specs.Script.Place.{Planned, Made, Refused}
 use Rattle.drm_runs.specs.declared.interpreter.LineResult.{LineResult}
 use Rattle.drm_runs.specs.declared.interpreter.LineResult.TheVariants as results
 
 -- the device, and the clients that the labels stand for
-pub record Standing : Type 0 where
+pub record InterpreterState : Type 0 where
   pub device : Place
   pub labels : List ℕ
 
 -- no device yet, and no label bound
-abbrev pub at_start : Setting → Standing
+abbrev pub at_start : Setting → InterpreterState
 at_start setting = record { device = Planned setting; labels = unbound }
 
 -- the device, once it is made
-abbrev pub device_made : Place → Option History
+abbrev pub device_made : Place → Option DeviceValue
 device_made (Planned setting) = None
 device_made (Made device) = Some device
 device_made Refused = None
 
 -- where the device is, by what there is of it, or what it will begin with
-abbrev pub place_of : Option History → Option Setting → Place
+abbrev pub place_of : Option DeviceValue → Option Setting → Place
 place_of (Some device) planned = Made device
 place_of None (Some setting) = Planned setting
 place_of None None = Refused
@@ -39,30 +39,30 @@ HasLimits Refused limits = Unit {0}
 
 -- What came of a line: it was used; or it can't be used, and nothing has changed; or there was no memory for the device that it wants, and
 -- there is none.
-abbrev pub Interprets : Standing → Standing → List ℕ → LineResult → Type 0
+abbrev pub Interprets : InterpreterState → InterpreterState → List ℕ → LineResult → Type 0
 Interprets old new line results.Unanswered = Uses old.device old.labels line [] new.device new.labels
 Interprets old new line (results.Answered result) = Uses old.device old.labels line (result ∷ []) new.device new.labels
 Interprets old new line (results.Malformed malformed) = IsMisplaced old.device line × (new ≡ old)
 Interprets old new line results.NoMemory = IsNowhere old.device × WantsDevice line × IsNowhere new.device × (new.labels ≡ old.labels)
 
 -- what came of a line of limits
-abbrev pub SetsLimits : Standing → Standing → Limits → LineResult → Type 0
+abbrev pub SetsLimits : InterpreterState → InterpreterState → Limits → LineResult → Type 0
 SetsLimits old new limits results.Unanswered =
     (setting : Setting) × (old.device ≡ Planned setting) × (new.device ≡ Made (empty_device (limited_to setting limits))) × (new.labels ≡ old.labels)
 SetsLimits old new limits (results.Answered result) = ⊥
-SetsLimits old new limits (results.Malformed malformed) = (made : History) × (old.device ≡ Made made) × (new ≡ old)
+SetsLimits old new limits (results.Malformed malformed) = (made : DeviceValue) × (old.device ≡ Made made) × (new ≡ old)
 SetsLimits old new limits results.NoMemory = IsNowhere old.device × IsNowhere new.device × (new.labels ≡ old.labels)
 
 -- a step of the device, and the label that its answer binds
-pub record Steps (old new : Standing) (binds : Option ℕ) (event : Event) (result : Result Answer Apart) : Type 0 where
-  pub before : History
-  pub after : History
+pub record Steps (old new : InterpreterState) (binds : Option ℕ) (event : Event) (result : Result Answer Apart) : Type 0 where
+  pub before : DeviceValue
+  pub after : DeviceValue
   pub at : IsAt old.device before
   pub step : StepsOn before event result after
   pub device : new.device ≡ Made after
   pub labels : new.labels ≡ bound old.labels binds result
 
 -- what came of an event that a line asks for
-abbrev pub Asks : Standing → Standing → Option ℕ → Event → Option (Result Answer Apart) → Type 0
+abbrev pub Asks : InterpreterState → InterpreterState → Option ℕ → Event → Option (Result Answer Apart) → Type 0
 Asks old new binds event (Some result) = Steps old new binds event result
 Asks old new binds event None = IsNowhere old.device × IsNowhere new.device × (new.labels ≡ old.labels)

@@ -1,7 +1,7 @@
 -- What a reader of lines has read.
 use Rattle.std.specs.Prelude.{◌≡◌, ℕ, ◌+◌, ◌*◌, ◌<◌, ◌≤◌, List, [], ◌∷◌, ◌++◌, length, Option, None, Some}
-use Rattle.drm_streams.specs.Streams.{SourceAccount}
-use Rattle.drm_streams.specs.Turns.{Spends}
+use Rattle.drm_streams.specs.Streams.{SourceTrace}
+use Rattle.drm_streams.specs.Turns.{ReadCost}
 use Rattle.drm_streams.specs.declared.turns.Refill.{Refill}
 use Rattle.drm_streams.specs.declared.turns.Refill.TheVariants as refill
 use Rattle.drm_runs.specs.Lines.{IsBare}
@@ -31,15 +31,15 @@ Scans old new scan.Wanting =
 Scans old new scan.TooLong = IsBare old.held → (front rest : List ℕ) × IsTooLong (old.held ++ old.pending) front rest
 
 -- What came of taking more bytes, at most 256. The line stays as it is.
-abbrev pub Refilled : Refill → Buffered → Buffered → SourceAccount → SourceAccount → ℕ → ℕ → Type 0
+abbrev pub Refilled : Refill → Buffered → Buffered → SourceTrace → SourceTrace → ℕ → ℕ → Type 0
 Refilled (refill.Got n) old new before after had has =
-    Spends before after new.pending had has × (new.held ≡ old.held) × (length new.pending ≤ 256) × (has < had)
-Refilled refill.End old new before after had has = Spends before after [] had has × (new ≡ old) × (before.counts.ends < after.counts.ends)
-Refilled refill.Fault old new before after had has = Spends before after [] had has × (new ≡ old) × (before.counts.faults < after.counts.faults)
-Refilled refill.TurnsUsed old new before after had has = Spends before after [] had has × (new ≡ old) × (has ≡ 0)
+    ReadCost before after new.pending had has × (new.held ≡ old.held) × (length new.pending ≤ 256) × (has < had)
+Refilled refill.End old new before after had has = ReadCost before after [] had has × (new ≡ old) × (before.counts.ends < after.counts.ends)
+Refilled refill.Fault old new before after had has = ReadCost before after [] had has × (new ≡ old) × (before.counts.faults < after.counts.faults)
+Refilled refill.TurnsUsed old new before after had has = ReadCost before after [] had has × (new ≡ old) × (has ≡ 0)
 
 -- What one line takes of the pending bytes and the bytes given.
-abbrev pub Splits : List ℕ → Buffered → SourceAccount → SourceAccount → ℕ → ℕ → NextLine → Type 0
+abbrev pub Splits : List ℕ → Buffered → SourceTrace → SourceTrace → ℕ → ℕ → NextLine → Type 0
 Splits bytes new before after had has next_line.Line =
     (bytes ≡ new.held ++ 10 ∷ new.pending) × IsBare new.held × (length new.held ≤ 255) × (length new.pending ≤ 255)
 Splits bytes new before after had has next_line.End = (bytes ≡ new.held) × (new.pending ≡ []) × IsBare new.held × (length new.held ≤ 255) × (before.counts.ends < after.counts.ends)
@@ -48,25 +48,25 @@ Splits bytes new before after had has next_line.ReadFault = (bytes ≡ new.held)
 Splits bytes new before after had has next_line.TurnsUsed = (bytes ≡ new.held) × (new.pending ≡ []) × IsBare new.held × (length new.held ≤ 255) × (has ≡ 0)
 
 -- One line was read, and these bytes were given for it, at most 256 by each take.
-pub record Reads (old new : Buffered) (before after : SourceAccount) (had has : ℕ) (answer : NextLine) (given : List ℕ) : Type 0 where
-  pub spent : Spends before after given had has
+pub record Reads (old new : Buffered) (before after : SourceTrace) (had has : ℕ) (answer : NextLine) (given : List ℕ) : Type 0 where
+  pub spent : ReadCost before after given had has
   pub splits : Splits (old.pending ++ given) new before after had has answer
   pub chunks : length given + 256 * before.counts.calls ≤ 256 * after.counts.calls
   pub fuel : answer ≡ next_line.Line → 256 * has + length new.pending < 256 * had + length old.pending
 
 -- A line is being read, and these bytes were given for it so far.
-pub record ReadsSoFar (old new : Buffered) (before after : SourceAccount) (had has : ℕ) (given : List ℕ) : Type 0 where
-  pub spent : Spends before after given had has
+pub record ReadsSoFar (old new : Buffered) (before after : SourceTrace) (had has : ℕ) (given : List ℕ) : Type 0 where
+  pub spent : ReadCost before after given had has
   pub whole : old.pending ++ given ≡ new.held ++ new.pending
   pub bare : IsBare new.held
   pub chunks : length given + 256 * before.counts.calls ≤ 256 * after.counts.calls
   pub fuel : 256 * has + length new.held + length new.pending ≤ 256 * had + length old.pending
 
 -- A piece more: whichever line is being read goes on, with fewer turns left, or it was read.
-abbrev pub ReadsOn : Buffered → Buffered → SourceAccount → SourceAccount → ℕ → ℕ → Option NextLine → Type 0
+abbrev pub ReadsOn : Buffered → Buffered → SourceTrace → SourceTrace → ℕ → ℕ → Option NextLine → Type 0
 ReadsOn mid new between after left has None =
-    ((old : Buffered) (before : SourceAccount) (had : ℕ) (given : List ℕ) → ReadsSoFar old mid before between had left given
+    ((old : Buffered) (before : SourceTrace) (had : ℕ) (given : List ℕ) → ReadsSoFar old mid before between had left given
     → (more : List ℕ) × ReadsSoFar old new before after had has more) × (has < left) × (after.counts.calls + has ≡ between.counts.calls + left)
 ReadsOn mid new between after left has (Some answer) =
-    (old : Buffered) (before : SourceAccount) (had : ℕ) (given : List ℕ) → ReadsSoFar old mid before between had left given
+    (old : Buffered) (before : SourceTrace) (had : ℕ) (given : List ℕ) → ReadsSoFar old mid before between had left given
     → (more : List ℕ) × Reads old new before after had has answer more

@@ -2,7 +2,7 @@
 use Rattle.std.specs.Prelude.{◌≡◌, ℕ, ◌+◌, ◌*◌, ◌<◌, ◌≤◌, List, [], ◌∷◌, ◌++◌, ◌⊎◌, Bool, true, false, Result, length}
 use Rattle.drm_table.specs.declared.answers.Answer.{Answer}
 use Rattle.drm_table.specs.declared.apart.Apart.{Apart}
-use Rattle.drm_streams.specs.Streams.{SourceAccount, SinkAccount}
+use Rattle.drm_streams.specs.Streams.{SourceTrace, SinkTrace}
 use Rattle.drm_streams.specs.Turns.{Gave, Took}
 use Rattle.drm_script.specs.Lines.{answer_line}
 use Rattle.drm_runs.specs.Lines.{IsBare, joined}
@@ -106,7 +106,7 @@ is_malformed ends.TurnsUsed = false
 is_malformed ends.NoMemory = false
 
 -- each end with its cause, and the device and the labels at it
-abbrev pub Ends : Setting → ScriptEnd → SourceAccount → SourceAccount → SinkAccount → SinkAccount → ℕ → List ℕ → List ℕ → Place → List ℕ → Type 0
+abbrev pub Ends : Setting → ScriptEnd → SourceTrace → SourceTrace → SinkTrace → SinkTrace → ℕ → List ℕ → List ℕ → Place → List ℕ → Type 0
 Ends setting ends.Done source source' sink sink' turns read written device labels =
     IsDone setting (source.counts.ends < source'.counts.ends) read written device labels × (source.counts.ends < source'.counts.ends)
 Ends setting (ends.Malformed number) source source' sink sink' turns read written device labels =
@@ -123,7 +123,7 @@ Ends setting ends.NoMemory source source' sink sink' turns read written device l
 
 -- A run on a device that begins so: what it read and wrote, at what cost, why it ended, and the device and the labels then. Each take asks
 -- for 256 bytes at most.
-pub record RunsOn (setting : Setting) (source source' : SourceAccount) (sink sink' : SinkAccount) (turns : ℕ) (end : ScriptEnd) (device : Place) (labels : List ℕ) : Type 0 where
+pub record RunsOn (setting : Setting) (source source' : SourceTrace) (sink sink' : SinkTrace) (turns : ℕ) (end : ScriptEnd) (device : Place) (labels : List ℕ) : Type 0 where
   pub read : List ℕ
   pub written : List ℕ
   pub gave : Gave source source' read
@@ -133,5 +133,5 @@ pub record RunsOn (setting : Setting) (source source' : SourceAccount) (sink sin
   pub ends : Ends setting end source source' sink sink' turns read written device labels
 
 -- a run on a device of the test topology, with the program's limits where the script sets none
-abbrev pub Runs : SourceAccount → SourceAccount → SinkAccount → SinkAccount → ℕ → ScriptEnd → Type 0
+abbrev pub Runs : SourceTrace → SourceTrace → SinkTrace → SinkTrace → ℕ → ScriptEnd → Type 0
 Runs source source' sink sink' turns end = (device : Place) × (labels : List ℕ) × RunsOn usual source source' sink sink' turns end device labels

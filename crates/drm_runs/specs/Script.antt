@@ -9,7 +9,7 @@ use Rattle.drm_table.specs.declared.limits.Limits.{Limits}
 use Rattle.drm_modes.specs.declared.kinds.PlaneKind.TheVariants.{Overlay as OverlayPlane, Primary as PrimaryPlane}
 use Rattle.drm_modes.specs.Topology.{Topology}
 use Rattle.drm_model.specs.Rows.{empty_rows}
-use Rattle.drm_model.specs.Run.{History, Step, Answers, noted_events, noted_in, rows_of}
+use Rattle.drm_model.specs.Run.{DeviceValue, Step, Answers, journaled_events, journaled_in, rows_of}
 use Rattle.drm_script.specs.declared.commands.Command.{Command}
 use Rattle.drm_script.specs.declared.commands.Command.TheVariants as commands
 use Rattle.drm_script.specs.declared.reading.Reading.TheVariants as readings
@@ -38,17 +38,17 @@ abbrev pub limited_to : Setting → Limits → Setting
 limited_to setting limits = record { topology = setting.topology; limits = limits }
 
 -- a device of this topology and these limits that has noted nothing
-abbrev pub empty_device : Setting → History
+abbrev pub empty_device : Setting → DeviceValue
 empty_device setting = record { topology = setting.topology; limits = setting.limits; journal = [] }
 
 -- the device of a script: there is none yet, and it will begin so; it is made; or memory for it was refused
 pub data Place : Type 0 where
   Planned : Setting → Place
-  Made : History → Place
+  Made : DeviceValue → Place
   Refused : Place
 
 -- the device, which is made as the first line asks for it
-abbrev pub IsAt : Place → History → Type 0
+abbrev pub IsAt : Place → DeviceValue → Type 0
 IsAt (Planned setting) device = device ≡ empty_device setting
 IsAt (Made made) device = device ≡ made
 IsAt Refused device = ⊥
@@ -66,14 +66,14 @@ event_of labels (commands.Close label) = events.Close (slice_index labels label)
 event_of labels (commands.Ask label call) = events.Ask (slice_index labels label) call
 
 -- the device behind an event: it is noted, save where what stands apart is answered
-abbrev pub noted_by : History → Event → Result Answer Apart → History
-noted_by device event (Ok answer) = noted_in device event
-noted_by device event (Err apart) = device
+abbrev pub journaled_by : DeviceValue → Event → Result Answer Apart → DeviceValue
+journaled_by device event (Ok answer) = journaled_in device event
+journaled_by device event (Err apart) = device
 
 -- The device answers the event so.
-pub record StepsOn (before : History) (event : Event) (result : Result Answer Apart) (after : History) : Type 0 where
+pub record StepsOn (before : DeviceValue) (event : Event) (result : Result Answer Apart) (after : DeviceValue) : Type 0 where
   pub answered : Step (rows_of before) event result (rows_of after)
-  pub noted : after ≡ noted_by before event result
+  pub journaled : after ≡ journaled_by before event result
 
 -- the label that a command would bind
 abbrev pub label_bound : Command → Option ℕ
@@ -92,7 +92,7 @@ pub data Uses (device : Place) (labels line : List ℕ) : List (Result Answer Ap
   skipped : reading_of line ≡ Some readings.Skipped → Uses device labels line [] device labels
   limited : {setting : Setting} {limits : Limits} → device ≡ Planned setting → reading_of line ≡ Some (readings.Limits limits)
       → Uses device labels line [] (Made (empty_device (limited_to setting limits))) labels
-  asked : {command : Command} {result : Result Answer Apart} {after : History} (before : History) → reading_of line ≡ Some (readings.Says command) → IsAt device before
+  asked : {command : Command} {result : Result Answer Apart} {after : DeviceValue} (before : DeviceValue) → reading_of line ≡ Some (readings.Says command) → IsAt device before
       → StepsOn before (event_of labels command) result after → Uses device labels line (result ∷ []) (Made after) (bound labels (label_bound command) result)
 
 -- no label is bound yet
@@ -113,7 +113,7 @@ script_text (result ∷ results) = answer_line result ++ script_text results
 -- a line that can't be used here: it is malformed, or sets limits where the device is made already
 pub data IsMisplaced (device : Place) (line : List ℕ) : Type 0 where
   malformed : reading_of line ≡ None → IsMisplaced device line
-  late : {limits : Limits} {made : History} → device ≡ Made made → reading_of line ≡ Some (readings.Limits limits) → IsMisplaced device line
+  late : {limits : Limits} {made : DeviceValue} → device ≡ Made made → reading_of line ≡ Some (readings.Limits limits) → IsMisplaced device line
 
 -- a line that wants a device where none is made yet
 pub data WantsDevice (line : List ℕ) : Type 0 where
@@ -137,8 +137,8 @@ pub data AskFor : List (List ℕ) → List (Result Answer Apart) → List Event 
 abbrev pub AnswersFromEmpty : Topology → List (List ℕ) → List (Result Answer Apart) → Place → List ℕ → Type 0
 AnswersFromEmpty topology lines results device labels =
     (limits : Limits) × (events : List Event) × AskFor lines results events labels
-    × (made : History) × IsAt device made × Answers (empty_rows topology limits) events results (rows_of made)
-    × (made ≡ record { topology = topology; limits = limits; journal = noted_events events results })
+    × (made : DeviceValue) × IsAt device made × Answers (empty_rows topology limits) events results (rows_of made)
+    × (made ≡ record { topology = topology; limits = limits; journal = journaled_events events results })
 
 abbrev pub ScriptsAreAnswered : Type 0
 ScriptsAreAnswered = (setting : Setting) (lines : List (List ℕ)) (results : List (Result Answer Apart)) (device : Place) (labels : List ℕ)

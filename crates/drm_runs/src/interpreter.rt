@@ -47,9 +47,9 @@ impl Drop for Interpreter {
 impl Model for Interpreter {
     ghost use Rattle.std.specs.Prelude.{◌≡◌, true};
     ghost use Rattle.drm_table.specs.Limits.{are_in_range};
-    ghost use Rattle.drm_runs.specs.Interpreter.{HasLimits, Standing, place_of};
+    ghost use Rattle.drm_runs.specs.Interpreter.{HasLimits, InterpreterState, place_of};
 
-    ghost Value = { Standing };
+    ghost Value = { InterpreterState };
 
     ghost view = { λ s. record { device = place_of s.device s.planned; labels = s.labels } };
 
@@ -60,7 +60,7 @@ impl Interpreter {
     ghost use Rattle.std.specs.Prelude.{◌≡◌, slice_index, IfSome, IfNone, None, Some, true};
     ghost use Rattle.std.specs.Option.{option_map};
     ghost use Rattle.drm_table.specs.Limits as ranges;
-    ghost use Rattle.drm_model.specs.Run.{History};
+    ghost use Rattle.drm_model.specs.Run.{DeviceValue};
     ghost use Rattle.drm_runs.specs.Script.{IsAt, IsNowhere, StepsOn, bound, event_of, label_bound};
     ghost use Rattle.drm_runs.specs.Script.Place.{Made};
     ghost use Rattle.drm_runs.specs.Interpreter.{Asks, HasLimits, Interprets, SetsLimits, at_start, device_made};
@@ -119,7 +119,7 @@ impl Interpreter {
 
     /// One step of the device, which is made if it isn't there; none if there is no memory to make it.
     fn step(&mut self, alloc: Global, event: Event) -> Option<Result<Answer, Apart>>
-        ensures some { IfSome result (λ outcome. (before : History) × (after : History) × IsAt self.old.device before × StepsOn before event outcome after × (self.new.device ≡ Made after)) }
+        ensures some { IfSome result (λ outcome. (before : DeviceValue) × (after : DeviceValue) × IsAt self.old.device before × StepsOn before event outcome after × (self.new.device ≡ Made after)) }
         ensures labels { self.new.labels ≡ self.old.labels }
         ensures none { IfNone result (IsNowhere self.old.device × IsNowhere self.new.device) }
     {

@@ -126,8 +126,8 @@ impl LineReader {
     /// Takes bytes from the source, once all at hand are used.
     fn refill<S: Source>(&mut self, source: &mut S, turns: &mut u64) -> Refill
         requires empty { self.old.pending ≡ [] }
-        requires countable { (S.account source.old).counts.calls + turns.old < 2 ^ 48 }
-        ensures { Refilled result self.old self.new (S.account source.old) (S.account source.new) turns.old turns.new }
+        requires countable { (S.trace source.old).counts.calls + turns.old < 2 ^ 48 }
+        ensures { Refilled result self.old self.new (S.trace source.old) (S.trace source.new) turns.old turns.new }
     {
         let refill = take_some(source, &mut self.chunk, turns);
         if let Refill::Got(count) = refill {
@@ -139,8 +139,8 @@ impl LineReader {
 
     /// Looks for the line's end, and takes more bytes where there is none. Gives how the line was read, once it was.
     fn read_on<S: Source>(&mut self, source: &mut S, turns: &mut u64) -> Option<NextLine>
-        requires countable { (S.account source.old).counts.calls + turns.old < 2 ^ 48 }
-        ensures { ReadsOn self.old self.new (S.account source.old) (S.account source.new) turns.old turns.new result }
+        requires countable { (S.trace source.old).counts.calls + turns.old < 2 ^ 48 }
+        ensures { ReadsOn self.old self.new (S.trace source.old) (S.trace source.new) turns.old turns.new result }
     {
         match self.scan() {
             Scan::Line => Some(NextLine::Line),
@@ -163,8 +163,8 @@ impl LineReader {
 
     /// Reads the next line, in place of the one that is held.
     pub fn next_line<S: Source>(&mut self, source: &mut S, turns: &mut u64) -> NextLine
-        requires countable { (S.account source.old).counts.calls + turns.old < 2 ^ 48 }
-        ensures { (given : List ℕ) × Reads self.old self.new (S.account source.old) (S.account source.new) turns.old turns.new result given }
+        requires countable { (S.trace source.old).counts.calls + turns.old < 2 ^ 48 }
+        ensures { (given : List ℕ) × Reads self.old self.new (S.trace source.old) (S.trace source.new) turns.old turns.new result given }
     {
         self.clear();
         'pieces: loop {

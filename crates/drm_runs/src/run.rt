@@ -55,10 +55,10 @@ impl Run {
     /// Uses the line that is held. Gives how the run ends, where it doesn't go on.
     fn use_held<K: Sink>(&mut self, alloc: Global, sink: &mut K) -> Option<Stop>
         requires number { self.old.number + 1 < 2 ^ 64 }
-        requires sink_calls { (K.account sink.old).counts.calls + self.old.turns < 2 ^ 48 }
+        requires sink_calls { (K.trace sink.old).counts.calls + self.old.turns < 2 ^ 48 }
         ensures number { self.new.number ≡ self.old.number + 1 }
         ensures reader { self.new.reader ≡ self.old.reader }
-        ensures uses { UsesHeld self.old self.new (K.account sink.old) (K.account sink.new) result }
+        ensures uses { UsesHeld self.old self.new (K.trace sink.old) (K.trace sink.new) result }
     {
         self.number += 1;
         let line = self.reader.line();
@@ -69,8 +69,8 @@ impl Run {
     /// Uses what stands behind the last line end, if anything does.
     fn use_last<K: Sink>(&mut self, alloc: Global, sink: &mut K) -> Stop
         requires number { self.old.number + 1 < 2 ^ 64 }
-        requires sink_calls { (K.account sink.old).counts.calls + self.old.turns < 2 ^ 48 }
-        ensures { UsesLast self.old self.new (K.account sink.old) (K.account sink.new) result }
+        requires sink_calls { (K.trace sink.old).counts.calls + self.old.turns < 2 ^ 48 }
+        ensures { UsesLast self.old self.new (K.trace sink.old) (K.trace sink.new) result }
     {
         if self.reader.line().is_empty() {
             return Stop::of(ScriptEnd::Done);
@@ -86,8 +86,8 @@ impl Run {
         source: &mut S,
         sink: &mut K,
     ) -> Option<Stop>
-        requires countable { IsCountable self.old (S.account source.old) (K.account sink.old) }
-        ensures { Advances self.old self.new (S.account source.old) (S.account source.new) (K.account sink.old) (K.account sink.new) result }
+        requires countable { IsCountable self.old (S.trace source.old) (K.trace sink.old) }
+        ensures { Advances self.old self.new (S.trace source.old) (S.trace source.new) (K.trace sink.old) (K.trace sink.new) result }
     {
         match self.reader.next_line(source, &mut self.turns) {
             NextLine::Line => self.use_held(alloc, sink),
@@ -110,9 +110,9 @@ pub fn run_script<S: Source, K: Sink>(
     sink: &mut K,
     turns: u64,
 ) -> ScriptEnd
-    requires source_calls { (S.account source.old).counts.calls + turns < 2 ^ 48 }
-    requires sink_calls { (K.account sink.old).counts.calls + turns < 2 ^ 48 }
-    ensures { Runs (S.account source.old) (S.account source.new) (K.account sink.old) (K.account sink.new) turns result }
+    requires source_calls { (S.trace source.old).counts.calls + turns < 2 ^ 48 }
+    requires sink_calls { (K.trace sink.old).counts.calls + turns < 2 ^ 48 }
+    ensures { Runs (S.trace source.old) (S.trace source.new) (K.trace sink.old) (K.trace sink.new) turns result }
 {
     run_with_cause(alloc, source, sink, turns).0
 }
@@ -124,9 +124,9 @@ pub fn run_with_cause<S: Source, K: Sink>(
     sink: &mut K,
     turns: u64,
 ) -> (ScriptEnd, Option<Malformed>)
-    requires source_calls { (S.account source.old).counts.calls + turns < 2 ^ 48 }
-    requires sink_calls { (K.account sink.old).counts.calls + turns < 2 ^ 48 }
-    ensures runs { Runs (S.account source.old) (S.account source.new) (K.account sink.old) (K.account sink.new) turns result.0 }
+    requires source_calls { (S.trace source.old).counts.calls + turns < 2 ^ 48 }
+    requires sink_calls { (K.trace sink.old).counts.calls + turns < 2 ^ 48 }
+    ensures runs { Runs (S.trace source.old) (S.trace source.new) (K.trace sink.old) (K.trace sink.new) turns result.0 }
     ensures told { is_some result.1 ≡ is_malformed result.0 }
 {
     let ran = run_on(alloc, Setup::usual(), source, sink, turns);
@@ -153,9 +153,9 @@ pub fn run_on<S: Source, K: Sink>(
     sink: &mut K,
     turns: u64,
 ) -> Ran
-    requires source_calls { (S.account source.old).counts.calls + turns < 2 ^ 48 }
-    requires sink_calls { (K.account sink.old).counts.calls + turns < 2 ^ 48 }
-    ensures runs { RunsOn setup (S.account source.old) (S.account source.new) (K.account sink.old) (K.account sink.new) turns result.end result.interpreter.device result.interpreter.labels }
+    requires source_calls { (S.trace source.old).counts.calls + turns < 2 ^ 48 }
+    requires sink_calls { (K.trace sink.old).counts.calls + turns < 2 ^ 48 }
+    ensures runs { RunsOn setup (S.trace source.old) (S.trace source.new) (K.trace sink.old) (K.trace sink.new) turns result.end result.interpreter.device result.interpreter.labels }
     ensures told { is_some result.cause ≡ is_malformed result.end }
 {
     let mut run = Run::new(setup, turns);

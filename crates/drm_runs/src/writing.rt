@@ -20,9 +20,9 @@ pub(crate) enum LineEnd {
 }
 
 /// Writes the line of an answer.
-fn write_answer<K: Sink>(answer: &Result<Answer, Apart>, sink: &mut K, turns: &mut u64) -> LineEnd
-    requires { (K.account sink.old).counts.calls + turns.old < 2 ^ 48 }
-    ensures { WritesAnswer answer.now (K.account sink.old) (K.account sink.new) turns.old turns.new result }
+fn write_line<K: Sink>(answer: &Result<Answer, Apart>, sink: &mut K, turns: &mut u64) -> LineEnd
+    requires { (K.trace sink.old).counts.calls + turns.old < 2 ^ 48 }
+    ensures { WritesAnswer answer.now (K.trace sink.old) (K.trace sink.new) turns.old turns.new result }
 {
     let line = line_of(answer);
     match put_all(sink, line.as_bytes(), turns) {
@@ -40,12 +40,12 @@ pub(crate) fn use_line<K: Sink>(
     sink: &mut K,
     turns: &mut u64,
 ) -> LineEnd
-    requires { (K.account sink.old).counts.calls + turns.old < 2 ^ 48 }
-    ensures { UsesLine interpreter.old interpreter.new line.now (K.account sink.old) (K.account sink.new) turns.old turns.new result }
+    requires { (K.trace sink.old).counts.calls + turns.old < 2 ^ 48 }
+    ensures { UsesLine interpreter.old interpreter.new line.now (K.trace sink.old) (K.trace sink.new) turns.old turns.new result }
 {
     match interpreter.interpret(alloc, line) {
         LineResult::Unanswered => LineEnd::Used,
-        LineResult::Answered(answer) => write_answer(&answer, sink, turns),
+        LineResult::Answered(answer) => write_line(&answer, sink, turns),
         LineResult::Malformed(malformed) => LineEnd::Malformed(malformed),
         LineResult::NoMemory => LineEnd::NoMemory,
     }

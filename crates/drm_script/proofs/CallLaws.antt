@@ -5,8 +5,8 @@ use Rattle.std.proofs.lemmas.Slice.Eq.{bytes_eq-Decides}
 use Rattle.drm_table.specs.declared.calls.Call.{Call}
 use Rattle.drm_table.specs.declared.calls.Call.TheVariants as calls
 use Rattle.drm_table.specs.declared.fields.Field.{Field}
-use Rattle.drm_table.specs.declared.kinds.CallKind.{CallKind}
-use Rattle.drm_table.specs.declared.kinds.CallKind.TheVariants as kinds
+use Rattle.drm_table.specs.declared.calls.CallKind.{CallKind}
+use Rattle.drm_table.specs.declared.calls.CallKind.TheVariants as kinds
 use Rattle.drm_table.specs.Table.{TableRow, kind_row, kind_word, kind_layout, call_kind_of_word, row_of, call_row, call_with, IsReadBack, AreFieldsOf}
 use Rattle.drm_table.proofs.TableRows.{kind-short, word-found, word-of-its-own, read-back, fields-of}
 use Rattle.drm_script.specs.Calls.{raw_call, raw_at, row_call_at, call_behind, call_at}

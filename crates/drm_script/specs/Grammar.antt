@@ -9,7 +9,7 @@ use Rattle.drm_table.specs.declared.events.Opening.TheVariants as openings
 use Rattle.drm_table.specs.declared.limits.Limits.{Limits}
 use Rattle.drm_table.specs.declared.fields.Field.{Field}
 use Rattle.drm_table.specs.declared.fields.Field.TheVariants as fields
-use Rattle.drm_table.specs.declared.kinds.CallKind.{CallKind}
+use Rattle.drm_table.specs.declared.calls.CallKind.{CallKind}
 use Rattle.drm_table.specs.Fields.{FitsLayout}
 use Rattle.drm_table.specs.Limits.{are_in_range}
 use Rattle.drm_table.specs.Table.{row_of, call_row, kind_layout, kind_word}

@@ -7,7 +7,7 @@ ghost use Rattle.drm_script.specs.Lines.{id_behind, joined_ids, list_words, reso
 
 use crate::texts::LINE;
 use arrayvec::ArrayString;
-use drm_table::ShownList;
+use drm_table::{ResourceIds, ShownList};
 
 /// An id in decimal digits.
 fn push_digits(text: &mut ArrayString<LINE>, id: u32)
@@ -65,13 +65,22 @@ pub(crate) fn push_list(text: &mut ArrayString<LINE>, list: &ShownList)
     push_joined(text, list);
 }
 
+/// The ids of mode objects or framebuffers joined by commas, or a dash where there are none.
+fn push_objects(text: &mut ArrayString<LINE>, ids: &ResourceIds)
+    requires { array_string_len text.old + 704 ≤ LINE }
+    ensures bytes { text.new.bytes ≡ text.old.bytes ++ joined_ids ids.now }
+    ensures len { array_string_len text.new ≤ array_string_len text.old + 704 }
+{
+    push_joined(text, &ids.list());
+}
+
 /// The ids of CRTCs, connectors, encoders and framebuffers, each behind its word.
 pub(crate) fn push_resources(
     text: &mut ArrayString<LINE>,
-    crtcs: &ShownList,
-    connectors: &ShownList,
-    encoders: &ShownList,
-    framebuffers: &ShownList,
+    crtcs: &ResourceIds,
+    connectors: &ResourceIds,
+    encoders: &ResourceIds,
+    framebuffers: &ResourceIds,
 )
     requires { array_string_len text.old ≡ 0 }
     ensures bytes { text.new.bytes ≡ text.old.bytes
@@ -79,11 +88,11 @@ pub(crate) fn push_resources(
     ensures len { array_string_len text.new < LINE }
 {
     text.push_str("crtcs ");
-    push_joined(text, crtcs);
+    push_objects(text, crtcs);
     text.push_str(" connectors ");
-    push_joined(text, connectors);
+    push_objects(text, connectors);
     text.push_str(" encoders ");
-    push_joined(text, encoders);
+    push_objects(text, encoders);
     text.push_str(" framebuffers ");
-    push_joined(text, framebuffers);
+    push_objects(text, framebuffers);
 }

@@ -3,8 +3,8 @@ use Rattle.std.proofs.Common.{◌≡◌, ℕ, zero, suc, ◌+◌, ◌<◌, List,
 use Rattle.std.specs.List.{flat_map}
 use Rattle.std.proofs.lemmas.Grind.{flat_map-append}
 use Rattle.std.proofs.lemmas.List.{take-append-drop}
-use Rattle.drm_streams.specs.Streams.{SinkAccount}
-use Rattle.drm_streams.specs.Turns.{Pays, PaysPart}
+use Rattle.drm_streams.specs.Streams.{SinkTrace}
+use Rattle.drm_streams.specs.Turns.{WriteCost, PartialWriteCost}
 use Rattle.drm_server.specs.declared.listing.ListEnd.TheVariants as ends
 use Rattle.drm_model.specs.Rows.{Rows}
 use Rattle.drm_server.specs.Listing.{Lists, audit_text}
@@ -48,32 +48,32 @@ module _ {X : Type 0} (line : X → List ℕ) where
 
 -- ---- the ends of a listing
 
-pub listed : (w : Rows) (a b : SinkAccount) (t u : ℕ) → Pays a b (audit_text w) t u → Lists w a b t ends.Done
+pub listed : (w : Rows) (a b : SinkTrace) (t u : ℕ) → WriteCost a b (audit_text w) t u → Lists w a b t ends.Done
 listed w a b t u h = record {
   written = audit_text w;
   later = [];
   parts = sym (append-nil (audit_text w));
   took = h.took;
   turns_at_most = let c = h.cost in omega (arith, c);
-  because = refl;
+  end_condition = refl;
 }
 
-pub listed-fault : (w : Rows) (a b : SinkAccount) (t u : ℕ) → PaysPart a b (audit_text w) t u → a.counts.faults < b.counts.faults → Lists w a b t ends.WriteFault
+pub listed-fault : (w : Rows) (a b : SinkTrace) (t u : ℕ) → PartialWriteCost a b (audit_text w) t u → a.counts.faults < b.counts.faults → Lists w a b t ends.WriteFault
 listed-fault w a b t u h f = record {
   written = h.front;
   later = h.rest;
   parts = h.parts;
   took = h.pays.took;
   turns_at_most = let c = h.pays.cost in omega (arith, c);
-  because = (h.more, f);
+  end_condition = (h.more, f);
 }
 
-pub listed-turns : (w : Rows) (a b : SinkAccount) (t u : ℕ) → PaysPart a b (audit_text w) t u → u ≡ 0 → Lists w a b t ends.TurnsUsed
+pub listed-turns : (w : Rows) (a b : SinkTrace) (t u : ℕ) → PartialWriteCost a b (audit_text w) t u → u ≡ 0 → Lists w a b t ends.TurnsUsed
 listed-turns w a b t u h e = record {
   written = h.front;
   later = h.rest;
   parts = h.parts;
   took = h.pays.took;
   turns_at_most = let c = h.pays.cost in omega (arith, c);
-  because = (h.more, let c = h.pays.cost in omega (arith, c, e));
+  end_condition = (h.more, let c = h.pays.cost in omega (arith, c, e));
 }

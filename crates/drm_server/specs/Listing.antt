@@ -5,7 +5,7 @@ use Rattle.drm_table.specs.declared.audits.AuditKind.{AuditKind}
 use Rattle.drm_table.specs.Audits.{kinds}
 use Rattle.drm_model.specs.Rows.{Rows}
 use Rattle.drm_model.specs.Audit.{audit_rows, rising_rows}
-use Rattle.drm_streams.specs.Streams.{SinkAccount}
+use Rattle.drm_streams.specs.Streams.{SinkTrace}
 use Rattle.drm_streams.specs.Turns.{Took}
 use Rattle.drm_script.specs.Lines.{audit_line}
 use Rattle.drm_server.specs.declared.listing.ListEnd.{ListEnd}
@@ -19,17 +19,17 @@ kind_text w kind = flat_map (audit_line kind) (rising_rows (audit_rows w kind))
 unfoldable pub audit_text : Rows → List ℕ
 audit_text w = flat_map (kind_text w) kinds
 
--- why a listing ended, by what was not written and what the sink's account shows
-abbrev pub Because : ListEnd → List ℕ → SinkAccount → SinkAccount → ℕ → Type 0
-Because ends.Done later old new turns = later ≡ []
-Because ends.WriteFault later old new turns = (0 < length later) × (old.counts.faults < new.counts.faults)
-Because ends.TurnsUsed later old new turns = (0 < length later) × (new.counts.calls ≡ old.counts.calls + turns)
+-- why a listing ended, by what was not written and what the sink's trace shows
+abbrev pub EndCondition : ListEnd → List ℕ → SinkTrace → SinkTrace → ℕ → Type 0
+EndCondition ends.Done later old new turns = later ≡ []
+EndCondition ends.WriteFault later old new turns = (0 < length later) × (old.counts.faults < new.counts.faults)
+EndCondition ends.TurnsUsed later old new turns = (0 < length later) × (new.counts.calls ≡ old.counts.calls + turns)
 
 -- A listing: what it wrote, a front of the whole, at what cost, and why it ended.
-pub record Lists (w : Rows) (old new : SinkAccount) (turns : ℕ) (end : ListEnd) : Type 0 where
+pub record Lists (w : Rows) (old new : SinkTrace) (turns : ℕ) (end : ListEnd) : Type 0 where
   pub written : List ℕ
   pub later : List ℕ
   pub parts : audit_text w ≡ written ++ later
   pub took : Took old new written
   pub turns_at_most : new.counts.calls ≤ old.counts.calls + turns
-  pub because : Because end later old new turns
+  pub end_condition : EndCondition end later old new turns

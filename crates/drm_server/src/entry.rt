@@ -104,11 +104,9 @@ fn stop_at<R: Print + Eprint>(rt: &R, error: &Error) -> Outcome {
 }
 
 /// Does what the command line asks for.
-fn carry_out<R: Input + Print + Eprint + Files + Net + AllocGlobal + Log + Wait + Threads + Sync>(
-    rt: &R,
-    alloc: Global,
-    words: &[String],
-) -> Outcome {
+fn carry_out_command<
+    R: Input + Print + Eprint + Files + Net + AllocGlobal + Log + Wait + Threads + Sync,
+>(rt: &R, alloc: Global, words: &[String]) -> Outcome {
     match read_words(alloc, words) {
         Ok(Some(Asked::Run(running))) => run(rt, alloc, running),
         Ok(Some(Asked::Check(checking))) => check(rt, alloc, &checking),
@@ -126,7 +124,7 @@ pub fn program<
 >(rt: &R) -> ExitCode {
     let alloc: Global = rt.alloc();
     let outcome = match words_of(rt, alloc) {
-        Ok(words) => carry_out(rt, alloc, words.as_slice()),
+        Ok(words) => carry_out_command(rt, alloc, words.as_slice()),
         Err(fault) => outcome_of_fault(fault),
     };
     let line = outcome.line.as_str();

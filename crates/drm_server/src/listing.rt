@@ -32,8 +32,8 @@ pub enum ListEnd {
 /// Writes a line for each row of the device, kind by kind, the rows of a kind in the order of their numbers, in at most so
 /// many calls of the sink. A line has the kind's name and the row's four numbers (own).
 pub fn list_audit<K: Sink>(device: &Device, sink: &mut K, turns: u64) -> ListEnd
-    requires { (K.account sink.old).counts.calls + turns < 2 ^ 48 }
-    ensures { Lists (rows_of device.now) (K.account sink.old) (K.account sink.new) turns result }
+    requires { (K.trace sink.old).counts.calls + turns < 2 ^ 48 }
+    ensures { Lists (rows_of device.now) (K.trace sink.old) (K.trace sink.new) turns result }
 {
     let mut left = turns;
     for kind in AuditKind::ALL {
@@ -48,8 +48,8 @@ pub fn list_audit<K: Sink>(device: &Device, sink: &mut K, turns: u64) -> ListEnd
 
 /// Writes the lines of a kind.
 fn list_kind<K: Sink>(device: &Device, kind: AuditKind, sink: &mut K, turns: &mut u64) -> Written
-    requires { (K.account sink.old).counts.calls + turns.old < 2 ^ 48 }
-    ensures { WritesOut result (K.account sink.old) (K.account sink.new) (kind_text (rows_of device.now) kind) turns.old turns.new }
+    requires { (K.trace sink.old).counts.calls + turns.old < 2 ^ 48 }
+    ensures { WritesOut result (K.trace sink.old) (K.trace sink.new) (kind_text (rows_of device.now) kind) turns.old turns.new }
 {
     for number in 0..PAGES {
         let page = device.audit(kind, number * PAGE);
@@ -67,8 +67,8 @@ fn list_kind<K: Sink>(device: &Device, kind: AuditKind, sink: &mut K, turns: &mu
 
 /// Writes the lines of some rows of a kind.
 fn list_rows<K: Sink>(kind: AuditKind, rows: &[AuditRow], sink: &mut K, turns: &mut u64) -> Written
-    requires { (K.account sink.old).counts.calls + turns.old < 2 ^ 48 }
-    ensures { WritesOut result (K.account sink.old) (K.account sink.new) (flat_map (lines.audit_line kind) rows.now) turns.old turns.new }
+    requires { (K.trace sink.old).counts.calls + turns.old < 2 ^ 48 }
+    ensures { WritesOut result (K.trace sink.old) (K.trace sink.new) (flat_map (lines.audit_line kind) rows.now) turns.old turns.new }
 {
     for row in rows {
         match put_all(sink, audit_line(kind, row).as_bytes(), turns) {

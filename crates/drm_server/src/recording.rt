@@ -128,8 +128,8 @@ impl Recorder {
         source: &mut S,
         turns: &mut u64,
     ) -> Option<Stop>
-        requires countable { (S.account source.old).counts.calls + turns.old < 2 ^ 48 }
-        ensures calls { (S.account source.new).counts.calls + turns.new ≡ (S.account source.old).counts.calls + turns.old }
+        requires countable { (S.trace source.old).counts.calls + turns.old < 2 ^ 48 }
+        ensures calls { (S.trace source.new).counts.calls + turns.new ≡ (S.trace source.old).counts.calls + turns.old }
         ensures fewer { IfNone result (256 * turns.new + length self.new.reader.pending < 256 * turns.old + length self.old.reader.pending) }
     {
         match self.reader.next_line(source, turns) {
@@ -179,7 +179,7 @@ pub(crate) fn record<S: Source>(
     turns: u64,
     until: Option<u64>,
 ) -> Result<Recording, Stop>
-    requires { (S.account source.old).counts.calls + turns < 2 ^ 48 }
+    requires { (S.trace source.old).counts.calls + turns < 2 ^ 48 }
 {
     let mut recorder = Recorder::new(alloc, setup, until);
     let mut left = turns;

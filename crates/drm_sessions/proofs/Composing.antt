@@ -4,34 +4,34 @@ use Rattle.std.specs.List.{flat_map, AllByRecursion}
 use Rattle.std.proofs.lemmas.List.{append-nil, flat_map_more, map_push}
 use Rattle.std.proofs.KnownBytes.{Consumes-nil, Consumes-trans}
 use Rattle.drm_table.specs.declared.events.Event.{Event}
-use Rattle.drm_frames.specs.Grammar.{Packet, frame_text, IsPacket}
-use Rattle.drm_frames.specs.Answers.{Outcome, answer_text}
-use Rattle.drm_streams.specs.Streams.{SourceAccount}
-use Rattle.drm_sessions.specs.Intakes.{Used, ends_in_chunk}
+use Rattle.drm_frames.specs.Grammar.{FrameValue, frame_text, IsFrame}
+use Rattle.drm_frames.specs.Answers.{CallResult, answer_text}
+use Rattle.drm_streams.specs.Streams.{SourceTrace}
+use Rattle.drm_sessions.specs.ReadChunks.{Used, ends_in_chunk}
 use Rattle.drm_sessions.specs.Reading.{Comes, Uses}
-use Rattle.drm_sessions.specs.Runs.{Exchange, exchange, Runs, asked, outcomes, session_text, noted, one_if_noted, Requests}
+use Rattle.drm_sessions.specs.Runs.{RequestReply, request_reply, Runs, asked, outcomes, session_text, journaled, one_if_journaled, Requests}
 use Rattle.drm_sessions.proofs.Taking.{Takes-none, Takes-then, Takes-read, Uses-takes, ends_in_chunk-then}
 
 All-push : {X : Type 0} (P : X → Type 0) (xs : List X) (x : X) → AllByRecursion P xs → P x → AllByRecursion P (xs ++ x ∷ [])
 All-push P [] x h p = (p, tt)
 All-push P (y ∷ xs) x h p = (h.0, All-push P xs x h.1 p)
 
-pub Runs-push : {A : Type 0} (answers : A → Event → Outcome → A → Type 0) (a b c : A) (log : List Exchange) (call : Exchange) → Runs answers a log b → answers b call.event call.outcome c → Runs answers a (log ++ call ∷ []) c
+pub Runs-push : {A : Type 0} (answers : A → Event → CallResult → A → Type 0) (a b c : A) (log : List RequestReply) (call : RequestReply) → Runs answers a log b → answers b call.event call.outcome c → Runs answers a (log ++ call ∷ []) c
 Runs-push answers a b c [] call r h = (c, subst (λ x. answers x call.event call.outcome c) r h, refl)
 Runs-push answers a b c (first ∷ log) call r h = (r.0, r.1, Runs-push answers r.0 b c log call r.2 h)
 
-pub noted-push : (results : List Outcome) (result : Outcome) → noted (results ++ result ∷ []) ≡ noted results + one_if_noted result
-noted-push [] result = omega arith
-noted-push (first ∷ results) result = let e = noted-push results result in omega (arith, e)
+pub journaled-push : (results : List CallResult) (result : CallResult) → journaled (results ++ result ∷ []) ≡ journaled results + one_if_journaled result
+journaled-push [] result = omega arith
+journaled-push (first ∷ results) result = let e = journaled-push results result in omega (arith, e)
 
-pub outcomes-push : (log : List Exchange) (call : Exchange) → outcomes (log ++ call ∷ []) ≡ outcomes log ++ call.outcome ∷ []
-outcomes-push log call = map_push (λ (x : Exchange). x.outcome) log call
+pub outcomes-push : (log : List RequestReply) (call : RequestReply) → outcomes (log ++ call ∷ []) ≡ outcomes log ++ call.outcome ∷ []
+outcomes-push log call = map_push (λ (x : RequestReply). x.outcome) log call
 
-pub session_text-push : (results : List Outcome) (result : Outcome) → session_text (results ++ result ∷ []) ≡ session_text results ++ answer_text result
+pub session_text-push : (results : List CallResult) (result : CallResult) → session_text (results ++ result ∷ []) ≡ session_text results ++ answer_text result
 session_text-push results result = sym (flat_map_more answer_text [] results result)
 
-module _ {A : Type 0} (answers : A → Event → Outcome → A → Type 0) (client : ℕ) where
-  pub none-yet : (a : A) (source : SourceAccount) (waits : List ℕ) → Requests answers client a a source source waits waits [] 0 false
+module _ {A : Type 0} (answers : A → Event → CallResult → A → Type 0) (client : ℕ) where
+  pub none-yet : (a : A) (source : SourceTrace) (waits : List ℕ) → Requests answers client a a source source waits waits [] 0 false
   none-yet a source waits = record {
     read = [];
     frames = [];
@@ -43,14 +43,14 @@ module _ {A : Type 0} (answers : A → Event → Outcome → A → Type 0) (clie
     asks = refl;
     answered = refl;
     counted = refl;
-    intakes = [];
+    chunks = [];
     takes = Takes-none source waits;
     last = refl;
   }
 
-  pub bytes-more : {a0 a1 : A} {s0 s1 s2 : SourceAccount} {w0 w1 w2 : List ℕ} {results : List Outcome} {steps t u : ℕ} {behind : Bool}
+  pub bytes-more : {a0 a1 : A} {s0 s1 s2 : SourceTrace} {w0 w1 w2 : List ℕ} {results : List CallResult} {steps t u : ℕ} {behind : Bool}
       → Requests answers client a0 a1 s0 s1 w0 w1 results steps behind → (m : Comes s1 s2 w1 w2 t u)
-      → Requests answers client a0 a1 s0 s2 w0 w2 results steps (ends_in_chunk m.intakes behind)
+      → Requests answers client a0 a1 s0 s2 w0 w2 results steps (ends_in_chunk m.chunks behind)
   bytes-more {s0} {s1} {s2} {w0} {w1} r m = record {
     read = r.read ++ m.more;
     frames = r.frames;
@@ -63,17 +63,17 @@ module _ {A : Type 0} (answers : A → Event → Outcome → A → Type 0) (clie
     asks = r.asks;
     answered = r.answered;
     counted = r.counted;
-    intakes = r.intakes ++ m.intakes;
+    chunks = r.chunks ++ m.chunks;
     takes = Takes-read r.takes m.takes;
-    last = ends_in_chunk-then r.intakes m.intakes false ∙ ap (λ (was : Bool). ends_in_chunk m.intakes was) r.last;
+    last = ends_in_chunk-then r.chunks m.chunks false ∙ ap (λ (was : Bool). ends_in_chunk m.chunks was) r.last;
   }
 
-  pub frame-more : {a0 a1 a2 : A} {s0 s1 s2 : SourceAccount} {w0 w1 w2 : List ℕ} {results : List Outcome} {steps t u : ℕ} {behind : Bool} {frame : Packet} {result : Outcome}
+  pub frame-more : {a0 a1 a2 : A} {s0 s1 s2 : SourceTrace} {w0 w1 w2 : List ℕ} {results : List CallResult} {steps t u : ℕ} {behind : Bool} {frame : FrameValue} {result : CallResult}
       → Requests answers client a0 a1 s0 s1 w0 w1 results steps behind → Uses s1 s2 w1 w2 t u frame → answers a1 (asked client frame) result a2
-      → Requests answers client a0 a2 s0 s2 w0 w2 (results ++ result ∷ []) (steps + one_if_noted result) false
+      → Requests answers client a0 a2 s0 s2 w0 w2 (results ++ result ∷ []) (steps + one_if_journaled result) false
   frame-more {a0} {a1} {a2} {s0} {s1} {s2} {w0} {w1} {w2} {results} {steps} {frame} {result} r m h =
       let frames : List ℕ = flat_map frame_text r.frames in
-      let call : Exchange = exchange (asked client frame) result in
+      let call : RequestReply = request_reply (asked client frame) result in
       record {
         read = r.read ++ m.more;
         frames = r.frames ++ frame ∷ [];
@@ -82,12 +82,12 @@ module _ {A : Type 0} (answers : A → Event → Outcome → A → Type 0) (clie
         parts = sym (append_assoc w0 r.read m.more) ∙ ap (λ (x : List ℕ). x ++ m.more) r.parts ∙ append_assoc frames w1 m.more
             ∙ ap (λ (x : List ℕ). frames ++ x) m.parts ∙ sym (append_assoc frames (frame_text frame) w2)
             ∙ ap (λ (x : List ℕ). x ++ w2) (flat_map_more frame_text [] r.frames frame);
-        fit = All-push IsPacket r.frames frame r.fit m.fits;
+        fit = All-push IsFrame r.frames frame r.fit m.fits;
         made = Runs-push answers a0 a1 a2 r.log call r.made h;
-        asks = map_push (λ (x : Exchange). x.event) r.log call ∙ ap (λ (x : List Event). x ++ asked client frame ∷ []) r.asks ∙ sym (map_push (asked client) r.frames frame);
-        answered = outcomes-push r.log call ∙ ap (λ (x : List Outcome). x ++ result ∷ []) r.answered;
-        counted = noted-push results result ∙ ap (λ (n : ℕ). n + one_if_noted result) r.counted;
-        intakes = r.intakes ++ (m.intakes ++ Used frame ∷ []);
+        asks = map_push (λ (x : RequestReply). x.event) r.log call ∙ ap (λ (x : List Event). x ++ asked client frame ∷ []) r.asks ∙ sym (map_push (asked client) r.frames frame);
+        answered = outcomes-push r.log call ∙ ap (λ (x : List CallResult). x ++ result ∷ []) r.answered;
+        counted = journaled-push results result ∙ ap (λ (n : ℕ). n + one_if_journaled result) r.counted;
+        chunks = r.chunks ++ (m.chunks ++ Used frame ∷ []);
         takes = Takes-then r.takes (Uses-takes m);
-        last = ends_in_chunk-then r.intakes (m.intakes ++ Used frame ∷ []) false ∙ ends_in_chunk-then m.intakes (Used frame ∷ []) (ends_in_chunk r.intakes false);
+        last = ends_in_chunk-then r.chunks (m.chunks ++ Used frame ∷ []) false ∙ ends_in_chunk-then m.chunks (Used frame ∷ []) (ends_in_chunk r.chunks false);
       }

@@ -1,19 +1,19 @@
--- Jobs that were served through seats of a seat that was itself split off.
+-- Jobs that were served through participants of a participant that was itself split off.
 use Rattle.std.proofs.Common.{◌≡◌, ◌+◌, ℕ, List, [], ◌∷◌, ◌++◌, Result, Ok, Err, ap, sym, ◌∙◌, arith}
 use Rattle.std.specs.Prelude.{IfOk, OnErr, OnOk}
-use Rattle.drm_turns.specs.Seats.{Standing, with_out}
-use Rattle.drm_turns.specs.Views.{out_after}
+use Rattle.drm_turns.specs.Participants.{ParticipantView, with_outstanding}
+use Rattle.drm_turns.specs.Views.{outstanding_after}
 use Rattle.drm_turns.proofs.Taken.{given_back, split-off-again}
-use Rattle.drm_streams.specs.Streams.{SourceAccount, SinkAccount}
+use Rattle.drm_streams.specs.Streams.{SourceTrace, SinkTrace}
 use Rattle.drm_sessions.specs.declared.jobs.Finished.{Finished}
 use Rattle.drm_sessions.specs.declared.jobs.Job.{Job}
 use Rattle.drm_sessions.specs.declared.end.Session.{Session}
 use Rattle.drm_sessions.specs.Serving.{all_steps}
 use Rattle.drm_sessions.specs.Jobs.{IsServedBeside, sessions_of}
 
-pub served-beside-again : {G S K : Type 0} (passes : G → ℕ → G → Type 0) (source_account : S → SourceAccount) (sink_account : K → SinkAccount) (seat own : Standing) → own.table ≡ seat.table → own.origin ≡ seat.origin
-    → (job : Job G S K) (finished : Finished S K) → IsServedBeside passes source_account sink_account own job finished → IsServedBeside passes source_account sink_account seat job finished
-served-beside-again passes source_account sink_account seat own table origin job finished h = record { own = h.own; split = split-off-again seat own h.own table origin h.split; served = h.served }
+pub served-beside-again : {G S K : Type 0} (passes : G → ℕ → G → Type 0) (source_trace : S → SourceTrace) (sink_trace : K → SinkTrace) (participant own : ParticipantView) → own.table ≡ participant.table → own.origin ≡ participant.origin
+    → (job : Job G S K) (finished : Finished S K) → IsServedBeside passes source_trace sink_trace own job finished → IsServedBeside passes source_trace sink_trace participant job finished
+served-beside-again passes source_trace sink_trace participant own table origin job finished h = record { own = h.own; split = split-off-again participant own h.own table origin h.split; served = h.served }
 
 pub all_steps-push : (sessions : List Session) (session : Session) → all_steps (sessions ++ session ∷ []) ≡ all_steps sessions + session.steps
 all_steps-push [] session = omega arith
@@ -36,11 +36,11 @@ pub on_ok : {D E : Type 0} {P Q : Type 0} (r : Result D E) → (P → Q) → OnO
 on_ok (Ok d) step h = step h
 on_ok (Err e) step h = tt
 
--- as many are out of a seat that one was split off, where that is given back with all of its own
-pub as_many_out : (seat lent child own : Standing) (out : ℕ) → lent ≡ with_out seat (seat.out + 1) → child.parent ≡ seat.number → child.out ≡ 0 → own.parent ≡ child.parent
-    → out ≡ out_after lent.number lent.out own.parent own.out → own.out ≡ child.out → out ≡ seat.out
-as_many_out seat lent child own out same parent none kept now whole =
-    let number = ap (λ (s : Standing). s.number) same in
-    let more = ap (λ (s : Standing). s.out) same in
-    let fewer = given_back lent.number lent.out own.parent own.out (kept ∙ (parent ∙ sym number)) (whole ∙ none) in
+-- as many are out of a participant that one was split off, where that is given back with all of its own
+pub as_many_outstanding : (participant lent child own : ParticipantView) (outstanding : ℕ) → lent ≡ with_outstanding participant (participant.outstanding + 1) → child.parent ≡ participant.number → child.outstanding ≡ 0 → own.parent ≡ child.parent
+    → outstanding ≡ outstanding_after lent.number lent.outstanding own.parent own.outstanding → own.outstanding ≡ child.outstanding → outstanding ≡ participant.outstanding
+as_many_outstanding participant lent child own outstanding same parent none kept now whole =
+    let number = ap (λ (s : ParticipantView). s.number) same in
+    let more = ap (λ (s : ParticipantView). s.outstanding) same in
+    let fewer = given_back lent.number lent.outstanding own.parent own.outstanding (kept ∙ (parent ∙ sym number)) (whole ∙ none) in
     omega arith

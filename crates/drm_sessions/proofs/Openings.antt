@@ -1,5 +1,5 @@
 -- How a device answers an opening.
-use Rattle.std.proofs.Common.{Option, Some, None, Ok, Err, sym, subst}
+use Rattle.std.proofs.Common.{◌≡◌, Option, Some, None, Ok, Err, ap, sym, ◌∙◌, subst}
 use Rattle.drm_table.specs.declared.events.Event.{Event}
 use Rattle.drm_table.specs.declared.events.Event.TheVariants.{Open, Ask, Close}
 use Rattle.drm_table.specs.declared.events.Opening.{Opening}
@@ -10,15 +10,19 @@ use Rattle.drm_model.specs.Reply.{answer_of, reply_by, reply}
 use Rattle.drm_model.specs.Verdict.{verdict}
 use Rattle.drm_model.specs.Run.{Step}
 use Rattle.drm_turns.specs.Turns.{Answered}
-use Rattle.drm_frames.specs.Answers.{Outcome}
-use Rattle.drm_sessions.specs.Opening.{IsOpeningAnswer, AnswersOpening}
+use Rattle.drm_frames.specs.Answers.{CallResult}
+use Rattle.drm_frames.specs.declared.hello.Hello.{Hello}
+use Rattle.drm_frames.specs.Grammar.{FrameValue}
+use Rattle.drm_frames.specs.Hellos.{hello_in}
+use Rattle.drm_sessions.specs.declared.class.Class.{Class}
+use Rattle.drm_sessions.specs.Opening.{IsOpeningAnswer, AnswersOpening, opening_by, opening_in}
 
 answers-by : (found : Option Rule) (w : Rows) (opening : Opening) → IsOpeningAnswer (Ok (reply_by found w (Open opening)))
 unfolding answer_of
 answers-by None w opening = tt
 answers-by (Some rule) w opening = tt
 
-pub Step-opening : (w : Rows) (event : Event) (result : Outcome) (v : Rows) → Step w event result v → AnswersOpening event result
+pub Step-opening : (w : Rows) (event : Event) (result : CallResult) (v : Rows) → Step w event result v → AnswersOpening event result
 unfolding Step reply
 Step-opening w (Open opening) (Ok answer) v h = subst (λ (x : Answer). IsOpeningAnswer (Ok x)) (sym h.1) (answers-by (verdict w (Open opening)) w opening)
 Step-opening w (Open opening) (Err apart) v h = tt
@@ -26,8 +30,13 @@ Step-opening w (Ask client call) result v h = tt
 Step-opening w (Close client) result v h = tt
 
 -- the same of a call that may find no ticket for its turn
-pub Answered-opening : (event : Event) (result : Outcome) → Answered event result → AnswersOpening event result
+pub Answered-opening : (event : Event) (result : CallResult) → Answered event result → AnswersOpening event result
 Answered-opening (Open opening) (Ok answer) h = Step-opening _ (Open opening) (Ok answer) _ h.steps.step
 Answered-opening (Open opening) (Err apart) h = tt
 Answered-opening (Ask client call) result h = tt
 Answered-opening (Close client) result h = tt
+
+-- the opening that a hello asks for is that of its frame
+pub opening-said : (class : Class) (frame : FrameValue) (hello : Option Hello) (found : Option Opening) → hello ≡ hello_in frame → found ≡ opening_by class hello → found ≡ opening_in class frame
+unfolding opening_in
+opening-said class frame hello found said is = is ∙ ap (opening_by class) said

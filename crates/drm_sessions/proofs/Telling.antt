@@ -1,9 +1,9 @@
 -- What sources and sinks tell by which a session ends.
 use Rattle.std.proofs.Common.{◌≡◌, ℕ, ◌+◌, ◌≤◌, ◌⊎◌, inl, inr, List, [], ◌∷◌, Ok, Err, refl, sym, ap, ◌∙◌, subst, arith}
 use Rattle.drm_table.specs.declared.apart.Apart.TheVariants as aparts
-use Rattle.drm_frames.specs.Answers.{Outcome}
-use Rattle.drm_streams.specs.Streams.{Counts, SinkAccount, one_call}
-use Rattle.drm_streams.specs.Turns.{HandsRest, PaysPart, PutCalls, PutPieces, Writes, interrupted, pieces_put}
+use Rattle.drm_frames.specs.Answers.{CallResult}
+use Rattle.drm_streams.specs.Streams.{Counts, SinkTrace, one_call}
+use Rattle.drm_streams.specs.Turns.{HandsRest, PartialWriteCost, PutCalls, PutPieces, Writes, interrupted, pieces_put}
 use Rattle.drm_streams.specs.declared.turns.Written.TheVariants as written
 use Rattle.drm_sessions.specs.declared.end.SessionEnd.{SessionEnd}
 use Rattle.drm_sessions.specs.declared.end.SessionEnd.TheVariants as ends
@@ -53,16 +53,16 @@ put-fault {old} {new} (inr p) =
       fault = inr (ap (λ (c : Counts). c.failures) p.counts ∙ before.failures, (let more = ap (λ (c : Counts). c.faults) p.counts in omega arith));
     }
 
-pub wrote-whole : {from to : SinkAccount} {text : List ℕ} {had has : ℕ} → Writes written.Whole from to text had has → PutCalls written.Whole from.counts to.counts → Wrote (Ok tt) from to text had has
+pub wrote-whole : {from to : SinkTrace} {text : List ℕ} {had has : ℕ} → Writes written.Whole from to text had has → PutCalls written.Whole from.counts to.counts → Wrote (Ok tt) from to text had has
 wrote-whole w calls = (w.0, w.1, put-untold 0 calls)
 
-pub wrote-used : {from to : SinkAccount} {text : List ℕ} {had has : ℕ} → Writes written.TurnsUsed from to text had has → PutCalls written.TurnsUsed from.counts to.counts → Wrote (Err ends.TurnsUsed) from to text had has
+pub wrote-used : {from to : SinkTrace} {text : List ℕ} {had has : ℕ} → Writes written.TurnsUsed from to text had has → PutCalls written.TurnsUsed from.counts to.counts → Wrote (Err ends.TurnsUsed) from to text had has
 wrote-used w calls = (w.0, w.1, tt, put-untold calls.0 calls.2)
 
-pub wrote-fault : {from to : SinkAccount} {text : List ℕ} {had has : ℕ} → Writes written.Fault from to text had has → PutCalls written.Fault from.counts to.counts → HandsRest written.Fault from to text
+pub wrote-fault : {from to : SinkTrace} {text : List ℕ} {had has : ℕ} → Writes written.Fault from to text had has → PutCalls written.Fault from.counts to.counts → HandsRest written.Fault from to text
     → Wrote (Err ends.WriteFault) from to text had has
 wrote-fault {from} {to} {text} {had} {has} w calls hands =
-    let part : PaysPart from to text had has = record {
+    let part : PartialWriteCost from to text had has = record {
       front = hands.0;
       rest = hands.1;
       parts = hands.2;
@@ -123,7 +123,7 @@ sink-quiet (ends.OpenRefused rule) waits h u = u
 sink-quiet ends.TurnsUsed waits h u = u
 sink-quiet (ends.Apart apart) waits h u = u
 
-source-quiet : (e : SessionEnd) (from to : SinkAccount) (has : ℕ) {a b : Counts} → WriteShows e from to has → Untold a b → SourceTells e a b
+source-quiet : (e : SessionEnd) (from to : SinkTrace) (has : ℕ) {a b : Counts} → WriteShows e from to has → Untold a b → SourceTells e a b
 source-quiet ends.WriteFault from to has h u = u
 source-quiet ends.TurnsUsed from to has h u = u
 source-quiet ends.Ended from to has h u = absurd h
@@ -137,10 +137,10 @@ source-quiet (ends.Apart apart) from to has h u = u
 pub tells-read : (e : SessionEnd) (waits : List ℕ) {in0 in1 in2 out0 out1 : Counts} → StopsAt e waits → Untold in0 in1 → Untold out0 out1 → SourceTells e in1 in2 → Tells e in0 in2 out0 out1
 tells-read e waits h p q told = record { source = source-later e _ _ _ p told; sink = sink-quiet e waits h q }
 
-pub tells-write : (e : SessionEnd) (from to : SinkAccount) (has : ℕ) {in0 in1 out0 : Counts} → WriteShows e from to has → Untold in0 in1 → Untold out0 from.counts → SinkTells e from.counts to.counts → Tells e in0 in1 out0 to.counts
+pub tells-write : (e : SessionEnd) (from to : SinkTrace) (has : ℕ) {in0 in1 out0 : Counts} → WriteShows e from to has → Untold in0 in1 → Untold out0 from.counts → SinkTells e from.counts to.counts → Tells e in0 in1 out0 to.counts
 tells-write e from to has h p q told = record { source = source-quiet e from to has h p; sink = sink-later e _ _ _ q told }
 
-pub hands-read : (e : SessionEnd) (waits : List ℕ) (to : SinkAccount) → StopsAt e waits → HandsLater e to []
+pub hands-read : (e : SessionEnd) (waits : List ℕ) (to : SinkTrace) → StopsAt e waits → HandsLater e to []
 hands-read ends.WriteFault waits to h = absurd h
 hands-read ends.Ended waits to h = tt
 hands-read ends.Truncated waits to h = tt
@@ -153,20 +153,20 @@ hands-read (ends.Apart apart) waits to h = tt
 
 -- ---- behind the closing
 
-pub hands-closed : (e : SessionEnd) (r : Outcome) (end : SessionEnd) (to : SinkAccount) (later : List ℕ) → EndsClosed e r end → HandsLater e to later → HandsLater end to later
+pub hands-closed : (e : SessionEnd) (r : CallResult) (end : SessionEnd) (to : SinkTrace) (later : List ℕ) → EndsClosed e r end → HandsLater e to later → HandsLater end to later
 hands-closed e (Ok answer) end to later is h = subst (λ (x : SessionEnd). HandsLater x to later) (sym is) h
 hands-closed e (Err aparts.JournalFull) end to later is h = subst (λ (x : SessionEnd). HandsLater x to later) (sym is) h
 hands-closed e (Err aparts.NoMemory) end to later is h = subst (λ (x : SessionEnd). HandsLater x to later) (sym is) h
 hands-closed e (Err aparts.Worn) end to later is h = subst (λ (x : SessionEnd). HandsLater x to later) (sym is) tt
 
-pub tells-closed : (e : SessionEnd) (r : Outcome) (end : SessionEnd) {in0 in1 out0 out1 : Counts} → EndsClosed e r end → Tells e in0 in1 out0 out1 → TellsStop end in0 in1 out0 out1
+pub tells-closed : (e : SessionEnd) (r : CallResult) (end : SessionEnd) {in0 in1 out0 out1 : Counts} → EndsClosed e r end → Tells e in0 in1 out0 out1 → TellsStop end in0 in1 out0 out1
 tells-closed e (Ok answer) end is t = record { stopped = e; same = inl is; tells = t }
 tells-closed e (Err aparts.JournalFull) end is t = record { stopped = e; same = inl is; tells = t }
 tells-closed e (Err aparts.NoMemory) end is t = record { stopped = e; same = inl is; tells = t }
 tells-closed e (Err aparts.Worn) end is t = record { stopped = e; same = inr is; tells = t }
 
 -- a refusal that ends as is meant tells nothing
-pub tells-refused : (meant : SessionEnd) {end : SessionEnd} {from to : SinkAccount} {text : List ℕ} {had has : ℕ} (c : Counts) → SourceTells meant c c → (Untold from.counts to.counts → SinkTells meant from.counts to.counts)
+pub tells-refused : (meant : SessionEnd) {end : SessionEnd} {from to : SinkTrace} {text : List ℕ} {had has : ℕ} (c : Counts) → SourceTells meant c c → (Untold from.counts to.counts → SinkTells meant from.counts to.counts)
     → Refuses meant end from to text had has → TellsStop end c c from.counts to.counts
 tells-refused meant c source sink (inl p) = record { stopped = meant; same = inl p.0; tells = record { source = source; sink = sink p.2 } }
 tells-refused meant {end} {from} {to} {has} c source sink (inr p) =

@@ -3,43 +3,43 @@ use Rattle.std.specs.Prelude.{◌≡◌, ℕ, Bool, true, ◌+◌, ◌<◌, ◌�
 use Rattle.std.specs.Io.KnownBytes.{IsAtEnd}
 use Rattle.drm_table.specs.declared.events.Event.{Event}
 use Rattle.drm_table.specs.declared.apart.Apart.TheVariants as aparts
-use Rattle.drm_frames.specs.Answers.{Outcome, answer_text}
-use Rattle.drm_streams.specs.Streams.{Counts, SourceAccount, SinkAccount}
-use Rattle.drm_streams.specs.Turns.{NeverFall, Pays, PaysPart}
+use Rattle.drm_frames.specs.Answers.{CallResult, answer_text}
+use Rattle.drm_streams.specs.Streams.{Counts, SourceTrace, SinkTrace}
+use Rattle.drm_streams.specs.Turns.{NeverFall, WriteCost, PartialWriteCost}
 use Rattle.drm_sessions.specs.declared.end.SessionEnd.{SessionEnd}
 use Rattle.drm_sessions.specs.declared.end.SessionEnd.TheVariants as ends
-use Rattle.drm_sessions.specs.Reading.{HandsLater, Puts, SinkTells, SourceTells, StopsAt, Untold, WriteShows}
+use Rattle.drm_sessions.specs.Reading.{HandsLater, WritesFront, SinkTells, SourceTells, StopsAt, Untold, WriteShows}
 use Rattle.drm_sessions.specs.Runs.{Requests, session_text}
 
 -- What wasn't written is the end of the last answer.
-pub record CutsLast (results : List Outcome) (later : List ℕ) : Type 0 where
-  pub before : List Outcome
-  pub last : Outcome
+pub record TruncatesLastAnswer (results : List CallResult) (later : List ℕ) : Type 0 where
+  pub before : List CallResult
+  pub last : CallResult
   pub sent : List ℕ
   pub whole : results ≡ before ++ last ∷ []
   pub parts : answer_text last ≡ sent ++ later
   pub more : 0 < length later
 
 -- What waits where requests end, and what of the answers wasn't written.
-abbrev pub Leaves : SessionEnd → List ℕ → List Outcome → List ℕ → Type 0
+abbrev pub Leaves : SessionEnd → List ℕ → List CallResult → List ℕ → Type 0
 Leaves ends.Ended waits results later = StopsAt ends.Ended waits × (later ≡ [])
 Leaves ends.Truncated waits results later = StopsAt ends.Truncated waits × (later ≡ [])
 Leaves ends.TooLong waits results later = StopsAt ends.TooLong waits × (later ≡ [])
 Leaves ends.ReadFault waits results later = StopsAt ends.ReadFault waits × (later ≡ [])
-Leaves ends.WriteFault waits results later = CutsLast results later
-Leaves ends.TurnsUsed waits results later = (StopsAt ends.TurnsUsed waits × (later ≡ [])) ⊎ CutsLast results later
+Leaves ends.WriteFault waits results later = TruncatesLastAnswer results later
+Leaves ends.TurnsUsed waits results later = (StopsAt ends.TurnsUsed waits × (later ≡ [])) ⊎ TruncatesLastAnswer results later
 Leaves ends.BadHello waits results later = ⊥
 Leaves (ends.OpenRefused rule) waits results later = ⊥
 Leaves (ends.Apart apart) waits results later = ⊥
 
 -- The counts of the source and of the sink moved, each call at the cost of a turn.
-pub record Moves (in0 in1 : SourceAccount) (out0 out1 : SinkAccount) (had has : ℕ) : Type 0 where
+pub record IoCost (in0 in1 : SourceTrace) (out0 out1 : SinkTrace) (had has : ℕ) : Type 0 where
   pub each : in1.counts.calls + out1.counts.calls + has ≡ in0.counts.calls + out0.counts.calls + had
   pub source : NeverFall in0.counts in1.counts
   pub sink : NeverFall out0.counts out1.counts
 
--- what the accounts show at an end
-abbrev pub Shows : SessionEnd → SourceAccount → SourceAccount → SinkAccount → SinkAccount → ℕ → Type 0
+-- what the traces show at an end
+abbrev pub Shows : SessionEnd → SourceTrace → SourceTrace → SinkTrace → SinkTrace → ℕ → Type 0
 Shows ends.Ended in0 in1 out0 out1 unused = IsAtEnd in1.left × (in0.counts.ends < in1.counts.ends)
 Shows ends.Truncated in0 in1 out0 out1 unused = IsAtEnd in1.left × (in0.counts.ends < in1.counts.ends)
 Shows ends.ReadFault in0 in1 out0 out1 unused = in0.counts.faults < in1.counts.faults
@@ -54,25 +54,25 @@ pub record Tells (end : SessionEnd) (in0 in1 out0 out1 : Counts) : Type 0 where
 
 -- The requests of a client up to their end, after these results were said: what was written is a front of the
 -- text of all results. Bytes were taken behind the last frame only where it was all of it.
-pub record Ends {A : Type 0} (answers : A → Event → Outcome → A → Type 0) (client : ℕ) (old new : A) (in0 in1 : SourceAccount) (out0 out1 : SinkAccount) (said : List Outcome) (waited : List ℕ) (steps : ℕ) (end : SessionEnd) : Type 0 where
+pub record Ends {A : Type 0} (answers : A → Event → CallResult → A → Type 0) (client : ℕ) (old new : A) (in0 in1 : SourceTrace) (out0 out1 : SinkTrace) (said : List CallResult) (waited : List ℕ) (steps : ℕ) (end : SessionEnd) : Type 0 where
   pub waits : List ℕ
-  pub results : List Outcome
+  pub results : List CallResult
   pub front : List ℕ
   pub later : List ℕ
   pub behind : Bool
   pub did : Requests answers client old new in0 in1 waited waits results steps behind
-  pub puts : Puts out0 out1 (session_text (said ++ results)) front later
+  pub puts : WritesFront out0 out1 (session_text (said ++ results)) front later
   pub leaves : Leaves end waits (said ++ results) later
   pub prompt : behind ≡ true → later ≡ []
   pub handed : HandsLater end out1 later
 
 -- The text of a refusal is written whole and the session ends as is meant, or writing stopped it.
-abbrev pub Refuses : SessionEnd → SessionEnd → SinkAccount → SinkAccount → List ℕ → ℕ → ℕ → Type 0
-Refuses meant end from to text had has = ((end ≡ meant) × Pays from to text had has × Untold from.counts to.counts)
-    ⊎ ((part : PaysPart from to text had has) × WriteShows end from to has × HandsLater end to part.rest × SinkTells end from.counts to.counts)
+abbrev pub Refuses : SessionEnd → SessionEnd → SinkTrace → SinkTrace → List ℕ → ℕ → ℕ → Type 0
+Refuses meant end from to text had has = ((end ≡ meant) × WriteCost from to text had has × Untold from.counts to.counts)
+    ⊎ ((part : PartialWriteCost from to text had has) × WriteShows end from to has × HandsLater end to part.rest × SinkTells end from.counts to.counts)
 
 -- A closing that finds the turn worn is the end.
-abbrev pub EndsClosed : SessionEnd → Outcome → SessionEnd → Type 0
+abbrev pub EndsClosed : SessionEnd → CallResult → SessionEnd → Type 0
 EndsClosed stopped (Err aparts.Worn) end = end ≡ ends.Apart aparts.Worn
 EndsClosed stopped _ end = end ≡ stopped
 

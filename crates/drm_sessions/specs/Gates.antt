@@ -2,7 +2,7 @@
 use Rattle.std.specs.Prelude.{◌≡◌, ℕ, List, [], ◌∷◌}
 use Rattle.drm_table.specs.declared.events.Event.{Event}
 use Rattle.drm_table.specs.declared.events.Event.TheVariants.{Open, Ask, Close}
-use Rattle.drm_frames.specs.Answers.{Outcome}
+use Rattle.drm_frames.specs.Answers.{CallResult}
 
 -- The gate is called once before a request, for its client, and not before an opening or a closing.
 abbrev pub LetsPass : {G : Type 0} → (G → ℕ → G → Type 0) → G → Event → G → Type 0
@@ -16,5 +16,5 @@ LetsAllPass passes old [] new = new ≡ old
 LetsAllPass {G = G} passes old (event ∷ more) new = (mid : G) × LetsPass passes old event mid × LetsAllPass passes mid more new
 
 -- one call of an access that has a gate before it
-abbrev pub Gated : {A G : Type 0} → (A → Event → Outcome → A → Type 0) → (G → ℕ → G → Type 0) → A × G → Event → Outcome → A × G → Type 0
+abbrev pub Gated : {A G : Type 0} → (A → Event → CallResult → A → Type 0) → (G → ℕ → G → Type 0) → A × G → Event → CallResult → A × G → Type 0
 Gated answers passes old event outcome new = answers old.0 event outcome new.0 × LetsPass passes old.1 event new.1

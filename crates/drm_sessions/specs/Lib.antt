@@ -1,4 +1,4 @@
-pub mod Intakes
+pub mod ReadChunks
 pub mod Reading
 pub mod Opening
 pub mod Accepting

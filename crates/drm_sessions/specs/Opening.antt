@@ -6,21 +6,21 @@ use Rattle.drm_table.specs.declared.events.Opening.{Opening}
 use Rattle.drm_table.specs.declared.events.Opening.TheVariants.{Primary, Render as RenderNode, Lease}
 use Rattle.drm_table.specs.declared.answers.Answer.TheVariants.{Opened, Denied}
 use Rattle.drm_frames.specs.declared.hello.Hello.{Hello}
-use Rattle.drm_frames.specs.Grammar.{Packet}
+use Rattle.drm_frames.specs.Grammar.{FrameValue}
 use Rattle.drm_frames.specs.Hellos.{hello_in}
-use Rattle.drm_frames.specs.Answers.{Outcome}
+use Rattle.drm_frames.specs.Answers.{CallResult}
 use Rattle.drm_sessions.specs.declared.class.Class.{Class}
 use Rattle.drm_sessions.specs.declared.class.Class.TheVariants.{Card, Render, Root}
 
 -- An opening is answered by a client, a denial, or what stands apart.
-abbrev pub IsOpeningAnswer : Outcome → Type 0
+abbrev pub IsOpeningAnswer : CallResult → Type 0
 IsOpeningAnswer (Ok (Opened client)) = ⊤
 IsOpeningAnswer (Ok (Denied rule)) = ⊤
 IsOpeningAnswer (Err apart) = ⊤
 IsOpeningAnswer (Ok _) = ⊥
 
 -- the same of any event: only an opening's answer is bound
-abbrev pub AnswersOpening : Event → Outcome → Type 0
+abbrev pub AnswersOpening : Event → CallResult → Type 0
 AnswersOpening (Open opening) outcome = IsOpeningAnswer outcome
 AnswersOpening _ outcome = ⊤
 
@@ -42,5 +42,5 @@ opening_by class None = None
 opening_by class (Some hello) = opening_for class (hello.version == 1) hello.lease
 
 -- the opening that a first frame asks for, if it is a hello that the class allows
-unfoldable pub opening_in : Class → Packet → Option Opening
+unfoldable pub opening_in : Class → FrameValue → Option Opening
 opening_in class frame = opening_by class (hello_in frame)

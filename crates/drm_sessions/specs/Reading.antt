@@ -1,12 +1,12 @@
 -- What reading takes from a source into the bytes that wait, and what writing one answer gives to a sink.
 use Rattle.std.specs.Prelude.{◌≡◌, ◌≢◌, ◌⊎◌, ℕ, ◌+◌, ◌<◌, ◌≤◌, List, [], ◌++◌, length, Result, Ok, Err, ⊤}
 use Rattle.std.specs.Io.KnownBytes.{Appends, IsAtEnd}
-use Rattle.drm_frames.specs.Grammar.{Packet, frame_text, IsPacket, IsPart, IsTooLong}
-use Rattle.drm_streams.specs.Streams.{Counts, SourceAccount, SinkAccount}
-use Rattle.drm_streams.specs.Turns.{Spends, Pays, PaysPart}
+use Rattle.drm_frames.specs.Grammar.{FrameValue, frame_text, IsFrame, IsPart, IsTooLong}
+use Rattle.drm_streams.specs.Streams.{Counts, SourceTrace, SinkTrace}
+use Rattle.drm_streams.specs.Turns.{ReadCost, WriteCost, PartialWriteCost}
 use Rattle.drm_streams.specs.declared.turns.Refill.{Refill}
 use Rattle.drm_streams.specs.declared.turns.Refill.TheVariants as refill
-use Rattle.drm_sessions.specs.Intakes.{Intake, Takes}
+use Rattle.drm_sessions.specs.ReadChunks.{ReadChunk, Takes}
 use Rattle.drm_sessions.specs.declared.end.SessionEnd.{SessionEnd}
 use Rattle.drm_sessions.specs.declared.end.SessionEnd.TheVariants as ends
 
@@ -39,43 +39,43 @@ SinkTells ends.WriteFault old new = FaultTold old new
 SinkTells _ old new = Untold old new
 
 -- At a fault of the sink its last call was handed all that isn't written of the answer.
-abbrev pub HandsLater : SessionEnd → SinkAccount → List ℕ → Type 0
+abbrev pub HandsLater : SessionEnd → SinkTrace → List ℕ → Type 0
 HandsLater ends.WriteFault to later = to.handed ≡ length later
 HandsLater _ to later = ⊤
 
 -- One call of the source gave bytes, which wait behind those that waited.
-pub record Gives (from to : SourceAccount) (waited waits : List ℕ) (had has : ℕ) : Type 0 where
+pub record Gives (from to : SourceTrace) (waited waits : List ℕ) (had has : ℕ) : Type 0 where
   pub more : List ℕ
-  pub spends : Spends from to more had has
+  pub spends : ReadCost from to more had has
   pub parts : waits ≡ waited ++ more
   pub some : 0 < length more
   pub gave : to.gave ≡ length more
   pub untold : Untold from.counts to.counts
 
 -- Bytes came from the source in turn, each call at the cost of a turn, and wait behind those that waited.
-pub record Comes (from to : SourceAccount) (waited waits : List ℕ) (had has : ℕ) : Type 0 where
+pub record Comes (from to : SourceTrace) (waited waits : List ℕ) (had has : ℕ) : Type 0 where
   pub more : List ℕ
-  pub spends : Spends from to more had has
+  pub spends : ReadCost from to more had has
   pub parts : waits ≡ waited ++ more
-  pub intakes : List Intake
-  pub takes : Takes from to waited waits intakes more []
+  pub chunks : List ReadChunk
+  pub takes : Takes from to waited waits chunks more []
 
 -- Bytes came from the source in turn, and this frame stood at the front of all that waited.
-pub record Uses (from to : SourceAccount) (waited waits : List ℕ) (had has : ℕ) (frame : Packet) : Type 0 where
+pub record Uses (from to : SourceTrace) (waited waits : List ℕ) (had has : ℕ) (frame : FrameValue) : Type 0 where
   pub more : List ℕ
-  pub spends : Spends from to more had has
+  pub spends : ReadCost from to more had has
   pub parts : waited ++ more ≡ frame_text frame ++ waits
-  pub fits : IsPacket frame
-  pub intakes : List Intake
-  pub takes : Takes from to waited (frame_text frame ++ waits) intakes more []
+  pub fits : IsFrame frame
+  pub chunks : List ReadChunk
+  pub takes : Takes from to waited (frame_text frame ++ waits) chunks more []
   pub untold : Untold from.counts to.counts
 
 -- what came of taking bytes behind those that wait
-abbrev pub Supplies : Refill → SourceAccount → SourceAccount → List ℕ → List ℕ → ℕ → ℕ → Type 0
+abbrev pub Supplies : Refill → SourceTrace → SourceTrace → List ℕ → List ℕ → ℕ → ℕ → Type 0
 Supplies (refill.Got n) from to waited waits had has = Gives from to waited waits had has × (has < had)
-Supplies refill.End from to waited waits had has = Spends from to [] had has × (waits ≡ waited) × IsAtEnd to.left × (from.counts.ends < to.counts.ends) × (to.gave ≡ from.gave) × EndTold from.counts to.counts
-Supplies refill.Fault from to waited waits had has = Spends from to [] had has × (waits ≡ waited) × (from.counts.faults < to.counts.faults) × (to.gave ≡ from.gave) × FaultTold from.counts to.counts
-Supplies refill.TurnsUsed from to waited waits had has = Spends from to [] had has × (waits ≡ waited) × (has ≡ 0) × (to.gave ≡ from.gave) × Untold from.counts to.counts
+Supplies refill.End from to waited waits had has = ReadCost from to [] had has × (waits ≡ waited) × IsAtEnd to.left × (from.counts.ends < to.counts.ends) × (to.gave ≡ from.gave) × EndTold from.counts to.counts
+Supplies refill.Fault from to waited waits had has = ReadCost from to [] had has × (waits ≡ waited) × (from.counts.faults < to.counts.faults) × (to.gave ≡ from.gave) × FaultTold from.counts to.counts
+Supplies refill.TurnsUsed from to waited waits had has = ReadCost from to [] had has × (waits ≡ waited) × (has ≡ 0) × (to.gave ≡ from.gave) × Untold from.counts to.counts
 
 -- what waits where reading stops: never a whole frame
 abbrev pub StopsAt : SessionEnd → List ℕ → Type 0
@@ -89,31 +89,31 @@ StopsAt (ends.OpenRefused rule) waits = ⊥
 StopsAt ends.WriteFault waits = ⊥
 StopsAt (ends.Apart apart) waits = ⊥
 
--- what the source's account shows where reading stops
-abbrev pub ReadShows : SessionEnd → SourceAccount → SourceAccount → ℕ → Type 0
+-- what the source's trace shows where reading stops
+abbrev pub ReadShows : SessionEnd → SourceTrace → SourceTrace → ℕ → Type 0
 ReadShows ends.Ended from to has = IsAtEnd to.left × (from.counts.ends < to.counts.ends)
 ReadShows ends.Truncated from to has = IsAtEnd to.left × (from.counts.ends < to.counts.ends)
 ReadShows ends.ReadFault from to has = from.counts.faults < to.counts.faults
 ReadShows ends.TurnsUsed from to has = has ≡ 0
 ReadShows _ from to has = ⊤
 
--- the next frame, or how reading for it stopped
-abbrev pub Reads : Result Packet SessionEnd → SourceAccount → SourceAccount → List ℕ → List ℕ → ℕ → ℕ → Type 0
-Reads (Ok frame) from to waited waits had has = Uses from to waited waits had has frame
-Reads (Err end) from to waited waits had has = Comes from to waited waits had has × StopsAt end waits × ReadShows end from to has × SourceTells end from.counts to.counts
+-- what the next frame says, or how reading for it stopped
+abbrev pub Reads : {M : Type 0} → (FrameValue → M) → Result M SessionEnd → SourceTrace → SourceTrace → List ℕ → List ℕ → ℕ → ℕ → Type 0
+Reads said (Ok message) from to waited waits had has = (frame : FrameValue) × Uses from to waited waits had has frame × (message ≡ said frame)
+Reads said (Err end) from to waited waits had has = Comes from to waited waits had has × StopsAt end waits × ReadShows end from to has × SourceTells end from.counts to.counts
 
--- what the sink's account shows where writing stops a session
-abbrev pub WriteShows : SessionEnd → SinkAccount → SinkAccount → ℕ → Type 0
+-- what the sink's trace shows where writing stops a session
+abbrev pub WriteShows : SessionEnd → SinkTrace → SinkTrace → ℕ → Type 0
 WriteShows ends.WriteFault from to has = from.counts.faults < to.counts.faults
 WriteShows ends.TurnsUsed from to has = has ≡ 0
 WriteShows _ from to has = ⊥
 
 -- all of the text is written, or a front of it and not the whole
-abbrev pub Wrote : Result ⊤ SessionEnd → SinkAccount → SinkAccount → List ℕ → ℕ → ℕ → Type 0
-Wrote (Ok _) from to text had has = Pays from to text had has × (0 < length text → has < had) × Untold from.counts to.counts
-Wrote (Err end) from to text had has = (part : PaysPart from to text had has) × WriteShows end from to has × HandsLater end to part.rest × SinkTells end from.counts to.counts
+abbrev pub Wrote : Result ⊤ SessionEnd → SinkTrace → SinkTrace → List ℕ → ℕ → ℕ → Type 0
+Wrote (Ok _) from to text had has = WriteCost from to text had has × (0 < length text → has < had) × Untold from.counts to.counts
+Wrote (Err end) from to text had has = (part : PartialWriteCost from to text had has) × WriteShows end from to has × HandsLater end to part.rest × SinkTells end from.counts to.counts
 
 -- A front of the text was given to the sink, and the later part wasn't.
-pub record Puts (from to : SinkAccount) (text front later : List ℕ) : Type 0 where
+pub record WritesFront (from to : SinkTrace) (text front later : List ℕ) : Type 0 where
   pub parts : text ≡ front ++ later
-  pub adds : Appends from.written to.written front
+  pub commits : Appends from.written to.written front

@@ -4,44 +4,44 @@ use Rattle.std.specs.List.{AllByRecursion, flat_map}
 use Rattle.drm_table.specs.declared.events.Event.{Event}
 use Rattle.drm_turns.specs.declared.history.Entry.{Entry}
 use Rattle.drm_turns.specs.History.{StartsWith, entry}
-use Rattle.drm_turns.specs.Seats.{Adds, Excuses, Reaches, Same, Standing, Stays, entries_of}
+use Rattle.drm_turns.specs.Participants.{Commits, Aborts, Extends, Same, ParticipantView, Unchanged, entries_of}
 use Rattle.drm_turns.specs.Turns.{Answered}
-use Rattle.drm_frames.specs.Answers.{Outcome}
-use Rattle.drm_streams.specs.Streams.{SourceAccount, SinkAccount}
+use Rattle.drm_frames.specs.Answers.{CallResult}
+use Rattle.drm_streams.specs.Streams.{SourceTrace, SinkTrace}
 use Rattle.drm_sessions.specs.declared.class.Class.{Class}
 use Rattle.drm_sessions.specs.declared.end.Session.{Session}
-use Rattle.drm_sessions.specs.Runs.{Exchange}
+use Rattle.drm_sessions.specs.Runs.{RequestReply}
 use Rattle.drm_sessions.specs.Serving.{Serves}
 
--- The event had its turn of the device, or there was no ticket for one. What is answered ends the history that the seat has
+-- The event had its turn of the device, or there was no ticket for one. What is answered ends the history that the participant has
 -- then seen, as an entry of its own; else no entry is its own that wasn't before.
-pub record TakesTurn (old : Standing) (event : Event) (result : Outcome) (new : Standing) : Type 0 where
-  pub reaches : Reaches old new
-  pub joined : new.joined ≡ old.joined
-  pub stays : Stays old new
-  pub ok : IfOk result (λ answer. Adds old event answer new)
-  pub err : IfErr result (λ apart. Excuses old event apart new)
+pub record TakesTurn (old : ParticipantView) (event : Event) (result : CallResult) (new : ParticipantView) : Type 0 where
+  pub extends : Extends old new
+  pub merged : new.merged ≡ old.merged
+  pub unchanged : Unchanged old new
+  pub ok : IfOk result (λ answer. Commits old event answer new)
+  pub err : IfErr result (λ apart. Aborts old event apart new)
   pub turn : Answered event result
-  pub noted : new.noted ≡ old.noted + entries_of result
+  pub journaled : new.journaled ≡ old.journaled + entries_of result
 
--- the entry of a call that was noted, by the seat of this number
-abbrev pub noted_by : ℕ → Event → Outcome → List Entry
-noted_by number event (Ok answer) = entry number event answer ∷ []
-noted_by number event (Err apart) = []
+-- the entry of a call that was noted, by the participant of this number
+abbrev pub journaled_by : ℕ → Event → CallResult → List Entry
+journaled_by number event (Ok answer) = entry number event answer ∷ []
+journaled_by number event (Err apart) = []
 
 -- the noted events of these calls with their answers, in their order
-abbrev pub entries_by : ℕ → List Exchange → List Entry
-entries_by number log = flat_map (λ call. noted_by number call.event call.outcome) log
+abbrev pub entries_by : ℕ → List RequestReply → List Entry
+entries_by number log = flat_map (λ call. journaled_by number call.event call.outcome) log
 
--- A session through a seat of a shared device: each of its results is what the device answered in a turn, and the seat's own
+-- A session through a participant of a shared device: each of its results is what the device answered in a turn, and the participant's own
 -- entries are those that it had and those of the session, one for each of its steps.
-pub record ServesShared (class : Class) (old new : Standing) (in0 in1 : SourceAccount) (out0 out1 : SinkAccount) (session : Session) : Type 0 where
+pub record ServesShared (class : Class) (old new : ParticipantView) (in0 in1 : SourceTrace) (out0 out1 : SinkTrace) (session : Session) : Type 0 where
   pub serves : Serves TakesTurn class old new in0 in1 out0 out1 session
   pub turns : AllByRecursion (λ call. Answered call.event call.outcome) (serves.answered ++ serves.closing)
   pub same : Same old new
-  pub joined : new.joined ≡ old.joined
-  pub stays : Stays old new
+  pub merged : new.merged ≡ old.merged
+  pub unchanged : Unchanged old new
   pub seen : StartsWith new.seen old.seen
   pub mine : new.mine ≡ old.mine ++ entries_by old.number (serves.answered ++ serves.closing)
   pub steps : length new.mine ≡ length old.mine + session.steps
-  pub noted : new.noted ≡ old.noted + session.steps
+  pub journaled : new.journaled ≡ old.journaled + session.steps

@@ -1,26 +1,39 @@
 //! What a session works on.
 
 ghost use Rattle.drm_table.specs.declared.events.Event.{Event as AnEvent};
-ghost use Rattle.drm_table.specs.Results.{IsFew};
-ghost use Rattle.drm_frames.specs.Answers.{Outcome};
+ghost use Rattle.drm_table.specs.Results.{FitsOneFrame};
+ghost use Rattle.drm_frames.specs.Answers.{CallResult};
 ghost use Rattle.drm_sessions.specs.Opening.{AnswersOpening};
 
 use drm_table::{Answer, Apart, Event};
 
 /// A device, alone or shared, that answers events one at a time.
+///
+/// ```rust
+/// let Some(topology) = Topology::new(2, &[1, 2], &[3, 2], &[5, 6]) else { return };
+/// let Ok(mut device) = Device::new(alloc, topology, Limits::PROGRAM) else { return };
+/// let opening = Event::Open(Opening::Render);
+/// let opened = Alone { device: &mut device }.call(opening);
+/// assert!(opened == Ok(Answer::Opened { client: 1 }));
+/// ```
 pub trait Access {
     /// The values before and after a call with this event that gave this result.
-    ghost answers: { Self → AnEvent → Outcome → Self → Type 0 };
+    ghost answers: { Self → AnEvent → CallResult → Self → Type 0 };
 
     /// Answers one event. An opening is answered by a client, a denial, or what stands apart. Resources are few enough for
     /// one frame.
     fn call(&mut self, event: Event) -> Result<Answer, Apart>
         ensures answers { answers self.old event result self.new }
         ensures opening { AnswersOpening event result }
-        ensures few { IsFew result };
+        ensures few { FitsOneFrame result };
 }
 
 /// What is called before each request of a client is carried out.
+///
+/// ```rust
+/// let mut gate = NoGate;
+/// gate.before(1);
+/// ```
 pub trait Gate {
     ghost use Rattle.std.specs.Prelude.{ℕ};
 
@@ -33,6 +46,15 @@ pub trait Gate {
 }
 
 /// A gate that does nothing.
+///
+/// ```rust
+/// let hello = [14, 0, 0, 0, 0, 1, 1, 0, 0, 0, 0, 0, 0, 0, 0, 0, 0, 0];
+/// let mut source = FromRead::new(hello.as_slice());
+/// let mut sink = ToWrite::new(Vec::new(alloc));
+/// let card = Class::Card;
+/// let session = serve_alone(&mut device, &mut NoGate, card, &mut source, &mut sink, 1000);
+/// assert!(session.end == SessionEnd::Ended);
+/// ```
 #[derive(Clone, Copy, Debug)]
 pub struct NoGate;
 

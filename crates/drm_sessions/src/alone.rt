@@ -1,7 +1,7 @@
 //! A device that one session has alone.
 
 ghost use Rattle.std.specs.Prelude.{◌≡◌, ◌^◌, ◌+◌, ◌<◌};
-ghost use Rattle.drm_turns.specs.Turns.{Steps};
+ghost use Rattle.drm_turns.specs.Turns.{DeviceSteps};
 ghost use Rattle.drm_sessions.specs.Device.{ServesAlone};
 ghost use Rattle.drm_sessions.specs.Serving.{Costs};
 
@@ -14,6 +14,13 @@ use drm_streams::{Sink, Source};
 use drm_table::{Answer, Apart, Event};
 
 /// A device that one session has alone: each call is a step of the device.
+///
+/// ```rust
+/// let mut source = FromRead::new(hello.as_slice());
+/// let mut alone = Alone { device: &mut device };
+/// let session = serve_lent(&mut alone, &mut gate, card, &mut source, &mut sink, 1000);
+/// assert!(session.steps == 2);
+/// ```
 #[derive(Drop)]
 pub struct Alone<'a> {
     /// The device that it was lent.
@@ -23,7 +30,7 @@ pub struct Alone<'a> {
 impl Access for Alone<'_> {
     // The access stays at the device that it was lent.
     ghost answers = { λ a event outcome b. (b.device.ghost_name ≡ a.device.ghost_name)
-        × Steps a.device.now event outcome b.device.now };
+        × DeviceSteps a.device.now event outcome b.device.now };
 
     fn call(&mut self, event: Event) -> Result<Answer, Apart> {
         self.device.step(event)
@@ -33,6 +40,13 @@ impl Access for Alone<'_> {
 /// One session whose results are steps of the device that the access was lent.
 ///
 /// The rest is as `serve` says.
+///
+/// ```rust
+/// let mut source = FromRead::new(hello.as_slice());
+/// let mut alone = Alone { device: &mut device };
+/// let session = serve_lent(&mut alone, &mut gate, card, &mut source, &mut sink, 1000);
+/// assert!(session.end == SessionEnd::Ended);
+/// ```
 pub fn serve_lent<G: Gate, S: Source, K: Sink>(
     alone: &mut Alone<'_>,
     gate: &mut G,
@@ -41,14 +55,14 @@ pub fn serve_lent<G: Gate, S: Source, K: Sink>(
     sink: &mut K,
     turns: u64,
 ) -> Session
-    requires source { (S.account source.old).counts.calls + turns < 2 ^ 48 }
-    requires sink { (K.account sink.old).counts.calls + turns < 2 ^ 48 }
+    requires source { (S.trace source.old).counts.calls + turns < 2 ^ 48 }
+    requires sink { (K.trace sink.old).counts.calls + turns < 2 ^ 48 }
     ensures same { alone.new.device.ghost_name ≡ alone.old.device.ghost_name }
     ensures serves { ServesAlone G.passes class gate.old gate.new alone.old.device.now alone.new.device.now
-        (S.account source.old) (S.account source.new) (K.account sink.old) (K.account sink.new)
+        (S.trace source.old) (S.trace source.new) (K.trace sink.old) (K.trace sink.new)
         result }
-    ensures costs { Costs (S.account source.old) (S.account source.new)
-        (K.account sink.old) (K.account sink.new) turns result.end }
+    ensures costs { Costs (S.trace source.old) (S.trace source.new)
+        (K.trace sink.old) (K.trace sink.new) turns result.end }
 {
     serve(alone, gate, class, source, sink, turns)
 }
@@ -56,6 +70,12 @@ pub fn serve_lent<G: Gate, S: Source, K: Sink>(
 /// One session on a device that it has alone. The results are steps of the device.
 ///
 /// The rest is as `serve` says.
+///
+/// ```rust
+/// let mut source = FromRead::new(hello.as_slice());
+/// let session = serve_alone(&mut device, &mut gate, card, &mut source, &mut sink, 1000);
+/// assert!(session.end == SessionEnd::Ended && session.steps == 2);
+/// ```
 pub fn serve_alone<G: Gate, S: Source, K: Sink>(
     device: &mut Device,
     gate: &mut G,
@@ -64,13 +84,13 @@ pub fn serve_alone<G: Gate, S: Source, K: Sink>(
     sink: &mut K,
     turns: u64,
 ) -> Session
-    requires source { (S.account source.old).counts.calls + turns < 2 ^ 48 }
-    requires sink { (K.account sink.old).counts.calls + turns < 2 ^ 48 }
+    requires source { (S.trace source.old).counts.calls + turns < 2 ^ 48 }
+    requires sink { (K.trace sink.old).counts.calls + turns < 2 ^ 48 }
     ensures serves { ServesAlone G.passes class gate.old gate.new device.old device.new
-        (S.account source.old) (S.account source.new) (K.account sink.old) (K.account sink.new)
+        (S.trace source.old) (S.trace source.new) (K.trace sink.old) (K.trace sink.new)
         result }
-    ensures costs { Costs (S.account source.old) (S.account source.new)
-        (K.account sink.old) (K.account sink.new) turns result.end }
+    ensures costs { Costs (S.trace source.old) (S.trace source.new)
+        (K.trace sink.old) (K.trace sink.new) turns result.end }
 {
     let mut alone = Alone { device };
     serve_lent(&mut alone, gate, class, source, sink, turns)

@@ -5,6 +5,12 @@ use std::fmt;
 use std::fmt::{Display, Formatter};
 
 /// Why a session ended (own).
+///
+/// ```rust
+/// let mut source = FromRead::new(&hello[..4]);
+/// let session = serve_alone(&mut device, &mut gate, card, &mut source, &mut sink, 1000);
+/// assert!(session.end == SessionEnd::Truncated);
+/// ```
 #[derive(Clone, Copy, Debug, PartialEq, Eq)]
 pub enum SessionEnd {
     /// The input ended between frames.
@@ -57,6 +63,11 @@ impl Display for SessionEnd {
 }
 
 /// A session that has ended.
+///
+/// ```rust
+/// let Session { client, steps, .. } = session;
+/// assert!(client == 0 && steps == 0);
+/// ```
 #[derive(Clone, Copy, Debug, PartialEq, Eq)]
 pub struct Session {
     /// Why it ended.

@@ -42,6 +42,10 @@ impl Inbox {
         requires { count ≤ length self.old }
         ensures { self.new ≡ drop count self.old }
     {
+        if count == self.len {
+            self.len = 0;
+            return;
+        }
         self.bytes.rotate_left(count);
         self.len -= count;
     }
@@ -49,8 +53,8 @@ impl Inbox {
     /// Takes bytes from the source behind those that wait. Only `Got` changes what waits.
     pub(crate) fn refill<S: Source>(&mut self, source: &mut S, turns: &mut u64) -> Refill
         requires room { length self.old < 1028 }
-        requires countable { (S.account source.old).counts.calls + turns.old < 2 ^ 48 }
-        ensures supplies { Supplies result (S.account source.old) (S.account source.new)
+        requires countable { (S.trace source.old).counts.calls + turns.old < 2 ^ 48 }
+        ensures supplies { Supplies result (S.trace source.old) (S.trace source.new)
             self.old self.new turns.old turns.new }
     {
         let refill = take_some(source, &mut self.bytes[self.len..], turns);

@@ -14,6 +14,14 @@ use std::sync::Wait;
 use std::thread::{Promise, PromisedHandle, Scope, Threads};
 
 /// A session that is to be served.
+///
+/// ```rust
+/// let Some(topology) = Topology::new(2, &[1, 2], &[3, 2], &[5, 6]) else { return };
+/// let Ok(fresh) = Device::new(alloc, topology, Limits::PROGRAM) else { return };
+/// let Ok((shared, mut participant)) = SharedDevice::new(alloc, fresh) else { return };
+/// let (from, into) = (FromRead::new(hello.as_slice()), ToWrite::new(Vec::new(alloc)));
+/// let job = Job { gate: NoGate, class: card, source: from, sink: into, turns: 1000 };
+/// ```
 #[derive(Drop)]
 pub struct Job<G, S, K> {
     /// What is called before each of its requests.
@@ -29,6 +37,14 @@ pub struct Job<G, S, K> {
 }
 
 /// A session that was served, with its source and its sink.
+///
+/// ```rust
+/// let mut jobs = Vec::new(alloc);
+/// let Ok(()) = jobs.push(job) else { return };
+/// let Ok(served) = serve_many(&rt, alloc, &shared, &mut participant, jobs) else { return };
+/// let Some(Finished { session, .. }) = served.first() else { return };
+/// assert!(session.steps == 2);
+/// ```
 #[derive(Drop)]
 pub struct Finished<S, K> {
     /// How it ended, and what it did.
@@ -37,28 +53,28 @@ pub struct Finished<S, K> {
     pub source: S,
     /// The sink, as the session left it.
     pub sink: K,
-    /// The seat that the session had, as it ended; contracts speak of it.
-    pub seat: Snapshot<Seat>,
+    /// The participant that the session had, as it ended; contracts speak of it.
+    pub participant: Snapshot<Seat>,
 }
 
 /// What a job's thread gives back.
 #[derive(Drop)]
 pub(crate) struct Returned<S, K> {
     pub(crate) finished: Finished<S, K>,
-    pub(crate) seat: Seat,
+    pub(crate) participant: Seat,
 }
 
-/// That a thread serves the job that it was given, through the seat that it was given.
+/// That a thread serves the job that it was given, through the participant that it was given.
 #[derive(Drop)]
 pub(crate) struct JobServed<G, S, K> {
     pub(crate) job: Snapshot<Job<G, S, K>>,
-    pub(crate) seat: Snapshot<Seat>,
+    pub(crate) participant: Snapshot<Seat>,
 }
 
 impl<G: Gate, S: Source, K: Sink> Promise<Returned<S, K>> for JobServed<G, S, K> {
     ghost kept_by = { λ promise returned.
-        IsServed G.passes S.account K.account promise.seat.value promise.job.value returned.finished
-        × (returned.finished.seat.value ≡ returned.seat) };
+        IsServed G.passes S.trace K.trace promise.participant.value promise.job.value returned.finished
+        × (returned.finished.participant.value ≡ returned.participant) };
 }
 
 /// A thread that serves a job.
@@ -68,13 +84,13 @@ pub(crate) type JobHandle<G, S, K> = PromisedHandle<Returned<S, K>, JobServed<G,
 fn run_job<R: Wait, D: Sharing, G: Gate + Drop, S: Source, K: Sink>(
     rt: &R,
     shared: &D,
-    seat: Seat,
+    participant: Seat,
     job: Job<G, S, K>,
 ) -> Returned<S, K>
-    requires turns { HasTurns S.account K.account job }
-    requires own { seat.table ≡ D.table shared.now }
-    ensures served { IsServed G.passes S.account K.account seat job result.finished }
-    ensures seat { result.finished.seat.value ≡ result.seat }
+    requires turns { HasTurns S.trace K.trace job }
+    requires own { participant.table ≡ D.table shared.now }
+    ensures served { IsServed G.passes S.trace K.trace participant job result.finished }
+    ensures participant { result.finished.participant.value ≡ result.participant }
 {
     let Job {
         mut gate,
@@ -83,10 +99,13 @@ fn run_job<R: Wait, D: Sharing, G: Gate + Drop, S: Source, K: Sink>(
         mut sink,
         turns,
     } = job;
-    let Served { session, seat } = serve_through(
+    let Served {
+        session,
+        participant,
+    } = serve_through(
         rt,
         shared.device(),
-        seat,
+        participant,
         &mut gate,
         class,
         &mut source,
@@ -98,13 +117,13 @@ fn run_job<R: Wait, D: Sharing, G: Gate + Drop, S: Source, K: Sink>(
             session,
             source,
             sink,
-            seat: Snapshot::of(&seat),
+            participant: Snapshot::of(&participant),
         },
-        seat,
+        participant,
     }
 }
 
-/// Starts a thread that serves the job through the seat, where one can be made.
+/// Starts a thread that serves the job through the participant, where one can be made.
 pub(crate) fn start_job<
     's,
     E: 's,
@@ -117,19 +136,19 @@ pub(crate) fn start_job<
     scope: &Scope<'s, E>,
     rt: &'s R,
     shared: &'s D,
-    seat: Seat,
+    participant: Seat,
     job: Job<G, S, K>,
 ) -> Option<JobHandle<G, S, K>>
-    requires turns { HasTurns S.account K.account job }
-    requires own { seat.table ≡ D.table shared.now }
+    requires turns { HasTurns S.trace K.trace job }
+    requires own { participant.table ≡ D.table shared.now }
     ensures job { IfSome result (λ handle. handle.promise.job.value ≡ job) }
-    ensures seat { IfSome result (λ handle. handle.promise.seat.value ≡ seat) }
+    ensures participant { IfSome result (λ handle. handle.promise.participant.value ≡ participant) }
 {
     let promise = JobServed {
         job: Snapshot::of(&job),
-        seat: Snapshot::of(&seat),
+        participant: Snapshot::of(&participant),
     };
-    match scope.spawn_with(promise, move || run_job(rt, shared, seat, job)) {
+    match scope.spawn_with(promise, move || run_job(rt, shared, participant, job)) {
         Ok(handle) => Some(handle),
         Err(_) => None,
     }

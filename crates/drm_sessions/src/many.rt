@@ -4,10 +4,10 @@ ghost use Rattle.std.specs.Prelude.{◌≡◌, ◌≢◌, ℕ, ◌+◌, ◌-◌,
 ghost use Rattle.std.specs.List.{AllByRecursion};
 ghost use Rattle.std.specs.Vec.{vec_capacity};
 ghost use Rattle.drm_turns.specs.History.{AllDiffer};
-ghost use Rattle.drm_turns.specs.Seats.{HasSeen, HasTakenIn, IsChild, IsSplitOff, Reaches, Same, numbers_of, with_out};
+ghost use Rattle.drm_turns.specs.Participants.{HasSeen, HasTakenIn, IsChild, IsSplitOff, Extends, Same, numbers_of, with_outstanding};
 ghost use Rattle.drm_sessions.specs.declared.many.ManyFault.TheVariants.{NoMemory};
 ghost use Rattle.drm_sessions.specs.Serving.{all_steps};
-ghost use Rattle.drm_sessions.specs.Jobs.{HasTurns, IsServed, IsServedBeside, seats_of, sessions_of};
+ghost use Rattle.drm_sessions.specs.Jobs.{HasTurns, IsServed, IsServedBeside, participants_of, sessions_of};
 ghost use Rattle.drm_sessions.specs.Matched.{Matched};
 
 use crate::access::Gate;
@@ -20,6 +20,14 @@ use std::thread;
 use std::thread::{Scope, Threads};
 
 /// Why not all jobs were served.
+///
+/// ```rust
+/// let none: Vec<Job<NoGate, FromRead<&[u8]>, ToWrite<Vec<u8>>>> = Vec::new(alloc);
+/// match serve_many(&rt, alloc, &shared, &mut participant, none) {
+///     Ok(served) => assert!(served.is_empty()),
+///     Err(ManyFault::NoMemory | ManyFault::NoThread) => return,
+/// }
+/// ```
 #[derive(Clone, Copy, Debug, PartialEq, Eq)]
 pub enum ManyFault {
     /// There was no memory for the list of threads, or of sessions. No job was started.
@@ -28,7 +36,7 @@ pub enum ManyFault {
     NoThread,
 }
 
-// Starts a thread for each job, in order, with a seat of its own.
+// Starts a thread for each job, in order, with a participant of its own.
 fn start_all<
     's,
     E: 's,
@@ -44,24 +52,24 @@ fn start_all<
     jobs: Vec<Job<G, S, K>>,
     handles: Vec<JobHandle<G, S, K>>,
 ) -> Result<Vec<JobHandle<G, S, K>>, ManyFault>
-    requires turns { All (λ job. HasTurns S.account K.account job) jobs.items }
+    requires turns { All (λ job. HasTurns S.trace K.trace job) jobs.items }
     requires own { own.old.table ≡ shared.now }
     requires empty { handles.items ≡ [] }
     requires reserved { vec_len jobs ≤ vec_capacity handles }
     ensures started { IfOk result (λ handles.
         Matched (λ job handle. handle.promise.job.value ≡ job) jobs.items handles.items) }
     ensures split { IfOk result (λ handles.
-        All (λ handle. IsSplitOff own.old handle.promise.seat.value) handles.items) }
+        All (λ handle. IsSplitOff own.old handle.promise.participant.value) handles.items) }
     ensures children { IfOk result (λ handles.
-        All (λ handle. IsChild own.old handle.promise.seat.value) handles.items) }
-    ensures own { own.new ≡ with_out own.old own.new.out }
-    ensures out { IfOk result (λ handles. own.new.out ≡ own.old.out + vec_len handles) }
+        All (λ handle. IsChild own.old handle.promise.participant.value) handles.items) }
+    ensures own { own.new ≡ with_outstanding own.old own.new.outstanding }
+    ensures outstanding { IfOk result (λ handles. own.new.outstanding ≡ own.old.outstanding + vec_len handles) }
     ensures memory { result ≢ Err NoMemory }
 {
     let mut handles = handles;
     for job in jobs {
-        let seat = shared.split(own);
-        let Some(handle) = start_job(scope, rt, shared, seat, job) else {
+        let participant = shared.split(own);
+        let Some(handle) = start_job(scope, rt, shared, participant, job) else {
             return Err(ManyFault::NoThread);
         };
         handles.push_reserved(handle);
@@ -69,7 +77,7 @@ fn start_all<
     Ok(handles)
 }
 
-// Joins the threads and takes in their seats, in order.
+// Joins the threads and takes in their participants, in order.
 fn join_all<R: Wait + Threads + Sync, G: Gate, S: Source + Drop, K: Sink + Drop>(
     rt: &R,
     shared: &SharedDevice,
@@ -78,24 +86,27 @@ fn join_all<R: Wait + Threads + Sync, G: Gate, S: Source + Drop, K: Sink + Drop>
     sessions: Vec<Finished<S, K>>,
 ) -> Vec<Finished<S, K>>
     requires own { own.old.table ≡ shared.now }
-    requires joined { own.old.joined ≡ [] }
-    requires split { All (λ handle. IsSplitOff own.old handle.promise.seat.value) handles.items }
-    requires children { All (λ handle. IsChild own.old handle.promise.seat.value) handles.items }
+    requires merged { own.old.merged ≡ [] }
+    requires split { All (λ handle. IsSplitOff own.old handle.promise.participant.value) handles.items }
+    requires children { All (λ handle. IsChild own.old handle.promise.participant.value) handles.items }
     requires empty { sessions.items ≡ [] }
     requires reserved { vec_len handles ≤ vec_capacity sessions }
     ensures served { Matched
-        (λ handle finished. IsServed G.passes S.account K.account handle.promise.seat.value handle.promise.job.value finished)
+        (λ handle finished. IsServed G.passes S.trace K.trace handle.promise.participant.value handle.promise.job.value finished)
         handles.items result.items }
-    ensures taken { HasTakenIn own.new (seats_of result.items) }
+    ensures taken { HasTakenIn own.new (participants_of result.items) }
     ensures same { Same own.old own.new }
     ensures parent { own.new.parent ≡ own.old.parent }
-    ensures out { own.new.out ≡ own.old.out - vec_len result }
-    ensures noted { own.new.noted ≡ own.old.noted + all_steps (sessions_of result.items) }
+    ensures outstanding { own.new.outstanding ≡ own.old.outstanding - vec_len result }
+    ensures journaled { own.new.journaled ≡ own.old.journaled + all_steps (sessions_of result.items) }
 {
     let mut sessions = sessions;
     for handle in handles {
-        let Returned { finished, seat } = handle.join(rt);
-        shared.join(own, seat);
+        let Returned {
+            finished,
+            participant,
+        } = handle.join(rt);
+        shared.join(own, participant);
         sessions.push_reserved(finished);
     }
     sessions
@@ -117,19 +128,19 @@ fn serve_in_scope<
     own: &mut Seat,
     jobs: Vec<Job<G, S, K>>,
 ) -> Result<Vec<Finished<S, K>>, ManyFault>
-    requires turns { All (λ job. HasTurns S.account K.account job) jobs.items }
+    requires turns { All (λ job. HasTurns S.trace K.trace job) jobs.items }
     requires own { own.old.table ≡ shared.now }
-    requires joined { own.old.joined ≡ [] }
+    requires merged { own.old.merged ≡ [] }
     ensures served { IfOk result (λ sessions. Matched
-        (λ job finished. IsServedBeside G.passes S.account K.account own.old job finished) jobs.items sessions.items) }
-    ensures taken { IfOk result (λ sessions. HasTakenIn own.new (seats_of sessions.items)) }
+        (λ job finished. IsServedBeside G.passes S.trace K.trace own.old job finished) jobs.items sessions.items) }
+    ensures taken { IfOk result (λ sessions. HasTakenIn own.new (participants_of sessions.items)) }
     ensures same { Same own.old own.new }
     ensures parent { own.new.parent ≡ own.old.parent }
-    ensures out { OnOk result (own.new.out ≡ own.old.out) }
-    ensures unstarted { result ≡ Err NoMemory → own.new.out ≡ own.old.out }
-    ensures fault { OnErr result (own.new.joined ≡ []) }
-    ensures noted { IfOk result (λ sessions. own.new.noted ≡ own.old.noted + all_steps (sessions_of sessions.items)) }
-    ensures unnoted { OnErr result (own.new.noted ≡ own.old.noted) }
+    ensures outstanding { OnOk result (own.new.outstanding ≡ own.old.outstanding) }
+    ensures unstarted { result ≡ Err NoMemory → own.new.outstanding ≡ own.old.outstanding }
+    ensures fault { OnErr result (own.new.merged ≡ []) }
+    ensures journaled { IfOk result (λ sessions. own.new.journaled ≡ own.old.journaled + all_steps (sessions_of sessions.items)) }
+    ensures unjournaled { OnErr result (own.new.journaled ≡ own.old.journaled) }
 {
     let count = jobs.len();
     let handles = Vec::with_capacity(alloc, count).map_err(|_| ManyFault::NoMemory)?;
@@ -140,12 +151,17 @@ fn serve_in_scope<
 
 /// Serves each job in a thread of its own, and gives their sessions in the order of the jobs. It may wait.
 ///
-/// Each job is served as `serve_through` says, through a seat that is split off and joined again: what that seat had seen is
-/// told, and the entries of its number there are those of its session. The numbers of the jobs' seats differ, and stand
+/// Each job is served as `serve_through` says, through a participant that is split off and joined again: what that participant had seen is
+/// told, and the entries of its number there are those of its session. The numbers of the jobs' participants differ, and stand
 /// behind the number of one that took them in. On a fault the threads that were started are waited for, and their steps of
-/// the device stand. What the lent seat made itself is as it was, and without a fault no more are out of it. Where memory was
-/// wanting no job was started: no job's seat was taken in, and none is out. The seat and those that it took in made as many
+/// the device stand. What the lent participant made itself is as it was, and without a fault no more are out of it. Where memory was
+/// wanting no job was started: no job's participant was taken in, and none is out. The participant and those that it took in made as many
 /// entries more as the jobs' sessions have steps, and without sessions none.
+///
+/// ```rust
+/// let jobs: Vec<Job<NoGate, FromRead<&[u8]>, ToWrite<Vec<u8>>>> = Vec::new(alloc);
+/// assert!(serve_many(&rt, alloc, &shared, &mut participant, jobs).is_ok());
+/// ```
 pub fn serve_many<
     R: Wait + Threads + Sync,
     G: Gate + Send + Drop,
@@ -155,50 +171,50 @@ pub fn serve_many<
     rt: &R,
     alloc: Global,
     shared: &SharedDevice,
-    seat: &mut Seat,
+    participant: &mut Seat,
     jobs: Vec<Job<G, S, K>>,
 ) -> Result<Vec<Finished<S, K>>, ManyFault>
-    requires turns { All (λ job. HasTurns S.account K.account job) jobs.items }
-    requires own { seat.old.table ≡ shared.now }
+    requires turns { All (λ job. HasTurns S.trace K.trace job) jobs.items }
+    requires own { participant.old.table ≡ shared.now }
     ensures served { IfOk result (λ sessions. Matched
-        (λ job finished. IsServedBeside G.passes S.account K.account seat.old job finished) jobs.items sessions.items) }
-    ensures seen { IfOk result (λ sessions. AllByRecursion (λ other. HasSeen seat.new other) (seats_of sessions.items)) }
-    ensures joined { (number : ℕ)
-        × IfOk result (λ sessions. seat.new.joined ≡ seat.old.joined ++ number ∷ numbers_of (seats_of sessions.items))
-        × OnErr result (seat.new.joined ≡ seat.old.joined ++ number ∷ []) }
-    ensures differ { AllDiffer (seat.new.number ∷ seat.new.joined) }
-    ensures reaches { Reaches seat.old seat.new }
-    ensures mine { seat.new.mine ≡ seat.old.mine }
-    ensures parent { seat.new.parent ≡ seat.old.parent }
-    ensures out { OnOk result (seat.new.out ≡ seat.old.out) }
-    ensures unstarted { result ≡ Err NoMemory → seat.new.out ≡ seat.old.out }
-    ensures noted { IfOk result (λ sessions. seat.new.noted ≡ seat.old.noted + all_steps (sessions_of sessions.items)) }
-    ensures unnoted { OnErr result (seat.new.noted ≡ seat.old.noted) }
+        (λ job finished. IsServedBeside G.passes S.trace K.trace participant.old job finished) jobs.items sessions.items) }
+    ensures seen { IfOk result (λ sessions. AllByRecursion (λ other. HasSeen participant.new other) (participants_of sessions.items)) }
+    ensures merged { (number : ℕ)
+        × IfOk result (λ sessions. participant.new.merged ≡ participant.old.merged ++ number ∷ numbers_of (participants_of sessions.items))
+        × OnErr result (participant.new.merged ≡ participant.old.merged ++ number ∷ []) }
+    ensures differ { AllDiffer (participant.new.number ∷ participant.new.merged) }
+    ensures extends { Extends participant.old participant.new }
+    ensures mine { participant.new.mine ≡ participant.old.mine }
+    ensures parent { participant.new.parent ≡ participant.old.parent }
+    ensures outstanding { OnOk result (participant.new.outstanding ≡ participant.old.outstanding) }
+    ensures unstarted { result ≡ Err NoMemory → participant.new.outstanding ≡ participant.old.outstanding }
+    ensures journaled { IfOk result (λ sessions. participant.new.journaled ≡ participant.old.journaled + all_steps (sessions_of sessions.items)) }
+    ensures unjournaled { OnErr result (participant.new.journaled ≡ participant.old.journaled) }
 {
-    let own = shared.split(seat);
+    let own = shared.split(participant);
     let (own, sessions) = thread::scope(
         thread::scope_env(),
         rt,
         move |scope| -> (Seat, Result<Vec<Finished<S, K>>, ManyFault>)
-            requires { All (λ job. HasTurns S.account K.account job) jobs.items
-                × (own.table ≡ shared.now) × (own.joined ≡ []) }
+            requires { All (λ job. HasTurns S.trace K.trace job) jobs.items
+                × (own.table ≡ shared.now) × (own.merged ≡ []) }
             ensures { IfOk result.1 (λ sessions. Matched
-                (λ job finished. IsServedBeside G.passes S.account K.account own job finished)
+                (λ job finished. IsServedBeside G.passes S.trace K.trace own job finished)
                 jobs.items sessions.items)
-                × IfOk result.1 (λ sessions. HasTakenIn result.0 (seats_of sessions.items))
+                × IfOk result.1 (λ sessions. HasTakenIn result.0 (participants_of sessions.items))
                 × Same own result.0
                 × (result.0.parent ≡ own.parent)
-                × OnOk result.1 (result.0.out ≡ own.out)
-                × (result.1 ≡ Err NoMemory → result.0.out ≡ own.out)
-                × OnErr result.1 (result.0.joined ≡ [])
-                × IfOk result.1 (λ sessions. result.0.noted ≡ own.noted + all_steps (sessions_of sessions.items))
-                × OnErr result.1 (result.0.noted ≡ own.noted) }
+                × OnOk result.1 (result.0.outstanding ≡ own.outstanding)
+                × (result.1 ≡ Err NoMemory → result.0.outstanding ≡ own.outstanding)
+                × OnErr result.1 (result.0.merged ≡ [])
+                × IfOk result.1 (λ sessions. result.0.journaled ≡ own.journaled + all_steps (sessions_of sessions.items))
+                × OnErr result.1 (result.0.journaled ≡ own.journaled) }
         {
             let mut own = own;
             let sessions = serve_in_scope(scope, rt, alloc, shared, &mut own, jobs);
             (own, sessions)
         },
     );
-    shared.join(seat, own);
+    shared.join(participant, own);
     sessions
 }

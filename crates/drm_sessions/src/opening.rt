@@ -1,18 +1,17 @@
 //! The opening that a hello asks for.
 
 ghost use Rattle.std.specs.Prelude.{◌≡◌};
-ghost use Rattle.drm_sessions.specs.Opening.{opening_in, node_or_lease};
+ghost use Rattle.drm_sessions.specs.Opening.{opening_by, node_or_lease};
 
 use crate::class::Class;
-use drm_frames::{Frame, hello_of};
+use drm_frames::Hello;
 use drm_table::Opening;
 
 /// The opening that the first frame asks for, if it is a hello that the class allows.
-#[tactic(auto, unfolding(crate::specs::Opening::opening_in))]
-pub(crate) fn opening_of(class: Class, frame: &Frame) -> Option<Opening>
-    ensures { result ≡ opening_in class frame.now }
+pub(crate) fn opening_of(class: Class, hello: Option<Hello>) -> Option<Opening>
+    ensures { result ≡ opening_by class hello }
 {
-    let hello = hello_of(frame)?;
+    let hello = hello?;
     let universal = hello.version == 1;
     match (class, hello.lease) {
         (Class::Card, lease) => Some(node_or_lease(false, universal, lease)),

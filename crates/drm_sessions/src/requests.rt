@@ -1,20 +1,21 @@
 //! The requests of a client, one after the other.
 
 ghost use Rattle.std.specs.Prelude.{◌≡◌, ◌^◌, ◌+◌, ◌<◌, ◌≤◌, [], length};
-ghost use Rattle.drm_frames.specs.Answers.{Outcome, answer_text};
+ghost use Rattle.drm_frames.specs.Answers.{CallResult, answer_text};
 ghost use Rattle.drm_sessions.specs.Gates.{Gated};
 ghost use Rattle.drm_sessions.specs.Reading.{Wrote};
-ghost use Rattle.drm_sessions.specs.Runs.{asked, one_if_noted};
-ghost use Rattle.drm_sessions.specs.Ends.{Ends, Moves, Shows, Tells};
+ghost use Rattle.drm_sessions.specs.Runs.{one_if_journaled};
+ghost use Rattle.drm_table.specs.declared.events.Event.TheVariants.{Ask};
+ghost use Rattle.drm_sessions.specs.Ends.{Ends, IoCost, Shows, Tells};
 
 use crate::access::{Access, Gate};
 use crate::end::SessionEnd;
 use crate::inbox::Inbox;
-use crate::reading::next_frame;
+use crate::reading::next_message;
 use crate::writing::write_answer;
-use drm_frames::{Frame, call_of, encode_answer};
+use drm_frames::AnswerText;
 use drm_streams::{Sink, Source};
-use drm_table::Event;
+use drm_table::{Call, Event};
 
 /// How the requests ended, and how many were noted.
 #[derive(Clone, Copy, Debug)]
@@ -30,24 +31,25 @@ struct Answered {
     wrote: Result<(), SessionEnd>,
 }
 
-// Makes the call that a frame asks, and writes its answer.
-fn answer_frame<A: Access, K: Sink>(
+// Makes a call, and writes its answer; its frame is made in the text.
+fn answer_call<A: Access, K: Sink>(
     access: &mut A,
     sink: &mut K,
     turns: &mut u64,
+    text: &mut AnswerText,
     client: u32,
-    frame: &Frame,
+    call: Call,
 ) -> Answered
-    requires { (K.account sink.old).counts.calls + turns.old < 2 ^ 48 }
-    ensures { (outcome : Outcome)
-        × A.answers access.old (asked client frame.now) outcome access.new
-        × (result.steps ≡ one_if_noted outcome)
-        × Wrote result.wrote (K.account sink.old) (K.account sink.new) (answer_text outcome)
+    requires { (K.trace sink.old).counts.calls + turns.old < 2 ^ 48 }
+    ensures { (outcome : CallResult)
+        × A.answers access.old (Ask client call) outcome access.new
+        × (result.steps ≡ one_if_journaled outcome)
+        × Wrote result.wrote (K.trace sink.old) (K.trace sink.new) (answer_text outcome)
         turns.old turns.new
         × (0 < length (answer_text outcome)) }
 {
-    let outcome = access.call(Event::Ask(client, call_of(frame)));
-    let text = encode_answer(&outcome);
+    let outcome = access.call(Event::Ask(client, call));
+    text.write(&outcome);
     let wrote = write_answer(sink, text.as_slice(), turns);
     let steps = if outcome.is_ok() { 1 } else { 0 };
     Answered { steps, wrote }
@@ -63,27 +65,28 @@ pub(crate) fn answer_requests<A: Access, G: Gate, S: Source, K: Sink>(
     turns: &mut u64,
     client: u32,
 ) -> Stopped
-    requires source { (S.account source.old).counts.calls + turns.old < 2 ^ 48 }
-    requires sink { (K.account sink.old).counts.calls + turns.old < 2 ^ 48 }
+    requires source { (S.trace source.old).counts.calls + turns.old < 2 ^ 48 }
+    requires sink { (K.trace sink.old).counts.calls + turns.old < 2 ^ 48 }
     ensures ends { Ends (Gated A.answers G.passes) client (access.old, gate.old) (access.new, gate.new)
-        (S.account source.old) (S.account source.new) (K.account sink.old) (K.account sink.new)
+        (S.trace source.old) (S.trace source.new) (K.trace sink.old) (K.trace sink.new)
         [] inbox.old result.steps result.end }
-    ensures moves { Moves (S.account source.old) (S.account source.new)
-        (K.account sink.old) (K.account sink.new) turns.old turns.new }
-    ensures shows { Shows result.end (S.account source.old) (S.account source.new)
-        (K.account sink.old) (K.account sink.new) turns.new }
-    ensures tells { Tells result.end (S.account source.old).counts (S.account source.new).counts
-        (K.account sink.old).counts (K.account sink.new).counts }
+    ensures moves { IoCost (S.trace source.old) (S.trace source.new)
+        (K.trace sink.old) (K.trace sink.new) turns.old turns.new }
+    ensures shows { Shows result.end (S.trace source.old) (S.trace source.new)
+        (K.trace sink.old) (K.trace sink.new) turns.new }
+    ensures tells { Tells result.end (S.trace source.old).counts (S.trace source.new).counts
+        (K.trace sink.old).counts (K.trace sink.new).counts }
     ensures few { result.steps ≤ turns.old + 1 }
 {
+    let mut text = AnswerText::new();
     let mut steps = 0;
     'asking: loop {
-        let frame = match next_frame(source, inbox, turns) {
-            Ok(frame) => frame,
+        let call = match next_message::<Call, S>(source, inbox, turns) {
+            Ok(call) => call,
             Err(end) => return Stopped { end, steps },
         };
         gate.before(client);
-        let answered = answer_frame(access, sink, turns, client, &frame);
+        let answered = answer_call(access, sink, turns, &mut text, client, call);
         steps += answered.steps;
         if let Err(end) = answered.wrote {
             return Stopped { end, steps };

@@ -3,10 +3,10 @@
 ghost use Rattle.std.specs.Prelude.{◌≡◌, ◌^◌, ◌+◌, ◌<◌, ◌≤◌, ◌∷◌, [], Ok};
 ghost use Rattle.drm_table.specs.declared.events.Event.TheVariants.{Close};
 ghost use Rattle.drm_table.specs.declared.answers.Answer.TheVariants.{Opened};
-ghost use Rattle.drm_frames.specs.Answers.{Outcome, answer_text};
+ghost use Rattle.drm_frames.specs.Answers.{CallResult, answer_text};
 ghost use Rattle.drm_sessions.specs.Gates.{Gated, LetsAllPass};
-ghost use Rattle.drm_sessions.specs.Runs.{one_if_noted};
-ghost use Rattle.drm_sessions.specs.Ends.{Ends, EndsClosed, Moves, Refuses, Shows, Tells, TellsStop};
+ghost use Rattle.drm_sessions.specs.Runs.{one_if_journaled};
+ghost use Rattle.drm_sessions.specs.Ends.{Ends, EndsClosed, IoCost, Refuses, Shows, Tells, TellsStop};
 ghost use Rattle.drm_sessions.specs.Serving.{Continues, Costs, Serves, calls_made};
 
 use crate::accepted::{Accepted, read_opening};
@@ -15,10 +15,10 @@ use crate::class::Class;
 use crate::end::{Session, SessionEnd};
 use crate::inbox::Inbox;
 use crate::opening::opening_of;
-use crate::reading::next_frame;
+use crate::reading::next_message;
 use crate::requests::{Stopped, answer_requests};
 use crate::writing::write_answer;
-use drm_frames::encode_answer;
+use drm_frames::{Hello, encode_answer};
 use drm_streams::{Sink, Source};
 use drm_table::{Apart, Event, Opening};
 
@@ -33,18 +33,18 @@ fn serve_client<A: Access, G: Gate, S: Source, K: Sink>(
     client: u32,
     said: &[u8],
 ) -> Stopped
-    requires source { (S.account source.old).counts.calls + turns.old < 2 ^ 48 }
-    requires sink { (K.account sink.old).counts.calls + turns.old < 2 ^ 48 }
+    requires source { (S.trace source.old).counts.calls + turns.old < 2 ^ 48 }
+    requires sink { (K.trace sink.old).counts.calls + turns.old < 2 ^ 48 }
     requires said { said.now ≡ answer_text (Ok (Opened client)) }
     ensures ends { Ends (Gated A.answers G.passes) client (access.old, gate.old) (access.new, gate.new)
-        (S.account source.old) (S.account source.new) (K.account sink.old) (K.account sink.new)
+        (S.trace source.old) (S.trace source.new) (K.trace sink.old) (K.trace sink.new)
         (Ok (Opened client) ∷ []) inbox.old result.steps result.end }
-    ensures moves { Moves (S.account source.old) (S.account source.new)
-        (K.account sink.old) (K.account sink.new) turns.old turns.new }
-    ensures shows { Shows result.end (S.account source.old) (S.account source.new)
-        (K.account sink.old) (K.account sink.new) turns.new }
-    ensures tells { Tells result.end (S.account source.old).counts (S.account source.new).counts
-        (K.account sink.old).counts (K.account sink.new).counts }
+    ensures moves { IoCost (S.trace source.old) (S.trace source.new)
+        (K.trace sink.old) (K.trace sink.new) turns.old turns.new }
+    ensures shows { Shows result.end (S.trace source.old) (S.trace source.new)
+        (K.trace sink.old) (K.trace sink.new) turns.new }
+    ensures tells { Tells result.end (S.trace source.old).counts (S.trace source.new).counts
+        (K.trace sink.old).counts (K.trace sink.new).counts }
     ensures few { result.steps ≤ turns.old + 1 }
 {
     match write_answer(sink, said, turns) {
@@ -56,8 +56,8 @@ fn serve_client<A: Access, G: Gate, S: Source, K: Sink>(
 // Makes the one closing of a client, whose opening was one step.
 fn close_client<A: Access>(access: &mut A, client: u32, stopped: Stopped) -> Session
     requires { stopped.steps < 2 ^ 63 }
-    ensures { (outcome : Outcome) × A.answers access.old (Close client) outcome access.new
-        × (result.client ≡ client) × (result.steps ≡ 1 + (stopped.steps + one_if_noted outcome))
+    ensures { (outcome : CallResult) × A.answers access.old (Close client) outcome access.new
+        × (result.client ≡ client) × (result.steps ≡ 1 + (stopped.steps + one_if_journaled outcome))
         × EndsClosed stopped.end outcome result.end }
 {
     let outcome = access.call(Event::Close(client));
@@ -81,8 +81,8 @@ fn refuse<K: Sink>(
     end: SessionEnd,
     steps: u64,
 ) -> Session
-    requires { (K.account sink.old).counts.calls + turns.old < 2 ^ 48 }
-    ensures refuses { Refuses end result.end (K.account sink.old) (K.account sink.new)
+    requires { (K.trace sink.old).counts.calls + turns.old < 2 ^ 48 }
+    ensures refuses { Refuses end result.end (K.trace sink.old) (K.trace sink.new)
         said.now turns.old turns.new }
     ensures client { result.client ≡ 0 }
     ensures steps { result.steps ≡ steps }
@@ -109,18 +109,18 @@ fn run_session<A: Access, G: Gate, S: Source, K: Sink>(
     turns: &mut u64,
     opening: Opening,
 ) -> Session
-    requires source { (S.account source.old).counts.calls + turns.old < 2 ^ 48 }
-    requires sink { (K.account sink.old).counts.calls + turns.old < 2 ^ 48 }
+    requires source { (S.trace source.old).counts.calls + turns.old < 2 ^ 48 }
+    requires sink { (K.trace sink.old).counts.calls + turns.old < 2 ^ 48 }
     ensures continues { Continues (Gated A.answers G.passes) class opening
         (access.old, gate.old) (access.new, gate.new)
-        (S.account source.old) (S.account source.new) (K.account sink.old) (K.account sink.new)
+        (S.trace source.old) (S.trace source.new) (K.trace sink.old) (K.trace sink.new)
         inbox.old result }
-    ensures moves { Moves (S.account source.old) (S.account source.new)
-        (K.account sink.old) (K.account sink.new) turns.old turns.new }
-    ensures shows { Shows result.end (S.account source.old) (S.account source.new)
-        (K.account sink.old) (K.account sink.new) turns.new }
-    ensures tells { TellsStop result.end (S.account source.old).counts (S.account source.new).counts
-        (K.account sink.old).counts (K.account sink.new).counts }
+    ensures moves { IoCost (S.trace source.old) (S.trace source.new)
+        (K.trace sink.old) (K.trace sink.new) turns.old turns.new }
+    ensures shows { Shows result.end (S.trace source.old) (S.trace source.new)
+        (K.trace sink.old) (K.trace sink.new) turns.new }
+    ensures tells { TellsStop result.end (S.trace source.old).counts (S.trace source.new).counts
+        (K.trace sink.old).counts (K.trace sink.new).counts }
 {
     let outcome = access.call(Event::Open(opening));
     let text = encode_answer(&outcome);
@@ -142,6 +142,13 @@ fn run_session<A: Access, G: Gate, S: Source, K: Sink>(
 /// before the next frame is looked for; the closing's isn't written. Whichever read or write
 /// fails, the client is closed, and nothing more is read or written. The gate is called once for
 /// each request, and for nothing else.
+///
+/// ```rust
+/// let mut source = FromRead::new(hello.as_slice());
+/// let mut alone = Alone { device: &mut device };
+/// let session = serve(&mut alone, &mut gate, card, &mut source, &mut sink, 1000);
+/// assert!(session.end == SessionEnd::Ended);
+/// ```
 pub fn serve<A: Access, G: Gate, S: Source, K: Sink>(
     access: &mut A,
     gate: &mut G,
@@ -150,18 +157,18 @@ pub fn serve<A: Access, G: Gate, S: Source, K: Sink>(
     sink: &mut K,
     turns: u64,
 ) -> Session
-    requires source { (S.account source.old).counts.calls + turns < 2 ^ 48 }
-    requires sink { (K.account sink.old).counts.calls + turns < 2 ^ 48 }
+    requires source { (S.trace source.old).counts.calls + turns < 2 ^ 48 }
+    requires sink { (K.trace sink.old).counts.calls + turns < 2 ^ 48 }
     ensures serves { (serves : Serves A.answers class access.old access.new
-        (S.account source.old) (S.account source.new) (K.account sink.old) (K.account sink.new)
+        (S.trace source.old) (S.trace source.new) (K.trace sink.old) (K.trace sink.new)
         result) × LetsAllPass G.passes gate.old (calls_made serves) gate.new }
-    ensures costs { Costs (S.account source.old) (S.account source.new)
-        (K.account sink.old) (K.account sink.new) turns result.end }
+    ensures costs { Costs (S.trace source.old) (S.trace source.new)
+        (K.trace sink.old) (K.trace sink.new) turns result.end }
 {
     let mut inbox = Inbox::new();
     let mut left = turns;
-    let frame = match next_frame(source, &mut inbox, &mut left) {
-        Ok(frame) => frame,
+    let hello = match next_message::<Option<Hello>, S>(source, &mut inbox, &mut left) {
+        Ok(hello) => hello,
         Err(end) => {
             return Session {
                 end,
@@ -170,7 +177,7 @@ pub fn serve<A: Access, G: Gate, S: Source, K: Sink>(
             };
         }
     };
-    match opening_of(class, &frame) {
+    match opening_of(class, hello) {
         Some(opening) => run_session(
             access, gate, class, source, sink, &mut inbox, &mut left, opening,
         ),

@@ -15,41 +15,63 @@ use drm_turns::{Seat, SharedDevice};
 use std::marker::Model;
 use std::sync::Wait;
 
-/// A shared device as a session reaches it: each call is a call through the seat. Contracts see the seat.
+/// A shared device as a session reaches it: each call is a call through the participant. Contracts see the participant.
+///
+/// ```rust
+/// let Some(topology) = Topology::new(2, &[1, 2], &[3, 2], &[5, 6]) else { return };
+/// let Ok(device) = Device::new(alloc, topology, Limits::PROGRAM) else { return };
+/// let Ok((shared, participant)) = SharedDevice::new(alloc, device) else { return };
+/// let mut through = Through::new(&rt, &shared, participant);
+/// ```
 #[derive(Drop)]
 pub struct Through<'a, R: Wait> {
     rt: &'a R,
     shared: &'a SharedDevice,
-    seat: Seat,
+    participant: Seat,
 }
 
 impl<'a, R: Wait> Model for Through<'a, R> {
-    ghost use Rattle.drm_turns.specs.Seats.{Standing};
+    ghost use Rattle.drm_turns.specs.Participants.{ParticipantView};
 
-    ghost Value = { Standing };
+    ghost Value = { ParticipantView };
 
-    ghost view = { λ through. through.seat };
+    ghost view = { λ through. through.participant };
 
     ghost use Rattle.std.specs.Prelude.{◌≡◌};
 
-    ghost invariant = { λ through. through.seat.table ≡ through.shared.now };
+    ghost invariant = { λ through. through.participant.table ≡ through.shared.now };
 }
 
 impl<'a, R: Wait> Through<'a, R> {
-    /// The shared device, through this seat of it.
-    pub fn new(rt: &'a R, shared: &'a SharedDevice, seat: Seat) -> Through<'a, R>
-        requires own { seat.table ≡ shared.now }
-        ensures seat { result ≡ seat }
+    /// The shared device, through this participant of it.
+    ///
+    /// ```rust
+    /// let opened = through.call(Event::Open(Opening::Render));
+    /// assert!(opened == Ok(Answer::Opened { client: 1 }));
+    /// ```
+    pub fn new(rt: &'a R, shared: &'a SharedDevice, participant: Seat) -> Through<'a, R>
+        requires own { participant.table ≡ shared.now }
+        ensures participant { result ≡ participant }
     {
-        Through { rt, shared, seat }
+        Through {
+            rt,
+            shared,
+            participant,
+        }
     }
 
-    /// Gives the seat back.
+    /// Gives the participant back.
+    ///
+    /// ```rust
+    /// let participant = through.into_seat();
+    /// let Ok(device) = shared.close(participant) else { return };
+    /// assert!(device.journal().len() == 1);
+    /// ```
     pub fn into_seat(self) -> Seat
-        ensures seat { result ≡ self.entry }
+        ensures participant { result ≡ self.entry }
     {
-        let Through { seat, .. } = self;
-        seat
+        let Through { participant, .. } = self;
+        participant
     }
 }
 
@@ -57,46 +79,60 @@ impl<R: Wait> Access for Through<'_, R> {
     ghost answers = { TakesTurn };
 
     fn call(&mut self, event: Event) -> Result<Answer, Apart> {
-        self.shared.call(self.rt, &mut self.seat, event)
+        self.shared.call(self.rt, &mut self.participant, event)
     }
 }
 
-/// A session that was served through a seat.
+/// A session that was served through a participant.
+///
+/// ```rust
+/// let mut source = FromRead::new(hello.as_slice());
+/// let mut gate = NoGate;
+/// let Served { session, participant } =
+///     serve_through(&rt, &shared, participant, &mut gate, card, &mut source, &mut sink, 1000);
+/// assert!(session.steps == 2);
+/// ```
 #[derive(Drop)]
 pub struct Served {
     /// How it ended, and what it did.
     pub session: Session,
-    /// The seat, which has the noted events of the session with their answers more.
-    pub seat: Seat,
+    /// The participant, which has the noted events of the session with their answers more.
+    pub participant: Seat,
 }
 
-/// One session through a seat of a shared device. It may wait for its turns.
+/// One session through a participant of a shared device. It may wait for its turns.
 ///
-/// Each call has a turn of the device, in the history that the seat then has seen. The seat's own entries are those that it
+/// Each call has a turn of the device, in the history that the participant then has seen. The participant's own entries are those that it
 /// had, and the noted events of the session with their answers. The rest is as `serve` says.
+///
+/// ```rust
+/// let mut source = FromRead::new(hello.as_slice());
+/// let served = serve_through(&rt, &shared, participant, &mut gate, card, &mut source, &mut sink, 1000);
+/// assert!(served.session.end == SessionEnd::Ended);
+/// ```
 pub fn serve_through<R: Wait, G: Gate, S: Source, K: Sink>(
     rt: &R,
     shared: &SharedDevice,
-    seat: Seat,
+    participant: Seat,
     gate: &mut G,
     class: Class,
     source: &mut S,
     sink: &mut K,
     turns: u64,
 ) -> Served
-    requires own { seat.table ≡ shared.now }
-    requires source { (S.account source.old).counts.calls + turns < 2 ^ 48 }
-    requires sink { (K.account sink.old).counts.calls + turns < 2 ^ 48 }
-    ensures serves { (serves : ServesShared class seat result.seat
-        (S.account source.old) (S.account source.new) (K.account sink.old) (K.account sink.new)
+    requires own { participant.table ≡ shared.now }
+    requires source { (S.trace source.old).counts.calls + turns < 2 ^ 48 }
+    requires sink { (K.trace sink.old).counts.calls + turns < 2 ^ 48 }
+    ensures serves { (serves : ServesShared class participant result.participant
+        (S.trace source.old) (S.trace source.new) (K.trace sink.old) (K.trace sink.new)
         result.session) × LetsAllPass G.passes gate.old (calls_made serves.serves) gate.new }
-    ensures costs { Costs (S.account source.old) (S.account source.new)
-        (K.account sink.old) (K.account sink.new) turns result.session.end }
+    ensures costs { Costs (S.trace source.old) (S.trace source.new)
+        (K.trace sink.old) (K.trace sink.new) turns result.session.end }
 {
-    let mut through = Through::new(rt, shared, seat);
+    let mut through = Through::new(rt, shared, participant);
     let session = serve(&mut through, gate, class, source, sink, turns);
     Served {
         session,
-        seat: through.into_seat(),
+        participant: through.into_seat(),
     }
 }

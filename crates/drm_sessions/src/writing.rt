@@ -12,8 +12,8 @@ pub(crate) fn write_answer<K: Sink>(
     text: &[u8],
     turns: &mut u64,
 ) -> Result<(), SessionEnd>
-    requires { (K.account sink.old).counts.calls + turns.old < 2 ^ 48 }
-    ensures { Wrote result (K.account sink.old) (K.account sink.new)
+    requires { (K.trace sink.old).counts.calls + turns.old < 2 ^ 48 }
+    ensures { Wrote result (K.trace sink.old) (K.trace sink.new)
         text.now turns.old turns.new }
 {
     match put_all(sink, text, turns) {

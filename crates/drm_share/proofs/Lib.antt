@@ -1,4 +1,3 @@
-mod Numbered
 mod NameFacts
 mod TokenFacts
 mod Owners

@@ -12,7 +12,7 @@ use Rattle.drm_id_alloc.proofs.TableLemmas.{IsWithin-empty, IsWithin-insert, IsW
 use Rattle.drm_share.specs.declared.rows.SharedName.{SharedName}
 use Rattle.drm_share.specs.Names.{IsNameUpTo, AreNames, empty_names, is_name, names_object, name_of, free_name, with_name, without_name_of, have_other_objects}
 use Rattle.drm_share.specs.Tables.{name_row, names_in, name_list, HasNames}
-use Rattle.drm_share.proofs.Numbered.{find_number, rows_added, rows_removed, rows_rise, least_free_is, rows_all, rows_pairs, none_found, first_found, no_rows}
+use Rattle.drm_id_alloc.proofs.Numbered.{find_number, rows_added, rows_removed, rows_rise, least_free_is, rows_all, rows_pairs, none_found, first_found, no_rows}
 
 abbrev name_in : SharedName → ℕ
 name_in row = row.name

@@ -10,7 +10,7 @@ use Rattle.drm_share.specs.declared.tokens.Export.{Export}
 use Rattle.drm_id_alloc.specs.Groups.{GroupMap, has}
 use Rattle.drm_share.specs.Tables.{token_row, tokens_in, HasOwners}
 use Rattle.drm_share.specs.Tokens.{is_exported_by}
-use Rattle.drm_share.proofs.Numbered.{first_found, none_found}
+use Rattle.drm_id_alloc.proofs.Numbered.{first_found, none_found}
 
 module _ (t : Table Export) (m : GroupMap) (are : HasOwners t m) (c : ℕ) where
   by_owner : (k : ℕ) (w : Export) → fin.get t.slots k ≡ Some w → has m c k ≡ (w.client == c)

@@ -10,7 +10,7 @@ use Rattle.drm_share.specs.declared.rows.SharedToken.{SharedToken}
 use Rattle.drm_share.specs.declared.tokens.Export.{Export}
 use Rattle.drm_share.specs.Tokens.{IsTokenUpTo, AreTokens, empty_tokens, is_token, is_token_of, is_exported_by, next_token, with_token, without_token}
 use Rattle.drm_share.specs.Tables.{token_row, tokens_in, token_list, IsNumbered}
-use Rattle.drm_share.proofs.Numbered.{find_number, find_also, rows_added, rows_removed, rows_rise, least_free_is, rows_all, no_rows}
+use Rattle.drm_id_alloc.proofs.Numbered.{find_number, find_also, rows_added, rows_removed, rows_rise, least_free_is, rows_all, no_rows}
 
 abbrev token_in : SharedToken → ℕ
 token_in row = row.token

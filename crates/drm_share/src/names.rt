@@ -14,6 +14,12 @@ use std::marker::Model;
 
 /// The global names of objects (drm-gem(7): flink), each a number from 1 on. An object has one name at most. Contracts
 /// see a flat list, rising by the names.
+///
+/// ```rust
+/// let mut names = Names::new(alloc, 100);
+/// let object = ObjectKey::from_number(4);
+/// let Ok(name) = names.give(object) else { return };
+/// ```
 pub struct Names {
     objects: IdTable<ObjectKey>,
     // The names, by the numbers of their objects' keys.
@@ -42,6 +48,10 @@ impl Model for Names {
 
 impl Names {
     /// No name. Those from 1 to `last` may be given. It takes no memory.
+    ///
+    /// ```rust
+    /// assert!(Names::new(alloc, 100).nth(0).is_none());
+    /// ```
     pub fn new(alloc: Global, last: u32) -> Names
         requires { 1 ≤ last }
         ensures { result ≡ empty_names last }
@@ -53,6 +63,10 @@ impl Names {
     }
 
     /// The name of an object, if it has one. It takes no memory.
+    ///
+    /// ```rust
+    /// assert!(names.name_of(object) == Some(name));
+    /// ```
     pub fn name_of(&self, object: ObjectKey) -> Option<u32>
         ensures name { result ≡ name_of self.now object }
         ensures names { AreNames self.now }
@@ -62,6 +76,10 @@ impl Names {
 
     /// Gives an object that has no name the least free one (drm-gem(7): flink; the kernel's IDR gives the least). It is
     /// refused as full where no name is free, and then, as without memory, nothing changes.
+    ///
+    /// ```rust
+    /// assert!(name == 1);
+    /// ```
     pub fn give(&mut self, object: ObjectKey) -> Result<u32, ShareFault>
         requires unnamed { name_of self.old object ≡ None }
         ensures given { IfOk result (λ name. free_name self.old ≡ Some name) }
@@ -84,6 +102,10 @@ impl Names {
     }
 
     /// Whether no name is free. It takes no memory.
+    ///
+    /// ```rust
+    /// assert!(!names.is_full());
+    /// ```
     pub fn is_full(&self) -> bool
         ensures { IsTrue result ↔ (free_name self.now ≡ None) }
     {
@@ -91,6 +113,10 @@ impl Names {
     }
 
     /// The object that has a name, if one has it (drm-gem(7): opening by name). It takes no memory.
+    ///
+    /// ```rust
+    /// assert!(names.lookup(name) == Some(object));
+    /// ```
     pub fn lookup(&self, name: u32) -> Option<ObjectKey>
         ensures object { result ≡ option_map (λ row. row.object) (find (is_name name) self.now.names) }
         ensures names { AreNames self.now }
@@ -99,6 +125,11 @@ impl Names {
     }
 
     /// Takes the name of an object, if it has one. It takes no memory.
+    ///
+    /// ```rust
+    /// names.forget(object);
+    /// assert!(names.lookup(name).is_none());
+    /// ```
     pub fn forget(&mut self, object: ObjectKey)
         ensures { self.new ≡ without_name_of self.old object }
     {
@@ -108,11 +139,15 @@ impl Names {
     }
 
     /// The name at a place of the list of names, where 0 is the first, with its object. It takes no memory.
-    pub fn nth(&self, place: usize) -> Option<SharedName>
-        ensures row { result ≡ slice_get self.now.names place }
+    ///
+    /// ```rust
+    /// assert!(names.nth(0).is_none());
+    /// ```
+    pub fn nth(&self, position: usize) -> Option<SharedName>
+        ensures row { result ≡ slice_get self.now.names position }
         ensures names { AreNames self.now }
     {
-        let name = self.objects.nth(place)?;
+        let name = self.objects.nth(position)?;
         let object = *self.objects.get(name)?;
         Some(SharedName { name, object })
     }

@@ -3,6 +3,13 @@
 use drm_gem::ObjectKey;
 
 /// A global name of an object (drm-gem(7): flink).
+///
+/// ```rust
+/// let mut names = Names::new(alloc, 100);
+/// let object = ObjectKey::from_number(4);
+/// let Ok(name) = names.give(object) else { return };
+/// assert!(names.nth(0) == Some(SharedName { name, object }));
+/// ```
 #[derive(Clone, Copy, PartialEq, Eq, Debug)]
 pub struct SharedName {
     /// The name, a number that all clients see.
@@ -12,6 +19,13 @@ pub struct SharedName {
 }
 
 /// An open token, which stands for the file descriptor of an exported object (drm-mm: PRIME; tokens are own).
+///
+/// ```rust
+/// let mut tokens = Tokens::new(alloc, 100);
+/// let object = ObjectKey::from_number(4);
+/// let Ok(token) = tokens.export(9, object) else { return };
+/// assert!(tokens.nth(0) == Some(SharedToken { token, client: 9, object }));
+/// ```
 #[derive(Clone, Copy, PartialEq, Eq, Debug)]
 pub struct SharedToken {
     /// The token, a number that all clients see.

@@ -21,6 +21,12 @@ pub(crate) struct Export {
 /// The open tokens, which stand for the file descriptors of exported objects (drm-mm: PRIME; tokens are own), each a
 /// number from 1 on. An object may have several. Contracts see a flat list, rising by the tokens, and the last token
 /// given.
+///
+/// ```rust
+/// let mut tokens = Tokens::new(alloc, 100);
+/// let object = ObjectKey::from_number(4);
+/// let Ok(token) = tokens.export(9, object) else { return };
+/// ```
 pub struct Tokens {
     exports: IdTable<Export>,
     // the tokens, by the clients that exported them
@@ -49,6 +55,10 @@ impl Model for Tokens {
 
 impl Tokens {
     /// No open token. Those from 1 to `last` may be given. It takes no memory.
+    ///
+    /// ```rust
+    /// assert!(Tokens::new(alloc, 100).last_given().is_none());
+    /// ```
     pub fn new(alloc: Global, last: u32) -> Tokens
         requires { 1 ≤ last }
         ensures { result ≡ empty_tokens last }
@@ -61,6 +71,11 @@ impl Tokens {
 
     /// Exports an object of a client: opens the least free token above the last one given or, where there is none, the
     /// least free one (own). It is refused as full where no token is free, and then, as without memory, nothing changes.
+    ///
+    /// ```rust
+    /// let Ok(other) = tokens.export(9, object) else { return };
+    /// assert!(other != token);
+    /// ```
     pub fn export(&mut self, client: u32, object: ObjectKey) -> Result<u32, ShareFault>
         ensures given { IfOk result (λ given. next_token self.old ≡ Some given) }
         ensures low { IfOk result (λ given. 1 ≤ given) }
@@ -83,6 +98,10 @@ impl Tokens {
     }
 
     /// Whether no token is free. It takes no memory.
+    ///
+    /// ```rust
+    /// assert!(!tokens.is_full());
+    /// ```
     pub fn is_full(&self) -> bool
         ensures { IsTrue result ↔ (next_token self.now ≡ None) }
     {
@@ -90,6 +109,10 @@ impl Tokens {
     }
 
     /// The object behind a token, if the token is open. It takes no memory.
+    ///
+    /// ```rust
+    /// assert!(tokens.lookup(token) == Some(object));
+    /// ```
     pub fn lookup(&self, token: u32) -> Option<ObjectKey>
         ensures object { result ≡ option_map (λ row. row.object) (find (is_token token) self.now.tokens) }
         ensures tokens { AreTokens self.now }
@@ -100,6 +123,11 @@ impl Tokens {
 
     /// Closes an open token of a client, and gives the object behind it. Where the token isn't open, or another client
     /// exported it, nothing changes (own). It takes no memory.
+    ///
+    /// ```rust
+    /// assert!(tokens.close(8, token).is_none());
+    /// assert!(tokens.close(9, token) == Some(object));
+    /// ```
     pub fn close(&mut self, client: u32, token: u32) -> Option<ObjectKey>
         ensures object { result ≡ option_map (λ row. row.object) (find (is_token_of client token) self.old.tokens) }
         ensures closed { OnSome result (self.new ≡ without_token self.old token) }
@@ -117,6 +145,10 @@ impl Tokens {
 
     /// Closes the least open token of a client, and gives it with the object behind it. There is none exactly where the
     /// client has no open token. It takes no memory, and passes over no token of another client.
+    ///
+    /// ```rust
+    /// assert!(tokens.take_first_of(9) == Some((other, object)));
+    /// ```
     pub fn take_first_of(&mut self, client: u32) -> Option<(u32, ObjectKey)>
         ensures first { result ≡ option_map (λ row. (row.token, row.object)) (find (is_exported_by client) self.old.tokens) }
         ensures closed { IfSome result (λ taken. self.new ≡ without_token self.old taken.0) }
@@ -132,6 +164,10 @@ impl Tokens {
     }
 
     /// The last token given; none before the first. A token that is closed stays the last one given.
+    ///
+    /// ```rust
+    /// assert!(tokens.last_given() == Some(other));
+    /// ```
     pub fn last_given(&self) -> Option<u32>
         ensures last_given { result ≡ self.now.last_given }
         ensures tokens { AreTokens self.now }
@@ -140,11 +176,15 @@ impl Tokens {
     }
 
     /// The token at a place of the list of open tokens, where 0 is the first. It takes no memory.
-    pub fn nth(&self, place: usize) -> Option<SharedToken>
-        ensures row { result ≡ slice_get self.now.tokens place }
+    ///
+    /// ```rust
+    /// assert!(tokens.nth(0).is_none());
+    /// ```
+    pub fn nth(&self, position: usize) -> Option<SharedToken>
+        ensures row { result ≡ slice_get self.now.tokens position }
         ensures tokens { AreTokens self.now }
     {
-        let token = self.exports.nth(place)?;
+        let token = self.exports.nth(position)?;
         let export = self.exports.get(token)?;
         Some(SharedToken {
             token,

@@ -1,10 +1,10 @@
 //! Global names.
 
 ghost use Rattle.std.specs.Prelude.{◌≡◌, true};
-ghost use Rattle.drm_files.specs.Files.{is_present};
+ghost use Rattle.drm_files.specs.Files.{is_open_client};
 ghost use Rattle.drm_table.specs.declared.calls.Call.TheVariants.{GemFlink, GemOpen};
-ghost use Rattle.drm_state.specs.Ties.{IsTied, IsReady};
-ghost use Rattle.drm_state.specs.Refinement.{OwesCall};
+ghost use Rattle.drm_state.specs.Invariants.{MeetsInvariants, StepPrecondition};
+ghost use Rattle.drm_state.specs.Refinement.{RefinesCall};
 
 use drm_share::ShareFault;
 use drm_state::{State, new_handle};
@@ -15,14 +15,14 @@ use std::alloc::AllocError;
 /// memory is refused nothing changes.
 pub fn gem_flink(
     state: &mut State,
-    birth: u32,
+    step_number: u32,
     client: u32,
     handle: u32,
 ) -> Result<Answer, AllocError>
-    requires ready { IsReady state.old birth }
-    requires present { is_present state.old.files client ≡ true }
-    ensures owes { OwesCall state.old birth client (GemFlink handle) result state.new }
-    ensures tied { IsTied state.new }
+    requires precondition { StepPrecondition state.old step_number }
+    requires open_client { is_open_client state.old.files client ≡ true }
+    ensures refines { RefinesCall state.old step_number client (GemFlink handle) result state.new }
+    ensures invariants { MeetsInvariants state.new }
 {
     let Some(object) = state.files.object_of(client, handle) else {
         return Ok(Answer::Denied(Rule::NoHandle));
@@ -41,17 +41,22 @@ pub fn gem_flink(
 }
 
 /// GEM_OPEN: a fresh handle of the object that has a global name. Where memory is refused nothing changes.
-pub fn gem_open(state: &mut State, birth: u32, client: u32, name: u32) -> Result<Answer, AllocError>
-    requires ready { IsReady state.old birth }
-    requires present { is_present state.old.files client ≡ true }
-    ensures owes { OwesCall state.old birth client (GemOpen name) result state.new }
-    ensures tied { IsTied state.new }
+pub fn gem_open(
+    state: &mut State,
+    step_number: u32,
+    client: u32,
+    name: u32,
+) -> Result<Answer, AllocError>
+    requires precondition { StepPrecondition state.old step_number }
+    requires open_client { is_open_client state.old.files client ≡ true }
+    ensures refines { RefinesCall state.old step_number client (GemOpen name) result state.new }
+    ensures invariants { MeetsInvariants state.new }
 {
     let Some(object) = state.names.lookup(name) else {
         return Ok(Answer::Denied(Rule::NoName));
     };
     let size = state.objects.size(object);
-    let Some(handle) = new_handle(state, birth, client, object, None)? else {
+    let Some(handle) = new_handle(state, step_number, client, object, None)? else {
         return Ok(Answer::Denied(Rule::Full));
     };
     Ok(Answer::Buffer { handle, size })

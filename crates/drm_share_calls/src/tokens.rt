@@ -1,10 +1,10 @@
 //! PRIME tokens, which stand for file descriptors (own).
 
 ghost use Rattle.std.specs.Prelude.{◌≡◌, true};
-ghost use Rattle.drm_files.specs.Files.{is_present};
+ghost use Rattle.drm_files.specs.Files.{is_open_client};
 ghost use Rattle.drm_table.specs.declared.calls.Call.TheVariants.{PrimeHandleToFd, PrimeFdToHandle, TokenClose};
-ghost use Rattle.drm_state.specs.Ties.{IsTied, IsReady};
-ghost use Rattle.drm_state.specs.Refinement.{OwesCall, OwesReply};
+ghost use Rattle.drm_state.specs.Invariants.{MeetsInvariants, StepPrecondition};
+ghost use Rattle.drm_state.specs.Refinement.{RefinesCall, RefinesReply};
 
 use drm_share::ShareFault;
 use drm_state::{State, new_handle};
@@ -15,14 +15,14 @@ use std::alloc::AllocError;
 /// is refused nothing changes.
 pub fn prime_export(
     state: &mut State,
-    birth: u32,
+    step_number: u32,
     client: u32,
     handle: u32,
 ) -> Result<Answer, AllocError>
-    requires ready { IsReady state.old birth }
-    requires present { is_present state.old.files client ≡ true }
-    ensures owes { OwesCall state.old birth client (PrimeHandleToFd handle) result state.new }
-    ensures tied { IsTied state.new }
+    requires precondition { StepPrecondition state.old step_number }
+    requires open_client { is_open_client state.old.files client ≡ true }
+    ensures refines { RefinesCall state.old step_number client (PrimeHandleToFd handle) result state.new }
+    ensures invariants { MeetsInvariants state.new }
 {
     let Some(object) = state.files.object_of(client, handle) else {
         return Ok(Answer::Denied(Rule::NoHandle));
@@ -33,7 +33,7 @@ pub fn prime_export(
         Err(ShareFault::NoMemory) => return Err(AllocError),
     };
     state.objects.refer(object);
-    state.files.set_prime(client, handle, birth);
+    state.files.set_prime(client, handle, step_number);
     Ok(Answer::Number {
         value: token as u64,
     })
@@ -43,14 +43,14 @@ pub fn prime_export(
 /// one with a place. Where memory is refused nothing changes.
 pub fn prime_import(
     state: &mut State,
-    birth: u32,
+    step_number: u32,
     client: u32,
     token: u32,
 ) -> Result<Answer, AllocError>
-    requires ready { IsReady state.old birth }
-    requires present { is_present state.old.files client ≡ true }
-    ensures owes { OwesCall state.old birth client (PrimeFdToHandle token) result state.new }
-    ensures tied { IsTied state.new }
+    requires precondition { StepPrecondition state.old step_number }
+    requires open_client { is_open_client state.old.files client ≡ true }
+    ensures refines { RefinesCall state.old step_number client (PrimeFdToHandle token) result state.new }
+    ensures invariants { MeetsInvariants state.new }
 {
     let Some(object) = state.tokens.lookup(token) else {
         return Ok(Answer::Denied(Rule::NoToken));
@@ -59,7 +59,7 @@ pub fn prime_import(
     if let Some(handle) = state.files.prime_handle(client, object) {
         return Ok(Answer::Buffer { handle, size });
     }
-    let Some(fresh) = new_handle(state, birth, client, object, Some(birth))? else {
+    let Some(fresh) = new_handle(state, step_number, client, object, Some(step_number))? else {
         return Ok(Answer::Denied(Rule::Full));
     };
     Ok(Answer::Buffer {
@@ -71,10 +71,10 @@ pub fn prime_import(
 /// TOKEN_CLOSE: the token goes, if the caller exported it, and the object with the last that refers to it (own). It takes no
 /// memory and asks for no limit.
 pub fn token_close(state: &mut State, client: u32, token: u32) -> Answer
-    requires tied { IsTied state.old }
-    requires present { is_present state.old.files client ≡ true }
-    ensures owes { OwesReply state.old client (TokenClose token) result state.new }
-    ensures tied { IsTied state.new }
+    requires invariants { MeetsInvariants state.old }
+    requires open_client { is_open_client state.old.files client ≡ true }
+    ensures refines { RefinesReply state.old client (TokenClose token) result state.new }
+    ensures invariants { MeetsInvariants state.new }
 {
     let Some(object) = state.tokens.close(client, token) else {
         return Answer::Denied(Rule::NoToken);

@@ -1,17 +1,17 @@
 -- What a fresh handle came to, by the handle.
 use Rattle.std.proofs.Common.{◌≡◌, ℕ, [], ◌∷◌, Option, None, Some, Ok, inr, inl, arith, subst, length-append}
 use Rattle.std.specs.Prelude.{unwrap_or}
-use Rattle.drm_model.specs.Rows.{Rows, free_handle, with_hold}
+use Rattle.drm_model.specs.Rows.{Rows, free_handle, with_handle_row}
 use Rattle.drm_model.specs.Run.{IsLonger}
 use Rattle.drm_state.specs.declared.state.State.{State}
 use Rattle.drm_state.specs.Refinement.{AddedHandle}
 
-pub added_none : (w : Rows) (c o : ℕ) (place : Option ℕ) (s : State) (r : Option ℕ) → r ≡ None → AddedHandle w c o place (Ok r) s → AddedHandle w c o place (Ok None) s
-added_none w c o place s r e h = subst (λ x. AddedHandle w c o place (Ok x) s) e h
+pub added_none : (w : Rows) (c o : ℕ) (export_order : Option ℕ) (s : State) (r : Option ℕ) → r ≡ None → AddedHandle w c o export_order (Ok r) s → AddedHandle w c o export_order (Ok None) s
+added_none w c o export_order s r e h = subst (λ x. AddedHandle w c o export_order (Ok x) s) e h
 
-pub added_some : (w : Rows) (c o : ℕ) (place : Option ℕ) (s : State) (r : Option ℕ) (handle : ℕ) → r ≡ Some handle → AddedHandle w c o place (Ok r) s → AddedHandle w c o place (Ok (Some handle)) s
-added_some w c o place s r handle e h = subst (λ x. AddedHandle w c o place (Ok x) s) e h
+pub added_some : (w : Rows) (c o : ℕ) (export_order : Option ℕ) (s : State) (r : Option ℕ) (handle : ℕ) → r ≡ Some handle → AddedHandle w c o export_order (Ok r) s → AddedHandle w c o export_order (Ok (Some handle)) s
+added_some w c o export_order s r handle e h = subst (λ x. AddedHandle w c o export_order (Ok x) s) e h
 
 -- it makes the list of handles longer
-pub longer : (w : Rows) (c o : ℕ) (place : Option ℕ) → IsLonger w (record w { holds = with_hold w c o place })
-longer w c o place = inr (inr (inr (inl (omega (arith, length-append w.holds (record { client = c; handle = unwrap_or (free_handle w c) 0; object = o; place = place } ∷ []))))))
+pub longer : (w : Rows) (c o : ℕ) (export_order : Option ℕ) → IsLonger w (record w { holds = with_handle_row w c o export_order })
+longer w c o export_order = inr (inr (inr (inl (omega (arith, length-append w.holds (record { client = c; handle = unwrap_or (free_handle w c) 0; object = o; export_order = export_order } ∷ []))))))

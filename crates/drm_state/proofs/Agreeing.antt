@@ -22,5 +22,5 @@ agreed_yet v l c are agreed =
     (agreed_left v.members c v.masters below l.lendings are.members_rise (λ x here own. ap (λ o. is_below (own_master o) v.masters x.master) here ∙ ap (λ b. is_below (if b then Some x.master else None) v.masters x.master) own ∙ itself (masters.lessor_of v.masters) x.master x.master) agreed)
   where
     agreed_again : (below : ℕ → Bool) (xs : List Lending) → AllByRecursion (λ (x : Lending). not (below x.lessee) ≡ true) xs → (members : List Member) (ms : List Master) → AllByRecursion (IsAgreed members ms) xs →
-        AllByRecursion (IsAgreed members (filter (λ (y : Master). masters.is_living members (released below ms) y.birth) (released below ms))) xs
-    agreed_again below xs out members ms h = subst (AllByRecursion (IsAgreed members (filter (λ (y : Master). masters.is_living members (released below ms) y.birth) (released below ms)))) (filter_all (λ (x : Lending). not (below x.lessee)) xs out) (agreed_released below members ms xs h)
+        AllByRecursion (IsAgreed members (filter (λ (y : Master). masters.is_living members (released below ms) y.step_number) (released below ms))) xs
+    agreed_again below xs out members ms h = subst (AllByRecursion (IsAgreed members (filter (λ (y : Master). masters.is_living members (released below ms) y.step_number) (released below ms)))) (filter_all (λ (x : Lending). not (below x.lessee)) xs out) (agreed_released below members ms xs h)

@@ -1,7 +1,6 @@
 -- The caller of a call: its file, its row and its master, which it has where the call isn't for render clients.
-use Rattle.std.proofs.Common.{◌≡◌, ℕ, Bool, true, false, not, ◌||◌, List, [], ◌∷◌, find, Option, None, Some, refl, sym, ap, ◌∙◌}
-use Rattle.std.specs.Prelude.{if◌then◌else◌, unwrap_or}
-use Rattle.std.specs.List.{AllByRecursion}
+use Rattle.std.proofs.Common.{◌≡◌, ℕ, Bool, true, false, not, ◌||◌, List, find, Option, None, Some, refl, sym, ap, ◌∙◌}
+use Rattle.std.specs.Prelude.{unwrap_or}
 use Rattle.std.specs.Option.{is_some, option_map, option_and_then}
 use Rattle.std.proofs.lemmas.Bool.{eqb-true}
 use Rattle.drm_lists.proofs.Lists.{all_each}
@@ -10,34 +9,26 @@ use Rattle.drm_files.specs.declared.rows.FileClient.{FileClient}
 use Rattle.drm_files.specs.declared.rows.FileFlags.{FileFlags}
 use Rattle.drm_files.specs.Files as files
 use Rattle.drm_table.specs.declared.calls.Call.{Call}
-use Rattle.drm_table.specs.Permit.{Check, first_failing, has_flag}
+use Rattle.drm_table.specs.Permit.{first_failing, has_flag, render_allow}
 use Rattle.drm_table.specs.Table.{flags_of}
 use Rattle.drm_masters.specs.declared.rows.Member.{Member}
 use Rattle.drm_masters.specs.Masters as masters
 use Rattle.drm_masters.specs.Masters.{member_of}
 use Rattle.drm_model.specs.Rows.{Rows, ClientRow, client_row}
-use Rattle.drm_model.specs.Masters.{standing_of, standing_in, master_of, lessor_of, is_lessee}
-use Rattle.drm_model.specs.Magics.{own_master}
+use Rattle.drm_model.specs.Masters.{credentials_of, credentials_in, master_of, lessor_of, is_lessee}
+use Rattle.drm_model.specs.Magics.{caller_master}
 use Rattle.drm_model.specs.Verdict.{admission_checks}
 use Rattle.drm_state.specs.declared.state.State.{State}
 use Rattle.drm_state.specs.Parts.{client_row_by}
-use Rattle.drm_state.specs.Ties.{IsTied, HasMaster}
+use Rattle.drm_state.specs.Invariants.{MeetsInvariants, HasMaster}
 use Rattle.drm_state.specs.Refinement.{Represents}
 use Rattle.drm_state.proofs.Represented.{clients_have, masters_are}
 use Rattle.drm_state.proofs.Living.{lessors_are}
 use Rattle.drm_state.proofs.Lookups.{client_row_is}
-
--- each check of those of which none fails holds
-pub each_holds : (cs : List Check) → first_failing cs ≡ None → AllByRecursion (λ (c : Check). c.holds ≡ true) cs
-each_holds [] h = tt
-each_holds (c ∷ cs) h =
-    (elim c.holds as (λ b. c.holds ≡ b → (if b then first_failing cs else Some c.rule) ≡ None → AllByRecursion (λ (c : Check). c.holds ≡ true) (c ∷ cs)) [
-      | true ↦ λ e k. (e, each_holds cs k)
-      | false ↦ λ e k. absurd (let n : Some c.rule ≡ None = k in cc)
-    ]) refl h
+use Rattle.drm_model.proofs.Leased.{all_hold}
 
 -- the file of a client that is open
-pub file_of : (s : State) (c : ℕ) → files.is_present s.files c ≡ true → (flags : FileFlags) × (find (files.is_client c) s.files.clients ≡ Some (record { client = c; flags = flags }))
+pub file_of : (s : State) (c : ℕ) → files.is_open_client s.files c ≡ true → (flags : FileFlags) × (find (files.is_client c) s.files.clients ≡ Some (record { client = c; flags = flags }))
 file_of s c h = by_file (find (files.is_client c) s.files.clients) refl h
   where
     by_file : (o : Option FileClient) → find (files.is_client c) s.files.clients ≡ o → is_some o ≡ true → (flags : FileFlags) × (find (files.is_client c) s.files.clients ≡ Some (record { client = c; flags = flags }))
@@ -51,15 +42,15 @@ pub row_is : (s : State) (w : Rows) (c : ℕ) (flags : FileFlags) → Represents
 row_is s w c flags h e = client_row_is s w h c flags (sym (ap (option_map (λ (f : FileClient). f.flags)) e))
 
 -- a call that isn't for render clients is not admitted where the caller stands to no master
-pub never_admitted : (s : State) (w : Rows) (c : ℕ) (call : Call) → IsTied s → files.is_present s.files c ≡ true → Represents s w → has_flag (flags_of call) 8 ≡ false → member_of s.masters.members c ≡ None → first_failing (admission_checks w c call) ≡ None → ⊥
+pub never_admitted : (s : State) (w : Rows) (c : ℕ) (call : Call) → MeetsInvariants s → files.is_open_client s.files c ≡ true → Represents s w → has_flag (flags_of call) render_allow ≡ false → member_of s.masters.members c ≡ None → first_failing (admission_checks w c call) ≡ None → ⊥
 unfolding admission_checks
 never_admitted s w c call t there h flag none admitted =
     let f = file_of s c there in
     let has : (f.0.render || is_some (member_of s.masters.members c)) ≡ true = (found (files.is_client c) (HasMaster s.masters) (record { client = c; flags = f.0 }) s.files.clients (clients_have s t) f.1).1 in
     let render : f.0.render ≡ true = no_member f.0.render (ap (λ o. f.0.render || is_some o) (sym none) ∙ has) in
     let row = row_is s w c f.0 h f.1 in
-    let last = (each_holds (admission_checks w c call) admitted).1.1.1.1.1.1.0 in
-    let fails : (has_flag (flags_of call) 8 || not (standing_of w c).render) ≡ false = ap (λ o. has_flag (flags_of call) 8 || not (standing_in w o).render) row ∙ ap (λ b. has_flag (flags_of call) 8 || not b) render ∙ ap (λ b. b || false) flag in
+    let last = (all_hold (admission_checks w c call) admitted).1.1.1.1.1.1.0 in
+    let fails : (has_flag (flags_of call) render_allow || not (credentials_of w c).render) ≡ false = ap (λ o. has_flag (flags_of call) render_allow || not (credentials_in w o).render) row ∙ ap (λ b. has_flag (flags_of call) render_allow || not b) render ∙ ap (λ b. b || false) flag in
     clash _ fails last
   where
     no_member : (b : Bool) → (b || false) ≡ true → b ≡ true
@@ -87,5 +78,5 @@ module _ (s : State) (w : Rows) (c : ℕ) (flags : FileFlags) (x : Member) (h : 
   pub lessee_is : is_lessee w c ≡ masters.is_lessee s.masters.masters x.master
   lessee_is = ap (λ o. is_some (option_and_then (lessor_of w.masters) o)) its_master ∙ ap (λ rows. is_some (lessor_of rows x.master)) (masters_are s w h) ∙ ap is_some (lessors_are s.leases.tokens s.masters.masters x.master)
 
-  pub own_master_is : own_master w c ≡ x.master
+  pub own_master_is : caller_master w c ≡ x.master
   own_master_is = ap (λ o. unwrap_or o 0) its_master

@@ -13,7 +13,7 @@ use Rattle.drm_lists.proofs.Orders.{in_order_filter, in_order_append, same-any}
 use Rattle.drm_gem.specs.declared.object.Object.{Object}
 use Rattle.drm_gem.specs.declared.object.Dead.{Dead}
 use Rattle.drm_gem.specs.Objects.{ObjectSet, is_key, object_at, changed_at, without_key, held, unheld, referred, unreferred, is_unused, dead_of, dead_after}
-use Rattle.drm_state.specs.Ties.{Counts, AreTied, AreThoseNamed, core}
+use Rattle.drm_state.specs.Invariants.{Counts, AreCounted, AreThoseNamed, core}
 
 not_or : (a b : Bool) → (not a && not b) ≡ not (a || b)
 not_or true b = refl
@@ -53,7 +53,7 @@ none_passing k p (x ∷ xs) h =
 -- a change that leaves the key and the number
 pub record IsChange (f : Object → Object) : Type 0 where
   pub key : (x : Object) → (f x).key ≡ x.key
-  pub birth : (x : Object) → (f x).birth ≡ x.birth
+  pub step_number : (x : Object) → (f x).step_number ≡ x.step_number
 
 abbrev pub at_key : ℕ → (Object → Object) → List Object → List Object
 at_key k f objects = map (λ (x : Object). if x.key == k then f x else x) objects
@@ -83,34 +83,34 @@ in_order_changed number k f is (x ∷ xs) h =
       in_order_changed number k f is xs h.1,
     )
 
--- the ties of other lists, which name the same keys
-pub changed_tied : (keys refs new_keys new_refs : List ℕ) (k : ℕ) (f : Object → Object) → IsChange f → ((n : ℕ) → is_among (new_keys ++ new_refs) n ≡ is_among (keys ++ refs) n) →
+-- the invariants of other lists, which name the same keys
+pub changed_invariants : (keys refs new_keys new_refs : List ℕ) (k : ℕ) (f : Object → Object) → IsChange f → ((n : ℕ) → is_among (new_keys ++ new_refs) n ≡ is_among (keys ++ refs) n) →
     ((x : Object) → (x.key == k) ≡ true → Counts keys refs x → Counts new_keys new_refs (f x)) → ((x : Object) → (x.key == k) ≡ false → Counts keys refs x → Counts new_keys new_refs x) →
-    (objects : List Object) → AreTied keys refs objects → AreTied new_keys new_refs (at_key k f objects)
-changed_tied keys refs new_keys new_refs k f is same own others objects h = record {
+    (objects : List Object) → AreCounted keys refs objects → AreCounted new_keys new_refs (at_key k f objects)
+changed_invariants keys refs new_keys new_refs k f is same own others objects h = record {
   there = λ n e. find-changed n k f is objects ∙ h.there n (sym (same n) ∙ e);
   counted = all_changed (Counts keys refs) (Counts new_keys new_refs) k f own others objects h.counted;
   used = all_changed (λ (x : Object). is_among (keys ++ refs) x.key ≡ true) (λ (x : Object). is_among (new_keys ++ new_refs) x.key ≡ true) k f (λ x e u. ap (is_among (new_keys ++ new_refs)) (is.key x) ∙ same x.key ∙ u) (λ x e u. same x.key ∙ u) objects h.used;
   keys_differ = in_order_changed (λ (x : Object). x.key) k f is.key objects h.keys_differ;
-  births_differ = in_order_changed (λ (x : Object). x.birth) k f is.birth objects h.births_differ;
+  step_numbers_differ = in_order_changed (λ (x : Object). x.step_number) k f is.step_number objects h.step_numbers_differ;
 }
 
 -- the same keys in another order
-pub same_tied : (keys others refs : List ℕ) (objects : List Object) → SameRows keys others → AreTied keys refs objects → AreTied others refs objects
-same_tied keys others refs objects same h =
+pub same_invariants : (keys others refs : List ℕ) (objects : List Object) → SameRows keys others → AreCounted keys refs objects → AreCounted others refs objects
+same_invariants keys others refs objects same h =
     let agree = λ (n : ℕ). let a : is_among (keys ++ refs) n ≡ is_among (others ++ refs) n = among-append keys refs n ∙ ap (λ b. b || is_among refs n) (same-any (λ k. k == n) keys others same) ∙ sym (among-append others refs n) in a in
     record {
       there = λ n e. h.there n (agree n ∙ e);
       counted = all_weaker (Counts keys refs) (Counts others refs) (λ x e. (e.0 ∙ same (λ key. key == x.key), e.1)) objects h.counted;
       used = all_weaker (λ (x : Object). is_among (keys ++ refs) x.key ≡ true) (λ (x : Object). is_among (others ++ refs) x.key ≡ true) (λ x e. sym (agree x.key) ∙ e) objects h.used;
       keys_differ = h.keys_differ;
-      births_differ = h.births_differ;
+      step_numbers_differ = h.step_numbers_differ;
     }
 
 -- ---- those that are named
 
 -- at first each object is named
-pub all_named : (keys refs : List ℕ) (objects : List Object) → AreTied keys refs objects → AreThoseNamed objects (keys ++ refs) objects
+pub all_named : (keys refs : List ℕ) (objects : List Object) → AreCounted keys refs objects → AreThoseNamed objects (keys ++ refs) objects
 all_named keys refs objects h = ap (map core) (sym (filter_all (λ (x : Object). is_among (keys ++ refs) x.key) objects h.used))
 
 core-named : (keys : List ℕ) → (xs : List Object) → map core (filter (λ (x : Object). is_among keys x.key) xs) ≡ filter (λ (x : Object). is_among keys x.key) (map core xs)
@@ -138,7 +138,7 @@ same_named objects keys others now agree h = h ∙ ap (map core) (filter-same (�
 
 -- the objects that the fewer keys name, which they count
 pub record IsStep (objects : List Object) (keys refs : List ℕ) (new : ObjectSet) : Type 0 where
-  pub tied : AreTied keys refs new.objects
+  pub invariants : AreCounted keys refs new.objects
   pub named : AreThoseNamed objects (keys ++ refs) new.objects
 
 -- one that names the key's object goes, and the object counts one fewer
@@ -172,7 +172,7 @@ left_alone rest k n h e =
       | false ↦ λ is. sym (ap (λ b. b || is_among rest n) (sym (flipped n k is)) ∙ e)
     ] refl
 
-stays : (k : ℕ) (f : Object → Object) (keys refs fewer_keys fewer_refs : List ℕ) (set : ObjectSet) → IsFewer k f keys refs fewer_keys fewer_refs → AreTied keys refs set.objects → is_among (fewer_keys ++ fewer_refs) k ≡ true →
+stays : (k : ℕ) (f : Object → Object) (keys refs fewer_keys fewer_refs : List ℕ) (set : ObjectSet) → IsFewer k f keys refs fewer_keys fewer_refs → AreCounted keys refs set.objects → is_among (fewer_keys ++ fewer_refs) k ≡ true →
     IsStep set.objects fewer_keys fewer_refs (changed_at k f set)
 stays k f keys refs fewer_keys fewer_refs set is h more =
     let same = λ (n : ℕ).
@@ -180,39 +180,39 @@ stays k f keys refs fewer_keys fewer_refs set is h more =
     sym (is.one n ∙ elim (k == n) as (λ b. (k == n) ≡ b → (b || is_among (fewer_keys ++ fewer_refs) n) ≡ is_among (fewer_keys ++ fewer_refs) n)
     [ true ↦ λ e. sym (ap (is_among (fewer_keys ++ fewer_refs)) (sym (eqb-true k n e)) ∙ more) | false ↦ λ e. refl ] refl) in a in
     record {
-      tied = changed_tied keys refs fewer_keys fewer_refs k f is.change same is.own is.others set.objects h;
+      invariants = changed_invariants keys refs fewer_keys fewer_refs k f is.change same is.own is.others set.objects h;
       named = core-changed k f is.bare set.objects ∙ same_named set.objects (keys ++ refs) (fewer_keys ++ fewer_refs) set.objects (λ n. sym (same n)) (all_named keys refs set.objects h);
     }
 
-goes : (k : ℕ) (f : Object → Object) (keys refs fewer_keys fewer_refs : List ℕ) (set : ObjectSet) → IsFewer k f keys refs fewer_keys fewer_refs → AreTied keys refs set.objects → is_among (fewer_keys ++ fewer_refs) k ≡ false →
+goes : (k : ℕ) (f : Object → Object) (keys refs fewer_keys fewer_refs : List ℕ) (set : ObjectSet) → IsFewer k f keys refs fewer_keys fewer_refs → AreCounted keys refs set.objects → is_among (fewer_keys ++ fewer_refs) k ≡ false →
     IsStep set.objects fewer_keys fewer_refs (without_key k set)
 goes k f keys refs fewer_keys fewer_refs set is h none =
     let rest = fewer_keys ++ fewer_refs in
     let named = all_weaker (λ (x : Object). is_among (keys ++ refs) x.key ≡ true) (λ (x : Object). not (x.key == k) ≡ is_among rest x.key) (λ x u. left_alone rest k x.key none (sym (is.one x.key) ∙ u)) set.objects h.used in
     record {
-      tied = record {
+      invariants = record {
         there = λ n e. ap is_some (find_others (λ (x : Object). x.key) n k (among-differs rest k n none e) set.objects) ∙ h.there n (is.one n ∙ or_right (k == n) (is_among rest n) e);
         counted = all_without (Counts keys refs) (Counts fewer_keys fewer_refs) k is.others set.objects h.counted;
         used = all_without (λ (x : Object). not (x.key == k) ≡ is_among rest x.key) (λ (x : Object). is_among rest x.key ≡ true) k (λ x e u. sym u ∙ ap not e) set.objects named;
         keys_differ = in_order_filter (λ (x y : Object). (x.key == y.key) ≡ false) _ set.objects h.keys_differ;
-        births_differ = in_order_filter (λ (x y : Object). (x.birth == y.birth) ≡ false) _ set.objects h.births_differ;
+        step_numbers_differ = in_order_filter (λ (x y : Object). (x.step_number == y.step_number) ≡ false) _ set.objects h.step_numbers_differ;
       };
       named = ap (map core) (filter-same (λ (x : Object). not (x.key == k)) (λ (x : Object). is_among rest x.key) set.objects named);
     }
 
-dies : (k : ℕ) (f : Object → Object) (keys refs fewer_keys fewer_refs : List ℕ) (set : ObjectSet) → IsFewer k f keys refs fewer_keys fewer_refs → AreTied keys refs set.objects → is_among (fewer_keys ++ fewer_refs) k ≡ false → is_some (dead_after f set k) ≡ true
+dies : (k : ℕ) (f : Object → Object) (keys refs fewer_keys fewer_refs : List ℕ) (set : ObjectSet) → IsFewer k f keys refs fewer_keys fewer_refs → AreCounted keys refs set.objects → is_among (fewer_keys ++ fewer_refs) k ≡ false → is_some (dead_after f set k) ≡ true
 dies k f keys refs fewer_keys fewer_refs set is h none =
     let it = is_found k set.objects (h.there k (is.one k ∙ or_left (k == k) _ (eq-eqb k k refl))) (Counts keys refs) h.counted in
     let unused : is_unused (f it.0) ≡ true = unused_is fewer_keys fewer_refs (f it.0) k (is.change.key it.0 ∙ it.2) (is.own it.0 (eq-eqb it.0.key k it.2) it.3) ∙ ap not none in
     ap (λ o. is_some (option_map dead_of o)) (found_passing k (λ x. is_unused (f x)) set.objects it.0 it.1 unused)
 
-lives : (k : ℕ) (f : Object → Object) (keys refs fewer_keys fewer_refs : List ℕ) (set : ObjectSet) → IsFewer k f keys refs fewer_keys fewer_refs → AreTied keys refs set.objects → is_among (fewer_keys ++ fewer_refs) k ≡ true → dead_after f set k ≡ None
+lives : (k : ℕ) (f : Object → Object) (keys refs fewer_keys fewer_refs : List ℕ) (set : ObjectSet) → IsFewer k f keys refs fewer_keys fewer_refs → AreCounted keys refs set.objects → is_among (fewer_keys ++ fewer_refs) k ≡ true → dead_after f set k ≡ None
 lives k f keys refs fewer_keys fewer_refs set is h more =
     ap (option_map dead_of) (none_passing k (λ x. is_unused (f x)) set.objects
     (all_weaker (Counts keys refs) (λ (x : Object). (x.key == k) ≡ true → is_unused (f x) ≡ false) (λ x c e. unused_is fewer_keys fewer_refs (f x) k (is.change.key x ∙ eqb-true x.key k e) (is.own x e c) ∙ ap not more) set.objects h.counted))
 
 -- one fewer, whatever becomes of its object
-pub fewer_step : (k : ℕ) (f : Object → Object) (keys refs fewer_keys fewer_refs : List ℕ) (set new : ObjectSet) (left : Option Dead) → IsFewer k f keys refs fewer_keys fewer_refs → AreTied keys refs set.objects → left ≡ dead_after f set k →
+pub fewer_step : (k : ℕ) (f : Object → Object) (keys refs fewer_keys fewer_refs : List ℕ) (set new : ObjectSet) (left : Option Dead) → IsFewer k f keys refs fewer_keys fewer_refs → AreCounted keys refs set.objects → left ≡ dead_after f set k →
     OnSome left (new ≡ without_key k set) → IfNone left (new ≡ changed_at k f set) → IsStep set.objects fewer_keys fewer_refs new
 fewer_step k f keys refs fewer_keys fewer_refs set new left is h e gone same =
     elim (is_among (fewer_keys ++ fewer_refs) k) as (λ b. is_among (fewer_keys ++ fewer_refs) k ≡ b → IsStep set.objects fewer_keys fewer_refs new) [
@@ -230,7 +230,7 @@ one_less n m h = omega (arith, h)
 -- a handle fewer
 pub handle_fewer : (k : ℕ) (keys refs : List ℕ) → IsFewer k unheld (k ∷ keys) refs keys refs
 handle_fewer k keys refs = record {
-  change = record { key = λ x. refl; birth = λ x. refl };
+  change = record { key = λ x. refl; step_number = λ x. refl };
   bare = λ x. refl;
   one = λ n. refl;
   own = λ x e c. (one_less x.holds _ (c.0 ∙ count-it keys k x.key e), c.1);
@@ -246,7 +246,7 @@ among-between (x ∷ keys) refs k n = ap (λ b. x == n || b) (among-between keys
 -- a token or a framebuffer fewer
 pub reference_fewer : (k : ℕ) (keys refs : List ℕ) → IsFewer k unreferred keys (k ∷ refs) keys refs
 reference_fewer k keys refs = record {
-  change = record { key = λ x. refl; birth = λ x. refl };
+  change = record { key = λ x. refl; step_number = λ x. refl };
   bare = λ x. refl;
   one = among-between keys refs k;
   own = λ x e c. (c.0, one_less x.refs _ (c.1 ∙ count-it refs k x.key e));
@@ -267,22 +267,22 @@ pub already : (keys : List ℕ) (k n : ℕ) → is_among keys k ≡ true → (k 
 already keys k n h e = ap (is_among keys) (sym (eqb-true k n e)) ∙ h
 
 -- a handle more
-pub handle_more : (k : ℕ) (keys refs : List ℕ) (objects : List Object) → is_among (keys ++ refs) k ≡ true → AreTied keys refs objects → AreTied (k ∷ keys) refs (at_key k held objects)
+pub handle_more : (k : ℕ) (keys refs : List ℕ) (objects : List Object) → is_among (keys ++ refs) k ≡ true → AreCounted keys refs objects → AreCounted (k ∷ keys) refs (at_key k held objects)
 handle_more k keys refs objects e h =
-    changed_tied keys refs (k ∷ keys) refs k held (record { key = λ x. refl; birth = λ x. refl }) (λ n. among_already (k == n) (is_among (keys ++ refs) n) (already (keys ++ refs) k n e))
+    changed_invariants keys refs (k ∷ keys) refs k held (record { key = λ x. refl; step_number = λ x. refl }) (λ n. among_already (k == n) (is_among (keys ++ refs) n) (already (keys ++ refs) k n e))
     (λ x is c. (one_more x.holds _ c.0 ∙ sym (count-it keys k x.key (flip x.key k is)), c.1)) (λ x is c. (c.0 ∙ sym (count-other keys k x.key is), c.1)) objects h
   where
     flip : (a b : ℕ) → (a == b) ≡ true → (a == b) ≡ true
     flip a b h = h
 
 -- a token or a framebuffer more
-pub reference_more : (k : ℕ) (keys refs : List ℕ) (objects : List Object) → is_among (keys ++ refs) k ≡ true → AreTied keys refs objects → AreTied keys (k ∷ refs) (at_key k referred objects)
+pub reference_more : (k : ℕ) (keys refs : List ℕ) (objects : List Object) → is_among (keys ++ refs) k ≡ true → AreCounted keys refs objects → AreCounted keys (k ∷ refs) (at_key k referred objects)
 reference_more k keys refs objects e h =
-    changed_tied keys refs keys (k ∷ refs) k referred (record { key = λ x. refl; birth = λ x. refl }) (λ n. among-between keys refs k n ∙ among_already (k == n) (is_among (keys ++ refs) n) (already (keys ++ refs) k n e))
+    changed_invariants keys refs keys (k ∷ refs) k referred (record { key = λ x. refl; step_number = λ x. refl }) (λ n. among-between keys refs k n ∙ among_already (k == n) (is_among (keys ++ refs) n) (already (keys ++ refs) k n e))
     (λ x is c. (c.0, one_more x.refs _ c.1 ∙ sym (count-it refs k x.key is))) (λ x is c. (c.0, c.1 ∙ sym (count-other refs k x.key is))) objects h
 
 -- other references in another order
-pub same_references : (keys refs others : List ℕ) (objects : List Object) → SameRows refs others → AreTied keys refs objects → AreTied keys others objects
+pub same_references : (keys refs others : List ℕ) (objects : List Object) → SameRows refs others → AreCounted keys refs objects → AreCounted keys others objects
 same_references keys refs others objects same h =
     let agree = λ (n : ℕ). let a : is_among (keys ++ refs) n ≡ is_among (keys ++ others) n = among-append keys refs n ∙ ap (λ b. is_among keys n || b) (same-any (λ k. k == n) refs others same) ∙ sym (among-append keys others n) in a in
     record {
@@ -290,17 +290,17 @@ same_references keys refs others objects same h =
       counted = all_weaker (Counts keys refs) (Counts keys others) (λ x e. (e.0, e.1 ∙ same (λ key. key == x.key))) objects h.counted;
       used = all_weaker (λ (x : Object). is_among (keys ++ refs) x.key ≡ true) (λ (x : Object). is_among (keys ++ others) x.key ≡ true) (λ x e. sym (agree x.key) ∙ e) objects h.used;
       keys_differ = h.keys_differ;
-      births_differ = h.births_differ;
+      step_numbers_differ = h.step_numbers_differ;
     }
 
 -- the objects whose counts alone changed are those that more keys name
-pub more_named : (k : ℕ) (f : Object → Object) (keys refs more : List ℕ) (objects : List Object) → ((x : Object) → core (f x) ≡ core x) → ((n : ℕ) → is_among (keys ++ refs) n ≡ true → is_among more n ≡ true) → AreTied keys refs objects → AreThoseNamed objects more (at_key k f objects)
+pub more_named : (k : ℕ) (f : Object → Object) (keys refs more : List ℕ) (objects : List Object) → ((x : Object) → core (f x) ≡ core x) → ((n : ℕ) → is_among (keys ++ refs) n ≡ true → is_among more n ≡ true) → AreCounted keys refs objects → AreThoseNamed objects more (at_key k f objects)
 more_named k f keys refs more objects bare sub h =
     core-changed k f bare objects ∙ ap (map core) (sym (filter_all (λ (x : Object). is_among more x.key) objects (all_weaker (λ (x : Object). is_among (keys ++ refs) x.key ≡ true) (λ (x : Object). is_among more x.key ≡ true) (λ x u. sub x.key u) objects h.used)))
 
 -- how many handles name the object of the first key
-pub hold_count : (set : ObjectSet) (k : ℕ) (keys refs : List ℕ) (n : ℕ) → AreTied (k ∷ keys) refs set.objects → option_map (λ (x : Object). x.holds) (object_at set k) ≡ Some n → n ≡ suc (count keys k)
-hold_count set k keys refs n h e =
+pub handle_count : (set : ObjectSet) (k : ℕ) (keys refs : List ℕ) (n : ℕ) → AreCounted (k ∷ keys) refs set.objects → option_map (λ (x : Object). x.holds) (object_at set k) ≡ Some n → n ≡ suc (count keys k)
+handle_count set k keys refs n h e =
     let it = is_found k set.objects (h.there k (among-first (keys ++ refs) k)) (Counts (k ∷ keys) refs) h.counted in
     let same : Some it.0.holds ≡ Some n = sym (ap (option_map (λ (x : Object). x.holds)) it.1) ∙ e in
     let number : it.0.holds ≡ n = cc in
@@ -314,13 +314,13 @@ find-pushed n y (x ∷ xs) =
     elim (x.key == n) as (λ b. is_some (cond b (Some x) (find (is_key n) (xs ++ y ∷ []))) ≡ (is_some (cond b (Some x) (find (is_key n) xs)) || y.key == n))
     [ true ↦ refl | false ↦ find-pushed n y xs ]
 
-fresh_key : (keys refs : List ℕ) (key : ℕ) (objects : List Object) → AreTied keys refs objects → find (is_key key) objects ≡ None → is_among (keys ++ refs) key ≡ false
+fresh_key : (keys refs : List ℕ) (key : ℕ) (objects : List Object) → AreCounted keys refs objects → find (is_key key) objects ≡ None → is_among (keys ++ refs) key ≡ false
 fresh_key keys refs key objects h e =
     elim (is_among (keys ++ refs) key) as (λ b. is_among (keys ++ refs) key ≡ b → b ≡ false) [ true ↦ λ j. absurd (let k : false ≡ true = sym (ap is_some e) ∙ h.there key j in cc) | false ↦ λ j. refl ] refl
 
-pub created_tied : (keys refs : List ℕ) (objects : List Object) (new : Object) → AreTied keys refs objects → find (is_key new.key) objects ≡ None → AllByRecursion (λ (x : Object). x.birth < new.birth) objects → new.holds ≡ 1 → new.refs ≡ 0 →
-    AreTied (new.key ∷ keys) refs (objects ++ new ∷ [])
-created_tied keys refs objects new h fresh newest one none =
+pub created_invariants : (keys refs : List ℕ) (objects : List Object) (new : Object) → AreCounted keys refs objects → find (is_key new.key) objects ≡ None → AllByRecursion (λ (x : Object). x.step_number < new.step_number) objects → new.holds ≡ 1 → new.refs ≡ 0 →
+    AreCounted (new.key ∷ keys) refs (objects ++ new ∷ [])
+created_invariants keys refs objects new h fresh newest one none =
     let others = none_found (is_key new.key) objects fresh in
     let absent = or_parts (is_among keys new.key) (is_among refs new.key) (sym (among-append keys refs new.key) ∙ fresh_key keys refs new.key objects h fresh) in
     let own : Counts (new.key ∷ keys) refs new =
@@ -331,5 +331,5 @@ created_tied keys refs objects new h fresh newest one none =
           (all_both (λ (x : Object). (x.key == new.key) ≡ false) (Counts keys refs) (Counts (new.key ∷ keys) refs) (λ x e c. (c.0 ∙ sym (count-other keys new.key x.key e), c.1)) objects others h.counted) (own, tt);
       used = all_append (λ (x : Object). is_among (new.key ∷ (keys ++ refs)) x.key ≡ true) objects (new ∷ []) (all_weaker _ _ (λ (x : Object) u. among-more (keys ++ refs) new.key x.key u) objects h.used) (among-first (keys ++ refs) new.key, tt);
       keys_differ = in_order_append (λ (x y : Object). (x.key == y.key) ≡ false) objects new h.keys_differ others;
-      births_differ = in_order_append (λ (x y : Object). (x.birth == y.birth) ≡ false) objects new h.births_differ (all_weaker _ _ (λ x less. less-differ x.birth new.birth less) objects newest);
+      step_numbers_differ = in_order_append (λ (x y : Object). (x.step_number == y.step_number) ≡ false) objects new h.step_numbers_differ (all_weaker _ _ (λ x less. less-differ x.step_number new.step_number less) objects newest);
     }

@@ -15,14 +15,14 @@ use Rattle.drm_lists.proofs.Rising.{found, find_where, any_found, each_is_there}
 use Rattle.drm_masters.specs.declared.rows.Master.{Master}
 use Rattle.drm_masters.specs.declared.rows.Member.{Member}
 use Rattle.drm_masters.specs.Masters as masters
-use Rattle.drm_masters.specs.Masters.{is_birth, is_lessee}
+use Rattle.drm_masters.specs.Masters.{is_step_number, is_lessee}
 use Rattle.drm_masters.specs.Calls.{kept_as}
 use Rattle.drm_leases.specs.declared.rows.Grant.{Grant}
 use Rattle.drm_leases.specs.declared.rows.LeaseToken.{LeaseToken}
 use Rattle.drm_leases.specs.Leases.{LeaseSet, Lending, is_token_of, token_of}
 use Rattle.drm_model.specs.Rows.{MasterRow, GrantRow}
 use Rattle.drm_state.specs.Parts.{master_row_of, grant_row_of, released, ended}
-use Rattle.drm_state.specs.Ties.{AreOfLessees, AreKeptBy}
+use Rattle.drm_state.specs.Invariants.{AreOfLessees, AreKeptBy}
 
 -- ---- open lease tokens
 
@@ -43,16 +43,16 @@ fresh_token m tokens h = ap (option_map (λ (row : LeaseToken). row.token)) (fin
 pub rows_released : (tokens : List LeaseToken) (below : ℕ → Bool) → (ms : List Master) → map (master_row_of tokens) (released below ms) ≡ map (master_row_of tokens) ms
 rows_released tokens below [] = refl
 rows_released tokens below (x ∷ xs) =
-    λ i. (elim (below x.birth) as (λ b. master_row_of tokens (if b then kept_as false x else x) ≡ master_row_of tokens x) [ true ↦ refl | false ↦ refl ]) i ∷ rows_released tokens below xs i
+    λ i. (elim (below x.step_number) as (λ b. master_row_of tokens (if b then kept_as false x else x) ≡ master_row_of tokens x) [ true ↦ refl | false ↦ refl ]) i ∷ rows_released tokens below xs i
 
 pub rows_ended : (below : ℕ → Bool) (tokens : List LeaseToken) → (ms : List Master) → map (λ (row : MasterRow). if below row.master then record row { lease_token = None } else row) (map (master_row_of tokens) ms) ≡ map (master_row_of (filter (λ (row : LeaseToken). not (below row.master)) tokens)) ms
 rows_ended below tokens [] = refl
-rows_ended below tokens (x ∷ xs) = λ i. (by_test (below x.birth) ∙ ap row (sym (token_left below tokens x.birth))) i ∷ rows_ended below tokens xs i
+rows_ended below tokens (x ∷ xs) = λ i. (by_test (below x.step_number) ∙ ap row (sym (token_left below tokens x.step_number))) i ∷ rows_ended below tokens xs i
   where
     row : Option ℕ → MasterRow
-    row token = record { master = x.birth; lessor = x.lessor; lessee_id = x.lessee_id; lease_token = token }
+    row token = record { master = x.step_number; lessor = x.lessor; lessee_id = x.lessee_id; lease_token = token }
 
-    by_test : (b : Bool) → (if b then record (master_row_of tokens x) { lease_token = None } else master_row_of tokens x) ≡ row (if b then None else token_of tokens x.birth)
+    by_test : (b : Bool) → (if b then record (master_row_of tokens x) { lease_token = None } else master_row_of tokens x) ≡ row (if b then None else token_of tokens x.step_number)
     by_test true = refl
     by_test false = refl
 
@@ -73,29 +73,29 @@ none_ended l =
       lendings = filter_all (λ (x : Lending). true) l.lendings (all_each (λ (x : Lending). true ≡ true) (λ _. refl) l.lendings) i;
     }
 
--- ---- what ties masters and leases
+-- ---- what invariants masters and leases
 
 pub kept_ended : (below : ℕ → Bool) (tokens : List LeaseToken) (ms : List Master) → AreKeptBy tokens ms → AreKeptBy (filter (λ (row : LeaseToken). not (below row.master)) tokens) (released below ms)
 kept_ended below tokens ms h =
     let left = filter (λ (row : LeaseToken). not (below row.master)) tokens in
-    all_mapped (λ (x : Master). x.kept ≡ is_some (token_of left x.birth)) (λ (x : Master). if below x.birth then kept_as false x else x) ms
-    (all_weaker (λ (x : Master). x.kept ≡ is_some (token_of tokens x.birth)) (λ (x : Master). (if below x.birth then kept_as false x else x).kept ≡ is_some (token_of left (if below x.birth then kept_as false x else x).birth)) (λ x e.
-    (elim (below x.birth) as (λ b. below x.birth ≡ b → (if b then kept_as false x else x).kept ≡ is_some (token_of left (if b then kept_as false x else x).birth)) [
-      | true ↦ λ k. sym (ap is_some (token_left below tokens x.birth) ∙ ap (λ b. is_some (if b then None else token_of tokens x.birth)) k)
-      | false ↦ λ k. e ∙ sym (ap is_some (token_left below tokens x.birth) ∙ ap (λ b. is_some (if b then None else token_of tokens x.birth)) k)
+    all_mapped (λ (x : Master). x.kept ≡ is_some (token_of left x.step_number)) (λ (x : Master). if below x.step_number then kept_as false x else x) ms
+    (all_weaker (λ (x : Master). x.kept ≡ is_some (token_of tokens x.step_number)) (λ (x : Master). (if below x.step_number then kept_as false x else x).kept ≡ is_some (token_of left (if below x.step_number then kept_as false x else x).step_number)) (λ x e.
+    (elim (below x.step_number) as (λ b. below x.step_number ≡ b → (if b then kept_as false x else x).kept ≡ is_some (token_of left (if b then kept_as false x else x).step_number)) [
+      | true ↦ λ k. sym (ap is_some (token_left below tokens x.step_number) ∙ ap (λ b. is_some (if b then None else token_of tokens x.step_number)) k)
+      | false ↦ λ k. e ∙ sym (ap is_some (token_left below tokens x.step_number) ∙ ap (λ b. is_some (if b then None else token_of tokens x.step_number)) k)
     ]) refl) ms h)
 
 pub released_lessor : (below : ℕ → Bool) (ms : List Master) (m : ℕ) → masters.lessor_of (released below ms) m ≡ masters.lessor_of ms m
 released_lessor below ms m =
-    let change = λ (x : Master). if below x.birth then kept_as false x else x in
-    ap (option_and_then (λ (x : Master). x.lessor)) (find-map (is_birth m) change ms ∙ ap (λ (p : Master → Bool). option_map change (find p ms)) (λ i x. birth x i == m)) ∙ by_row (find (is_birth m) ms)
+    let change = λ (x : Master). if below x.step_number then kept_as false x else x in
+    ap (option_and_then (λ (x : Master). x.lessor)) (find-map (is_step_number m) change ms ∙ ap (λ (p : Master → Bool). option_map change (find p ms)) (λ i x. step_number x i == m)) ∙ by_row (find (is_step_number m) ms)
   where
-    birth : (x : Master) → (if below x.birth then kept_as false x else x).birth ≡ x.birth
-    birth x = elim (below x.birth) as (λ b. (if b then kept_as false x else x).birth ≡ x.birth) [ true ↦ refl | false ↦ refl ]
+    step_number : (x : Master) → (if below x.step_number then kept_as false x else x).step_number ≡ x.step_number
+    step_number x = elim (below x.step_number) as (λ b. (if b then kept_as false x else x).step_number ≡ x.step_number) [ true ↦ refl | false ↦ refl ]
 
-    by_row : (o : Option Master) → option_and_then (λ (x : Master). x.lessor) (option_map (λ (x : Master). if below x.birth then kept_as false x else x) o) ≡ option_and_then (λ (x : Master). x.lessor) o
+    by_row : (o : Option Master) → option_and_then (λ (x : Master). x.lessor) (option_map (λ (x : Master). if below x.step_number then kept_as false x else x) o) ≡ option_and_then (λ (x : Master). x.lessor) o
     by_row None = refl
-    by_row (Some x) = elim (below x.birth) as (λ b. (if b then kept_as false x else x).lessor ≡ x.lessor) [ true ↦ refl | false ↦ refl ]
+    by_row (Some x) = elim (below x.step_number) as (λ b. (if b then kept_as false x else x).lessor ≡ x.lessor) [ true ↦ refl | false ↦ refl ]
 
 pub of_lessees_ended : (below : ℕ → Bool) (tokens : List LeaseToken) (ms : List Master) → AreOfLessees tokens ms → AreOfLessees (filter (λ (row : LeaseToken). not (below row.master)) tokens) (released below ms)
 of_lessees_ended below tokens ms h =
@@ -103,19 +103,19 @@ of_lessees_ended below tokens ms h =
     (all_weaker (λ (row : LeaseToken). is_lessee ms row.master ≡ true) (λ (row : LeaseToken). is_lessee (released below ms) row.master ≡ true) (λ row e. ap is_some (released_lessor below ms row.master) ∙ e) tokens h)
 
 -- one more master, which is no lessee
-pub kept_more : (tokens : List LeaseToken) (ms : List Master) (y : Master) → AreKeptBy tokens ms → y.kept ≡ false → AllByRecursion (λ (row : LeaseToken). row.master < y.birth) tokens → AreKeptBy tokens (ms ++ y ∷ [])
-kept_more tokens ms y h unkept new = all_append (λ (x : Master). x.kept ≡ is_some (token_of tokens x.birth)) ms (y ∷ []) h (unkept ∙ sym (ap is_some (fresh_token y.birth tokens new)), tt)
+pub kept_more : (tokens : List LeaseToken) (ms : List Master) (y : Master) → AreKeptBy tokens ms → y.kept ≡ false → AllByRecursion (λ (row : LeaseToken). row.master < y.step_number) tokens → AreKeptBy tokens (ms ++ y ∷ [])
+kept_more tokens ms y h unkept new = all_append (λ (x : Master). x.kept ≡ is_some (token_of tokens x.step_number)) ms (y ∷ []) h (unkept ∙ sym (ap is_some (fresh_token y.step_number tokens new)), tt)
 
 found_more : (p : Master → Bool) (y x : Master) → (ms : List Master) → find p ms ≡ Some x → find p (ms ++ y ∷ []) ≡ Some x
 found_more p y x [] e = absurd (let n : None ≡ Some x = e in cc)
 found_more p y x (z ∷ zs) e = elim (p z) as (λ b. (if b then Some z else find p zs) ≡ Some x → (if b then Some z else find p (zs ++ y ∷ [])) ≡ Some x) [ true ↦ λ k. k | false ↦ λ k. found_more p y x zs k ] e
 
 lessee_more : (ms : List Master) (y : Master) (m : ℕ) → is_lessee ms m ≡ true → is_lessee (ms ++ y ∷ []) m ≡ true
-lessee_more ms y m h = by_row (find (is_birth m) ms) refl h
+lessee_more ms y m h = by_row (find (is_step_number m) ms) refl h
   where
-    by_row : (o : Option Master) → find (is_birth m) ms ≡ o → is_some (option_and_then (λ (x : Master). x.lessor) o) ≡ true → is_lessee (ms ++ y ∷ []) m ≡ true
+    by_row : (o : Option Master) → find (is_step_number m) ms ≡ o → is_some (option_and_then (λ (x : Master). x.lessor) o) ≡ true → is_lessee (ms ++ y ∷ []) m ≡ true
     by_row None e k = absurd (let n : false ≡ true = k in cc)
-    by_row (Some x) e k = ap (λ o. is_some (option_and_then (λ (x : Master). x.lessor) o)) (found_more (is_birth m) y x ms e) ∙ k
+    by_row (Some x) e k = ap (λ o. is_some (option_and_then (λ (x : Master). x.lessor) o)) (found_more (is_step_number m) y x ms e) ∙ k
 
 pub of_lessees_more : (tokens : List LeaseToken) (ms : List Master) (y : Master) → AreOfLessees tokens ms → AreOfLessees tokens (ms ++ y ∷ [])
 of_lessees_more tokens ms y h = all_weaker (λ (row : LeaseToken). is_lessee ms row.master ≡ true) (λ (row : LeaseToken). is_lessee (ms ++ y ∷ []) row.master ≡ true) (λ row e. lessee_more ms y row.master e) tokens h
@@ -126,31 +126,31 @@ module _ (members : List Member) (tokens : List LeaseToken) (ms : List Master) (
   lives m = masters.is_living members ms m
 
   abbrev left : List Master
-  left = filter (λ (x : Master). lives x.birth) ms
+  left = filter (λ (x : Master). lives x.step_number) ms
 
   open_lives : (m : ℕ) → is_lessee ms m ≡ true → is_some (token_of tokens m) ≡ true → lives m ≡ true
-  open_lives m h opens = by_row (find (is_birth m) ms) refl h
+  open_lives m h opens = by_row (find (is_step_number m) ms) refl h
     where
-      by_row : (o : Option Master) → find (is_birth m) ms ≡ o → is_some (option_and_then (λ (x : Master). x.lessor) o) ≡ true → lives m ≡ true
+      by_row : (o : Option Master) → find (is_step_number m) ms ≡ o → is_some (option_and_then (λ (x : Master). x.lessor) o) ≡ true → lives m ≡ true
       by_row None e k = absurd (let n : false ≡ true = k in cc)
       by_row (Some x) e k =
-          let it = found (is_birth m) (λ (x : Master). x.kept ≡ is_some (token_of tokens x.birth)) x ms kept e in
-          let is : x.birth ≡ m = eqb-true x.birth m it.0 in
+          let it = found (is_step_number m) (λ (x : Master). x.kept ≡ is_some (token_of tokens x.step_number)) x ms kept e in
+          let is : x.step_number ≡ m = eqb-true x.step_number m it.0 in
           let held : x.kept ≡ true = it.1 ∙ ap (λ n. is_some (token_of tokens n)) is ∙ opens in
-          let top : chains.is_under (masters.lessor_of ms) m x.birth ≡ true = ap (chains.is_under (masters.lessor_of ms) m) is ∙ itself (masters.lessor_of ms) m m in
-          any_found (is_birth m) (λ (y : Master). masters.is_held members y && chains.is_under (masters.lessor_of ms) m y.birth) x ms e
-          (λ i. (held i || list_any (λ (y : Member). y.master == x.birth) members) && top i)
+          let top : chains.is_under (masters.lessor_of ms) m x.step_number ≡ true = ap (chains.is_under (masters.lessor_of ms) m) is ∙ itself (masters.lessor_of ms) m m in
+          any_found (is_step_number m) (λ (y : Master). masters.is_held members y && chains.is_under (masters.lessor_of ms) m y.step_number) x ms e
+          (λ i. (held i || list_any (λ (y : Member). y.master == x.step_number) members) && top i)
 
   pub of_lessees_swept : AreOfLessees tokens ms → AreOfLessees tokens left
   of_lessees_swept h =
       all_both (λ (row : LeaseToken). is_lessee ms row.master ≡ true) (λ (row : LeaseToken). list_any (λ (y : LeaseToken). y.master == row.master) tokens ≡ true) (λ (row : LeaseToken). is_lessee left row.master ≡ true) (λ row e there.
       let opens : is_some (token_of tokens row.master) ≡ true = some_map (find (is_token_of row.master) tokens) (is_some-find (is_token_of row.master) tokens ∙ there) in
       let alive = open_lives row.master e opens in
-      ap (λ o. is_some (option_and_then (λ (x : Master). x.lessor) o)) (find_where (λ (x : Master). x.birth) lives row.master ms ∙ ap (λ b. cond b (find (is_birth row.master) ms) None) alive) ∙ e) tokens h (each_is_there (λ (row : LeaseToken). row.master) tokens)
+      ap (λ o. is_some (option_and_then (λ (x : Master). x.lessor) o)) (find_where (λ (x : Master). x.step_number) lives row.master ms ∙ ap (λ b. cond b (find (is_step_number row.master) ms) None) alive) ∙ e) tokens h (each_is_there (λ (row : LeaseToken). row.master) tokens)
     where
       some_map : (o : Option LeaseToken) → is_some o ≡ true → is_some (option_map (λ (row : LeaseToken). row.token) o) ≡ true
       some_map None e = e
       some_map (Some row) e = refl
 
   pub kept_swept : AreKeptBy tokens left
-  kept_swept = all_filter (λ (x : Master). x.kept ≡ is_some (token_of tokens x.birth)) (λ (x : Master). lives x.birth) ms kept
+  kept_swept = all_filter (λ (x : Master). x.kept ≡ is_some (token_of tokens x.step_number)) (λ (x : Master). lives x.step_number) ms kept

@@ -17,7 +17,7 @@ use Rattle.drm_modes.specs.Modes.{ModeSet, AreModes, shown, is_lit, lit_rows, sh
 use Rattle.drm_model.specs.Rows.{Rows, FramebufferRow, ShownRow, is_framebuffer}
 use Rattle.drm_state.specs.declared.state.State.{State}
 use Rattle.drm_state.specs.Parts.{framebuffer_row_of, shown_row_of, shown_of, framebuffer_keys}
-use Rattle.drm_state.specs.Ties.{IsTied}
+use Rattle.drm_state.specs.Invariants.{MeetsInvariants}
 use Rattle.drm_state.specs.Refinement.{Represents}
 use Rattle.drm_state.proofs.Represented.{framebuffers_are, shown_are, modes_so}
 
@@ -28,7 +28,7 @@ framebuffer_there v objects fs f h =
     is_some-find is v.framebuffers ∙ same-any is v.framebuffers (map (framebuffer_row_of objects) fs) h ∙ list_any-map is (framebuffer_row_of objects) fs
 
 -- what is lit shows what may be shown
-pub lit_shows : (p : ℕ → Bool) (x : ℕ) → (screens : List ℕ) → AllByRecursion (λ f. ((f == 0) || p f) ≡ true) screens → AllByRecursion (λ (row : Shown). p row.framebuffer ≡ true) (lit_rows x screens)
+pub lit_shows : (p : ℕ → Bool) (x : ℕ) → (scanouts : List ℕ) → AllByRecursion (λ f. ((f == 0) || p f) ≡ true) scanouts → AllByRecursion (λ (row : Shown). p row.framebuffer ≡ true) (lit_rows x scanouts)
 lit_shows p x [] h = tt
 lit_shows p x (f ∷ fs) h =
     elim (f == 0) as (λ b. (b || p f) ≡ true → AllByRecursion (λ (row : Shown). p row.framebuffer ≡ true) (cond (not b) (shown x f ∷ lit_rows (x + 1) fs) (lit_rows (x + 1) fs)))
@@ -48,15 +48,15 @@ shown_left v objects old now h k e =
 
 -- all of it, where framebuffers are as they were
 pub all_shown : (set : ModeSet) → AreModes set → shown_rows set ≡ filter (λ (x : Shown). has_framebuffer set x.framebuffer) (shown_rows set)
-all_shown set are = sym (filter_all (λ (x : Shown). has_framebuffer set x.framebuffer) (shown_rows set) (lit_shows (has_framebuffer set) 1 set.screens are.screens_are))
+all_shown set are = sym (filter_all (λ (x : Shown). has_framebuffer set x.framebuffer) (shown_rows set) (lit_shows (has_framebuffer set) 1 set.scanouts are.scanouts_are))
 
-pub shown_yet : (s : State) (w : Rows) → IsTied s → Represents s w → SameRows (filter (λ (row : ShownRow). is_framebuffer w row.framebuffer) w.shown) (shown_of s)
+pub shown_yet : (s : State) (w : Rows) → MeetsInvariants s → Represents s w → SameRows (filter (λ (row : ShownRow). is_framebuffer w row.framebuffer) w.shown) (shown_of s)
 shown_yet s w t h = shown_left w s.objects.objects s.modes s.modes (framebuffers_are s w h) (shown_are s w h) (all_shown s.modes (modes_so s t))
 
 -- ---- fewer framebuffers
 
 -- a framebuffer that goes takes what shows it
-dark_rows : (g : ℕ) (x : ℕ) → (screens : List ℕ) → lit_rows x (map (modes.dark_of g) screens) ≡ filter (λ (row : Shown). not (row.framebuffer == g)) (lit_rows x screens)
+dark_rows : (g : ℕ) (x : ℕ) → (scanouts : List ℕ) → lit_rows x (map (modes.dark_of g) scanouts) ≡ filter (λ (row : Shown). not (row.framebuffer == g)) (lit_rows x scanouts)
 dark_rows g x [] = refl
 dark_rows g x (f ∷ fs) =
     let rest = lit_rows (x + 1) fs in
@@ -76,7 +76,7 @@ dark_rows g x (f ∷ fs) =
         ]
 
 pub one_dark : (set : ModeSet) (g : ℕ) → shown_rows (modes.without_framebuffer set g) ≡ filter (λ (row : Shown). not (row.framebuffer == g)) (shown_rows set)
-one_dark set g = dark_rows g 1 set.screens
+one_dark set g = dark_rows g 1 set.scanouts
 
 -- all but one are there
 others_there : (f g : ℕ) → (fs : List Framebuffer) → list_any (modes.is_framebuffer g) (filter (λ (x : Framebuffer). not (modes.is_framebuffer f x)) fs) ≡ (list_any (modes.is_framebuffer g) fs && not (g == f))

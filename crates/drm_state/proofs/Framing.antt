@@ -30,15 +30,15 @@ use Rattle.drm_model.specs.Modes as model
 use Rattle.drm_model.specs.Modes.{framebuffer_object, framebuffer_answer, new_framebuffer}
 use Rattle.drm_model.specs.Change.{swept}
 use Rattle.drm_state.specs.declared.state.State.{State}
-use Rattle.drm_state.specs.Parts.{birth_at, framebuffer_row_of, framebuffers_of, keys_of, token_keys, framebuffer_keys, referring, referring_keys}
-use Rattle.drm_state.specs.Ties.{IsTied, AreTied}
+use Rattle.drm_state.specs.Parts.{step_number_at, framebuffer_row_of, framebuffers_of, keys_of, token_keys, framebuffer_keys, referring, referring_keys}
+use Rattle.drm_state.specs.Invariants.{MeetsInvariants, AreCounted}
 use Rattle.drm_state.specs.Refinement.{Represents}
 use Rattle.drm_state.proofs.Represented.{bounds_are, holds_are, names_are, tokens_are, framebuffers_are, shown_are, last_token_is, modes_so, holds_rise, objects_counted, names_held}
 use Rattle.drm_state.proofs.Counting.{IsStep, same_references, reference_more, more_named}
 use Rattle.drm_state.proofs.Holding.{placed_same}
 use Rattle.drm_state.proofs.Naming.{same-append}
 use Rattle.drm_state.proofs.Frames.{framebuffer_there, lit_shows, all_shown, shown_left, one_dark, some_framed, framed_left}
-use Rattle.drm_state.proofs.Sweeps.{all_moved, all_moved_tied, names_known}
+use Rattle.drm_state.proofs.Sweeps.{all_moved, all_moved_invariants, names_known}
 use Rattle.drm_state.proofs.SharedLookups.{one_passes, number_by, itself, of_found, its_key}
 use Rattle.drm_state.proofs.SharedChanges.{pushed_same, known_too, either}
 
@@ -58,7 +58,7 @@ told_by handle (Some row) width height pitch bpp a b c d =
     let deep : row.bpp ≡ bpp = (let e : Some row.bpp ≡ Some bpp = d in cc) in
     λ i. FramebufferIs (wide i) (high i) (far i) (deep i) handle
 
-module _ (s : State) (w : Rows) (t : IsTied s) (h : Represents s w) where
+module _ (s : State) (w : Rows) (t : MeetsInvariants s) (h : Represents s w) where
   -- a framebuffer has a row exactly where it is there
   pub framebuffer_is : (f : ℕ) → is_framebuffer w f ≡ has_framebuffer s.modes f
   framebuffer_is f = framebuffer_there w s.objects.objects s.modes.framebuffers f (framebuffers_are s w h)
@@ -82,8 +82,8 @@ module _ (s : State) (w : Rows) (t : IsTied s) (h : Represents s w) where
         (number_found (λ row. row.pitch) (λ y. y.shape.pitch) itself (λ y. refl)) (number_found (λ row. row.bpp) (λ y. y.shape.bpp) itself (λ y. refl))
 
     -- the number of its object
-    pub framebuffer_object_is : framebuffer_object w f ≡ birth_at s.objects.objects x.object
-    framebuffer_object_is = ap (λ o. unwrap_or o 0) (number_found (λ row. row.object) (λ y. y.object) (birth_at s.objects.objects) (λ y. refl))
+    pub framebuffer_object_is : framebuffer_object w f ≡ step_number_at s.objects.objects x.object
+    framebuffer_object_is = ap (λ o. unwrap_or o 0) (number_found (λ row. row.object) (λ y. y.object) (step_number_at s.objects.objects) (λ y. refl))
 
   -- the framebuffer of a client
   pub own_framebuffer : (c f : ℕ) → is_some (find (model.is_framebuffer_of c f) w.framebuffers) ≡ is_some (find (modes.is_framebuffer_of c f) s.modes.framebuffers)
@@ -117,7 +117,7 @@ framebuffer_known s f key e =
 abbrev pub with_frame : State → ℕ → ℕ → Shape → ℕ → State
 with_frame s n c shape key = record s { modes = with_framebuffer s.modes (framebuffer n c shape key); objects = changed_at key referred s.objects }
 
-module _ (s : State) (n c key : ℕ) (shape : Shape) (t : IsTied s) (named : is_among (keys_of s.files.holds) key ≡ true) (are : AreModes (with_framebuffer s.modes (framebuffer n c shape key))) where
+module _ (s : State) (n c key : ℕ) (shape : Shape) (t : MeetsInvariants s) (named : is_among (keys_of s.files.holds) key ≡ true) (are : AreModes (with_framebuffer s.modes (framebuffer n c shape key))) where
   abbrev frames_more : List Framebuffer
   frames_more = placed framebuffer_before (framebuffer n c shape key) s.modes.framebuffers
 
@@ -147,19 +147,19 @@ module _ (s : State) (n c key : ℕ) (shape : Shape) (t : IsTied s) (named : is_
       let refs = referring_keys s in
       either keys refs m (is_among (keys ++ refs_more) m) (λ j. among-left keys refs_more m j) (λ j. among-right keys refs_more m (among_refs m ∙ or_right (key == m) (is_among refs m) j)) e
 
-  more_counted : AreTied (keys_of s.files.holds) refs_more (changed_at key referred s.objects).objects
+  more_counted : AreCounted (keys_of s.files.holds) refs_more (changed_at key referred s.objects).objects
   more_counted =
       let keys = keys_of s.files.holds in
       same_references keys (key ∷ referring_keys s) refs_more _ one_reference_more (reference_more key keys (referring_keys s) s.objects.objects (among-left keys (referring_keys s) key named) (objects_counted s t))
 
-  pub framed_tied : IsTied (with_frame s n c shape key)
-  framed_tied = all_moved_tied s s.files.holds s.tokens.tokens s.tokens.last_given (with_framebuffer s.modes (framebuffer n c shape key)) s.names.names (changed_at key referred s.objects) t (holds_rise s t) are more_counted (names_held s t)
+  pub framed_invariants : MeetsInvariants (with_frame s n c shape key)
+  framed_invariants = all_moved_invariants s s.files.holds s.tokens.tokens s.tokens.last_given (with_framebuffer s.modes (framebuffer n c shape key)) s.names.names (changed_at key referred s.objects) t (holds_rise s t) are more_counted (names_held s t)
 
   -- the row of the new framebuffer
   abbrev row_more : Rows → ℕ → FramebufferRow
   row_more w o = record { framebuffer = new_framebuffer w; client = c; object = o; width = shape.width; height = shape.height; pitch = shape.pitch; bpp = shape.bpp }
 
-  pub framed : (w : Rows) (o : ℕ) → Represents s w → o ≡ birth_at s.objects.objects key → new_framebuffer w ≡ n → Represents (with_frame s n c shape key) (swept (record w { framebuffers = w.framebuffers ++ row_more w o ∷ [] }))
+  pub framed : (w : Rows) (o : ℕ) → Represents s w → o ≡ step_number_at s.objects.objects key → new_framebuffer w ≡ n → Represents (with_frame s n c shape key) (swept (record w { framebuffers = w.framebuffers ++ row_more w o ∷ [] }))
   framed w o r e number =
       let now = with_framebuffer s.modes (framebuffer n c shape key) in
       let v : Rows = record w { framebuffers = w.framebuffers ++ row_more w o ∷ [] } in
@@ -203,7 +203,7 @@ goes_dark : (set : ModeSet) (f : ℕ) → AreModes set → shown_rows (without_f
 goes_dark set f are =
     one_dark set f
     ∙ filter-same (λ (x : Shown). not (x.framebuffer == f)) (λ (x : Shown). has_framebuffer (without_framebuffer set f) x.framebuffer) (shown_rows set)
-    (all_weaker (λ (x : Shown). has_framebuffer set x.framebuffer ≡ true) (λ (x : Shown). not (x.framebuffer == f) ≡ has_framebuffer (without_framebuffer set f) x.framebuffer) (λ x e. stays f x.framebuffer set.framebuffers e) (shown_rows set) (lit_shows (has_framebuffer set) 1 set.screens are.screens_are))
+    (all_weaker (λ (x : Shown). has_framebuffer set x.framebuffer ≡ true) (λ (x : Shown). not (x.framebuffer == f) ≡ has_framebuffer (without_framebuffer set f) x.framebuffer) (λ x e. stays f x.framebuffer set.framebuffers e) (shown_rows set) (lit_shows (has_framebuffer set) 1 set.scanouts are.scanouts_are))
 
 -- of framebuffers in their order one goes with its id, and it is the client's
 record Goes (c f key : ℕ) (fs : List Framebuffer) : Type 0 where
@@ -251,7 +251,7 @@ one_goes c f key (x ∷ xs) o e =
 abbrev pub without_frame : State → ℕ → ObjectSet → State
 without_frame s f set = record s { modes = without_framebuffer s.modes f; objects = set }
 
-module _ (s : State) (c f key : ℕ) (t : IsTied s) (of : Some key ≡ option_map (λ (x : Framebuffer). x.object) (find (modes.is_framebuffer_of c f) s.modes.framebuffers)) where
+module _ (s : State) (c f key : ℕ) (t : MeetsInvariants s) (of : Some key ≡ option_map (λ (x : Framebuffer). x.object) (find (modes.is_framebuffer_of c f) s.modes.framebuffers)) where
   abbrev left : List Framebuffer
   left = others f s.modes.framebuffers
 
@@ -259,8 +259,8 @@ module _ (s : State) (c f key : ℕ) (t : IsTied s) (of : Some key ≡ option_ma
   goes = one_goes c f key s.modes.framebuffers (modes_so s t).framebuffers_rise of
 
   -- the references, of which one goes
-  pub frame_tied : AreTied (keys_of s.files.holds) (key ∷ referring s.tokens.tokens left) s.objects.objects
-  frame_tied =
+  pub frame_invariants : AreCounted (keys_of s.files.holds) (key ∷ referring s.tokens.tokens left) s.objects.objects
+  frame_invariants =
       let opened = token_keys s.tokens.tokens in
       same_references (keys_of s.files.holds) (referring_keys s) (key ∷ referring s.tokens.tokens left) s.objects.objects
       (same-trans (referring_keys s) (opened ++ key ∷ framebuffer_keys left) (key ∷ referring s.tokens.tokens left) (same-append opened opened (framebuffer_keys s.modes.framebuffers) (key ∷ framebuffer_keys left) (same-refl opened) goes.keys)
@@ -273,8 +273,8 @@ module _ (s : State) (c f key : ℕ) (t : IsTied s) (of : Some key ≡ option_ma
       (λ k. among-right (token_keys s.tokens.tokens) (framebuffer_keys s.modes.framebuffers) m (some_framed (λ (x : Framebuffer). not (modes.is_framebuffer f x)) s.modes.framebuffers m k)) j
 
   module _ (set : ObjectSet) (step : IsStep s.objects.objects (keys_of s.files.holds) (referring s.tokens.tokens left) set) (limit : set.limit ≡ s.objects.limit) (are : AreModes (without_framebuffer s.modes f)) where
-    pub unframed_tied : IsTied (without_frame s f set)
-    unframed_tied = all_moved_tied s s.files.holds s.tokens.tokens s.tokens.last_given (without_framebuffer s.modes f) s.names.names set t (holds_rise s t) are step.tied (names_held s t)
+    pub unframed_invariants : MeetsInvariants (without_frame s f set)
+    unframed_invariants = all_moved_invariants s s.files.holds s.tokens.tokens s.tokens.last_given (without_framebuffer s.modes f) s.names.names set t (holds_rise s t) are step.invariants (names_held s t)
 
     pub unframed : (w : Rows) → Represents s w → Represents (without_frame s f set) (swept (record w { framebuffers = without (model.is_framebuffer_of c f) w.framebuffers }))
     unframed w r =

@@ -10,9 +10,10 @@ use Rattle.drm_gem.specs.declared.object.Dead.{Dead}
 use Rattle.drm_gem.specs.Objects.{ObjectSet, object_at, changed_at, without_key, unheld, dead_after}
 use Rattle.drm_share.specs.declared.rows.SharedName.{SharedName}
 use Rattle.drm_share.specs.Names.{NameList, without_name_of}
-use Rattle.drm_state.specs.Ties.{AreTied, AreNamed, Leaves, names_among}
-use Rattle.drm_state.proofs.Counting.{left_alone, already, hold_count}
+use Rattle.drm_state.specs.Invariants.{AreCounted, AreNamed, Leaves, names_among}
+use Rattle.drm_state.proofs.Counting.{left_alone, already, handle_count}
 use Rattle.drm_state.proofs.Contents.{unheld_step, unhold_limit}
+use Rattle.drm_index_array.proofs.Entries.{differ}
 
 -- no other handle names the object
 forgotten : (names : NameList) (k : ℕ) (keys : List ℕ) → is_among keys k ≡ false → AreNamed (k ∷ keys) names.names → without_name_of names k ≡ names_among keys names
@@ -43,23 +44,20 @@ among false h = h
 only_one : (n m : ℕ) → n ≡ suc m → (n == 1) ≡ (m == 0)
 only_one n m h = grind (arith, nat_tests)
 
-differ : (n m : ℕ) → (n ≡ m → ⊥) → (n == m) ≡ false
-differ n m h = grind (arith, nat_tests)
-
 last_one : (keys : List ℕ) (k n : ℕ) → n ≡ suc (count keys k) → (n == 1) ≡ true → is_among keys k ≡ false
 last_one keys k n e is = not_among (is_among keys k) (sym is ∙ only_one n (count keys k) e ∙ count-none keys k)
 
 not_last : (keys : List ℕ) (k n : ℕ) → n ≡ suc (count keys k) → (n == 1) ≡ false → is_among keys k ≡ true
 not_last keys k n e is = among (is_among keys k) (sym is ∙ only_one n (count keys k) e ∙ count-none keys k)
 
-module _ (names : NameList) (set new : ObjectSet) (k n : ℕ) (keys refs : List ℕ) (dead : Option Dead) (tied : AreTied (k ∷ keys) refs set.objects) (named : AreNamed (k ∷ keys) names.names) (number : option_map (λ (x : Object). x.holds) (object_at set k) ≡ Some n)
+module _ (names : NameList) (set new : ObjectSet) (k n : ℕ) (keys refs : List ℕ) (dead : Option Dead) (invariants : AreCounted (k ∷ keys) refs set.objects) (named : AreNamed (k ∷ keys) names.names) (number : option_map (λ (x : Object). x.holds) (object_at set k) ≡ Some n)
     (is : dead ≡ dead_after unheld set k) (gone : OnSome dead (new ≡ without_key k set)) (stays : IfNone dead (new ≡ changed_at k unheld set)) where
   pub leaves_last : (now : NameList) → n ≡ 1 → now ≡ without_name_of names k → Leaves names set keys refs now new
   leaves_last now one e =
-      let step = unheld_step set new k keys refs dead tied is gone stays in
-      record { tied = step.tied; those = step.named; limit = unhold_limit set new k dead gone stays; names = e ∙ forgotten names k keys (last_one keys k n (hold_count set k keys refs n tied number) (eq-eqb n 1 one)) named }
+      let step = unheld_step set new k keys refs dead invariants is gone stays in
+      record { invariants = step.invariants; those = step.named; limit = unhold_limit set new k dead gone stays; names = e ∙ forgotten names k keys (last_one keys k n (handle_count set k keys refs n invariants number) (eq-eqb n 1 one)) named }
 
   pub leaves_others : (n ≡ 1 → ⊥) → Leaves names set keys refs names new
   leaves_others more =
-      let step = unheld_step set new k keys refs dead tied is gone stays in
-      record { tied = step.tied; those = step.named; limit = unhold_limit set new k dead gone stays; names = kept names k keys (not_last keys k n (hold_count set k keys refs n tied number) (differ n 1 more)) named }
+      let step = unheld_step set new k keys refs dead invariants is gone stays in
+      record { invariants = step.invariants; those = step.named; limit = unhold_limit set new k dead gone stays; names = kept names k keys (not_last keys k n (handle_count set k keys refs n invariants number) (differ n 1 more)) named }

@@ -8,7 +8,7 @@ pub mod Living
 pub mod Ended
 pub mod Agreeing
 pub mod Sweeps
-pub mod Outcomes
+pub mod Refinements
 pub mod Lookups
 pub mod Callers
 pub mod Contents
@@ -24,4 +24,4 @@ pub mod Held
 pub mod Added
 pub mod Framing
 pub mod Seeing
-pub mod Screens
+pub mod Scanouts

@@ -15,10 +15,10 @@ use Rattle.drm_model.specs.Change.{is_held, is_living}
 use Rattle.drm_leases.specs.declared.rows.LeaseToken.{LeaseToken}
 use Rattle.drm_leases.specs.Leases.{token_of}
 use Rattle.drm_state.specs.Parts.{master_row_of}
-use Rattle.drm_state.specs.Ties.{AreKeptBy}
+use Rattle.drm_state.specs.Invariants.{AreKeptBy}
 
 pub lessors_are : (tokens : List LeaseToken) (ms : List Master) (n : ℕ) → lessor_of (map (master_row_of tokens) ms) n ≡ masters.lessor_of ms n
-lessors_are tokens ms n = ap (option_and_then (λ (row : MasterRow). row.lessor)) (find-map (λ (row : MasterRow). row.master == n) (master_row_of tokens) ms) ∙ same (find (masters.is_birth n) ms)
+lessors_are tokens ms n = ap (option_and_then (λ (row : MasterRow). row.lessor)) (find-map (λ (row : MasterRow). row.master == n) (master_row_of tokens) ms) ∙ same (find (masters.is_step_number n) ms)
   where
     same : (o : Option Master) → option_and_then (λ (row : MasterRow). row.lessor) (option_map (master_row_of tokens) o) ≡ option_and_then (λ (x : Master). x.lessor) o
     same None = refl
@@ -41,18 +41,18 @@ any_same p q (x ∷ xs) h = ap (λ b. b || list_any p xs) h.0 ∙ ap (λ b. q x 
 -- the rows of masters that stay, where the same masters are named, and those kept that have an open lease token
 module _ (v : Rows) (tokens : List LeaseToken) (ms : List Master) (members : List Member) (are : v.masters ≡ map (master_row_of tokens) ms) (kept : AreKeptBy tokens ms)
     (named : (m : ℕ) → list_any (λ (row : ClientRow). is_option m row.master) v.clients ≡ list_any (λ (x : Member). x.master == m) members) where
-  held_is : (x : Master) → x.kept ≡ is_some (token_of tokens x.birth) → is_held v (master_row_of tokens x) ≡ masters.is_held members x
-  held_is x e = ap (λ b. is_some (token_of tokens x.birth) || b) (named x.birth) ∙ ap (λ b. b || list_any (λ (y : Member). y.master == x.birth) members) (sym e)
+  held_is : (x : Master) → x.kept ≡ is_some (token_of tokens x.step_number) → is_held v (master_row_of tokens x) ≡ masters.is_held members x
+  held_is x e = ap (λ b. is_some (token_of tokens x.step_number) || b) (named x.step_number) ∙ ap (λ b. b || list_any (λ (y : Member). y.master == x.step_number) members) (sym e)
 
   living_is : (m : ℕ) → is_living v m ≡ masters.is_living members ms m
   living_is m =
       ap (λ rows. list_any (λ (row : MasterRow). is_held v row && is_under rows m row.master) rows) are
       ∙ list_any-map (λ (row : MasterRow). is_held v row && is_under (map (master_row_of tokens) ms) m row.master) (master_row_of tokens) ms
-      ∙ any_same (λ (x : Master). is_held v (master_row_of tokens x) && is_under (map (master_row_of tokens) ms) m x.birth) (λ (x : Master). masters.is_held members x && chains.is_under (masters.lessor_of ms) m x.birth) ms
-      (all_weaker (λ (x : Master). x.kept ≡ is_some (token_of tokens x.birth)) (λ (x : Master). (is_held v (master_row_of tokens x) && is_under (map (master_row_of tokens) ms) m x.birth) ≡ (masters.is_held members x && chains.is_under (masters.lessor_of ms) m x.birth))
-      (λ x e i. held_is x e i && chains.is_under (above_is tokens ms i) m x.birth) ms kept)
+      ∙ any_same (λ (x : Master). is_held v (master_row_of tokens x) && is_under (map (master_row_of tokens) ms) m x.step_number) (λ (x : Master). masters.is_held members x && chains.is_under (masters.lessor_of ms) m x.step_number) ms
+      (all_weaker (λ (x : Master). x.kept ≡ is_some (token_of tokens x.step_number)) (λ (x : Master). (is_held v (master_row_of tokens x) && is_under (map (master_row_of tokens) ms) m x.step_number) ≡ (masters.is_held members x && chains.is_under (masters.lessor_of ms) m x.step_number))
+      (λ x e i. held_is x e i && chains.is_under (above_is tokens ms i) m x.step_number) ms kept)
 
-  pub swept_masters : filter (λ (row : MasterRow). is_living v row.master) v.masters ≡ map (master_row_of tokens) (filter (λ (x : Master). masters.is_living members ms x.birth) ms)
+  pub swept_masters : filter (λ (row : MasterRow). is_living v row.master) v.masters ≡ map (master_row_of tokens) (filter (λ (x : Master). masters.is_living members ms x.step_number) ms)
   swept_masters =
       ap (filter (λ (row : MasterRow). is_living v row.master)) are ∙ filter-map (λ (row : MasterRow). is_living v row.master) (master_row_of tokens) ms
-      ∙ ap (map (master_row_of tokens)) (filter-same (λ (x : Master). is_living v x.birth) (λ (x : Master). masters.is_living members ms x.birth) ms (all_each (λ (x : Master). is_living v x.birth ≡ masters.is_living members ms x.birth) (λ x. living_is x.birth) ms))
+      ∙ ap (map (master_row_of tokens)) (filter-same (λ (x : Master). is_living v x.step_number) (λ (x : Master). masters.is_living members ms x.step_number) ms (all_each (λ (x : Master). is_living v x.step_number ≡ masters.is_living members ms x.step_number) (λ x. living_is x.step_number) ms))

@@ -16,9 +16,10 @@ use Rattle.drm_masters.specs.Masters as masters
 use Rattle.drm_model.specs.Rows.{Rows, MagicRow, magic_row}
 use Rattle.drm_state.specs.declared.state.State.{State}
 use Rattle.drm_state.specs.Parts.{magic_row_of, magics_of}
-use Rattle.drm_state.specs.Ties.{IsTied}
+use Rattle.drm_state.specs.Invariants.{MeetsInvariants}
 use Rattle.drm_state.specs.Refinement.{Represents}
 use Rattle.drm_state.proofs.Represented.{magics_are, masters_so}
+use Rattle.drm_lists.proofs.Each.{none_passes}
 
 -- ---- lists that some elements give a row of
 
@@ -49,10 +50,6 @@ all-filter_map {Y = Y} P h (x ∷ xs) k = by_row (h x) refl (all-filter_map P h 
 
 -- ---- the one row that passes, in another order
 
-none_any : {X : Type 0} (p : X → Bool) → (xs : List X) → AllByRecursion (λ x. p x ≡ false) xs → list_any p xs ≡ false
-none_any p [] h = refl
-none_any p (x ∷ xs) h = ap (λ b. b || list_any p xs) h.0 ∙ none_any p xs h.1
-
 -- the rows that pass are this one
 abbrev pub OnlyIt : (MagicRow → Bool) → List MagicRow → MagicRow → Type 0
 OnlyIt p ys y = AllByRecursion (λ (z : MagicRow). p z ≡ true → z ≡ y) ys
@@ -64,7 +61,7 @@ module _ (p : MagicRow → Bool) (rows ys : List MagicRow) (same : SameRows rows
   field_found : (f : MagicRow → ℕ) (y : MagicRow) → find p ys ≡ Some y → OnlyIt p ys y → option_map f (find p rows) ≡ Some (f y)
   field_found f y e only =
       found-number p f (f y) rows
-      (same-any (λ z. p z && not (f z == f y)) rows ys same ∙ none_any (λ z. p z && not (f z == f y)) ys (all_weaker (λ (z : MagicRow). p z ≡ true → z ≡ y) (λ z. (p z && not (f z == f y)) ≡ false) fails ys only))
+      (same-any (λ z. p z && not (f z == f y)) rows ys same ∙ none_passes (λ z. p z && not (f z == f y)) ys (all_weaker (λ (z : MagicRow). p z ≡ true → z ≡ y) (λ z. (p z && not (f z == f y)) ≡ false) fails ys only))
       (there ∙ ap is_some e)
     where
       fails : (z : MagicRow) → (p z ≡ true → z ≡ y) → (p z && not (f z == f y)) ≡ false
@@ -133,7 +130,7 @@ only_client c y xs rise e =
     let s : Some z ≡ Some y = sym k ∙ ap (option_and_then magic_row_of) (sym at) ∙ ap (λ n. option_and_then magic_row_of (masters.member_of xs n)) num ∙ sym (of_client c xs rise) ∙ e in
     cc) xs (all_found (λ (x : Member). x.client) xs rise))
 
-pub magic_is : (s : State) (w : Rows) → IsTied s → Represents s w → (c : ℕ) → magic_row w c ≡ option_and_then magic_row_of (masters.member_of s.masters.members c)
+pub magic_is : (s : State) (w : Rows) → MeetsInvariants s → Represents s w → (c : ℕ) → magic_row w c ≡ option_and_then magic_row_of (masters.member_of s.masters.members c)
 magic_is s w t h c =
     found_in_any_order (λ (row : MagicRow). row.client == c) w.magics (magics_of s) (magics_are s w h) (λ y e. only_client c y s.masters.members (masters_so s t).members_rise e)
     ∙ of_client c s.masters.members (masters_so s t).members_rise

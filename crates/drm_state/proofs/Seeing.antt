@@ -24,7 +24,7 @@ use Rattle.drm_model.specs.Masters.{master_of, lessor_of}
 use Rattle.drm_model.specs.Sees as model
 use Rattle.drm_state.specs.declared.state.State.{State}
 use Rattle.drm_state.specs.Parts.{client_row_of, grant_row_of, grants_of, framebuffer_row_of, framebuffers_of}
-use Rattle.drm_state.specs.Ties.{IsTied}
+use Rattle.drm_state.specs.Invariants.{MeetsInvariants}
 use Rattle.drm_state.specs.Refinement.{Represents}
 use Rattle.drm_state.specs.Seeing.{controls, has_universal, sees, sees_object, visible}
 use Rattle.drm_state.proofs.Represented.{bounds_are, masters_are, grants_are, framebuffers_are, modes_so}
@@ -36,9 +36,9 @@ topology_is s w h = sym (bounds_are s w h).7
 
 -- ---- what a client sees
 
-module _ (s : State) (w : Rows) (c : ℕ) (present : files.is_present s.files c ≡ true) (h : Represents s w) where
+module _ (s : State) (w : Rows) (c : ℕ) (open_client : files.is_open_client s.files c ≡ true) (h : Represents s w) where
   master_is : master_of w c ≡ option_map (λ (y : Member). y.master) (member_of s.masters.members c)
-  master_is = ap (option_and_then (λ (row : ClientRow). row.master)) (client_found s w h c) ∙ by_file (find (files.is_client c) s.files.clients) refl present
+  master_is = ap (option_and_then (λ (row : ClientRow). row.master)) (client_found s w h c) ∙ by_file (find (files.is_client c) s.files.clients) refl open_client
     where
       by_file : (o : Option FileClient) → find (files.is_client c) s.files.clients ≡ o → is_some o ≡ true → option_and_then (λ (row : ClientRow). row.master) (option_map (client_row_of s.masters.members) o) ≡ option_map (λ (y : Member). y.master) (member_of s.masters.members c)
       by_file None e k = absurd (let n : false ≡ true = k in cc)
@@ -114,7 +114,7 @@ in_order : (fs : List Framebuffer) → arrays.InOrder framebuffer_before fs → 
 in_order [] h = tt
 in_order (x ∷ xs) h = (all_weaker (λ (y : Framebuffer). framebuffer_before x y ≡ true) (λ (y : Framebuffer). RisesTo nat_le x.framebuffer y.framebuffer) (λ y lt. rises x.framebuffer y.framebuffer lt) xs h.0, in_order xs h.1)
 
-pub framebuffers_listed : (s : State) (w : Rows) → IsTied s → Represents s w → (c : ℕ) → model.own_framebuffers w c ≡ modes.framebuffers_of s.modes c
+pub framebuffers_listed : (s : State) (w : Rows) → MeetsInvariants s → Represents s w → (c : ℕ) → model.own_framebuffers w c ≡ modes.framebuffers_of s.modes c
 framebuffers_listed s w t h c =
     let mine = λ (row : FramebufferRow). row.client == c in
     let id = λ (row : FramebufferRow). row.framebuffer in

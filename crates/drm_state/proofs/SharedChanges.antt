@@ -15,30 +15,30 @@ use Rattle.drm_index_array.specs.Rows.{placed}
 use Rattle.drm_index_array.specs.Rows as rows
 use Rattle.drm_gem.specs.declared.object.Object.{Object}
 use Rattle.drm_gem.specs.Objects.{ObjectSet, passes, held, referred, changed_at}
-use Rattle.drm_files.specs.declared.rows.FileHold.{FileHold}
+use Rattle.drm_files.specs.declared.rows.FileHandle.{FileHandle}
 use Rattle.drm_files.specs.Files as files
-use Rattle.drm_files.specs.Files.{hold, hold_before, given_place}
+use Rattle.drm_files.specs.Files.{hold, handle_before, given_export_order}
 use Rattle.drm_share.specs.declared.rows.SharedName.{SharedName}
 use Rattle.drm_share.specs.declared.rows.SharedToken.{SharedToken}
 use Rattle.drm_share.specs.Names.{name_before, shared_name, with_name}
 use Rattle.drm_share.specs.Tokens as tokens
 use Rattle.drm_share.specs.Tokens.{AreTokens, token, token_before, is_token, with_token, without_token}
 use Rattle.drm_modes.specs.declared.rows.Framebuffer.{Framebuffer}
-use Rattle.drm_model.specs.Rows.{Rows, HoldRow, NameRow, TokenRow, is_hold, free_handle, with_hold, birth, without}
+use Rattle.drm_model.specs.Rows.{Rows, HandleRow, NameRow, TokenRow, is_handle, free_handle, with_handle_row, step_number, without}
 use Rattle.drm_model.specs.Sharing as model
-use Rattle.drm_model.specs.Sharing.{with_place, free_name, new_token}
+use Rattle.drm_model.specs.Sharing.{with_export_order, free_name, new_token}
 use Rattle.drm_model.specs.Change.{swept}
 use Rattle.drm_state.specs.declared.state.State.{State}
-use Rattle.drm_state.specs.Parts.{birth_at, hold_row_of, name_row_of, token_row_of, holds_of, keys_of, token_keys, framebuffer_keys, referring, referring_keys}
-use Rattle.drm_state.specs.Ties.{IsTied, AreTied, AreNamed, Counts}
+use Rattle.drm_state.specs.Parts.{step_number_at, handle_row_of, name_row_of, token_row_of, holds_of, keys_of, token_keys, framebuffer_keys, referring, referring_keys}
+use Rattle.drm_state.specs.Invariants.{MeetsInvariants, AreCounted, AreNamed, Counts}
 use Rattle.drm_state.specs.Refinement.{Represents}
 use Rattle.drm_state.proofs.Represented.{holds_are, names_are, tokens_are, framebuffers_are, last_token_is, holds_rise, objects_counted, names_held}
-use Rattle.drm_state.proofs.Counting.{IsStep, is_found, all_named, same_tied, same_references, handle_more, reference_more, more_named}
+use Rattle.drm_state.proofs.Counting.{IsStep, is_found, all_named, same_invariants, same_references, handle_more, reference_more, more_named}
 use Rattle.drm_state.proofs.Holding.{placed_same, all_placed, in_order_placed, free_is_new}
 use Rattle.drm_state.proofs.Made.{free_handle_is, named_yet}
 use Rattle.drm_state.proofs.Naming.{same-append}
 use Rattle.drm_state.proofs.Frames.{shown_yet}
-use Rattle.drm_state.proofs.Sweeps.{moved, moved_tied, names_known, opened_left, some_opened}
+use Rattle.drm_state.proofs.Sweeps.{moved, moved_invariants, names_known, opened_left, some_opened}
 
 -- one more row, told by one more item
 pub pushed_same : {X Y : Type 0} (f : X → Y) (before : X → X → Bool) (rows : List Y) (row : Y) (x : X) (xs : List X) → row ≡ f x → SameRows rows (map f xs) → SameRows (rows ++ row ∷ []) (map f (placed before x xs))
@@ -63,14 +63,14 @@ fewer_than n m last h k l = omega (arith, h, k, l)
 
 -- the state with one more handle
 abbrev pub with_handle : State → ℕ → ℕ → ℕ → Option ℕ → State
-with_handle s c h key place = record s { files = files.with_hold s.files (hold c h key place); objects = changed_at key held s.objects }
+with_handle s c h key export_order = record s { files = files.with_handle_row s.files (hold c h key export_order); objects = changed_at key held s.objects }
 
-module _ (s : State) (c h key : ℕ) (place : Option ℕ) (t : IsTied s) (known : is_among (keys_of s.files.holds ++ referring_keys s) key ≡ true) (free : files.free_handle s.files c ≡ Some h) where
-  abbrev more : List FileHold
-  more = placed hold_before (hold c h key place) s.files.holds
+module _ (s : State) (c h key : ℕ) (export_order : Option ℕ) (t : MeetsInvariants s) (known : is_among (keys_of s.files.holds ++ referring_keys s) key ≡ true) (free : files.free_handle s.files c ≡ Some h) where
+  abbrev more : List FileHandle
+  more = placed handle_before (hold c h key export_order) s.files.holds
 
   more_keys : SameRows (key ∷ keys_of s.files.holds) (keys_of more)
-  more_keys = same-map (λ (x : FileHold). x.object) (hold c h key place ∷ s.files.holds) more (placed_same hold_before (hold c h key place) s.files.holds)
+  more_keys = same-map (λ (x : FileHandle). x.object) (hold c h key export_order ∷ s.files.holds) more (placed_same handle_before (hold c h key export_order) s.files.holds)
 
   among_more : (n : ℕ) → is_among (keys_of more) n ≡ (key == n || is_among (keys_of s.files.holds) n)
   among_more n = sym (same-any (λ k. k == n) (key ∷ keys_of s.files.holds) (keys_of more) more_keys)
@@ -87,24 +87,24 @@ module _ (s : State) (c h key : ℕ) (place : Option ℕ) (t : IsTied s) (known 
       let refs = referring_keys s in
       either keys refs n (is_among (keys_of more ++ refs) n) (λ j. among-left (keys_of more) refs n (among_more n ∙ or_right (key == n) (is_among keys n) j)) (λ j. among-right (keys_of more) refs n j) e
 
-  more_tied : AreTied (keys_of more) (referring_keys s) (changed_at key held s.objects).objects
-  more_tied = same_tied (key ∷ keys_of s.files.holds) (keys_of more) (referring_keys s) _ more_keys (handle_more key (keys_of s.files.holds) (referring_keys s) s.objects.objects known (objects_counted s t))
+  more_invariants : AreCounted (keys_of more) (referring_keys s) (changed_at key held s.objects).objects
+  more_invariants = same_invariants (key ∷ keys_of s.files.holds) (keys_of more) (referring_keys s) _ more_keys (handle_more key (keys_of s.files.holds) (referring_keys s) s.objects.objects known (objects_counted s t))
 
   more_names : AreNamed (keys_of more) s.names.names
-  more_names = named_yet c h key place s.files.holds s.names.names (names_held s t)
+  more_names = named_yet c h key export_order s.files.holds s.names.names (names_held s t)
 
-  pub added_tied : IsTied (with_handle s c h key place)
-  added_tied =
-      moved_tied s more s.tokens.tokens s.tokens.last_given s.names.names (changed_at key held s.objects) t (in_order_placed (hold c h key place) s.files.holds (holds_rise s t) (free_is_new s.files c h free)) more_tied more_names
+  pub added_invariants : MeetsInvariants (with_handle s c h key export_order)
+  added_invariants =
+      moved_invariants s more s.tokens.tokens s.tokens.last_given s.names.names (changed_at key held s.objects) t (in_order_placed (hold c h key export_order) s.files.holds (holds_rise s t) (free_is_new s.files c h free)) more_invariants more_names
 
-  pub added : (w : Rows) (o : ℕ) → Represents s w → o ≡ birth_at s.objects.objects key → Represents (with_handle s c h key place) (swept (record w { holds = with_hold w c o place }))
+  pub added : (w : Rows) (o : ℕ) → Represents s w → o ≡ step_number_at s.objects.objects key → Represents (with_handle s c h key export_order) (swept (record w { holds = with_handle_row w c o export_order }))
   added w o r e =
       let number : unwrap_or (free_handle w c) 0 ≡ h = ap (λ f. unwrap_or f 0) (free_handle_is s w r c ∙ free) in
-      let row : HoldRow = record { client = c; handle = unwrap_or (free_handle w c) 0; object = o; place = place } in
-      let told : row ≡ hold_row_of s.objects.objects (hold c h key place) = λ i. record { client = c; handle = number i; object = e i; place = place } in
-      moved s w (with_hold w c o place) w.tokens w.last_token w.names more s.tokens.tokens s.tokens.last_given s.names.names s.names.names (changed_at key held s.objects) t r
+      let row : HandleRow = record { client = c; handle = unwrap_or (free_handle w c) 0; object = o; export_order = export_order } in
+      let told : row ≡ handle_row_of s.objects.objects (hold c h key export_order) = λ i. record { client = c; handle = number i; object = e i; export_order = export_order } in
+      moved s w (with_handle_row w c o export_order) w.tokens w.last_token w.names more s.tokens.tokens s.tokens.last_given s.names.names s.names.names (changed_at key held s.objects) t r
       (record {
-        holds = pushed_same (hold_row_of s.objects.objects) hold_before w.holds row (hold c h key place) s.files.holds told (holds_are s w r);
+        holds = pushed_same (handle_row_of s.objects.objects) handle_before w.holds row (hold c h key export_order) s.files.holds told (holds_are s w r);
         tokens = tokens_are s w r;
         framebuffers = framebuffers_are s w r;
         shown = shown_yet s w t r;
@@ -116,15 +116,15 @@ module _ (s : State) (c h key : ℕ) (place : Option ℕ) (t : IsTied s) (known 
       }) refl (last_token_is s w r)
 
 -- the object of a key can count one more handle
-pub can_hold : (s : State) (key last : ℕ) → IsTied s → is_among (keys_of s.files.holds ++ referring_keys s) key ≡ true → length s.files.holds < last → last ≤ 100001 → passes (λ x. nat_lt x.holds 4294967295) s.objects key ≡ true
+pub can_hold : (s : State) (key last : ℕ) → MeetsInvariants s → is_among (keys_of s.files.holds ++ referring_keys s) key ≡ true → length s.files.holds < last → last ≤ 100001 → passes (λ x. nat_lt x.holds 4294967295) s.objects key ≡ true
 can_hold s key last t known few fits =
     let keys = keys_of s.files.holds in
     let it = is_found key s.objects.objects ((objects_counted s t).there key known) (Counts keys (referring_keys s)) (objects_counted s t).counted in
-    let most : count keys it.0.key ≤ length s.files.holds = let a = filter-shorter (λ k. k == it.0.key) keys in let b = length-map s.files.holds (λ (x : FileHold). x.object) in omega (arith, a, b) in
+    let most : count keys it.0.key ≤ length s.files.holds = let a = filter-shorter (λ k. k == it.0.key) keys in let b = length-map s.files.holds (λ (x : FileHandle). x.object) in omega (arith, a, b) in
     ap (λ o. option_map_or (λ (x : Object). nat_lt x.holds 4294967295) o false) it.1 ∙ lt-ltb it.0.holds 4294967295 (fewer_than it.0.holds (length s.files.holds) last (let e = it.3.0 in omega (arith, e, most)) few fits)
 
 -- and one more token or framebuffer
-pub can_refer : (s : State) (key last : ℕ) → IsTied s → is_among (keys_of s.files.holds ++ referring_keys s) key ≡ true → length s.tokens.tokens < last → length s.modes.framebuffers < last → last ≤ 100001 → passes (λ x. nat_lt x.refs 4294967295) s.objects key ≡ true
+pub can_refer : (s : State) (key last : ℕ) → MeetsInvariants s → is_among (keys_of s.files.holds ++ referring_keys s) key ≡ true → length s.tokens.tokens < last → length s.modes.framebuffers < last → last ≤ 100001 → passes (λ x. nat_lt x.refs 4294967295) s.objects key ≡ true
 can_refer s key last t known few framed fits =
     let refs = referring_keys s in
     let it = is_found key s.objects.objects ((objects_counted s t).there key known) (Counts (keys_of s.files.holds) refs) (objects_counted s t).counted in
@@ -137,17 +137,17 @@ can_refer s key last t known few framed fits =
 
 -- ---- a name
 
-module _ (s : State) (n key : ℕ) (t : IsTied s) (named : is_among (keys_of s.files.holds) key ≡ true) where
+module _ (s : State) (n key : ℕ) (t : MeetsInvariants s) (named : is_among (keys_of s.files.holds) key ≡ true) where
   abbrev names_more : List SharedName
   names_more = placed name_before (shared_name n key) s.names.names
 
   all_held : AreNamed (keys_of s.files.holds) names_more
   all_held = all_placed name_before (λ (x : SharedName). is_among (keys_of s.files.holds) x.object ≡ true) (shared_name n key) s.names.names named (names_held s t)
 
-  pub flinked_tied : IsTied (record s { names = with_name s.names n key })
-  flinked_tied = moved_tied s s.files.holds s.tokens.tokens s.tokens.last_given names_more s.objects t (holds_rise s t) (objects_counted s t) all_held
+  pub flinked_invariants : MeetsInvariants (record s { names = with_name s.names n key })
+  flinked_invariants = moved_invariants s s.files.holds s.tokens.tokens s.tokens.last_given names_more s.objects t (holds_rise s t) (objects_counted s t) all_held
 
-  pub flinked : (w : Rows) (o : ℕ) → Represents s w → o ≡ birth_at s.objects.objects key → unwrap_or (free_name w) 0 ≡ n → Represents (record s { names = with_name s.names n key }) (swept (record w { names = w.names ++ record { name = unwrap_or (free_name w) 0; object = o } ∷ [] }))
+  pub flinked : (w : Rows) (o : ℕ) → Represents s w → o ≡ step_number_at s.objects.objects key → unwrap_or (free_name w) 0 ≡ n → Represents (record s { names = with_name s.names n key }) (swept (record w { names = w.names ++ record { name = unwrap_or (free_name w) 0; object = o } ∷ [] }))
   flinked w o r e number =
       let row : NameRow = record { name = unwrap_or (free_name w) 0; object = o } in
       let told : row ≡ name_row_of s.objects.objects (shared_name n key) = λ i. record { name = number i; object = e i } in
@@ -166,58 +166,58 @@ module _ (s : State) (n key : ℕ) (t : IsTied s) (named : is_among (keys_of s.f
 
 -- ---- a token
 
-place_is : (o : Option ℕ) (m n : ℕ) → m ≡ n → Some (unwrap_or o m) ≡ option_or o (Some n)
-place_is None m n e = ap Some e
-place_is (Some p) m n e = refl
+export_order_is : (o : Option ℕ) (m n : ℕ) → m ≡ n → Some (unwrap_or o m) ≡ option_or o (Some n)
+export_order_is None m n e = ap Some e
+export_order_is (Some p) m n e = refl
 
 -- a handle with a PRIME place, or as it was
-abbrev placed_at : ℕ → ℕ → ℕ → FileHold → FileHold
-placed_at c h place x = if files.is_hold c h x then given_place place x else x
+abbrev placed_at : ℕ → ℕ → ℕ → FileHandle → FileHandle
+placed_at c h export_order x = if files.is_handle c h x then given_export_order export_order x else x
 
 -- the change of a place leaves what stands in the list, and its order
-object_stays : (c h place : ℕ) (x : FileHold) → (placed_at c h place x).object ≡ x.object
-object_stays c h place x = elim (files.is_hold c h x) as (λ b. (if b then given_place place x else x).object ≡ x.object) [ true ↦ refl | false ↦ refl ]
+object_stays : (c h export_order : ℕ) (x : FileHandle) → (placed_at c h export_order x).object ≡ x.object
+object_stays c h export_order x = elim (files.is_handle c h x) as (λ b. (if b then given_export_order export_order x else x).object ≡ x.object) [ true ↦ refl | false ↦ refl ]
 
-order_stays : (c h place : ℕ) (x y : FileHold) → hold_before x y ≡ true → hold_before (placed_at c h place x) (placed_at c h place y) ≡ true
-order_stays c h place x y e =
-    elim (files.is_hold c h x) as (λ b. hold_before (if b then given_place place x else x) (placed_at c h place y) ≡ true) [
-      | true ↦ elim (files.is_hold c h y) as (λ b. hold_before (given_place place x) (if b then given_place place y else y) ≡ true) [ true ↦ e | false ↦ e ]
-      | false ↦ elim (files.is_hold c h y) as (λ b. hold_before x (if b then given_place place y else y) ≡ true) [ true ↦ e | false ↦ e ]
+order_stays : (c h export_order : ℕ) (x y : FileHandle) → handle_before x y ≡ true → handle_before (placed_at c h export_order x) (placed_at c h export_order y) ≡ true
+order_stays c h export_order x y e =
+    elim (files.is_handle c h x) as (λ b. handle_before (if b then given_export_order export_order x else x) (placed_at c h export_order y) ≡ true) [
+      | true ↦ elim (files.is_handle c h y) as (λ b. handle_before (given_export_order export_order x) (if b then given_export_order export_order y else y) ≡ true) [ true ↦ e | false ↦ e ]
+      | false ↦ elim (files.is_handle c h y) as (λ b. handle_before x (if b then given_export_order export_order y else y) ≡ true) [ true ↦ e | false ↦ e ]
     ]
 
-objects_stay : (c h place : ℕ) → (xs : List FileHold) → keys_of (map (placed_at c h place) xs) ≡ keys_of xs
-objects_stay c h place [] = refl
-objects_stay c h place (x ∷ xs) = λ i. object_stays c h place x i ∷ objects_stay c h place xs i
+objects_stay : (c h export_order : ℕ) → (xs : List FileHandle) → keys_of (map (placed_at c h export_order) xs) ≡ keys_of xs
+objects_stay c h export_order [] = refl
+objects_stay c h export_order (x ∷ xs) = λ i. object_stays c h export_order x i ∷ objects_stay c h export_order xs i
 
-row_placed : (objects : List Object) (c h m n : ℕ) → m ≡ n → (x : FileHold) → (if is_hold c h (hold_row_of objects x) then record (hold_row_of objects x) { place = Some (unwrap_or x.place m) } else hold_row_of objects x) ≡ hold_row_of objects (placed_at c h n x)
+row_placed : (objects : List Object) (c h m n : ℕ) → m ≡ n → (x : FileHandle) → (if is_handle c h (handle_row_of objects x) then record (handle_row_of objects x) { export_order = Some (unwrap_or x.export_order m) } else handle_row_of objects x) ≡ handle_row_of objects (placed_at c h n x)
 row_placed objects c h m n e x =
-    elim (files.is_hold c h x) as (λ b. (if b then record (hold_row_of objects x) { place = Some (unwrap_or x.place m) } else hold_row_of objects x) ≡ hold_row_of objects (if b then given_place n x else x)) [
-      | true ↦ λ i. record { client = x.client; handle = x.handle; object = birth_at objects x.object; place = place_is x.place m n e i }
+    elim (files.is_handle c h x) as (λ b. (if b then record (handle_row_of objects x) { export_order = Some (unwrap_or x.export_order m) } else handle_row_of objects x) ≡ handle_row_of objects (if b then given_export_order n x else x)) [
+      | true ↦ λ i. record { client = x.client; handle = x.handle; object = step_number_at objects x.object; export_order = export_order_is x.export_order m n e i }
       | false ↦ refl
     ]
 
-rows_placed : (objects : List Object) (c h m n : ℕ) → m ≡ n → (xs : List FileHold) → with_place c h m (map (hold_row_of objects) xs) ≡ map (hold_row_of objects) (map (placed_at c h n) xs)
-unfolding with_place
+rows_placed : (objects : List Object) (c h m n : ℕ) → m ≡ n → (xs : List FileHandle) → with_export_order c h m (map (handle_row_of objects) xs) ≡ map (handle_row_of objects) (map (placed_at c h n) xs)
+unfolding with_export_order
 rows_placed objects c h m n e [] = refl
 rows_placed objects c h m n e (x ∷ xs) = λ i. row_placed objects c h m n e x i ∷ rows_placed objects c h m n e xs i
 
-with_place_same : (c h m : ℕ) (xs ys : List HoldRow) → SameRows xs ys → SameRows (with_place c h m xs) (with_place c h m ys)
-unfolding with_place
-with_place_same c h m xs ys e = same-map _ xs ys e
+with_export_order_same : (c h m : ℕ) (xs ys : List HandleRow) → SameRows xs ys → SameRows (with_export_order c h m xs) (with_export_order c h m ys)
+unfolding with_export_order
+with_export_order_same c h m xs ys e = same-map _ xs ys e
 
 -- the state with one more token of a handle's object
 abbrev pub with_export : State → ℕ → ℕ → ℕ → ℕ → ℕ → State
-with_export s c h key place n = record s { files = files.with_place s.files c h place; tokens = with_token s.tokens (token n c key); objects = changed_at key referred s.objects }
+with_export s c h key export_order n = record s { files = files.with_export_order s.files c h export_order; tokens = with_token s.tokens (token n c key); objects = changed_at key referred s.objects }
 
-module _ (s : State) (c h key place n : ℕ) (t : IsTied s) (named : is_among (keys_of s.files.holds) key ≡ true) where
-  abbrev holds_placed : List FileHold
-  holds_placed = map (placed_at c h place) s.files.holds
+module _ (s : State) (c h key export_order n : ℕ) (t : MeetsInvariants s) (named : is_among (keys_of s.files.holds) key ≡ true) where
+  abbrev holds_placed : List FileHandle
+  holds_placed = map (placed_at c h export_order) s.files.holds
 
   abbrev tokens_more : List SharedToken
   tokens_more = placed token_before (token n c key) s.tokens.tokens
 
   same_keys : keys_of holds_placed ≡ keys_of s.files.holds
-  same_keys = objects_stay c h place s.files.holds
+  same_keys = objects_stay c h export_order s.files.holds
 
   abbrev refs_more : List ℕ
   refs_more = referring tokens_more s.modes.framebuffers
@@ -245,28 +245,28 @@ module _ (s : State) (c h key place n : ℕ) (t : IsTied s) (named : is_among (k
       either keys refs m (is_among (keys_of holds_placed ++ refs_more) m) (λ j. among-left (keys_of holds_placed) refs_more m (ap (λ l. is_among l m) same_keys ∙ j))
       (λ j. among-right (keys_of holds_placed) refs_more m (among_tokens m ∙ or_right (key == m) (is_among refs m) j)) e
 
-  export_tied : AreTied (keys_of holds_placed) refs_more (changed_at key referred s.objects).objects
-  export_tied =
+  export_invariants : AreCounted (keys_of holds_placed) refs_more (changed_at key referred s.objects).objects
+  export_invariants =
       let keys = keys_of s.files.holds in
-      subst (λ l. AreTied l refs_more (changed_at key referred s.objects).objects) (sym same_keys)
+      subst (λ l. AreCounted l refs_more (changed_at key referred s.objects).objects) (sym same_keys)
       (same_references keys (key ∷ referring_keys s) refs_more _ one_reference_more (reference_more key keys (referring_keys s) s.objects.objects (among-left keys (referring_keys s) key named) (objects_counted s t)))
 
   names_yet : AreNamed (keys_of holds_placed) s.names.names
   names_yet = subst (λ l. AreNamed l s.names.names) (sym same_keys) (names_held s t)
 
-  pub exported_tied : IsTied (with_export s c h key place n)
-  exported_tied =
-      moved_tied s holds_placed tokens_more (Some n) s.names.names (changed_at key referred s.objects) t
-      (in_order_map (λ (x y : FileHold). hold_before x y ≡ true) (placed_at c h place) s.files.holds (in_order_weaker _ _ (λ x y e. order_stays c h place x y e) s.files.holds (holds_rise s t))) export_tied names_yet
+  pub exported_invariants : MeetsInvariants (with_export s c h key export_order n)
+  exported_invariants =
+      moved_invariants s holds_placed tokens_more (Some n) s.names.names (changed_at key referred s.objects) t
+      (in_order_map (λ (x y : FileHandle). handle_before x y ≡ true) (placed_at c h export_order) s.files.holds (in_order_weaker _ _ (λ x y e. order_stays c h export_order x y e) s.files.holds (holds_rise s t))) export_invariants names_yet
 
-  pub exported : (w : Rows) (o : ℕ) → Represents s w → o ≡ birth_at s.objects.objects key → new_token w ≡ n → birth w ≡ place →
-      Represents (with_export s c h key place n) (swept (record w { tokens = w.tokens ++ record { token = new_token w; client = c; object = o } ∷ []; last_token = new_token w; holds = with_place c h (birth w) w.holds }))
+  pub exported : (w : Rows) (o : ℕ) → Represents s w → o ≡ step_number_at s.objects.objects key → new_token w ≡ n → step_number w ≡ export_order →
+      Represents (with_export s c h key export_order n) (swept (record w { tokens = w.tokens ++ record { token = new_token w; client = c; object = o } ∷ []; last_token = new_token w; holds = with_export_order c h (step_number w) w.holds }))
   exported w o r e number at =
       let row : TokenRow = record { token = new_token w; client = c; object = o } in
       let told : row ≡ token_row_of s.objects.objects (token n c key) = λ i. record { token = number i; client = c; object = e i } in
-      moved s w (with_place c h (birth w) w.holds) (w.tokens ++ row ∷ []) (new_token w) w.names holds_placed tokens_more (Some n) s.names.names s.names.names (changed_at key referred s.objects) t r
+      moved s w (with_export_order c h (step_number w) w.holds) (w.tokens ++ row ∷ []) (new_token w) w.names holds_placed tokens_more (Some n) s.names.names s.names.names (changed_at key referred s.objects) t r
       (record {
-        holds = subst (SameRows (with_place c h (birth w) w.holds)) (rows_placed s.objects.objects c h (birth w) place at s.files.holds) (with_place_same c h (birth w) w.holds (holds_of s) (holds_are s w r));
+        holds = subst (SameRows (with_export_order c h (step_number w) w.holds)) (rows_placed s.objects.objects c h (step_number w) export_order at s.files.holds) (with_export_order_same c h (step_number w) w.holds (holds_of s) (holds_are s w r));
         tokens = pushed_same (token_row_of s.objects.objects) token_before w.tokens row (token n c key) s.tokens.tokens told (tokens_are s w r);
         framebuffers = framebuffers_are s w r;
         shown = shown_yet s w t r;
@@ -298,9 +298,6 @@ one_token_goes n x (y ∷ ys) o e =
       | false ↦ λ is f.
           same-trans (y.object ∷ token_keys ys) (y.object ∷ x.object ∷ token_keys rest) (x.object ∷ y.object ∷ token_keys rest) (same-cons y.object (token_keys ys) (x.object ∷ token_keys rest) (one_token_goes n x ys o.1 f)) (same-swap y.object x.object (token_keys rest))
     ] refl e
-
-own_token : (c n : ℕ) (x : SharedToken) → tokens.is_token_of c n x ≡ true → is_token n x ≡ true
-own_token c n x h = grind (arith, nat_tests)
 
 -- the client's token of a number is the token of that number
 found_of_client : (c n : ℕ) → (ts : List SharedToken) → rows.InOrder token_before ts → (x : SharedToken) → find (tokens.is_token_of c n) ts ≡ Some x → find (is_token n) ts ≡ Some x
@@ -344,13 +341,13 @@ behind_token (Some x) key e = (x, refl, let k : Some key ≡ Some x.object = e i
 abbrev pub without_open : State → ℕ → ObjectSet → State
 without_open s n set = record s { tokens = without_token s.tokens n; objects = set }
 
-module _ (s : State) (c n key : ℕ) (t : IsTied s) (are : AreTokens s.tokens) (of : Some key ≡ option_map (λ (x : SharedToken). x.object) (find (tokens.is_token_of c n) s.tokens.tokens)) where
+module _ (s : State) (c n key : ℕ) (t : MeetsInvariants s) (are : AreTokens s.tokens) (of : Some key ≡ option_map (λ (x : SharedToken). x.object) (find (tokens.is_token_of c n) s.tokens.tokens)) where
   abbrev others : List SharedToken
   others = (without_token s.tokens n).tokens
 
   -- the references, of which one goes
-  pub token_tied : AreTied (keys_of s.files.holds) (key ∷ referring others s.modes.framebuffers) s.objects.objects
-  token_tied =
+  pub token_invariants : AreCounted (keys_of s.files.holds) (key ∷ referring others s.modes.framebuffers) s.objects.objects
+  token_invariants =
       let it = behind_token (find (tokens.is_token_of c n) s.tokens.tokens) key of in
       let goes = one_token_goes n it.0 s.tokens.tokens are.tokens_rise (found_of_client c n s.tokens.tokens are.tokens_rise it.0 it.1) in
       let frames = framebuffer_keys s.modes.framebuffers in
@@ -363,8 +360,8 @@ module _ (s : State) (c n key : ℕ) (t : IsTied s) (are : AreTokens s.tokens) (
       (λ k. among-right (token_keys s.tokens.tokens) (framebuffer_keys s.modes.framebuffers) m k) j
 
   module _ (set : ObjectSet) (step : IsStep s.objects.objects (keys_of s.files.holds) (referring others s.modes.framebuffers) set) (limit : set.limit ≡ s.objects.limit) where
-    pub closed_tied : IsTied (without_open s n set)
-    closed_tied = moved_tied s s.files.holds others s.tokens.last_given s.names.names set t (holds_rise s t) step.tied (names_held s t)
+    pub closed_invariants : MeetsInvariants (without_open s n set)
+    closed_invariants = moved_invariants s s.files.holds others s.tokens.last_given s.names.names set t (holds_rise s t) step.invariants (names_held s t)
 
     pub closed : (w : Rows) → Represents s w → Represents (without_open s n set) (swept (record w { tokens = without (model.is_token_of c n) w.tokens }))
     closed w r =

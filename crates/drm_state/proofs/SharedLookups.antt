@@ -14,7 +14,7 @@ use Rattle.drm_index_array.specs.Least.{least, least_of}
 use Rattle.drm_index_array.specs.Rows.{InOrder}
 use Rattle.drm_index_array.proofs.Least.{least-same, least_of-same}
 use Rattle.drm_share.specs.Tokens.{or_else}
-use Rattle.drm_files.specs.declared.rows.FileHold.{FileHold}
+use Rattle.drm_files.specs.declared.rows.FileHandle.{FileHandle}
 use Rattle.drm_files.specs.Files as files
 use Rattle.drm_share.specs.declared.rows.SharedName.{SharedName}
 use Rattle.drm_share.specs.declared.rows.SharedToken.{SharedToken}
@@ -22,11 +22,11 @@ use Rattle.drm_share.specs.Names as names
 use Rattle.drm_share.specs.Names.{AreNames, names_object, is_name, name_before, have_other_objects}
 use Rattle.drm_share.specs.Tokens as tokens
 use Rattle.drm_share.specs.Tokens.{AreTokens, is_token, token_before}
-use Rattle.drm_model.specs.Rows.{Rows, HoldRow, NameRow, TokenRow, is_option}
+use Rattle.drm_model.specs.Rows.{Rows, HandleRow, NameRow, TokenRow, is_option}
 use Rattle.drm_model.specs.Sharing as model
 use Rattle.drm_state.specs.declared.state.State.{State}
-use Rattle.drm_state.specs.Parts.{birth_at, hold_row_of, name_row_of, token_row_of, holds_of, names_of, tokens_of, keys_of, token_keys, framebuffer_keys, referring_keys}
-use Rattle.drm_state.specs.Ties.{IsTied}
+use Rattle.drm_state.specs.Parts.{step_number_at, handle_row_of, name_row_of, token_row_of, holds_of, names_of, tokens_of, keys_of, token_keys, framebuffer_keys, referring_keys}
+use Rattle.drm_state.specs.Invariants.{MeetsInvariants}
 use Rattle.drm_state.specs.Refinement.{Represents}
 use Rattle.drm_state.proofs.Represented.{bounds_are, holds_are, names_are, tokens_are, last_token_is, objects_counted}
 use Rattle.drm_state.proofs.Naming.{one_key}
@@ -128,22 +128,22 @@ later_name : (n : ℕ) (x y : SharedName) → is_name n x ≡ true → name_befo
 later_name n x y h e = grind (arith, nat_tests)
 
 -- the name of the object of a key
-pub name_found : (s : State) (w : Rows) (key : ℕ) → IsTied s → AreNames s.names → Represents s w → is_among (keys_of s.files.holds ++ referring_keys s) key ≡ true → model.name_of w (birth_at s.objects.objects key) ≡ names.name_of s.names key
+pub name_found : (s : State) (w : Rows) (key : ℕ) → MeetsInvariants s → AreNames s.names → Represents s w → is_among (keys_of s.files.holds ++ referring_keys s) key ≡ true → model.name_of w (step_number_at s.objects.objects key) ≡ names.name_of s.names key
 name_found s w key t are h known =
     let objects = s.objects.objects in
     let keys = keys_of s.files.holds in
     let refs = referring_keys s in
-    number_by (name_row_of objects) (λ (row : NameRow). row.object == birth_at objects key) (names_object key) (λ (row : NameRow). row.name) (λ (x : SharedName). x.name) itself (λ x. refl) w.names s.names.names (names_are s w h)
-    (all_weaker (λ (x : SharedName). is_among (keys ++ refs) x.object ≡ true) (λ (x : SharedName). (birth_at objects x.object == birth_at objects key) ≡ names_object key x)
+    number_by (name_row_of objects) (λ (row : NameRow). row.object == step_number_at objects key) (names_object key) (λ (row : NameRow). row.name) (λ (x : SharedName). x.name) itself (λ x. refl) w.names s.names.names (names_are s w h)
+    (all_weaker (λ (x : SharedName). is_among (keys ++ refs) x.object ≡ true) (λ (x : SharedName). (step_number_at objects x.object == step_number_at objects key) ≡ names_object key x)
     (λ x e. one_key keys refs objects x.object key (objects_counted s t) e known) s.names.names (names_known s t))
     (λ y e. one_passes have_other_objects (names_object key) (λ (x : SharedName). x.name) (differ key) s.names.names are.objects_differ y e)
 
 -- the object that has a name, by its key
-pub named_found : (s : State) (w : Rows) (n : ℕ) → AreNames s.names → Represents s w → model.named_object w n ≡ option_map (λ (x : SharedName). birth_at s.objects.objects x.object) (find (is_name n) s.names.names)
+pub named_found : (s : State) (w : Rows) (n : ℕ) → AreNames s.names → Represents s w → model.named_object w n ≡ option_map (λ (x : SharedName). step_number_at s.objects.objects x.object) (find (is_name n) s.names.names)
 named_found s w n are h =
-    number_by (name_row_of s.objects.objects) (λ (row : NameRow). row.name == n) (is_name n) (λ (row : NameRow). row.object) (λ (x : SharedName). x.object) (birth_at s.objects.objects) (λ x. refl) w.names s.names.names (names_are s w h)
+    number_by (name_row_of s.objects.objects) (λ (row : NameRow). row.name == n) (is_name n) (λ (row : NameRow). row.object) (λ (x : SharedName). x.object) (step_number_at s.objects.objects) (λ x. refl) w.names s.names.names (names_are s w h)
     (all_each _ (λ x. refl) s.names.names)
-    (λ y e. same_number (is_name n) (λ (x : SharedName). x.object) (birth_at s.objects.objects) y.object s.names.names (one_passes name_before (is_name n) (λ (x : SharedName). x.object) (later_name n) s.names.names are.names_rise y e))
+    (λ y e. same_number (is_name n) (λ (x : SharedName). x.object) (step_number_at s.objects.objects) y.object s.names.names (one_passes name_before (is_name n) (λ (x : SharedName). x.object) (later_name n) s.names.names are.names_rise y e))
 
 -- the free name
 pub free_name_found : (s : State) (w : Rows) → Represents s w → model.free_name w ≡ names.free_name s.names
@@ -162,11 +162,11 @@ later_token : (n : ℕ) (x y : SharedToken) → is_token n x ≡ true → token_
 later_token n x y h e = grind (arith, nat_tests)
 
 -- the object of a token, by its key
-pub exported_found : (s : State) (w : Rows) (n : ℕ) → AreTokens s.tokens → Represents s w → model.exported_object w n ≡ option_map (λ (x : SharedToken). birth_at s.objects.objects x.object) (find (is_token n) s.tokens.tokens)
+pub exported_found : (s : State) (w : Rows) (n : ℕ) → AreTokens s.tokens → Represents s w → model.exported_object w n ≡ option_map (λ (x : SharedToken). step_number_at s.objects.objects x.object) (find (is_token n) s.tokens.tokens)
 exported_found s w n are h =
-    number_by (token_row_of s.objects.objects) (λ (row : TokenRow). row.token == n) (is_token n) (λ (row : TokenRow). row.object) (λ (x : SharedToken). x.object) (birth_at s.objects.objects) (λ x. refl) w.tokens s.tokens.tokens (tokens_are s w h)
+    number_by (token_row_of s.objects.objects) (λ (row : TokenRow). row.token == n) (is_token n) (λ (row : TokenRow). row.object) (λ (x : SharedToken). x.object) (step_number_at s.objects.objects) (λ x. refl) w.tokens s.tokens.tokens (tokens_are s w h)
     (all_each _ (λ x. refl) s.tokens.tokens)
-    (λ y e. same_number (is_token n) (λ (x : SharedToken). x.object) (birth_at s.objects.objects) y.object s.tokens.tokens (one_passes token_before (is_token n) (λ (x : SharedToken). x.object) (later_token n) s.tokens.tokens are.tokens_rise y e))
+    (λ y e. same_number (is_token n) (λ (x : SharedToken). x.object) (step_number_at s.objects.objects) y.object s.tokens.tokens (one_passes token_before (is_token n) (λ (x : SharedToken). x.object) (later_token n) s.tokens.tokens are.tokens_rise y e))
 
 pub or_else_is : (x y : Option ℕ) → option_or x y ≡ or_else x y
 or_else_is None y = refl
@@ -204,64 +204,64 @@ among-filter_map f n (x ∷ xs) = among_first (f x) refl (among-filter_map f n x
     among_first None e more = rw e more
     among_first (Some p) e more = rw e (ap (λ b. p == n || b) more)
 
-has_place_is : (place : ℕ) (o : Option ℕ) → is_option place o ≡ option_map_or (λ p. p == place) o false
-has_place_is place None = refl
-has_place_is place (Some p) = refl
+has_export_order_is : (export_order : ℕ) (o : Option ℕ) → is_option export_order o ≡ option_map_or (λ p. p == export_order) o false
+has_export_order_is export_order None = refl
+has_export_order_is export_order (Some p) = refl
 
 -- handles of the object of a key are those that name the key
-held_for : (s : State) (c key : ℕ) → IsTied s → is_among (keys_of s.files.holds ++ referring_keys s) key ≡ true →
-    AllByRecursion (λ (x : FileHold). model.is_hold_of c (birth_at s.objects.objects key) (hold_row_of s.objects.objects x) ≡ files.is_hold_of c key x) s.files.holds
+held_for : (s : State) (c key : ℕ) → MeetsInvariants s → is_among (keys_of s.files.holds ++ referring_keys s) key ≡ true →
+    AllByRecursion (λ (x : FileHandle). model.is_handle_of c (step_number_at s.objects.objects key) (handle_row_of s.objects.objects x) ≡ files.is_handle_of c key x) s.files.holds
 held_for s c key t known =
     let keys = keys_of s.files.holds in
-    all_weaker (λ (x : FileHold). is_among keys x.object ≡ true) (λ (x : FileHold). model.is_hold_of c (birth_at s.objects.objects key) (hold_row_of s.objects.objects x) ≡ files.is_hold_of c key x)
-    (λ x e. ap (λ b. (x.client == c) && b) (one_key keys (referring_keys s) s.objects.objects x.object key (objects_counted s t) (among-left keys (referring_keys s) x.object e) known)) s.files.holds (its_key (λ (x : FileHold). x.object) s.files.holds)
+    all_weaker (λ (x : FileHandle). is_among keys x.object ≡ true) (λ (x : FileHandle). model.is_handle_of c (step_number_at s.objects.objects key) (handle_row_of s.objects.objects x) ≡ files.is_handle_of c key x)
+    (λ x e. ap (λ b. (x.client == c) && b) (one_key keys (referring_keys s) s.objects.objects x.object key (objects_counted s t) (among-left keys (referring_keys s) x.object e) known)) s.files.holds (its_key (λ (x : FileHandle). x.object) s.files.holds)
 
 -- the PRIME handle of a key's object
-pub prime_found : (s : State) (w : Rows) (c key : ℕ) → IsTied s → Represents s w → is_among (keys_of s.files.holds ++ referring_keys s) key ≡ true → model.prime_handle w c (birth_at s.objects.objects key) ≡ files.prime_handle s.files c key
+pub prime_found : (s : State) (w : Rows) (c key : ℕ) → MeetsInvariants s → Represents s w → is_among (keys_of s.files.holds ++ referring_keys s) key ≡ true → model.prime_handle w c (step_number_at s.objects.objects key) ≡ files.prime_handle s.files c key
 unfolding model.prime_handle
 prime_found s w c key t h known =
     let objects = s.objects.objects in
-    let row = hold_row_of objects in
-    let o = birth_at objects key in
-    let theirs = filter (model.is_hold_of c o) w.holds in
-    let ours = filter (files.is_hold_of c key) s.files.holds in
-    let held : filter (model.is_hold_of c o) (holds_of s) ≡ map row ours = filter-map (model.is_hold_of c o) row s.files.holds ∙ ap (map row) (filter-same (λ x. model.is_hold_of c o (row x)) (files.is_hold_of c key) s.files.holds (held_for s c key t known)) in
-    let same : SameRows theirs (map row ours) = subst (SameRows theirs) held (same-filter (model.is_hold_of c o) w.holds (holds_of s) (holds_are s w h)) in
-    let places : least_of (filter_map (λ (r : HoldRow). r.place) theirs) ≡ least_of (filter_map (λ (x : FileHold). x.place) ours) =
-    least_of-same (filter_map (λ (r : HoldRow). r.place) theirs) (filter_map (λ (x : FileHold). x.place) ours) (λ n.
-    among-filter_map (λ (r : HoldRow). r.place) n theirs ∙ same-any (λ (r : HoldRow). option_map_or (λ p. p == n) r.place false) theirs (map row ours) same ∙ list_any-map (λ (r : HoldRow). option_map_or (λ p. p == n) r.place false) row ours
-    ∙ sym (among-filter_map (λ (x : FileHold). x.place) n ours)) in
-    let at = λ (place : ℕ).
-    let e : least_of (model.handles_at w c o place) ≡ least_of (files.handles_at s.files c key place) =
-    least_of-same (model.handles_at w c o place) (files.handles_at s.files c key place) (λ n.
-    same-any (λ k. k == n) (model.handles_at w c o place) (map (λ (r : HoldRow). r.handle) (filter (λ (r : HoldRow). is_option place r.place) (map row ours))) (same-map (λ (r : HoldRow). r.handle) (filter (λ (r : HoldRow). is_option place r.place) theirs) (filter (λ (r : HoldRow). is_option place r.place) (map row ours)) (same-filter (λ (r : HoldRow). is_option place r.place) theirs (map row ours) same))
-    ∙ ap (λ l. is_among (map (λ (r : HoldRow). r.handle) l) n) (filter-map (λ (r : HoldRow). is_option place r.place) row ours ∙ ap (map row) (filter-same (λ (x : FileHold). is_option place x.place) (files.has_place place) ours (all_each _ (λ x. has_place_is place x.place) ours)))
-    ∙ ap (λ l. is_among l n) (map-map (λ (r : HoldRow). r.handle) row (filter (files.has_place place) ours))) in e in
-    ap (option_and_then (λ place. least_of (model.handles_at w c o place))) places ∙ each_place (least_of (files.places_of s.files c key)) at
+    let row = handle_row_of objects in
+    let o = step_number_at objects key in
+    let theirs = filter (model.is_handle_of c o) w.holds in
+    let ours = filter (files.is_handle_of c key) s.files.holds in
+    let held : filter (model.is_handle_of c o) (holds_of s) ≡ map row ours = filter-map (model.is_handle_of c o) row s.files.holds ∙ ap (map row) (filter-same (λ x. model.is_handle_of c o (row x)) (files.is_handle_of c key) s.files.holds (held_for s c key t known)) in
+    let same : SameRows theirs (map row ours) = subst (SameRows theirs) held (same-filter (model.is_handle_of c o) w.holds (holds_of s) (holds_are s w h)) in
+    let export_orders : least_of (filter_map (λ (r : HandleRow). r.export_order) theirs) ≡ least_of (filter_map (λ (x : FileHandle). x.export_order) ours) =
+    least_of-same (filter_map (λ (r : HandleRow). r.export_order) theirs) (filter_map (λ (x : FileHandle). x.export_order) ours) (λ n.
+    among-filter_map (λ (r : HandleRow). r.export_order) n theirs ∙ same-any (λ (r : HandleRow). option_map_or (λ p. p == n) r.export_order false) theirs (map row ours) same ∙ list_any-map (λ (r : HandleRow). option_map_or (λ p. p == n) r.export_order false) row ours
+    ∙ sym (among-filter_map (λ (x : FileHandle). x.export_order) n ours)) in
+    let at = λ (export_order : ℕ).
+    let e : least_of (model.handles_at w c o export_order) ≡ least_of (files.handles_at s.files c key export_order) =
+    least_of-same (model.handles_at w c o export_order) (files.handles_at s.files c key export_order) (λ n.
+    same-any (λ k. k == n) (model.handles_at w c o export_order) (map (λ (r : HandleRow). r.handle) (filter (λ (r : HandleRow). is_option export_order r.export_order) (map row ours))) (same-map (λ (r : HandleRow). r.handle) (filter (λ (r : HandleRow). is_option export_order r.export_order) theirs) (filter (λ (r : HandleRow). is_option export_order r.export_order) (map row ours)) (same-filter (λ (r : HandleRow). is_option export_order r.export_order) theirs (map row ours) same))
+    ∙ ap (λ l. is_among (map (λ (r : HandleRow). r.handle) l) n) (filter-map (λ (r : HandleRow). is_option export_order r.export_order) row ours ∙ ap (map row) (filter-same (λ (x : FileHandle). is_option export_order x.export_order) (files.has_export_order export_order) ours (all_each _ (λ x. has_export_order_is export_order x.export_order) ours)))
+    ∙ ap (λ l. is_among l n) (map-map (λ (r : HandleRow). r.handle) row (filter (files.has_export_order export_order) ours))) in e in
+    ap (option_and_then (λ export_order. least_of (model.handles_at w c o export_order))) export_orders ∙ each_export_order (least_of (files.export_orders_of s.files c key)) at
   where
-    each_place : (o : Option ℕ) → ((place : ℕ) → least_of (model.handles_at w c (birth_at s.objects.objects key) place) ≡ least_of (files.handles_at s.files c key place)) → option_and_then (λ place. least_of (model.handles_at w c (birth_at s.objects.objects key) place)) o ≡ option_and_then (λ place. least_of (files.handles_at s.files c key place)) o
-    each_place None at = refl
-    each_place (Some place) at = at place
+    each_export_order : (o : Option ℕ) → ((export_order : ℕ) → least_of (model.handles_at w c (step_number_at s.objects.objects key) export_order) ≡ least_of (files.handles_at s.files c key export_order)) → option_and_then (λ export_order. least_of (model.handles_at w c (step_number_at s.objects.objects key) export_order)) o ≡ option_and_then (λ export_order. least_of (files.handles_at s.files c key export_order)) o
+    each_export_order None at = refl
+    each_export_order (Some export_order) at = at export_order
 
 -- ---- by what a look-up found
 
 module _ (s : State) (w : Rows) (r : Represents s w) where
   -- a name that is there, or not
-  pub name_there : (n key : ℕ) → AreNames s.names → Some key ≡ option_map (λ (x : SharedName). x.object) (find (is_name n) s.names.names) → model.named_object w n ≡ Some (birth_at s.objects.objects key)
-  name_there n key are e = named_found s w n are r ∙ told_some (λ (x : SharedName). x.object) (birth_at s.objects.objects) (find (is_name n) s.names.names) key e
+  pub name_there : (n key : ℕ) → AreNames s.names → Some key ≡ option_map (λ (x : SharedName). x.object) (find (is_name n) s.names.names) → model.named_object w n ≡ Some (step_number_at s.objects.objects key)
+  name_there n key are e = named_found s w n are r ∙ told_some (λ (x : SharedName). x.object) (step_number_at s.objects.objects) (find (is_name n) s.names.names) key e
 
   pub no_name : (n : ℕ) → AreNames s.names → None ≡ option_map (λ (x : SharedName). x.object) (find (is_name n) s.names.names) → model.named_object w n ≡ None
-  no_name n are e = named_found s w n are r ∙ told_none (λ (x : SharedName). x.object) (birth_at s.objects.objects) (find (is_name n) s.names.names) e
+  no_name n are e = named_found s w n are r ∙ told_none (λ (x : SharedName). x.object) (step_number_at s.objects.objects) (find (is_name n) s.names.names) e
 
   -- a token that is open, or not
-  pub token_there : (n key : ℕ) → AreTokens s.tokens → Some key ≡ option_map (λ (x : SharedToken). x.object) (find (is_token n) s.tokens.tokens) → model.exported_object w n ≡ Some (birth_at s.objects.objects key)
-  token_there n key are e = exported_found s w n are r ∙ told_some (λ (x : SharedToken). x.object) (birth_at s.objects.objects) (find (is_token n) s.tokens.tokens) key e
+  pub token_there : (n key : ℕ) → AreTokens s.tokens → Some key ≡ option_map (λ (x : SharedToken). x.object) (find (is_token n) s.tokens.tokens) → model.exported_object w n ≡ Some (step_number_at s.objects.objects key)
+  token_there n key are e = exported_found s w n are r ∙ told_some (λ (x : SharedToken). x.object) (step_number_at s.objects.objects) (find (is_token n) s.tokens.tokens) key e
 
   pub no_token : (n : ℕ) → AreTokens s.tokens → None ≡ option_map (λ (x : SharedToken). x.object) (find (is_token n) s.tokens.tokens) → model.exported_object w n ≡ None
-  no_token n are e = exported_found s w n are r ∙ told_none (λ (x : SharedToken). x.object) (birth_at s.objects.objects) (find (is_token n) s.tokens.tokens) e
+  no_token n are e = exported_found s w n are r ∙ told_none (λ (x : SharedToken). x.object) (step_number_at s.objects.objects) (find (is_token n) s.tokens.tokens) e
 
 -- their objects are known
-pub name_known : (s : State) → IsTied s → (n key : ℕ) → Some key ≡ option_map (λ (x : SharedName). x.object) (find (is_name n) s.names.names) → is_among (keys_of s.files.holds ++ referring_keys s) key ≡ true
+pub name_known : (s : State) → MeetsInvariants s → (n key : ℕ) → Some key ≡ option_map (λ (x : SharedName). x.object) (find (is_name n) s.names.names) → is_among (keys_of s.files.holds ++ referring_keys s) key ≡ true
 name_known s t n key e = of_found (λ k. is_among (keys_of s.files.holds ++ referring_keys s) k ≡ true) (is_name n) (λ (x : SharedName). x.object) s.names.names (names_known s t) key e
 
 pub token_known : (s : State) (n key : ℕ) → Some key ≡ option_map (λ (x : SharedToken). x.object) (find (is_token n) s.tokens.tokens) → is_among (keys_of s.files.holds ++ referring_keys s) key ≡ true

@@ -14,17 +14,17 @@ use Rattle.drm_lists.proofs.Numbers.{among-append, among-left, among-right, fewe
 use Rattle.drm_lists.proofs.Orders.{same-any, same-filter, in_order_filter}
 use Rattle.drm_gem.specs.declared.object.Object.{Object}
 use Rattle.drm_gem.specs.Objects.{ObjectSet}
-use Rattle.drm_files.specs.declared.rows.FileHold.{FileHold}
+use Rattle.drm_files.specs.declared.rows.FileHandle.{FileHandle}
 use Rattle.drm_share.specs.declared.rows.SharedName.{SharedName}
 use Rattle.drm_share.specs.declared.rows.SharedToken.{SharedToken}
 use Rattle.drm_share.specs.Names.{NameList}
 use Rattle.drm_share.specs.Tokens.{is_exported_by}
 use Rattle.drm_files.specs.Files as files
-use Rattle.drm_files.specs.Files.{without_hold, without_client}
+use Rattle.drm_files.specs.Files.{without_handle_row, without_client}
 use Rattle.drm_modes.specs.declared.rows.Framebuffer.{Framebuffer}
 use Rattle.drm_modes.specs.Modes as modes
 use Rattle.drm_modes.specs.Modes.{ModeSet, AreModes, shown_rows}
-use Rattle.drm_model.specs.Rows.{Rows, ClientRow, MasterRow, MagicRow, HoldRow, ObjectRow, NameRow, TokenRow, GrantRow, FramebufferRow, ShownRow, is_hold, is_option, is_framebuffer, client_row, without}
+use Rattle.drm_model.specs.Rows.{Rows, ClientRow, MasterRow, MagicRow, HandleRow, ObjectRow, NameRow, TokenRow, GrantRow, FramebufferRow, ShownRow, is_handle, is_option, is_framebuffer, client_row, without}
 use Rattle.drm_model.specs.Masters.{is_under}
 use Rattle.drm_model.specs.Leases as model
 use Rattle.drm_model.specs.Change.{is_referred, is_living, swept}
@@ -38,10 +38,10 @@ use Rattle.drm_masters.specs.Masters as masters
 use Rattle.drm_masters.specs.Masters.{MasterSet, AreMasters}
 use Rattle.drm_leases.specs.Leases.{LeaseSet, AreLeases}
 use Rattle.drm_state.specs.declared.state.State.{State}
-use Rattle.drm_state.specs.Parts.{clients_of, masters_of, magics_of, names_of, objects_of, client_row_by, magic_row_of, hold_row_of, name_row_of, token_row_of, framebuffer_row_of, framebuffers_of, shown_row_of, object_row_of, master_row_of, birth_at, keys_of, token_keys, framebuffer_keys, referring, referring_keys, without_tokens_of, LosesFramebuffersOf, grant_row_of, grants_of, device_without, own_master, is_below, released, ended, ends_with, without_its_master, without_its_leases}
-use Rattle.drm_state.specs.Ties.{Tie, MembersOpen, ClientsHave, MastersAre, MagicsSuffice, LesseesFew, LeasesAre, TokensOfLessees, KeptHaveTokens, LeasesAgree, ModesAre, HoldsRise, ObjectsCounted, NamesHeld, is_tied, IsTied, HasMaster, AreTied, AreNamed, AreThoseNamed, Leaves, names_among}
+use Rattle.drm_state.specs.Parts.{clients_of, masters_of, magics_of, names_of, objects_of, client_row_by, magic_row_of, handle_row_of, name_row_of, token_row_of, framebuffer_row_of, framebuffers_of, shown_row_of, object_row_of, master_row_of, step_number_at, keys_of, token_keys, framebuffer_keys, referring, referring_keys, without_tokens_of, LosesFramebuffersOf, grant_row_of, grants_of, device_without, own_master, is_below, released, ended, ends_with, without_its_master, without_its_leases}
+use Rattle.drm_state.specs.Invariants.{Invariant, MembersOpen, ClientsHave, MastersAre, MagicsSuffice, LesseesFew, LeasesAre, TokensOfLessees, KeptHaveTokens, LeasesAgree, ModesAre, HoldsRise, ObjectsCounted, NamesHeld, meets_invariant, MeetsInvariants, HasMaster, AreCounted, AreNamed, AreThoseNamed, Leaves, names_among}
 use Rattle.drm_model.specs.Parts.{Part, Bounds, Clients, Masters, Magics, Holds, Objects, Names, Tokens, Grants, Framebuffers, Shown, DeviceMaster, LastToken}
-use Rattle.drm_state.specs.Refinement.{stands_for, Represents}
+use Rattle.drm_state.specs.Refinement.{represents_part, Represents}
 use Rattle.drm_state.proofs.Represented.{bounds_are, clients_are, masters_are, magics_are, holds_are, objects_are, names_are, tokens_are, grants_are, framebuffers_are, shown_are, device_master_is, last_token_is, members_open, clients_have, masters_so, lessees_few, tokens_of_lessees, kept_have_tokens, leases_agree, magics_suffice, modes_so, holds_rise, objects_counted, names_held}
 use Rattle.drm_state.proofs.Counting.{all_named}
 use Rattle.drm_state.proofs.Naming.{references, references_by, among_numbers, among_key, holds_naming, holds_as_before, tokens_as_before, framebuffers_as_before, names_as_before, rows_left}
@@ -53,37 +53,37 @@ use Rattle.drm_state.proofs.Ended.{rows_released, rows_ended, grants_ended, none
 
 -- ---- objects
 
-either_way : (v : Rows) (n : ℕ) → is_referred v n ≡ (list_any (λ (row : HoldRow). row.object == n) v.holds || is_among (references v) n)
+either_way : (v : Rows) (n : ℕ) → is_referred v n ≡ (list_any (λ (row : HandleRow). row.object == n) v.holds || is_among (references v) n)
 either_way v n =
-    ap (λ b. list_any (λ (row : HoldRow). row.object == n) v.holds || b || list_any (λ (row : FramebufferRow). row.object == n) v.framebuffers) (sym (list_any-map (λ x. x == n) (λ (row : TokenRow). row.object) v.tokens))
-    ∙ ap (λ b. list_any (λ (row : HoldRow). row.object == n) v.holds || is_among (map (λ (row : TokenRow). row.object) v.tokens) n || b) (sym (list_any-map (λ x. x == n) (λ (row : FramebufferRow). row.object) v.framebuffers))
-    ∙ or_assoc (list_any (λ (row : HoldRow). row.object == n) v.holds) (is_among (map (λ (row : TokenRow). row.object) v.tokens) n) (is_among (map (λ (row : FramebufferRow). row.object) v.framebuffers) n)
-    ∙ ap (λ b. list_any (λ (row : HoldRow). row.object == n) v.holds || b) (sym (among-append (map (λ (row : TokenRow). row.object) v.tokens) (map (λ (row : FramebufferRow). row.object) v.framebuffers) n))
+    ap (λ b. list_any (λ (row : HandleRow). row.object == n) v.holds || b || list_any (λ (row : FramebufferRow). row.object == n) v.framebuffers) (sym (list_any-map (λ x. x == n) (λ (row : TokenRow). row.object) v.tokens))
+    ∙ ap (λ b. list_any (λ (row : HandleRow). row.object == n) v.holds || is_among (map (λ (row : TokenRow). row.object) v.tokens) n || b) (sym (list_any-map (λ x. x == n) (λ (row : FramebufferRow). row.object) v.framebuffers))
+    ∙ or_assoc (list_any (λ (row : HandleRow). row.object == n) v.holds) (is_among (map (λ (row : TokenRow). row.object) v.tokens) n) (is_among (map (λ (row : FramebufferRow). row.object) v.framebuffers) n)
+    ∙ ap (λ b. list_any (λ (row : HandleRow). row.object == n) v.holds || b) (sym (among-append (map (λ (row : TokenRow). row.object) v.tokens) (map (λ (row : FramebufferRow). row.object) v.framebuffers) n))
 
 -- an object is referred to where a key of a handle, a token or a framebuffer names it
-referred_is : (v : Rows) (objects : List Object) (keys refs : List ℕ) (hs : List FileHold) (now : List ℕ) → AreTied keys refs objects → SameRows v.holds (map (hold_row_of objects) hs) → SameRows (references v) (map (birth_at objects) now) → ((n : ℕ) → is_among (keys_of hs ++ now) n ≡ true → is_among (keys ++ refs) n ≡ true) →
-    AllByRecursion (λ (x : Object). is_referred v x.birth ≡ is_among (keys_of hs ++ now) x.key) objects
-referred_is v objects keys refs hs now tied h r sub =
-    all_both (λ (x : Object). is_among (map (birth_at objects) (keys_of hs)) x.birth ≡ is_among (keys_of hs) x.key) (λ (x : Object). is_among (map (birth_at objects) now) x.birth ≡ is_among now x.key) (λ (x : Object). is_referred v x.birth ≡ is_among (keys_of hs ++ now) x.key)
+referred_is : (v : Rows) (objects : List Object) (keys refs : List ℕ) (hs : List FileHandle) (now : List ℕ) → AreCounted keys refs objects → SameRows v.holds (map (handle_row_of objects) hs) → SameRows (references v) (map (step_number_at objects) now) → ((n : ℕ) → is_among (keys_of hs ++ now) n ≡ true → is_among (keys ++ refs) n ≡ true) →
+    AllByRecursion (λ (x : Object). is_referred v x.step_number ≡ is_among (keys_of hs ++ now) x.key) objects
+referred_is v objects keys refs hs now invariants h r sub =
+    all_both (λ (x : Object). is_among (map (step_number_at objects) (keys_of hs)) x.step_number ≡ is_among (keys_of hs) x.key) (λ (x : Object). is_among (map (step_number_at objects) now) x.step_number ≡ is_among now x.key) (λ (x : Object). is_referred v x.step_number ≡ is_among (keys_of hs ++ now) x.key)
     (λ x e f.
-    either_way v x.birth ∙ ap (λ b. b || is_among (references v) x.birth) (holds_naming v.holds objects hs x.birth h ∙ e)
-    ∙ ap (λ b. is_among (keys_of hs) x.key || b) (same-any (λ n. n == x.birth) (references v) (map (birth_at objects) now) r ∙ f) ∙ sym (among-append (keys_of hs) now x.key)) objects
-    (among_numbers keys refs objects tied (keys_of hs) (λ n e. sub n (among-left (keys_of hs) now n e)))
-    (among_numbers keys refs objects tied now (λ n e. sub n (among-right (keys_of hs) now n e)))
+    either_way v x.step_number ∙ ap (λ b. b || is_among (references v) x.step_number) (holds_naming v.holds objects hs x.step_number h ∙ e)
+    ∙ ap (λ b. is_among (keys_of hs) x.key || b) (same-any (λ n. n == x.step_number) (references v) (map (step_number_at objects) now) r ∙ f) ∙ sym (among-append (keys_of hs) now x.key)) objects
+    (among_numbers keys refs objects invariants (keys_of hs) (λ n e. sub n (among-left (keys_of hs) now n e)))
+    (among_numbers keys refs objects invariants now (λ n e. sub n (among-right (keys_of hs) now n e)))
 
 -- of objects that were all named those stay that are named yet
-swept_objects : (v : Rows) (objects left : List Object) (keys refs : List ℕ) (hs : List FileHold) (now : List ℕ) → AreTied keys refs objects → SameRows v.holds (map (hold_row_of objects) hs) → SameRows (references v) (map (birth_at objects) now) → ((n : ℕ) → is_among (keys_of hs ++ now) n ≡ true → is_among (keys ++ refs) n ≡ true) →
+swept_objects : (v : Rows) (objects left : List Object) (keys refs : List ℕ) (hs : List FileHandle) (now : List ℕ) → AreCounted keys refs objects → SameRows v.holds (map (handle_row_of objects) hs) → SameRows (references v) (map (step_number_at objects) now) → ((n : ℕ) → is_among (keys_of hs ++ now) n ≡ true → is_among (keys ++ refs) n ≡ true) →
     v.objects ≡ map object_row_of objects → AreThoseNamed objects (keys_of hs ++ now) left → filter (λ (row : ObjectRow). is_referred v row.object) v.objects ≡ map object_row_of left
-swept_objects v objects left keys refs hs now tied h r sub o named =
+swept_objects v objects left keys refs hs now invariants h r sub o named =
     ap (filter (λ (row : ObjectRow). is_referred v row.object)) o ∙ filter-map (λ (row : ObjectRow). is_referred v row.object) object_row_of objects
-    ∙ ap (map object_row_of) (filter-same (λ (x : Object). is_referred v x.birth) (λ (x : Object). is_among (keys_of hs ++ now) x.key) objects (referred_is v objects keys refs hs now tied h r sub))
+    ∙ ap (map object_row_of) (filter-same (λ (x : Object). is_referred v x.step_number) (λ (x : Object). is_among (keys_of hs ++ now) x.key) objects (referred_is v objects keys refs hs now invariants h r sub))
     ∙ sym (rows_left objects left (keys_of hs ++ now) named)
 
 -- the handles that pass a test
-held_left : (rows : List HoldRow) (p : HoldRow → Bool) (objects : List Object) (hs : List FileHold) → SameRows rows (map (hold_row_of objects) hs) → SameRows (filter p rows) (map (hold_row_of objects) (filter (λ x. p (hold_row_of objects x)) hs))
-held_left rows p objects hs h = subst (SameRows (filter p rows)) (filter-map p (hold_row_of objects) hs) (same-filter p rows (map (hold_row_of objects) hs) h)
+held_left : (rows : List HandleRow) (p : HandleRow → Bool) (objects : List Object) (hs : List FileHandle) → SameRows rows (map (handle_row_of objects) hs) → SameRows (filter p rows) (map (handle_row_of objects) (filter (λ x. p (handle_row_of objects x)) hs))
+held_left rows p objects hs h = subst (SameRows (filter p rows)) (filter-map p (handle_row_of objects) hs) (same-filter p rows (map (handle_row_of objects) hs) h)
 
-pub some_pass : (p : FileHold → Bool) → (hs : List FileHold) (n : ℕ) → is_among (keys_of (filter p hs)) n ≡ true → is_among (keys_of hs) n ≡ true
+pub some_pass : (p : FileHandle → Bool) → (hs : List FileHandle) (n : ℕ) → is_among (keys_of (filter p hs)) n ≡ true → is_among (keys_of hs) n ≡ true
 some_pass p [] n h = h
 some_pass p (x ∷ xs) n h =
     elim (p x) as (λ b. is_among (keys_of (cond b (x ∷ filter p xs) (filter p xs))) n ≡ true → is_among (keys_of (x ∷ xs)) n ≡ true) [
@@ -92,41 +92,41 @@ some_pass p (x ∷ xs) n h =
     ] h
 
 -- names are of objects that are named
-pub names_known : (s : State) → IsTied s → AreNamed (keys_of s.files.holds ++ referring_keys s) s.names.names
+pub names_known : (s : State) → MeetsInvariants s → AreNamed (keys_of s.files.holds ++ referring_keys s) s.names.names
 names_known s t = all_weaker (λ (x : SharedName). is_among (keys_of s.files.holds) x.object ≡ true) (λ (x : SharedName). is_among (keys_of s.files.holds ++ referring_keys s) x.object ≡ true) (λ x e. among-left (keys_of s.files.holds) (referring_keys s) x.object e) s.names.names (names_held s t)
 
 -- ---- masters
 
 -- the clients' rows name the masters that clients stand to
-pub named_by_clients : (v : Rows) (s : State) → IsTied s → v.clients ≡ clients_of s → (m : ℕ) → list_any (λ (row : ClientRow). is_option m row.master) v.clients ≡ list_any (λ (x : Member). x.master == m) s.masters.members
+pub named_by_clients : (v : Rows) (s : State) → MeetsInvariants s → v.clients ≡ clients_of s → (m : ℕ) → list_any (λ (row : ClientRow). is_option m row.master) v.clients ≡ list_any (λ (x : Member). x.master == m) s.masters.members
 named_by_clients v s t e m = ap (list_any (λ (row : ClientRow). is_option m row.master)) e ∙ masters_named m s.files.clients s.masters.members (members_open s t) (masters_so s t).members_rise
 
 -- all of them stay
-masters_left : (v : Rows) (s : State) → IsTied s → v.clients ≡ clients_of s → v.masters ≡ masters_of s → filter (λ (row : MasterRow). is_living v row.master) v.masters ≡ masters_of s
+masters_left : (v : Rows) (s : State) → MeetsInvariants s → v.clients ≡ clients_of s → v.masters ≡ masters_of s → filter (λ (row : MasterRow). is_living v row.master) v.masters ≡ masters_of s
 masters_left v s t e f =
     swept_masters v s.leases.tokens s.masters.masters s.masters.members f (kept_have_tokens s t) (named_by_clients v s t e)
-    ∙ ap (map (master_row_of s.leases.tokens)) (filter_all (λ (x : Master). masters.is_living s.masters.members s.masters.masters x.birth) s.masters.masters (masters_so s t).used)
+    ∙ ap (map (master_row_of s.leases.tokens)) (filter_all (λ (x : Master). masters.is_living s.masters.members s.masters.masters x.step_number) s.masters.masters (masters_so s t).used)
 
 -- ---- names
 
 -- of names those stay whose objects a handle names
-swept_names : (v : Rows) (objects : List Object) (keys refs : List ℕ) (hs : List FileHold) (ns : List SharedName) → AreTied keys refs objects → SameRows v.holds (map (hold_row_of objects) hs) → SameRows v.names (map (name_row_of objects) ns) →
-    ((n : ℕ) → is_among (keys_of hs) n ≡ true → is_among (keys ++ refs) n ≡ true) → AreNamed (keys ++ refs) ns → SameRows (filter (λ (row : NameRow). list_any (λ (hold : HoldRow). hold.object == row.object) v.holds) v.names) (map (name_row_of objects) (filter (λ (x : SharedName). is_among (keys_of hs) x.object) ns))
-swept_names v objects keys refs hs ns tied h m sub known =
-    let stays = λ (row : NameRow). list_any (λ (hold : HoldRow). hold.object == row.object) v.holds in
+swept_names : (v : Rows) (objects : List Object) (keys refs : List ℕ) (hs : List FileHandle) (ns : List SharedName) → AreCounted keys refs objects → SameRows v.holds (map (handle_row_of objects) hs) → SameRows v.names (map (name_row_of objects) ns) →
+    ((n : ℕ) → is_among (keys_of hs) n ≡ true → is_among (keys ++ refs) n ≡ true) → AreNamed (keys ++ refs) ns → SameRows (filter (λ (row : NameRow). list_any (λ (hold : HandleRow). hold.object == row.object) v.holds) v.names) (map (name_row_of objects) (filter (λ (x : SharedName). is_among (keys_of hs) x.object) ns))
+swept_names v objects keys refs hs ns invariants h m sub known =
+    let stays = λ (row : NameRow). list_any (λ (hold : HandleRow). hold.object == row.object) v.holds in
     let same : filter stays (map (name_row_of objects) ns) ≡ map (name_row_of objects) (filter (λ (x : SharedName). is_among (keys_of hs) x.object) ns) =
     filter-map stays (name_row_of objects) ns
     ∙ ap (map (name_row_of objects)) (filter-same (λ (x : SharedName). stays (name_row_of objects x)) (λ (x : SharedName). is_among (keys_of hs) x.object) ns
     (all_weaker (λ (x : SharedName). is_among (keys ++ refs) x.object ≡ true) (λ (x : SharedName). stays (name_row_of objects x) ≡ is_among (keys_of hs) x.object)
-    (λ x e. holds_naming v.holds objects hs (birth_at objects x.object) h ∙ among_key keys refs objects tied (keys_of hs) sub x.object e) ns known)) in
+    (λ x e. holds_naming v.holds objects hs (step_number_at objects x.object) h ∙ among_key keys refs objects invariants (keys_of hs) sub x.object e) ns known)) in
     subst (SameRows (filter stays v.names)) same (same-filter stays v.names (map (name_row_of objects) ns) m)
 
 -- ---- what a sweep leaves of handles, tokens, framebuffers, names and objects
 
 -- rows before a sweep, told by the objects that were there: handles, tokens, framebuffers and names; what shows a framebuffer that
 -- is there is left, of the names those are left whose objects a handle names, and of the objects those that are named
-pub record Moves (s : State) (v : Rows) (hs : List FileHold) (ts : List SharedToken) (ms : ModeSet) (ns left : List SharedName) (set : ObjectSet) : Type 0 where
-  pub holds : SameRows v.holds (map (hold_row_of s.objects.objects) hs)
+pub record Moves (s : State) (v : Rows) (hs : List FileHandle) (ts : List SharedToken) (ms : ModeSet) (ns left : List SharedName) (set : ObjectSet) : Type 0 where
+  pub holds : SameRows v.holds (map (handle_row_of s.objects.objects) hs)
   pub tokens : SameRows v.tokens (map (token_row_of s.objects.objects) ts)
   pub framebuffers : SameRows v.framebuffers (map (framebuffer_row_of s.objects.objects) ms.framebuffers)
   pub shown : SameRows (filter (λ (row : ShownRow). is_framebuffer v row.framebuffer) v.shown) (map shown_row_of (shown_rows ms))
@@ -146,11 +146,11 @@ name_keys keys (x ∷ xs) n h =
       | false ↦ λ is k. name_keys keys xs n k
     ] refl h
 
-module _ (s : State) (v : Rows) (hs : List FileHold) (ts : List SharedToken) (ms : ModeSet) (ns left : List SharedName) (set : ObjectSet) (t : IsTied s) (m : Moves s v hs ts ms ns left set) where
+module _ (s : State) (v : Rows) (hs : List FileHandle) (ts : List SharedToken) (ms : ModeSet) (ns left : List SharedName) (set : ObjectSet) (t : MeetsInvariants s) (m : Moves s v hs ts ms ns left set) where
   abbrev others : List ℕ
   others = referring ts ms.framebuffers
 
-  pub holds_moved : SameRows v.holds (map (hold_row_of set.objects) hs)
+  pub holds_moved : SameRows v.holds (map (handle_row_of set.objects) hs)
   holds_moved = subst (SameRows v.holds) (sym (holds_as_before s.objects.objects set.objects _ hs m.those (λ n e. among-left (keys_of hs) others n e))) m.holds
 
   pub tokens_moved : SameRows v.tokens (map (token_row_of set.objects) ts)
@@ -160,10 +160,10 @@ module _ (s : State) (v : Rows) (hs : List FileHold) (ts : List SharedToken) (ms
   framebuffers_moved =
       subst (SameRows v.framebuffers) (sym (framebuffers_as_before s.objects.objects set.objects _ ms.framebuffers m.those (λ n e. among-right (keys_of hs) others n (among-right (token_keys ts) (framebuffer_keys ms.framebuffers) n e)))) m.framebuffers
 
-  pub names_moved : SameRows (filter (λ (row : NameRow). list_any (λ (hold : HoldRow). hold.object == row.object) v.holds) v.names) (map (name_row_of set.objects) left)
+  pub names_moved : SameRows (filter (λ (row : NameRow). list_any (λ (hold : HandleRow). hold.object == row.object) v.holds) v.names) (map (name_row_of set.objects) left)
   names_moved =
       let kept = filter (λ (x : SharedName). is_among (keys_of hs) x.object) ns in
-      let swept_rows = filter (λ (row : NameRow). list_any (λ (hold : HoldRow). hold.object == row.object) v.holds) v.names in
+      let swept_rows = filter (λ (row : NameRow). list_any (λ (hold : HandleRow). hold.object == row.object) v.holds) v.names in
       subst (λ l. SameRows swept_rows (map (name_row_of set.objects) l)) (sym m.left_names)
       (subst (SameRows swept_rows) (sym (names_as_before s.objects.objects set.objects _ kept m.those (λ n e. among-left (keys_of hs) others n (name_keys (keys_of hs) ns n e))))
       (swept_names v s.objects.objects (keys_of s.files.holds) (referring_keys s) hs ns (objects_counted s t) m.holds m.names (λ n e. m.known n (among-left (keys_of hs) others n e)) m.known_names))
@@ -173,7 +173,7 @@ module _ (s : State) (v : Rows) (hs : List FileHold) (ts : List SharedToken) (ms
       swept_objects v s.objects.objects set.objects (keys_of s.files.holds) (referring_keys s) hs others (objects_counted s t) m.holds (references_by v s.objects.objects ts ms.framebuffers m.tokens m.framebuffers) m.known o m.those
 
 -- the state with other handles, tokens, framebuffers, names and objects
-abbrev pub all_moved_to : State → List FileHold → List SharedToken → Option ℕ → ModeSet → List SharedName → ObjectSet → State
+abbrev pub all_moved_to : State → List FileHandle → List SharedToken → Option ℕ → ModeSet → List SharedName → ObjectSet → State
 all_moved_to s hs ts given ms left set = record s {
   files = record s.files { holds = hs };
   tokens = record s.tokens { tokens = ts; last_given = given };
@@ -183,14 +183,14 @@ all_moved_to s hs ts given ms left set = record s {
 }
 
 -- the rows with other handles, tokens, framebuffers and names
-abbrev pub all_shared_rows : Rows → List HoldRow → List TokenRow → ℕ → List FramebufferRow → List NameRow → Rows
+abbrev pub all_shared_rows : Rows → List HandleRow → List TokenRow → ℕ → List FramebufferRow → List NameRow → Rows
 all_shared_rows w holds tokens last framebuffers names = record w { holds = holds; tokens = tokens; last_token = last; framebuffers = framebuffers; names = names }
 
 -- the state stands for them when they are swept
-pub all_moved : (s : State) (w : Rows) (holds : List HoldRow) (tokens : List TokenRow) (last : ℕ) (framebuffers : List FramebufferRow) (names : List NameRow) (hs : List FileHold) (ts : List SharedToken) (given : Option ℕ) (ms : ModeSet) (ns left : List SharedName) (set : ObjectSet) →
-    IsTied s → Represents s w → Moves s (all_shared_rows w holds tokens last framebuffers names) hs ts ms ns left set → set.limit ≡ s.objects.limit → ms.topology ≡ s.modes.topology → ms.last ≡ s.modes.last → last ≡ unwrap_or given 0 →
-    (part : Part) → stands_for part (all_moved_to s hs ts given ms left set) (swept (all_shared_rows w holds tokens last framebuffers names))
-unfolding stands_for swept
+pub all_moved : (s : State) (w : Rows) (holds : List HandleRow) (tokens : List TokenRow) (last : ℕ) (framebuffers : List FramebufferRow) (names : List NameRow) (hs : List FileHandle) (ts : List SharedToken) (given : Option ℕ) (ms : ModeSet) (ns left : List SharedName) (set : ObjectSet) →
+    MeetsInvariants s → Represents s w → Moves s (all_shared_rows w holds tokens last framebuffers names) hs ts ms ns left set → set.limit ≡ s.objects.limit → ms.topology ≡ s.modes.topology → ms.last ≡ s.modes.last → last ≡ unwrap_or given 0 →
+    (part : Part) → represents_part part (all_moved_to s hs ts given ms left set) (swept (all_shared_rows w holds tokens last framebuffers names))
+unfolding represents_part swept
 all_moved s w holds tokens last framebuffers names hs ts given ms ns left set t h m l fixed most e Bounds = let k = bounds_are s w h in (k.0, k.1, l ∙ k.2, k.3, k.4, k.5, most ∙ k.6, fixed ∙ k.7, k.8, k.9)
 all_moved s w holds tokens last framebuffers names hs ts given ms ns left set t h m l fixed most e Masters = masters_left (all_shared_rows w holds tokens last framebuffers names) s t (clients_are s w h) (masters_are s w h)
 all_moved s w holds tokens last framebuffers names hs ts given ms ns left set t h m l fixed most e Holds = holds_moved s (all_shared_rows w holds tokens last framebuffers names) hs ts ms ns left set t m
@@ -203,33 +203,33 @@ all_moved s w holds tokens last framebuffers names hs ts given ms ns left set t 
 all_moved s w holds tokens last framebuffers names hs ts given ms ns left set t h m l fixed most e part = h part
 
 -- and its parts are tied
-pub all_moved_tied : (s : State) (hs : List FileHold) (ts : List SharedToken) (given : Option ℕ) (ms : ModeSet) (left : List SharedName) (set : ObjectSet) → IsTied s → InOrder (λ (x y : FileHold). files.hold_before x y ≡ true) hs → AreModes ms →
-    AreTied (keys_of hs) (referring ts ms.framebuffers) set.objects → AreNamed (keys_of hs) left → (tie : Tie) → is_tied tie (all_moved_to s hs ts given ms left set)
-unfolding is_tied
-all_moved_tied s hs ts given ms left set t o are tied named ModesAre = are
-all_moved_tied s hs ts given ms left set t o are tied named HoldsRise = o
-all_moved_tied s hs ts given ms left set t o are tied named ObjectsCounted = tied
-all_moved_tied s hs ts given ms left set t o are tied named NamesHeld = named
-all_moved_tied s hs ts given ms left set t o are tied named tie = t tie
+pub all_moved_invariants : (s : State) (hs : List FileHandle) (ts : List SharedToken) (given : Option ℕ) (ms : ModeSet) (left : List SharedName) (set : ObjectSet) → MeetsInvariants s → InOrder (λ (x y : FileHandle). files.handle_before x y ≡ true) hs → AreModes ms →
+    AreCounted (keys_of hs) (referring ts ms.framebuffers) set.objects → AreNamed (keys_of hs) left → (invariant : Invariant) → meets_invariant invariant (all_moved_to s hs ts given ms left set)
+unfolding meets_invariant
+all_moved_invariants s hs ts given ms left set t o are invariants named ModesAre = are
+all_moved_invariants s hs ts given ms left set t o are invariants named HoldsRise = o
+all_moved_invariants s hs ts given ms left set t o are invariants named ObjectsCounted = invariants
+all_moved_invariants s hs ts given ms left set t o are invariants named NamesHeld = named
+all_moved_invariants s hs ts given ms left set t o are invariants named invariant = t invariant
 
 -- the same where framebuffers are as they were
-abbrev pub moved_to : State → List FileHold → List SharedToken → Option ℕ → List SharedName → ObjectSet → State
+abbrev pub moved_to : State → List FileHandle → List SharedToken → Option ℕ → List SharedName → ObjectSet → State
 moved_to s hs ts given left set = all_moved_to s hs ts given s.modes left set
 
-abbrev pub shared_rows : Rows → List HoldRow → List TokenRow → ℕ → List NameRow → Rows
+abbrev pub shared_rows : Rows → List HandleRow → List TokenRow → ℕ → List NameRow → Rows
 shared_rows w holds tokens last names = all_shared_rows w holds tokens last w.framebuffers names
 
-pub moved : (s : State) (w : Rows) (holds : List HoldRow) (tokens : List TokenRow) (last : ℕ) (names : List NameRow) (hs : List FileHold) (ts : List SharedToken) (given : Option ℕ) (ns left : List SharedName) (set : ObjectSet) →
-    IsTied s → Represents s w → Moves s (shared_rows w holds tokens last names) hs ts s.modes ns left set → set.limit ≡ s.objects.limit → last ≡ unwrap_or given 0 → Represents (moved_to s hs ts given left set) (swept (shared_rows w holds tokens last names))
+pub moved : (s : State) (w : Rows) (holds : List HandleRow) (tokens : List TokenRow) (last : ℕ) (names : List NameRow) (hs : List FileHandle) (ts : List SharedToken) (given : Option ℕ) (ns left : List SharedName) (set : ObjectSet) →
+    MeetsInvariants s → Represents s w → Moves s (shared_rows w holds tokens last names) hs ts s.modes ns left set → set.limit ≡ s.objects.limit → last ≡ unwrap_or given 0 → Represents (moved_to s hs ts given left set) (swept (shared_rows w holds tokens last names))
 moved s w holds tokens last names hs ts given ns left set t h m l e = all_moved s w holds tokens last w.framebuffers names hs ts given s.modes ns left set t h m l refl refl e
 
-pub moved_tied : (s : State) (hs : List FileHold) (ts : List SharedToken) (given : Option ℕ) (left : List SharedName) (set : ObjectSet) → IsTied s → InOrder (λ (x y : FileHold). files.hold_before x y ≡ true) hs →
-    AreTied (keys_of hs) (referring ts s.modes.framebuffers) set.objects → AreNamed (keys_of hs) left → IsTied (moved_to s hs ts given left set)
-moved_tied s hs ts given left set t o tied named = all_moved_tied s hs ts given s.modes left set t o (modes_so s t) tied named
+pub moved_invariants : (s : State) (hs : List FileHandle) (ts : List SharedToken) (given : Option ℕ) (left : List SharedName) (set : ObjectSet) → MeetsInvariants s → InOrder (λ (x y : FileHandle). files.handle_before x y ≡ true) hs →
+    AreCounted (keys_of hs) (referring ts s.modes.framebuffers) set.objects → AreNamed (keys_of hs) left → MeetsInvariants (moved_to s hs ts given left set)
+moved_invariants s hs ts given left set t o invariants named = all_moved_invariants s hs ts given s.modes left set t o (modes_so s t) invariants named
 
 -- ---- nothing goes
 
-nothing_moves : (s : State) (v : Rows) → IsTied s → Represents s v → Moves s v s.files.holds s.tokens.tokens s.modes s.names.names s.names.names s.objects
+nothing_moves : (s : State) (v : Rows) → MeetsInvariants s → Represents s v → Moves s v s.files.holds s.tokens.tokens s.modes s.names.names s.names.names s.objects
 nothing_moves s v t h = record {
   holds = holds_are s v h;
   tokens = tokens_are s v h;
@@ -243,8 +243,8 @@ nothing_moves s v t h = record {
 }
 
 -- a sweep takes nothing of rows that a state stands for whose parts are tied
-pub unswept : (s : State) (v : Rows) → IsTied s → Represents s v → (part : Part) → stands_for part s (swept v)
-unfolding stands_for swept
+pub unswept : (s : State) (v : Rows) → MeetsInvariants s → Represents s v → (part : Part) → represents_part part s (swept v)
+unfolding represents_part swept
 unswept s v t h Masters = masters_left v s t (clients_are s v h) (masters_are s v h)
 unswept s v t h Objects = objects_moved s v s.files.holds s.tokens.tokens s.modes s.names.names s.names.names s.objects t (nothing_moves s v t h) (objects_are s v h)
 unswept s v t h Names = names_moved s v s.files.holds s.tokens.tokens s.modes s.names.names s.names.names s.objects t (nothing_moves s v t h)
@@ -254,7 +254,7 @@ unswept s v t h part = h part
 -- ---- fewer handles or tokens, and what they alone named
 
 -- what is left by fewer keys
-pub leaving : (s : State) (w v : Rows) (hs : List FileHold) (ts : List SharedToken) (names : NameList) (set : ObjectSet) → IsTied s → Represents s w → v.names ≡ w.names → SameRows v.holds (map (hold_row_of s.objects.objects) hs) → SameRows v.tokens (map (token_row_of s.objects.objects) ts) →
+pub leaving : (s : State) (w v : Rows) (hs : List FileHandle) (ts : List SharedToken) (names : NameList) (set : ObjectSet) → MeetsInvariants s → Represents s w → v.names ≡ w.names → SameRows v.holds (map (handle_row_of s.objects.objects) hs) → SameRows v.tokens (map (token_row_of s.objects.objects) ts) →
     SameRows v.framebuffers (framebuffers_of s) → SameRows (filter (λ (row : ShownRow). is_framebuffer v row.framebuffer) v.shown) (map shown_row_of (shown_rows s.modes)) →
     ((n : ℕ) → is_among (keys_of hs ++ referring ts s.modes.framebuffers) n ≡ true → is_among (keys_of s.files.holds ++ referring_keys s) n ≡ true) → Leaves s.names s.objects (keys_of hs) (referring ts s.modes.framebuffers) names set → Moves s v hs ts s.modes s.names.names names.names set
 leaving s w v hs ts names set t h e held opened framed lit known left = record {
@@ -271,18 +271,18 @@ leaving s w v hs ts names set t h e held opened framed lit known left = record {
 
 -- the state without a handle, and without what it alone named
 abbrev pub without_handle : State → ℕ → ℕ → NameList → ObjectSet → State
-without_handle s c n names set = record s { files = without_hold s.files c n; names = names; objects = set }
+without_handle s c n names set = record s { files = without_handle_row s.files c n; names = names; objects = set }
 
-pub handle_gone : (s : State) (w : Rows) (c n : ℕ) (names : NameList) (set : ObjectSet) → IsTied s → Leaves s.names s.objects (keys_of (without_hold s.files c n).holds) (referring_keys s) names set → Represents s w →
-    Represents (without_handle s c n names set) (swept (record w { holds = without (is_hold c n) w.holds }))
+pub handle_gone : (s : State) (w : Rows) (c n : ℕ) (names : NameList) (set : ObjectSet) → MeetsInvariants s → Leaves s.names s.objects (keys_of (without_handle_row s.files c n).holds) (referring_keys s) names set → Represents s w →
+    Represents (without_handle s c n names set) (swept (record w { holds = without (is_handle c n) w.holds }))
 handle_gone s w c n names set t left h =
-    let q = λ (x : FileHold). not (files.is_hold c n x) in
+    let q = λ (x : FileHandle). not (files.is_handle c n x) in
     let kept = names_among (keys_of (filter q s.files.holds)) s.names in
-    let leaves : Leaves s.names s.objects (keys_of (filter q s.files.holds)) (referring_keys s) kept set = record { tied = left.tied; those = left.those; limit = left.limit; names = refl } in
-    subst (λ ns. Represents (without_handle s c n ns set) (swept (record w { holds = without (is_hold c n) w.holds }))) (sym left.names)
-    (moved s w (without (is_hold c n) w.holds) w.tokens w.last_token w.names (filter q s.files.holds) s.tokens.tokens s.tokens.last_given s.names.names kept.names set t h
-    (leaving s w (record w { holds = without (is_hold c n) w.holds }) (filter q s.files.holds) s.tokens.tokens kept set t h refl
-    (held_left w.holds (λ row. not (is_hold c n row)) s.objects.objects s.files.holds (holds_are s w h)) (tokens_are s w h) (framebuffers_are s w h) (shown_yet s w t h)
+    let leaves : Leaves s.names s.objects (keys_of (filter q s.files.holds)) (referring_keys s) kept set = record { invariants = left.invariants; those = left.those; limit = left.limit; names = refl } in
+    subst (λ ns. Represents (without_handle s c n ns set) (swept (record w { holds = without (is_handle c n) w.holds }))) (sym left.names)
+    (moved s w (without (is_handle c n) w.holds) w.tokens w.last_token w.names (filter q s.files.holds) s.tokens.tokens s.tokens.last_given s.names.names kept.names set t h
+    (leaving s w (record w { holds = without (is_handle c n) w.holds }) (filter q s.files.holds) s.tokens.tokens kept set t h refl
+    (held_left w.holds (λ row. not (is_handle c n row)) s.objects.objects s.files.holds (holds_are s w h)) (tokens_are s w h) (framebuffers_are s w h) (shown_yet s w t h)
     (λ m e. fewer_among (keys_of (filter q s.files.holds)) (keys_of s.files.holds) (referring_keys s) m (some_pass q s.files.holds m) e) leaves) left.limit (last_token_is s w h))
 
 -- ---- a client goes
@@ -304,8 +304,8 @@ pub under_is : (s : State) (w : Rows) (top : ℕ) → Represents s w → is_unde
 under_is s w top h = (λ i. is_under (masters_are s w h i) top) ∙ (λ i. chains.is_under (above_is s.leases.tokens s.masters.masters i) top)
 
 -- the leases of a master and of all below it end
-pub ended_represents : (s : State) (w : Rows) (top : ℕ) → Represents s w → (part : Part) → stands_for part (with_ended s (is_below (Some top) s.masters.masters) s.masters.device_master) (model.ended w top)
-unfolding stands_for model.ended
+pub ended_represents : (s : State) (w : Rows) (top : ℕ) → Represents s w → (part : Part) → represents_part part (with_ended s (is_below (Some top) s.masters.masters) s.masters.device_master) (model.ended w top)
+unfolding represents_part model.ended
 ended_represents s w top h Masters =
     let below : ℕ → Bool = is_below (Some top) s.masters.masters in
     (λ i. map (λ (row : MasterRow). if under_is s w top h i row.master then record row { lease_token = None } else row) (masters_are s w h i))
@@ -316,15 +316,15 @@ ended_represents s w top h Grants =
 ended_represents s w top h part = h part
 
 -- no lease ends
-pub none_ended_represents : (s : State) (w : Rows) → Represents s w → (part : Part) → stands_for part (with_ended s (λ _. false) s.masters.device_master) w
-unfolding stands_for
+pub none_ended_represents : (s : State) (w : Rows) → Represents s w → (part : Part) → represents_part part (with_ended s (λ _. false) s.masters.device_master) w
+unfolding represents_part
 none_ended_represents s w h Masters = masters_are s w h ∙ (λ i. map (master_row_of (sym (none_ended s.leases) i).tokens) (sym (none_released s.masters.masters) i))
 none_ended_represents s w h Grants = subst (λ (l : LeaseSet). SameRows w.grants (map grant_row_of l.grants)) (sym (none_ended s.leases)) (grants_are s w h)
 none_ended_represents s w h part = h part
 
 -- what a client's own master gave goes, and the device's master if it was that
-ended_by_own : (s : State) (w : Rows) (m : ℕ) (b : Bool) → Represents s w → (part : Part) → stands_for part (with_ended s (is_below (if b then Some m else None) s.masters.masters) (if b && masters.is_option m s.masters.device_master then None else s.masters.device_master)) (ended_if w b (Some m))
-unfolding stands_for model.ended
+ended_by_own : (s : State) (w : Rows) (m : ℕ) (b : Bool) → Represents s w → (part : Part) → represents_part part (with_ended s (is_below (if b then Some m else None) s.masters.masters) (if b && masters.is_option m s.masters.device_master then None else s.masters.device_master)) (ended_if w b (Some m))
+unfolding represents_part model.ended
 ended_by_own s w m true h DeviceMaster = ap (λ (d : Option ℕ). if is_option m d then None else d) (device_master_is s w h) ∙ same_option m s.masters.device_master
 ended_by_own s w m true h part = ended_represents s w m h part
 ended_by_own s w m false h Clients = none_ended_represents s w h Clients
@@ -370,27 +370,27 @@ have_left v c (f ∷ fs) h =
       | false ↦ λ e. (ap (λ o. f.flags.render || is_some o) (find_others (λ (x : Member). x.client) f.client c e v.members) ∙ h.0, have_left v c fs h.1)
     ]) refl
 
--- the ties without a client
-pub client_gone_tied : (s : State) (c : ℕ) (ms : ModeSet) (names : NameList) (set : ObjectSet) → IsTied s → AreMasters (without_its_master c s.masters) → AreLeases (without_its_leases c s.masters s.leases) → AreModes ms → Leaves s.names s.objects (keys_without s c) (references_without s c ms) names set →
-    (tie : Tie) → is_tied tie (without_its s c ms names set)
-unfolding is_tied
-client_gone_tied s c ms names set t are leases_are modes_are left MembersOpen = members_open_left c s.files.clients s.masters.members (members_open s t)
-client_gone_tied s c ms names set t are leases_are modes_are left ClientsHave = have_left s.masters c s.files.clients (clients_have s t)
-client_gone_tied s c ms names set t are leases_are modes_are left MastersAre = are
-client_gone_tied s c ms names set t are leases_are modes_are left LesseesFew = lessees_few s t
-client_gone_tied s c ms names set t are leases_are modes_are left LeasesAre = leases_are
-client_gone_tied s c ms names set t are leases_are modes_are left TokensOfLessees =
+-- the invariants without a client
+pub client_gone_invariants : (s : State) (c : ℕ) (ms : ModeSet) (names : NameList) (set : ObjectSet) → MeetsInvariants s → AreMasters (without_its_master c s.masters) → AreLeases (without_its_leases c s.masters s.leases) → AreModes ms → Leaves s.names s.objects (keys_without s c) (references_without s c ms) names set →
+    (invariant : Invariant) → meets_invariant invariant (without_its s c ms names set)
+unfolding meets_invariant
+client_gone_invariants s c ms names set t are leases_are modes_are left MembersOpen = members_open_left c s.files.clients s.masters.members (members_open s t)
+client_gone_invariants s c ms names set t are leases_are modes_are left ClientsHave = have_left s.masters c s.files.clients (clients_have s t)
+client_gone_invariants s c ms names set t are leases_are modes_are left MastersAre = are
+client_gone_invariants s c ms names set t are leases_are modes_are left LesseesFew = lessees_few s t
+client_gone_invariants s c ms names set t are leases_are modes_are left LeasesAre = leases_are
+client_gone_invariants s c ms names set t are leases_are modes_are left TokensOfLessees =
     let below = ends_with s.masters c in
     of_lessees_swept (without_its_master c s.masters).members (ended below s.leases).tokens (released below s.masters.masters) (kept_ended below s.leases.tokens s.masters.masters (kept_have_tokens s t)) (of_lessees_ended below s.leases.tokens s.masters.masters (tokens_of_lessees s t))
-client_gone_tied s c ms names set t are leases_are modes_are left KeptHaveTokens =
+client_gone_invariants s c ms names set t are leases_are modes_are left KeptHaveTokens =
     let below = ends_with s.masters c in
     kept_swept (without_its_master c s.masters).members (ended below s.leases).tokens (released below s.masters.masters) (kept_ended below s.leases.tokens s.masters.masters (kept_have_tokens s t))
-client_gone_tied s c ms names set t are leases_are modes_are left LeasesAgree = agreed_yet s.masters s.leases c (masters_so s t) (leases_agree s t)
-client_gone_tied s c ms names set t are leases_are modes_are left MagicsSuffice = magics_suffice s t
-client_gone_tied s c ms names set t are leases_are modes_are left ModesAre = modes_are
-client_gone_tied s c ms names set t are leases_are modes_are left HoldsRise = in_order_filter (λ (x y : FileHold). files.hold_before x y ≡ true) _ s.files.holds (holds_rise s t)
-client_gone_tied s c ms names set t are leases_are modes_are left ObjectsCounted = left.tied
-client_gone_tied s c ms names set t are leases_are modes_are left NamesHeld = named_left s.names names s.objects set (keys_without s c) (references_without s c ms) left
+client_gone_invariants s c ms names set t are leases_are modes_are left LeasesAgree = agreed_yet s.masters s.leases c (masters_so s t) (leases_agree s t)
+client_gone_invariants s c ms names set t are leases_are modes_are left MagicsSuffice = magics_suffice s t
+client_gone_invariants s c ms names set t are leases_are modes_are left ModesAre = modes_are
+client_gone_invariants s c ms names set t are leases_are modes_are left HoldsRise = in_order_filter (λ (x y : FileHandle). files.handle_before x y ≡ true) _ s.files.holds (holds_rise s t)
+client_gone_invariants s c ms names set t are leases_are modes_are left ObjectsCounted = left.invariants
+client_gone_invariants s c ms names set t are leases_are modes_are left NamesHeld = named_left s.names names s.objects set (keys_without s c) (references_without s c ms) left
 
 pub some_opened : (p : SharedToken → Bool) → (ts : List SharedToken) (n : ℕ) → is_among (token_keys (filter p ts)) n ≡ true → is_among (token_keys ts) n ≡ true
 some_opened p [] n h = h
@@ -416,7 +416,7 @@ fewer_referring p q ts fs n e =
     ] refl split
 
 -- so do fewer handles, tokens and framebuffers
-pub fewer_known : (s : State) (p : FileHold → Bool) (q : SharedToken → Bool) (r : Framebuffer → Bool) (n : ℕ) → is_among (keys_of (filter p s.files.holds) ++ referring (filter q s.tokens.tokens) (filter r s.modes.framebuffers)) n ≡ true →
+pub fewer_known : (s : State) (p : FileHandle → Bool) (q : SharedToken → Bool) (r : Framebuffer → Bool) (n : ℕ) → is_among (keys_of (filter p s.files.holds) ++ referring (filter q s.tokens.tokens) (filter r s.modes.framebuffers)) n ≡ true →
     is_among (keys_of s.files.holds ++ referring_keys s) n ≡ true
 fewer_known s p q r n e =
     let fewer = keys_of (filter p s.files.holds) in
@@ -454,10 +454,10 @@ magics_left c (x ∷ xs) =
     ]
 
 module _ (s : State) (w : Rows) (c : ℕ) (flags : FileFlags) (ms : ModeSet) (names : NameList) (set : ObjectSet)
-    (t : IsTied s) (are : AreMasters (without_its_master c s.masters)) (leases_are : AreLeases (without_its_leases c s.masters s.leases)) (modes_are : AreModes ms) (loses : LosesFramebuffersOf c s.modes ms) (of : client_row w c ≡ Some (client_row_by (record { client = c; flags = flags }) (masters.member_of s.masters.members c)))
+    (t : MeetsInvariants s) (are : AreMasters (without_its_master c s.masters)) (leases_are : AreLeases (without_its_leases c s.masters s.leases)) (modes_are : AreModes ms) (loses : LosesFramebuffersOf c s.modes ms) (of : client_row w c ≡ Some (client_row_by (record { client = c; flags = flags }) (masters.member_of s.masters.members c)))
     (gone : Leaves s.names s.objects (keys_without s c) (references_without s c ms) names set) (h : Represents s w) where
-  now : IsTied (without_its s c ms names set)
-  now = client_gone_tied s c ms names set t are leases_are modes_are gone
+  now : MeetsInvariants (without_its s c ms names set)
+  now = client_gone_invariants s c ms names set t are leases_are modes_are gone
 
   -- when what its own master gave is gone
   own_ended : Represents (with_ended s (ends_with s.masters c) (device_without s.masters c)) (ended_own w (client_row w c))
@@ -500,8 +500,8 @@ module _ (s : State) (w : Rows) (c : ℕ) (flags : FileFlags) (ms : ModeSet) (na
   objects_yet = objects_are _ _ own_ended
 
   -- and the masters that no client names any more
-  pub client_gone : (part : Part) → stands_for part (without_its s c ms names set) (swept (closed w c))
-  unfolding stands_for swept closed
+  pub client_gone : (part : Part) → represents_part part (without_its s c ms names set) (swept (closed w c))
+  unfolding represents_part swept closed
   client_gone Bounds = let k = bounds_are _ _ own_ended in (k.0, k.1, gone.limit ∙ k.2, ap (λ (l : NameList). l.last) gone.names ∙ k.3, k.4, k.5, loses.last ∙ k.6, loses.topology ∙ k.7, k.8, k.9)
   client_gone Clients = clients_now
   client_gone Masters = masters_now (closed w c) clients_now (masters_are _ _ own_ended)

@@ -1,4 +1,4 @@
 pub mod Parts
-pub mod Ties
+pub mod Invariants
 pub mod Refinement
 pub mod Seeing

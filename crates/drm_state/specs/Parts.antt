@@ -5,12 +5,12 @@ use Rattle.std.specs.Option.{option_map, option_map_or, option_and_then}
 use Rattle.drm_gem.specs.declared.object.Object.{Object}
 use Rattle.drm_gem.specs.Objects.{is_key}
 use Rattle.drm_files.specs.declared.rows.FileClient.{FileClient}
-use Rattle.drm_files.specs.declared.rows.FileHold.{FileHold}
+use Rattle.drm_files.specs.declared.rows.FileHandle.{FileHandle}
 use Rattle.drm_files.specs.Files as files
 use Rattle.drm_share.specs.declared.rows.SharedName.{SharedName}
 use Rattle.drm_share.specs.declared.rows.SharedToken.{SharedToken}
 use Rattle.drm_share.specs.Tokens.{TokenList, is_exported_by}
-use Rattle.drm_model.specs.Rows.{ClientRow, MasterRow, MagicRow, HoldRow, ObjectRow, NameRow, TokenRow, GrantRow, FramebufferRow, ShownRow}
+use Rattle.drm_model.specs.Rows.{ClientRow, MasterRow, MagicRow, HandleRow, ObjectRow, NameRow, TokenRow, GrantRow, FramebufferRow, ShownRow}
 use Rattle.drm_modes.specs.declared.rows.Framebuffer.{Framebuffer}
 use Rattle.drm_modes.specs.declared.rows.Shown.{Shown}
 use Rattle.drm_modes.specs.Modes.{ModeSet, shown_rows, is_made_by, has_framebuffer}
@@ -43,7 +43,7 @@ client_row_of members f = client_row_by f (member_of members f.client)
 
 -- a lessee that nobody redeemed has an open lease token
 abbrev pub master_row_of : List LeaseToken → Master → MasterRow
-master_row_of tokens x = record { master = x.birth; lessor = x.lessor; lessee_id = x.lessee_id; lease_token = token_of tokens x.birth }
+master_row_of tokens x = record { master = x.step_number; lessor = x.lessor; lessee_id = x.lessee_id; lease_token = token_of tokens x.step_number }
 
 abbrev pub grant_row_of : Grant → GrantRow
 grant_row_of g = record { master = g.master; mode_object = g.mode_object }
@@ -53,31 +53,31 @@ abbrev pub magic_row_of : Member → Option MagicRow
 magic_row_of x = option_map (λ (g : Magic). record { master = x.master; number = g.number; client = x.client; spent = g.spent }) x.magic
 
 -- the number of the object of a key; 0 where none has it
-abbrev pub birth_at : List Object → ℕ → ℕ
-birth_at objects key = option_map_or (λ (x : Object). x.birth) (find (is_key key) objects) 0
+abbrev pub step_number_at : List Object → ℕ → ℕ
+step_number_at objects key = option_map_or (λ (x : Object). x.step_number) (find (is_key key) objects) 0
 
-abbrev pub hold_row_by : FileHold → ℕ → HoldRow
-hold_row_by x number = record { client = x.client; handle = x.handle; object = number; place = x.place }
+abbrev pub handle_row_by : FileHandle → ℕ → HandleRow
+handle_row_by x number = record { client = x.client; handle = x.handle; object = number; export_order = x.export_order }
 
 -- a handle names its object by a key, and its row by the object's number
-abbrev pub hold_row_of : List Object → FileHold → HoldRow
-hold_row_of objects x = hold_row_by x (birth_at objects x.object)
+abbrev pub handle_row_of : List Object → FileHandle → HandleRow
+handle_row_of objects x = handle_row_by x (step_number_at objects x.object)
 
 abbrev pub object_row_of : Object → ObjectRow
-object_row_of x = record { object = x.birth; size = x.size; stamp = x.stamp }
+object_row_of x = record { object = x.step_number; size = x.size; stamp = x.stamp }
 
 abbrev pub name_row_by : SharedName → ℕ → NameRow
 name_row_by x number = record { name = x.name; object = number }
 
 -- so do a name, a token and a framebuffer
 abbrev pub name_row_of : List Object → SharedName → NameRow
-name_row_of objects x = name_row_by x (birth_at objects x.object)
+name_row_of objects x = name_row_by x (step_number_at objects x.object)
 
 abbrev pub token_row_by : SharedToken → ℕ → TokenRow
 token_row_by x number = record { token = x.token; client = x.client; object = number }
 
 abbrev pub token_row_of : List Object → SharedToken → TokenRow
-token_row_of objects x = token_row_by x (birth_at objects x.object)
+token_row_of objects x = token_row_by x (step_number_at objects x.object)
 
 abbrev pub framebuffer_row_by : Framebuffer → ℕ → FramebufferRow
 framebuffer_row_by x number = record {
@@ -91,10 +91,10 @@ framebuffer_row_by x number = record {
 }
 
 abbrev pub framebuffer_row_of : List Object → Framebuffer → FramebufferRow
-framebuffer_row_of objects x = framebuffer_row_by x (birth_at objects x.object)
+framebuffer_row_of objects x = framebuffer_row_by x (step_number_at objects x.object)
 
 abbrev pub shown_row_of : Shown → ShownRow
-shown_row_of x = record { shower = x.shower; framebuffer = x.framebuffer }
+shown_row_of x = record { engine = x.engine; framebuffer = x.framebuffer }
 
 abbrev pub clients_of : State → List ClientRow
 clients_of s = map (client_row_of s.masters.members) s.files.clients
@@ -108,8 +108,8 @@ grants_of s = map grant_row_of s.leases.grants
 abbrev pub magics_of : State → List MagicRow
 magics_of s = filter_map magic_row_of s.masters.members
 
-abbrev pub holds_of : State → List HoldRow
-holds_of s = map (hold_row_of s.objects.objects) s.files.holds
+abbrev pub holds_of : State → List HandleRow
+holds_of s = map (handle_row_of s.objects.objects) s.files.holds
 
 abbrev pub objects_of : State → List ObjectRow
 objects_of s = map object_row_of s.objects.objects
@@ -161,8 +161,8 @@ pub record LosesFramebuffersOf (c : ℕ) (old now : ModeSet) : Type 0 where
   pub shown : shown_rows now ≡ filter (λ (x : Shown). has_framebuffer now x.framebuffer) (shown_rows old)
 
 -- the keys that handles name
-abbrev pub keys_of : List FileHold → List ℕ
-keys_of holds = map (λ (x : FileHold). x.object) holds
+abbrev pub keys_of : List FileHandle → List ℕ
+keys_of holds = map (λ (x : FileHandle). x.object) holds
 
 -- the device's master without a client: none where it is the client's own
 abbrev pub device_without : MasterSet → ℕ → Option ℕ
@@ -179,7 +179,7 @@ is_below (Some top) ms m = is_under (lessor_of ms) top m
 
 -- those masters are kept no more
 abbrev pub released : (ℕ → Bool) → List Master → List Master
-released below ms = map (λ (x : Master). if below x.birth then kept_as false x else x) ms
+released below ms = map (λ (x : Master). if below x.step_number then kept_as false x else x) ms
 
 -- their leases and open lease tokens are gone
 abbrev pub ended : (ℕ → Bool) → LeaseSet → LeaseSet

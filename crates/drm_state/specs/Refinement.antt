@@ -10,16 +10,16 @@ use Rattle.drm_table.specs.declared.rules.Rule.{Rule}
 use Rattle.drm_table.specs.Permit.{first_failing}
 use Rattle.std.specs.Option.{is_some}
 use Rattle.drm_modes.specs.Topology.{object_count}
-use Rattle.drm_model.specs.Rows.{Rows, free_handle, with_hold}
+use Rattle.drm_model.specs.Rows.{Rows, free_handle, with_handle_row}
 use Rattle.drm_model.specs.Parts.{Part, Bounds, Clients, Masters, Magics, Holds, Objects, Names, Tokens, Grants, Framebuffers, Shown, DeviceMaster, LastToken, LastLeaseToken}
-use Rattle.drm_model.specs.Births.{BirthsRise}
+use Rattle.drm_model.specs.StepNumbers.{StepNumbersRise}
 use Rattle.drm_model.specs.Verdict.{admission_checks}
 use Rattle.drm_model.specs.Buffers.{with_object, has_buffer_room, new_handle}
 use Rattle.drm_model.specs.Change.{after, swept}
 use Rattle.drm_model.specs.Reply.{reply}
 use Rattle.drm_model.specs.Run.{Growing}
 use Rattle.drm_state.specs.declared.state.State.{State}
-use Rattle.drm_state.specs.Parts.{birth_at, clients_of, masters_of, magics_of, holds_of, objects_of, names_of, tokens_of, grants_of, framebuffers_of, shown_of, last_token_of, last_lease_token_of}
+use Rattle.drm_state.specs.Parts.{step_number_at, clients_of, masters_of, magics_of, holds_of, objects_of, names_of, tokens_of, grants_of, framebuffers_of, shown_of, last_token_of, last_lease_token_of}
 
 -- the parts keep the limits and the fixed mode objects
 abbrev pub HaveBounds : State → Rows → Type 0
@@ -37,54 +37,54 @@ HaveBounds s w =
 
 -- what the state stands for in a part of the rows. Magics, handles, names, tokens, grants, framebuffers and what is shown have
 -- their own order
-unfoldable pub stands_for : Part → State → Rows → Type 0
-stands_for Bounds s w = HaveBounds s w
-stands_for Clients s w = w.clients ≡ clients_of s
-stands_for Masters s w = w.masters ≡ masters_of s
-stands_for Magics s w = SameRows w.magics (magics_of s)
-stands_for Holds s w = SameRows w.holds (holds_of s)
-stands_for Objects s w = w.objects ≡ objects_of s
-stands_for Names s w = SameRows w.names (names_of s)
-stands_for Tokens s w = SameRows w.tokens (tokens_of s)
-stands_for Grants s w = SameRows w.grants (grants_of s)
-stands_for Framebuffers s w = SameRows w.framebuffers (framebuffers_of s)
-stands_for Shown s w = SameRows w.shown (shown_of s)
-stands_for DeviceMaster s w = w.device_master ≡ s.masters.device_master
-stands_for LastToken s w = w.last_token ≡ last_token_of s
-stands_for LastLeaseToken s w = w.last_lease_token ≡ last_lease_token_of s
+unfoldable pub represents_part : Part → State → Rows → Type 0
+represents_part Bounds s w = HaveBounds s w
+represents_part Clients s w = w.clients ≡ clients_of s
+represents_part Masters s w = w.masters ≡ masters_of s
+represents_part Magics s w = SameRows w.magics (magics_of s)
+represents_part Holds s w = SameRows w.holds (holds_of s)
+represents_part Objects s w = w.objects ≡ objects_of s
+represents_part Names s w = SameRows w.names (names_of s)
+represents_part Tokens s w = SameRows w.tokens (tokens_of s)
+represents_part Grants s w = SameRows w.grants (grants_of s)
+represents_part Framebuffers s w = SameRows w.framebuffers (framebuffers_of s)
+represents_part Shown s w = SameRows w.shown (shown_of s)
+represents_part DeviceMaster s w = w.device_master ≡ s.masters.device_master
+represents_part LastToken s w = w.last_token ≡ last_token_of s
+represents_part LastLeaseToken s w = w.last_lease_token ≡ last_lease_token_of s
 
 -- the state stands for the rows
 abbrev pub Represents : State → Rows → Type 0
-Represents s w = (part : Part) → stands_for part s w
+Represents s w = (part : Part) → represents_part part s w
 
 -- the state stands for w, where the next step has this number
-pub record Stands (s : State) (birth : ℕ) (w : Rows) : Type 0 where
+pub record RepresentsAt (s : State) (step_number : ℕ) (w : Rows) : Type 0 where
   pub rows : Represents s w
-  pub births : BirthsRise w.steps w
-  pub birth_is : w.steps + 1 ≡ birth
+  pub step_numbers : StepNumbersRise w.steps w
+  pub step_number_is : w.steps + 1 ≡ step_number
 
 -- the answer is the reply, and the state stands for the rows after the event; or memory was refused, and it stands for
 -- those before
-abbrev pub Outcome : Rows → Event → Result Answer AllocError → State → Type 0
-Outcome w event (Ok answer) s = (answer ≡ reply w event) × Represents s (after w event)
-Outcome w event (Err e) s = Growing w event × Represents s w
+abbrev pub IsRefined : Rows → Event → Result Answer AllocError → State → Type 0
+IsRefined w event (Ok answer) s = (answer ≡ reply w event) × Represents s (after w event)
+IsRefined w event (Err e) s = Growing w event × Represents s w
 
 -- what the function of an event owes, whichever rows the state stands for
-unfoldable pub Owes : State → ℕ → Event → Result Answer AllocError → State → Type 0
-Owes old birth event result new = (w : Rows) → Stands old birth w → Outcome w event result new
+unfoldable pub Refines : State → ℕ → Event → Result Answer AllocError → State → Type 0
+Refines old step_number event result new = (w : Rows) → RepresentsAt old step_number w → IsRefined w event result new
 
 -- the same where no memory is wanted, and the number of the step is nothing to it
-unfoldable pub OwesAnswer : State → Event → Answer → State → Type 0
-OwesAnswer old event answer new = (w : Rows) → Represents old w → Outcome w event (Ok answer) new
+unfoldable pub RefinesAnswer : State → Event → Answer → State → Type 0
+RefinesAnswer old event answer new = (w : Rows) → Represents old w → IsRefined w event (Ok answer) new
 
 -- the same for a call that is known, laid out, of an open client, and permitted
-unfoldable pub OwesCall : State → ℕ → ℕ → Call → Result Answer AllocError → State → Type 0
-OwesCall old birth c call result new =
-    (w : Rows) → Stands old birth w → first_failing (admission_checks w c call) ≡ None → Outcome w (Ask c call) result new
+unfoldable pub RefinesCall : State → ℕ → ℕ → Call → Result Answer AllocError → State → Type 0
+RefinesCall old step_number c call result new =
+    (w : Rows) → RepresentsAt old step_number w → first_failing (admission_checks w c call) ≡ None → IsRefined w (Ask c call) result new
 
-unfoldable pub OwesReply : State → ℕ → Call → Answer → State → Type 0
-OwesReply old c call answer new =
-    (w : Rows) → Represents old w → first_failing (admission_checks w c call) ≡ None → Outcome w (Ask c call) (Ok answer) new
+unfoldable pub RefinesReply : State → ℕ → Call → Answer → State → Type 0
+RefinesReply old c call answer new =
+    (w : Rows) → Represents old w → first_failing (admission_checks w c call) ≡ None → IsRefined w (Ask c call) (Ok answer) new
 
 -- what making a buffer comes to: none where the client may have no more handles or no more objects may be there, or its new
 -- handle; or memory was refused, and the state stands for the rows before
@@ -94,18 +94,18 @@ MadeBuffer w c size (Ok (Some handle)) s = (has_buffer_room w c ≡ true) × (ha
 MadeBuffer w c size (Err e) s = (has_buffer_room w c ≡ true) × Represents s w
 
 unfoldable pub MakesBuffer : State → ℕ → ℕ → ℕ → Result (Option ℕ) AllocError → State → Type 0
-MakesBuffer old birth c size result new = (w : Rows) → Stands old birth w → MadeBuffer w c size result new
+MakesBuffer old step_number c size result new = (w : Rows) → RepresentsAt old step_number w → MadeBuffer w c size result new
 
 -- what a fresh handle of an object that is there comes to: none where the client has every handle, or the handle; or memory was
 -- refused, and the state stands for the rows before
 abbrev pub AddedHandle : Rows → ℕ → ℕ → Option ℕ → Result (Option ℕ) AllocError → State → Type 0
-AddedHandle w c o place (Ok None) s = (free_handle w c ≡ None) × Represents s w
-AddedHandle w c o place (Ok (Some handle)) s = (free_handle w c ≡ Some handle) × Represents s (swept (record w { holds = with_hold w c o place }))
-AddedHandle w c o place (Err e) s = (is_some (free_handle w c) ≡ true) × Represents s w
+AddedHandle w c o export_order (Ok None) s = (free_handle w c ≡ None) × Represents s w
+AddedHandle w c o export_order (Ok (Some handle)) s = (free_handle w c ≡ Some handle) × Represents s (swept (record w { holds = with_handle_row w c o export_order }))
+AddedHandle w c o export_order (Err e) s = (is_some (free_handle w c) ≡ true) × Represents s w
 
 -- the object is that of a key
 unfoldable pub AddsHandle : State → ℕ → ℕ → Option ℕ → Result (Option ℕ) AllocError → State → Type 0
-AddsHandle old c key place result new = (w : Rows) → Represents old w → AddedHandle w c (birth_at old.objects.objects key) place result new
+AddsHandle old c key export_order result new = (w : Rows) → Represents old w → AddedHandle w c (step_number_at old.objects.objects key) export_order result new
 
 -- the first rule of admission that fails, whichever rows the state stands for
 unfoldable pub IsAdmission : State → ℕ → Call → Option Rule → Type 0

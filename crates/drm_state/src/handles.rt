@@ -2,9 +2,9 @@
 
 ghost use Rattle.std.specs.Prelude.{◌≡◌, true, ◌++◌};
 ghost use Rattle.drm_lists.specs.Numbers.{is_among};
-ghost use Rattle.drm_files.specs.Files.{is_present};
+ghost use Rattle.drm_files.specs.Files.{is_open_client};
 ghost use Rattle.drm_state.specs.Parts.{keys_of, referring_keys};
-ghost use Rattle.drm_state.specs.Ties.{IsTied, IsReady};
+ghost use Rattle.drm_state.specs.Invariants.{MeetsInvariants, StepPrecondition};
 ghost use Rattle.drm_state.specs.Refinement.{AddsHandle};
 
 use crate::state::State;
@@ -16,18 +16,18 @@ use std::alloc::AllocError;
 /// refused nothing changes.
 pub fn new_handle(
     state: &mut State,
-    birth: u32,
+    step_number: u32,
     client: u32,
     object: ObjectKey,
-    place: Option<u32>,
+    export_order: Option<u32>,
 ) -> Result<Option<u32>, AllocError>
-    requires ready { IsReady state.old birth }
-    requires present { is_present state.old.files client ≡ true }
+    requires precondition { StepPrecondition state.old step_number }
+    requires open_client { is_open_client state.old.files client ≡ true }
     requires known { is_among (keys_of state.old.files.holds ++ referring_keys state.old) object ≡ true }
-    ensures adds { AddsHandle state.old client object place result state.new }
-    ensures tied { IsTied state.new }
+    ensures adds { AddsHandle state.old client object export_order result state.new }
+    ensures invariants { MeetsInvariants state.new }
 {
-    let handle = match state.files.add_handle(client, object, place) {
+    let handle = match state.files.add_handle(client, object, export_order) {
         Ok(handle) => handle,
         Err(FileFault::Full) => return Ok(None),
         Err(FileFault::NoMemory) => return Err(AllocError),

@@ -1,7 +1,7 @@
 //! What goes with a handle.
 
 ghost use Rattle.std.specs.Prelude.{ℕ, List, ◌∷◌};
-ghost use Rattle.drm_state.specs.Ties.{AreTied, AreNamed, Leaves};
+ghost use Rattle.drm_state.specs.Invariants.{AreCounted, AreNamed, Leaves};
 
 use drm_gem::{ObjectKey, Objects};
 use drm_share::Names;
@@ -9,8 +9,8 @@ use drm_share::Names;
 /// One handle fewer names an object: its name goes with the last handle of any client, and the object with the last that
 /// refers to it (drm-gem(7)). It takes no memory.
 pub fn release(names: &mut Names, objects: &mut Objects, object: ObjectKey)
-    requires tied { (keys : List ℕ) × (refs : List ℕ) × AreTied (object ∷ keys) refs objects.old.objects }
-    ensures leaves { (keys refs : List ℕ) → AreTied (object ∷ keys) refs objects.old.objects → AreNamed (object ∷ keys) names.old.names → Leaves names.old objects.old keys refs names.new objects.new }
+    requires invariants { (keys : List ℕ) × (refs : List ℕ) × AreCounted (object ∷ keys) refs objects.old.objects }
+    ensures leaves { (keys refs : List ℕ) → AreCounted (object ∷ keys) refs objects.old.objects → AreNamed (object ∷ keys) names.old.names → Leaves names.old objects.old keys refs names.new objects.new }
 {
     let is_last = objects.holds(object) == 1;
     if is_last {

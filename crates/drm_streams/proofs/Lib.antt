@@ -1,4 +1,4 @@
-pub mod Accounts
+pub mod Traces
 pub mod Calls
 pub mod PutSoFar
 pub mod TextLemmas

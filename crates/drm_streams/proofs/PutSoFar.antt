@@ -1,15 +1,15 @@
 -- How far putting a text has come.
 use Rattle.std.proofs.Common.{◌≡◌, ℕ, ◌+◌, ◌-◌, ◌*◌, ◌<◌, ◌≤◌, zero, suc, List, [], ◌∷◌, ◌++◌, length, take, drop, refl, sym, ap, ◌∙◌, arith, append_assoc, length-append, length-take-le, take-append-drop}
-use Rattle.drm_streams.specs.Streams.{Counts, SinkAccount, PutGives, counts_put}
-use Rattle.drm_streams.specs.Turns.{Pays, Tries}
+use Rattle.drm_streams.specs.Streams.{Counts, SinkTrace, PutGives, counts_put}
+use Rattle.drm_streams.specs.Turns.{WriteCost, Tries}
 use Rattle.drm_streams.specs.declared.sink.Put.TheVariants as put
-use Rattle.drm_streams.proofs.Accounts.{Pays-one, Pays-then}
+use Rattle.drm_streams.proofs.Traces.{WriteCost-one, WriteCost-then}
 
 -- The sink took the front of the text, and the rest is left; so many interruptions came since the last byte.
-pub record PutSoFar (old new : SinkAccount) (text rest : List ℕ) (had has interruptions : ℕ) : Type 0 where
+pub record PutSoFar (old new : SinkTrace) (text rest : List ℕ) (had has interruptions : ℕ) : Type 0 where
   pub front : List ℕ
   pub parts : text ≡ front ++ rest
-  pub pays : Pays old new front had has
+  pub pays : WriteCost old new front had has
   pub spent : 0 < length front → has < had
   pub patient : interruptions < 1000
   pub pending : interruptions ≤ 1000 * length rest
@@ -29,7 +29,7 @@ counts_put-calls zero (b ∷ text) c = refl
 counts_put-calls (suc n) (b ∷ text) c = refl
 
 -- the sink took some bytes of the rest
-pub PutSoFar-took : (a b c : SinkAccount) (text rest later : List ℕ) (s t i n : ℕ) → PutSoFar a b text rest s t i → 0 < t → 0 < n
+pub PutSoFar-took : (a b c : SinkTrace) (text rest later : List ℕ) (s t i n : ℕ) → PutSoFar a b text rest s t i → 0 < t → 0 < n
     → PutGives (put.Took n) b.written c.written rest → c.counts ≡ counts_put (put.Took n) rest b.counts → later ≡ drop n rest → PutSoFar a c text later s (t - 1) 0
 PutSoFar-took a b c text rest later s t i n so some_turn some gives counts e =
     let faults : c.counts.faults ≡ b.counts.faults = ap (λ (x : Counts). x.faults) counts ∙ counts_put-faults n rest b.counts some gives.0 in
@@ -39,7 +39,7 @@ PutSoFar-took a b c text rest later s t i n so some_turn some gives counts e =
       front = so.front ++ take n rest;
       parts = so.parts ∙ ap (λ l. so.front ++ l) (sym (take-append-drop n rest)) ∙ sym (append_assoc so.front (take n rest) (drop n rest))
           ∙ ap (λ l. (so.front ++ take n rest) ++ l) (sym e);
-      pays = Pays-then so.pays (Pays-one b c (put.Took n) rest t some_turn gives counts);
+      pays = WriteCost-then so.pays (WriteCost-one b c (put.Took n) rest t some_turn gives counts);
       spent = λ _. omega arith;
       patient = omega arith;
       pending = omega arith;
@@ -48,7 +48,7 @@ PutSoFar-took a b c text rest later s t i n so some_turn some gives counts e =
     }
 
 -- each byte took one call that was no fault at most, and 1,000 that were
-pub PutSoFar-Tries : (a b : SinkAccount) (text rest : List ℕ) (s t i : ℕ) → PutSoFar a b text rest s t i → Tries a.counts b.counts (length text)
+pub PutSoFar-Tries : (a b : SinkTrace) (text rest : List ℕ) (s t i : ℕ) → PutSoFar a b text rest s t i → Tries a.counts b.counts (length text)
 PutSoFar-Tries a b text rest s t i so =
     let len : length text ≡ length so.front + length rest = ap length so.parts ∙ length-append so.front rest in
     record { calls = omega arith; faults = omega arith }

@@ -1,30 +1,30 @@
 -- Writing texts one after another.
 use Rattle.std.proofs.Common.{◌≡◌, ℕ, zero, suc, ◌+◌, ◌<◌, ◌≤◌, List, [], ◌∷◌, ◌++◌, length, length-append, take, drop, refl, sym, ◌∙◌, ap, arith, get_or, append_assoc, append-nil}
 use Rattle.std.specs.List.{flat_map}
-use Rattle.drm_streams.specs.Streams.{SinkAccount}
-use Rattle.drm_streams.specs.Turns.{Pays, PaysPart, Writes}
+use Rattle.drm_streams.specs.Streams.{SinkTrace}
+use Rattle.drm_streams.specs.Turns.{WriteCost, PartialWriteCost, Writes}
 use Rattle.drm_streams.specs.Texts.{WritesOut}
 use Rattle.drm_streams.specs.declared.turns.Written.{Written}
 use Rattle.drm_streams.specs.declared.turns.Written.TheVariants as written
-use Rattle.drm_streams.proofs.Accounts.{Pays-then}
+use Rattle.drm_streams.proofs.Traces.{WriteCost-then}
 
-part-then : (a b c : SinkAccount) (xs ys more text : List ℕ) (s t u : ℕ) → text ≡ xs ++ (ys ++ more) → Pays a b xs s t → PaysPart b c ys t u → PaysPart a c text s u
+part-then : (a b c : SinkTrace) (xs ys more text : List ℕ) (s t u : ℕ) → text ≡ xs ++ (ys ++ more) → WriteCost a b xs s t → PartialWriteCost b c ys t u → PartialWriteCost a c text s u
 part-then a b c xs ys more text s t u e h k = record {
   front = xs ++ k.front;
   rest = k.rest ++ more;
   parts = e ∙ ap (λ l. xs ++ (l ++ more)) k.parts ∙ ap (λ l. xs ++ l) (append_assoc k.front k.rest more) ∙ sym (append_assoc xs k.front (k.rest ++ more));
   more = let l = length-append k.rest more in let n = k.more in omega (arith, l, n);
-  pays = Pays-then h k.pays;
+  pays = WriteCost-then h k.pays;
 }
 
 -- writing stopped in a text behind others
-pub stops : (end : Written) → (end ≡ written.Whole → ⊥) → (a b c : SinkAccount) (xs ys more text : List ℕ) (s t u : ℕ) → text ≡ xs ++ (ys ++ more) → Pays a b xs s t → WritesOut end b c ys t u → WritesOut end a c text s u
+pub stops : (end : Written) → (end ≡ written.Whole → ⊥) → (a b c : SinkTrace) (xs ys more text : List ℕ) (s t u : ℕ) → text ≡ xs ++ (ys ++ more) → WriteCost a b xs s t → WritesOut end b c ys t u → WritesOut end a c text s u
 stops written.Whole partial a b c xs ys more text s t u e h k = absurd (partial refl)
 stops written.Fault partial a b c xs ys more text s t u e h k =
     (part-then a b c xs ys more text s t u e h k.0, let f = h.took.counts.faults in let g = k.1 in omega (arith, f, g))
 stops written.TurnsUsed partial a b c xs ys more text s t u e h k = (part-then a b c xs ys more text s t u e h k.0, k.1)
 
-pub writes_out : (end : Written) (a b : SinkAccount) (text : List ℕ) (s t : ℕ) → Writes end a b text s t → WritesOut end a b text s t
+pub writes_out : (end : Written) (a b : SinkTrace) (text : List ℕ) (s t : ℕ) → Writes end a b text s t → WritesOut end a b text s t
 writes_out written.Whole a b text s t h = h.0
 writes_out written.Fault a b text s t h = h
 writes_out written.TurnsUsed a b text s t h = h

@@ -15,14 +15,14 @@ pub record Counts : Type 0 where
 
 -- what a source tells: the bytes still to come, where it knows them (a socket doesn't), its counts, and how many bytes
 -- the last call gave that gave some
-pub record SourceAccount : Type 0 where
+pub record SourceTrace : Type 0 where
   pub left : Option (List ℕ)
   pub counts : Counts
   pub gave : ℕ
 
 -- what a sink tells: the bytes given to it so far, where it knows them (a socket doesn't), its counts, and how many bytes
 -- the last call was handed
-pub record SinkAccount : Type 0 where
+pub record SinkTrace : Type 0 where
   pub written : Option (List ℕ)
   pub counts : Counts
   pub handed : ℕ

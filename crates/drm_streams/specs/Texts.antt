@@ -2,16 +2,16 @@
 use Rattle.std.specs.Prelude.{◌≡◌, ℕ, ◌<◌, List}
 use Rattle.std.specs.Borrow.{Bor}
 use Rattle.std.specs.List.{flat_map}
-use Rattle.drm_streams.specs.Streams.{SinkAccount}
-use Rattle.drm_streams.specs.Turns.{Pays, PaysPart}
+use Rattle.drm_streams.specs.Streams.{SinkTrace}
+use Rattle.drm_streams.specs.Turns.{WriteCost, PartialWriteCost}
 use Rattle.drm_streams.specs.declared.turns.Written.{Written}
 use Rattle.drm_streams.specs.declared.turns.Written.TheVariants as written
 
 -- what came of writing a text: the whole was written, or a front of it that isn't; each call cost a turn
-abbrev pub WritesOut : Written → SinkAccount → SinkAccount → List ℕ → ℕ → ℕ → Type 0
-WritesOut written.Whole old new text had has = Pays old new text had has
-WritesOut written.Fault old new text had has = PaysPart old new text had has × (old.counts.faults < new.counts.faults)
-WritesOut written.TurnsUsed old new text had has = PaysPart old new text had has × (has ≡ 0)
+abbrev pub WritesOut : Written → SinkTrace → SinkTrace → List ℕ → ℕ → ℕ → Type 0
+WritesOut written.Whole old new text had has = WriteCost old new text had has
+WritesOut written.Fault old new text had has = PartialWriteCost old new text had has × (old.counts.faults < new.counts.faults)
+WritesOut written.TurnsUsed old new text had has = PartialWriteCost old new text had has × (has ≡ 0)
 
 -- texts, joined
 abbrev pub joined_texts : List (Bor (List ℕ)) → List ℕ

@@ -2,7 +2,7 @@
 use Rattle.std.specs.Prelude.{◌≡◌, ℕ, ◌+◌, ◌*◌, ◌<◌, ◌≤◌, ◌⊎◌, List, [], ◌∷◌, ◌++◌, length, take, ⊤}
 use Rattle.std.specs.List.{AllByRecursion}
 use Rattle.std.specs.Io.KnownBytes.{Appends, Consumes, IsAtEnd}
-use Rattle.drm_streams.specs.Streams.{Counts, one_call, one_end, one_failure, SourceAccount, SinkAccount}
+use Rattle.drm_streams.specs.Streams.{Counts, one_call, one_end, one_failure, SourceTrace, SinkTrace}
 use Rattle.drm_streams.specs.declared.turns.Refill.{Refill}
 use Rattle.drm_streams.specs.declared.turns.Refill.TheVariants as refill
 use Rattle.drm_streams.specs.declared.turns.Written.{Written}
@@ -15,32 +15,32 @@ pub record NeverFall (old new : Counts) : Type 0 where
   pub faults : old.faults ≤ new.faults
 
 -- Over any number of calls, the source gave these bytes.
-pub record Gave (old new : SourceAccount) (bytes : List ℕ) : Type 0 where
+pub record Gave (old new : SourceTrace) (bytes : List ℕ) : Type 0 where
   pub given : Consumes old.left new.left bytes
   pub counts : NeverFall old.counts new.counts
 
 -- Over any number of calls, the sink took these bytes.
-pub record Took (old new : SinkAccount) (bytes : List ℕ) : Type 0 where
+pub record Took (old new : SinkTrace) (bytes : List ℕ) : Type 0 where
   pub taken : Appends old.written new.written bytes
   pub counts : NeverFall old.counts new.counts
 
 -- The source gave these bytes, and each call cost a turn: `had` before, `has` after.
-pub record Spends (old new : SourceAccount) (bytes : List ℕ) (had has : ℕ) : Type 0 where
+pub record ReadCost (old new : SourceTrace) (bytes : List ℕ) (had has : ℕ) : Type 0 where
   pub gave : Gave old new bytes
   pub cost : new.counts.calls + has ≡ old.counts.calls + had
 
 -- The sink took these bytes, and each call cost a turn.
-pub record Pays (old new : SinkAccount) (bytes : List ℕ) (had has : ℕ) : Type 0 where
+pub record WriteCost (old new : SinkTrace) (bytes : List ℕ) (had has : ℕ) : Type 0 where
   pub took : Took old new bytes
   pub cost : new.counts.calls + has ≡ old.counts.calls + had
 
 -- The sink took a front of the text, and not the whole; each call cost a turn.
-pub record PaysPart (old new : SinkAccount) (text : List ℕ) (had has : ℕ) : Type 0 where
+pub record PartialWriteCost (old new : SinkTrace) (text : List ℕ) (had has : ℕ) : Type 0 where
   pub front : List ℕ
   pub rest : List ℕ
   pub parts : text ≡ front ++ rest
   pub more : 0 < length rest
-  pub pays : Pays old new front had has
+  pub pays : WriteCost old new front had has
 
 -- At most so many calls were no fault, and at most 1,000 times as many were one.
 pub record Tries (old new : Counts) (most : ℕ) : Type 0 where
@@ -48,17 +48,17 @@ pub record Tries (old new : Counts) (most : ℕ) : Type 0 where
   pub faults : new.faults ≤ old.faults + 1000 * most
 
 -- What came of a refill. The 1,000th interruption in a row is a fault; a call that no turn is left for isn't made.
-abbrev pub Refills : Refill → SourceAccount → SourceAccount → List ℕ → ℕ → ℕ → Type 0
-Refills (refill.Got n) old new buffer had has = Spends old new (take n buffer) had has × (0 < n) × (n ≤ length buffer) × (has < had)
-Refills refill.End old new buffer had has = Spends old new [] had has × IsAtEnd new.left × (old.counts.ends < new.counts.ends)
-Refills refill.Fault old new buffer had has = Spends old new [] had has × (old.counts.faults < new.counts.faults)
-Refills refill.TurnsUsed old new buffer had has = Spends old new [] had has × (has ≡ 0)
+abbrev pub Refills : Refill → SourceTrace → SourceTrace → List ℕ → ℕ → ℕ → Type 0
+Refills (refill.Got n) old new buffer had has = ReadCost old new (take n buffer) had has × (0 < n) × (n ≤ length buffer) × (has < had)
+Refills refill.End old new buffer had has = ReadCost old new [] had has × IsAtEnd new.left × (old.counts.ends < new.counts.ends)
+Refills refill.Fault old new buffer had has = ReadCost old new [] had has × (old.counts.faults < new.counts.faults)
+Refills refill.TurnsUsed old new buffer had has = ReadCost old new [] had has × (has ≡ 0)
 
 -- What came of putting a text. A text that isn't empty costs a turn at least.
-abbrev pub Writes : Written → SinkAccount → SinkAccount → List ℕ → ℕ → ℕ → Type 0
-Writes written.Whole old new text had has = Pays old new text had has × (0 < length text → has < had)
-Writes written.Fault old new text had has = PaysPart old new text had has × (old.counts.faults < new.counts.faults)
-Writes written.TurnsUsed old new text had has = PaysPart old new text had has × (has ≡ 0)
+abbrev pub Writes : Written → SinkTrace → SinkTrace → List ℕ → ℕ → ℕ → Type 0
+Writes written.Whole old new text had has = WriteCost old new text had has × (0 < length text → has < had)
+Writes written.Fault old new text had has = PartialWriteCost old new text had has × (old.counts.faults < new.counts.faults)
+Writes written.TurnsUsed old new text had has = PartialWriteCost old new text had has × (has ≡ 0)
 
 -- ---- each call of a loop
 
@@ -100,7 +100,7 @@ PutCalls written.Fault old new = ((row : ℕ) × (mid : Counts) × (row < 1000) 
 PutCalls written.TurnsUsed old new = (row : ℕ) × (row < 1000) × PutPieces old new row
 
 -- A call that faults was handed all that the sink hasn't taken.
-abbrev pub HandsRest : Written → SinkAccount → SinkAccount → List ℕ → Type 0
+abbrev pub HandsRest : Written → SinkTrace → SinkTrace → List ℕ → Type 0
 HandsRest written.Fault old new text = (front : List ℕ) × (rest : List ℕ) × (text ≡ front ++ rest) × Appends old.written new.written front × (new.handed ≡ length rest) × (0 < length rest)
 HandsRest written.Whole old new text = ⊤
 HandsRest written.TurnsUsed old new text = ⊤

@@ -1,6 +1,6 @@
 //! Where bytes go to.
 ghost use Rattle.std.specs.Prelude.{◌≡◌, ◌-◌, ◌^◌, ◌<◌, length};
-ghost use Rattle.drm_streams.specs.Streams.{SinkAccount, PutGives, counts_put, no_calls};
+ghost use Rattle.drm_streams.specs.Streams.{SinkTrace, PutGives, counts_put, no_calls};
 
 use std::io::{ErrorKind, Write};
 use std::marker::Model;
@@ -20,11 +20,11 @@ pub enum Put {
 pub trait Sink {
     /// The bytes that it was given so far, where the sink knows them, the counts of its calls, and
     /// how many bytes it was handed last.
-    ghost account: { Self → SinkAccount };
+    ghost trace: { Self → SinkTrace };
 
     /// How many calls of `put` were made.
     fn calls(&self) -> u64
-        ensures { result ≡ (account self.now).counts.calls };
+        ensures { result ≡ (trace self.now).counts.calls };
 
     /// Puts bytes from the front of the text, which may be empty.
     ///
@@ -32,12 +32,12 @@ pub trait Sink {
     /// counts as a failure.
     /// Only `Took` adds bytes to those given so far.
     fn put(&mut self, text: &[u8]) -> Put
-        requires countable { (account self.old).counts.calls < 2 ^ 64 - 1 }
-        ensures gives { PutGives result (account self.old).written (account self.new).written
+        requires countable { (trace self.old).counts.calls < 2 ^ 64 - 1 }
+        ensures gives { PutGives result (trace self.old).written (trace self.new).written
             text.now }
-        ensures counts { (account self.new).counts
-            ≡ counts_put result text.now (account self.old).counts }
-        ensures handed { (account self.new).handed ≡ length text.now };
+        ensures counts { (trace self.new).counts
+            ≡ counts_put result text.now (trace self.old).counts }
+        ensures handed { (trace self.new).handed ≡ length text.now };
 }
 
 /// A sink that writes to a writer.
@@ -54,9 +54,9 @@ pub struct ToWrite<W: Write> {
 
 impl<W: Write> Model for ToWrite<W> {
     ghost use Rattle.std.specs.Prelude.{◌≤◌};
-    ghost use Rattle.drm_streams.specs.Streams.{SinkAccount};
+    ghost use Rattle.drm_streams.specs.Streams.{SinkTrace};
 
-    ghost Value = { SinkAccount };
+    ghost Value = { SinkTrace };
 
     ghost view = { λ s. record {
       written = W.contents s.writer;
@@ -91,7 +91,7 @@ impl<W: Write> ToWrite<W> {
 }
 
 impl<W: Write> Sink for ToWrite<W> {
-    ghost account = { λ s. s };
+    ghost trace = { λ s. s };
 
     fn calls(&self) -> u64 {
         self.calls

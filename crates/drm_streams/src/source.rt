@@ -1,7 +1,7 @@
 //! Where bytes come from.
 ghost use Rattle.std.specs.Prelude.{◌≡◌, ◌-◌, ◌^◌, ◌<◌, length};
 ghost use Rattle.drm_streams.specs.Streams.{
-  SourceAccount,
+  SourceTrace,
   TakeGives,
   counts_taken,
   gave_after,
@@ -28,23 +28,23 @@ pub enum Taken {
 pub trait Source {
     /// The bytes still to come, where the source knows them, the counts of its calls, and how many
     /// bytes came last.
-    ghost account: { Self → SourceAccount };
+    ghost trace: { Self → SourceTrace };
 
     /// How many calls of `take` were made.
     fn calls(&self) -> u64
-        ensures { result ≡ (account self.now).counts.calls };
+        ensures { result ≡ (trace self.now).counts.calls };
 
     /// Takes bytes into the front of the buffer. What stands behind them is open.
     ///
     /// An interruption counts as a fault, but as no failure. Only `Got` takes bytes from those still to come.
     fn take(&mut self, buffer: &mut [u8]) -> Taken
         requires room { 0 < length buffer.old }
-        requires countable { (account self.old).counts.calls < 2 ^ 64 - 1 }
-        ensures gives { TakeGives result (account self.old).left (account self.new).left
+        requires countable { (trace self.old).counts.calls < 2 ^ 64 - 1 }
+        ensures gives { TakeGives result (trace self.old).left (trace self.new).left
             buffer.new }
-        ensures counts { (account self.new).counts
-            ≡ counts_taken result (account self.old).counts }
-        ensures gave { (account self.new).gave ≡ gave_after result (account self.old).gave };
+        ensures counts { (trace self.new).counts
+            ≡ counts_taken result (trace self.old).counts }
+        ensures gave { (trace self.new).gave ≡ gave_after result (trace self.old).gave };
 }
 
 /// A source that reads from a reader.
@@ -62,9 +62,9 @@ pub struct FromRead<R: Read> {
 
 impl<R: Read> Model for FromRead<R> {
     ghost use Rattle.std.specs.Prelude.{◌+◌, ◌≤◌};
-    ghost use Rattle.drm_streams.specs.Streams.{SourceAccount};
+    ghost use Rattle.drm_streams.specs.Streams.{SourceTrace};
 
-    ghost Value = { SourceAccount };
+    ghost Value = { SourceTrace };
 
     ghost view = { λ s. record {
       left = R.remaining s.reader;
@@ -100,7 +100,7 @@ impl<R: Read> FromRead<R> {
 }
 
 impl<R: Read> Source for FromRead<R> {
-    ghost account = { λ s. s };
+    ghost trace = { λ s. s };
 
     fn calls(&self) -> u64 {
         self.calls

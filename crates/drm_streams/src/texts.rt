@@ -8,8 +8,8 @@ use crate::turns::{Written, put_all};
 
 /// Puts each text whole, in order, until one isn't put whole. Each call costs a turn.
 pub fn put_each<K: Sink>(sink: &mut K, texts: &[&[u8]], turns: &mut u64) -> Written
-    requires { (K.account sink.old).counts.calls + turns.old < 2 ^ 48 }
-    ensures { WritesOut result (K.account sink.old) (K.account sink.new) (joined_texts texts.now) turns.old turns.new }
+    requires { (K.trace sink.old).counts.calls + turns.old < 2 ^ 48 }
+    ensures { WritesOut result (K.trace sink.old) (K.trace sink.new) (joined_texts texts.now) turns.old turns.new }
 {
     for text in texts {
         match put_all(sink, text, turns) {

@@ -46,17 +46,17 @@ pub enum Written {
 /// Only `Got` takes bytes from those still to come. What stands behind them in the buffer is open.
 pub fn take_some<S: Source>(source: &mut S, buffer: &mut [u8], turns: &mut u64) -> Refill
     requires room { 0 < length buffer.old }
-    requires countable { (S.account source.old).counts.calls + turns.old < 2 ^ 48 }
-    ensures refills { Refills result (S.account source.old) (S.account source.new)
+    requires countable { (S.trace source.old).counts.calls + turns.old < 2 ^ 48 }
+    ensures refills { Refills result (S.trace source.old) (S.trace source.new)
         buffer.new turns.old turns.new }
 
     // It asks again only after an interruption, and of these at most 1,000 come in a row.
-    ensures tries { Tries (S.account source.old).counts (S.account source.new).counts 1 }
+    ensures tries { Tries (S.trace source.old).counts (S.trace source.new).counts 1 }
 
     // It faults only where the source failed or the 1,000th interruption in a row came.
-    ensures calls { TakeCalls result (S.account source.old).counts (S.account source.new).counts
+    ensures calls { TakeCalls result (S.trace source.old).counts (S.trace source.new).counts
         turns.old }
-    ensures gave { (S.account source.new).gave ≡ gave_by result (S.account source.old).gave }
+    ensures gave { (S.trace source.new).gave ≡ gave_by result (S.trace source.old).gave }
 {
     'tries: for _ in 0..LAST_INTERRUPTION {
         if *turns == 0 {
@@ -79,17 +79,17 @@ pub fn take_some<S: Source>(source: &mut S, buffer: &mut [u8], turns: &mut u64) 
 /// At `Fault` and `TurnsUsed` the sink has a front of the text, and not the whole. An empty text is
 /// `Whole` with no call.
 pub fn put_all<K: Sink>(sink: &mut K, text: &[u8], turns: &mut u64) -> Written
-    requires countable { (K.account sink.old).counts.calls + turns.old < 2 ^ 48 }
-    ensures writes { Writes result (K.account sink.old) (K.account sink.new)
+    requires countable { (K.trace sink.old).counts.calls + turns.old < 2 ^ 48 }
+    ensures writes { Writes result (K.trace sink.old) (K.trace sink.new)
         text.now turns.old turns.new }
 
     // Each call takes a byte at least or is a fault, and at most 1,000 faults come before a byte.
-    ensures tries { Tries (K.account sink.old).counts (K.account sink.new).counts
+    ensures tries { Tries (K.trace sink.old).counts (K.trace sink.new).counts
         (length text.now) }
 
     // It faults only where the sink failed or the 1,000th interruption in a row came.
-    ensures calls { PutCalls result (K.account sink.old).counts (K.account sink.new).counts }
-    ensures handed { HandsRest result (K.account sink.old) (K.account sink.new) text.now }
+    ensures calls { PutCalls result (K.trace sink.old).counts (K.trace sink.new).counts }
+    ensures handed { HandsRest result (K.trace sink.old) (K.trace sink.new) text.now }
 {
     let mut rest = text;
     let mut interruptions = 0;

@@ -7,7 +7,7 @@ use Rattle.drm_table.specs.declared.fields.Field.TheVariants.{U32, U64}
 use Rattle.drm_table.specs.declared.fields.Width.{Width}
 use Rattle.drm_table.specs.declared.fields.Width.TheVariants as widths
 use Rattle.drm_table.specs.Fields.{width_of}
-use Rattle.drm_table.specs.LeaseCalls.{ids_in}
+use Rattle.drm_table.specs.Fields.{ids_in}
 
 pub ids-back : (ids : List ℕ) → ids_in (map U32 ids) ≡ Some ids
 ids-back [] = refl

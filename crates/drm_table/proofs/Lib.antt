@@ -5,3 +5,4 @@ pub mod TableRows
 pub mod Readers
 pub mod AnswerRows
 pub mod RefusalRows
+pub mod ShortIds

@@ -13,26 +13,6 @@ some-is x a e = cc
 abbrev pub ahead : {S : Type 0} → List Field → Option (List Field × S) → Option (List Field × S)
 ahead fs o = option_map (λ more. (fs ++ more.0, more.1)) o
 
-ahead-before : {S : Type 0} (fs : List Field) (field : Field) (o : Option (List Field × S)) → ahead (fs ++ field ∷ []) o ≡ ahead fs (option_map (put_before field) o)
-ahead-before fs field None = refl
-ahead-before fs field (Some more) = ap (λ xs. Some (xs, more.1)) (append_assoc fs (field ∷ []) more.0)
-
--- one field more is read
-pub read-on : {S : Type 0} (read : Width → S → Option (Field × S)) (ws : List Width) (w : Width) (s s' : S) (fs fs' : List Field) (field : Field) (whole : Option (List Field × S))
-    → read w s ≡ Some (field, s') → fs' ≡ fs ++ field ∷ [] → ahead fs (read_each read (w ∷ ws) s) ≡ whole → ahead fs' (read_each read ws s') ≡ whole
-read-on read ws w s s' fs fs' field whole e pushed so_far =
-    rw pushed (ahead-before fs field (read_each read ws s') ∙ sym (ap (λ o. ahead fs (option_and_then (λ one. option_map (put_before one.0) (read_each read ws one.1)) o)) e) ∙ so_far)
-
--- a field that is not read ends it
-pub read-ends : {S : Type 0} (read : Width → S → Option (Field × S)) (ws : List Width) (w : Width) (s : S) (fs : List Field) (whole : Option (List Field × S))
-    → read w s ≡ None → ahead fs (read_each read (w ∷ ws) s) ≡ whole → whole ≡ None
-read-ends read ws w s fs whole e so_far =
-    sym so_far ∙ ap (λ o. ahead fs (option_and_then (λ one. option_map (put_before one.0) (read_each read ws one.1)) o)) e
-
--- no width is left
-pub read-whole : {S : Type 0} (fs : List Field) (s : S) (whole : Option (List Field × S)) → ahead fs (Some ([], s)) ≡ whole → whole ≡ Some (fs, s)
-read-whole fs s whole e = sym e ∙ ap (λ xs. Some (xs, s)) (append-nil fs)
-
 -- ---- what is told of one field after another is told of all that was read
 
 more-by : {S : Type 0} (P : List Width → S → List Field → S → Type 0) (w : Width) (ws : List Width) (s : S) (f : Field) (o : Option (List Field × S)) (read : List Field × S)

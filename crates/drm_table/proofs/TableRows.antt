@@ -1,21 +1,21 @@
 -- The table of calls: its rows are found by number and word, and a call is that of its row with its fields.
 use Rattle.std.proofs.Common.{◌≡◌, ◌∙◌, ℕ, ◌^◌, ◌<◌, List, [], ◌∷◌, Option, Some, None, is_some, true, refl, sym, ap, subst, lit<, lit≤}
 use Rattle.std.specs.Prelude.{◌==◌}
-use Rattle.std.specs.Option.{option_map, option_map_or, option_or}
+use Rattle.std.specs.Option.{option_and_then, option_map, option_map_or, option_or}
 use Rattle.std.specs.Str.{bytes_eq}
 use Rattle.std.proofs.lemmas.Bool.{eqb-true}
 use Rattle.std.proofs.lemmas.Slice.Eq.{bytes_eq-Decides}
 use Rattle.drm_table.specs.declared.audits.AuditKind.{AuditKind}
 use Rattle.drm_table.specs.declared.calls.Call.{Call}
 use Rattle.drm_table.specs.declared.calls.Call.TheVariants as calls
-use Rattle.drm_table.specs.declared.kinds.CallKind.{CallKind}
-use Rattle.drm_table.specs.declared.kinds.CallKind.TheVariants as kinds
+use Rattle.drm_table.specs.declared.calls.CallKind.{CallKind}
+use Rattle.drm_table.specs.declared.calls.CallKind.TheVariants as kinds
 use Rattle.drm_table.specs.declared.fields.Field.{Field}
 use Rattle.drm_table.specs.declared.fields.Field.TheVariants.{U32, U64}
 use Rattle.drm_table.specs.Audits as audits
-use Rattle.drm_table.specs.Fields.{Layout, IsShort}
-use Rattle.drm_table.specs.LeaseCalls.{ids_in}
-use Rattle.drm_table.specs.Table.{TableRow, asked_number, call_number, flags_of, no_flags, row_of, kind_row, kind_number, kind_word, kind_layout, call_kind_of, call_kind_of_word, all_kinds, call_row, call_with, IsReadBack, AreFieldsOf, HasWidths}
+use Rattle.drm_table.specs.Fields.{Layout, IsShort, ids_in}
+use Rattle.drm_table.specs.Permit.{no_flags}
+use Rattle.drm_table.specs.Table.{TableRow, asked_number, call_number, flags_of, row_of, kind_row, kind_number, kind_word, kind_layout, call_kind_of, call_kind_of_word, all_kinds, buffer_call, share_call, master_call, mode_call, framebuffer_call, lease_call, device_call, call_row, call_with, IsReadBack, AreFieldsOf, HasWidths}
 use Rattle.drm_table.proofs.AuditKinds as kinds_of_audits
 use Rattle.drm_table.proofs.Found.{found-passes}
 use Rattle.drm_table.proofs.IdFields.{ids-back, ids-are, ids-widths}
@@ -92,54 +92,65 @@ has-row (calls.Unknown n) known laid_out = absurd (known n refl)
 has-row (calls.BadLayout n) known laid_out = absurd (laid_out n refl)
 has-row _ known laid_out = refl
 
-audit-by : (number from : ℕ) (found : Option AuditKind) → audits.kind_of number ≡ found → AreFieldsOf kinds.Audit (U32 number ∷ U32 from ∷ []) (option_map (λ kind. calls.Audit kind from) found)
-unfolding call_row
-audit-by number from None e = tt
-audit-by number from (Some kind) e = ap (λ (n : ℕ). Some (kinds.Audit, U32 n ∷ U32 from ∷ [])) (kinds_of_audits.kind-of-its-own number kind e)
+-- What is made of a row and fields is a call with this row and these fields, or nothing.
+abbrev MadeOf : CallKind → List Field → Option Call → Type 0
+MadeOf kind fs made = option_and_then call_row made ≡ option_map (λ (call : Call). (kind, fs)) made
 
-lease-by : (fs : List Field) (found : Option (List ℕ)) → ids_in fs ≡ found → AreFieldsOf kinds.CreateLease fs (option_or (option_map calls.CreateLease found) None)
+made : (kind : CallKind) (fs : List Field) (o : Option Call) → MadeOf kind fs o → AreFieldsOf kind fs o
+made kind fs None e = tt
+made kind fs (Some call) e = e
+
+either : (kind : CallKind) (fs : List Field) (o p : Option Call) → MadeOf kind fs o → MadeOf kind fs p → MadeOf kind fs (option_or o p)
+either kind fs None p e f = f
+either kind fs (Some call) p e f = e
+
+-- the families whose fields are plain numbers: the fields are told apart as far as some row wants, then each kind computes
+plain : CallKind → List Field → Option Call
+plain kind fs = option_or (option_or (option_or (option_or (buffer_call kind fs) (share_call kind fs)) (master_call kind fs)) (mode_call kind fs)) (framebuffer_call kind fs)
+
+plain-made : (fs : List Field) (kind : CallKind) → MadeOf kind fs (plain kind fs)
+unfolding plain call_row
+plain-made [] kinds.Version = refl
+plain-made (U32 a ∷ []) kinds.Version = refl
+plain-made (U64 a ∷ []) kinds.Version = refl
+plain-made (U32 a ∷ U64 b ∷ []) kinds.Version = refl
+plain-made (U32 a ∷ U32 b ∷ U32 c ∷ []) kinds.Version = refl
+plain-made (U32 a ∷ U32 b ∷ U32 c ∷ U32 d ∷ U32 e ∷ []) kinds.Version = refl
+plain-made _ kinds.Version = refl
+plain-made _ _ = refl
+
+audit-made : (number from : ℕ) (found : Option AuditKind) → audits.kind_of number ≡ found → MadeOf kinds.Audit (U32 number ∷ U32 from ∷ []) (option_map (λ kind. calls.Audit kind from) found)
 unfolding call_row
-lease-by fs None e = tt
-lease-by fs (Some ids) e = ap (λ (xs : List Field). Some (kinds.CreateLease, xs)) (ids-are fs ids e)
+audit-made number from None e = refl
+audit-made number from (Some kind) e = ap (λ (n : ℕ). Some (kinds.Audit, U32 n ∷ U32 from ∷ [])) (kinds_of_audits.kind-of-its-own number kind e)
+
+device-made : (kind : CallKind) (fs : List Field) → MadeOf kind fs (device_call kind fs)
+unfolding call_row
+device-made kinds.Version [] = refl
+device-made kinds.GetCap (U64 cap ∷ []) = refl
+device-made kinds.SetClientCap (U64 cap ∷ U64 value ∷ []) = refl
+device-made kinds.Audit (U32 number ∷ U32 from ∷ []) = audit-made number from (audits.kind_of number) refl
+device-made _ _ = refl
+
+lease-made-by : (fs : List Field) (found : Option (List ℕ)) → ids_in fs ≡ found → MadeOf kinds.CreateLease fs (option_map calls.CreateLease found)
+unfolding call_row
+lease-made-by fs None e = refl
+lease-made-by fs (Some ids) e = ap (λ (xs : List Field). Some (kinds.CreateLease, xs)) (ids-are fs ids e)
+
+lease-made : (kind : CallKind) (fs : List Field) → MadeOf kind fs (lease_call kind fs)
+unfolding call_row
+lease-made kinds.CreateLease fs = lease-made-by fs (ids_in fs) refl
+lease-made kinds.ListLessees [] = refl
+lease-made kinds.GetLease [] = refl
+lease-made kinds.RevokeLease (U32 lessee ∷ []) = refl
+lease-made _ _ = refl
 
 pub fields-of : (kind : CallKind) (fs : List Field) → AreFieldsOf kind fs (call_with kind fs)
-unfolding call_row call_with
-fields-of kinds.Version [] = refl
-fields-of kinds.GetMagic [] = refl
-fields-of kinds.GemClose (U32 handle ∷ []) = refl
-fields-of kinds.GemFlink (U32 handle ∷ []) = refl
-fields-of kinds.GemOpen (U32 name ∷ []) = refl
-fields-of kinds.GetCap (U64 cap ∷ []) = refl
-fields-of kinds.SetClientCap (U64 cap ∷ U64 value ∷ []) = refl
-fields-of kinds.AuthMagic (U32 magic ∷ []) = refl
-fields-of kinds.SetMaster [] = refl
-fields-of kinds.DropMaster [] = refl
-fields-of kinds.PrimeHandleToFd (U32 handle ∷ []) = refl
-fields-of kinds.PrimeFdToHandle (U32 token ∷ []) = refl
-fields-of kinds.BufCreate (U64 size ∷ []) = refl
-fields-of kinds.StampWrite (U32 handle ∷ U64 stamp ∷ []) = refl
-fields-of kinds.StampRead (U32 handle ∷ []) = refl
-fields-of kinds.TokenClose (U32 token ∷ []) = refl
-fields-of kinds.ListHandles (U32 from ∷ []) = refl
-fields-of kinds.Audit (U32 number ∷ U32 from ∷ []) = audit-by number from (audits.kind_of number) refl
-fields-of kinds.GetResources [] = refl
-fields-of kinds.GetCrtc (U32 crtc ∷ []) = refl
-fields-of kinds.SetCrtc (U32 crtc ∷ U32 framebuffer ∷ U32 connector ∷ []) = refl
-fields-of kinds.GetEncoder (U32 encoder ∷ []) = refl
-fields-of kinds.GetConnector (U32 connector ∷ []) = refl
-fields-of kinds.GetFb (U32 framebuffer ∷ []) = refl
-fields-of kinds.AddFb (U32 width ∷ U32 height ∷ U32 pitch ∷ U32 bpp ∷ U32 handle ∷ []) = refl
-fields-of kinds.RmFb (U32 framebuffer ∷ []) = refl
-fields-of kinds.CreateDumb (U32 width ∷ U32 height ∷ U32 bpp ∷ []) = refl
-fields-of kinds.DestroyDumb (U32 handle ∷ []) = refl
-fields-of kinds.GetPlaneResources [] = refl
-fields-of kinds.GetPlane (U32 plane ∷ []) = refl
-fields-of kinds.SetPlane (U32 plane ∷ U32 crtc ∷ U32 framebuffer ∷ []) = refl
-fields-of kinds.CreateLease fs = lease-by fs (ids_in fs) refl
-fields-of kinds.ListLessees [] = refl
-fields-of kinds.GetLease [] = refl
-fields-of kinds.RevokeLease (U32 lessee ∷ []) = refl
-fields-of _ _ = tt
+unfolding call_with plain
+fields-of kind fs =
+    made kind fs (call_with kind fs)
+    (either kind fs (option_or (plain kind fs) (lease_call kind fs)) (device_call kind fs)
+    (either kind fs (plain kind fs) (lease_call kind fs) (plain-made fs kind) (lease-made kind fs)) (device-made kind fs))
 
 pub has-widths : (call : Call) → HasWidths (call_row call)
 unfolding call_row kind_row

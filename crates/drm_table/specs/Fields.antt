@@ -1,5 +1,5 @@
 -- The fields of requests and answers: numbers, each of a width (own).
-use Rattle.std.specs.Prelude.{◌≡◌, ℕ, ◌^◌, ◌<◌, ◌≤◌, List, [], ◌∷◌, length, Option, Some, map, All, replicate}
+use Rattle.std.specs.Prelude.{◌≡◌, ℕ, ◌^◌, ◌<◌, ◌≤◌, List, [], ◌∷◌, length, Option, Some, None, map, All, replicate}
 use Rattle.std.specs.Option.{option_and_then, option_map}
 use Rattle.drm_table.specs.declared.fields.Width.{Width}
 use Rattle.drm_table.specs.declared.fields.Width.TheVariants as widths
@@ -15,6 +15,12 @@ width_of (fields.U64 n) = widths.U64
 abbrev pub number_in : Field → ℕ
 number_in (fields.U32 n) = n
 number_in (fields.U64 n) = n
+
+-- the ids that fields are, if each is as wide as an id
+abbrev pub ids_in : List Field → Option (List ℕ)
+ids_in [] = Some []
+ids_in (fields.U32 id ∷ fs) = option_map (λ more. id ∷ more) (ids_in fs)
+ids_in (fields.U64 n ∷ fs) = None
 
 -- The number fits its field.
 abbrev pub FitsField : Field → Type 0

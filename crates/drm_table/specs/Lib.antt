@@ -1,14 +1,9 @@
 pub mod Answers
 pub mod Audits
-pub mod BufferCalls
-pub mod DeviceCalls
 pub mod Fields
-pub mod LeaseCalls
 pub mod Limits
-pub mod MasterCalls
-pub mod ModeCalls
 pub mod Permit
+pub mod ResourceIds
 pub mod Results
 pub mod Rules
-pub mod ShareCalls
 pub mod Table

@@ -7,8 +7,8 @@ ghost use Rattle.drm_table.specs.Answers.{answer_kind_of, answer_number, answer_
 use crate::answers::Answer;
 use crate::audits::AuditPage;
 use crate::fields::Field::{self, U32, U64};
-use crate::fields::{Fields, Width};
-use crate::lists::ShownList;
+use crate::fields::{AnswerFields, Width};
+use crate::lists::{ResourceIds, ShownList};
 use crate::rules::Rule;
 
 /// An answer with fields of fixed number: a row of the table of answers.
@@ -30,13 +30,13 @@ pub enum AnswerKind {
 #[derive(Drop)]
 pub enum Told<'a> {
     /// Fields of fixed number.
-    Fields(AnswerKind, Fields),
+    Fields(AnswerKind, AnswerFields),
     /// The ids of CRTCs, connectors, encoders and framebuffers.
     Resources {
-        crtcs: &'a ShownList,
-        connectors: &'a ShownList,
-        encoders: &'a ShownList,
-        framebuffers: &'a ShownList,
+        crtcs: &'a ResourceIds,
+        connectors: &'a ResourceIds,
+        encoders: &'a ResourceIds,
+        framebuffers: &'a ResourceIds,
     },
     /// Ids or handles.
     List(&'a ShownList),
@@ -202,10 +202,10 @@ impl AnswerKind {
 
 /// Fields of fixed number are told.
 fn row_told(kind: AnswerKind, fields: &[Field]) -> Told<'static>
-    requires { length fields.now ≤ 32 }
+    requires { length fields.now ≤ 5 }
     ensures { told_of result ≡ ToldFields kind fields.now }
 {
-    Told::Fields(kind, Fields::of(fields))
+    Told::Fields(kind, AnswerFields::of(fields))
 }
 
 impl Answer {

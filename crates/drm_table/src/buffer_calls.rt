@@ -1,12 +1,11 @@
 //! The fields of the calls of buffers, of their handles and of their stamps.
 
 ghost use Rattle.std.specs.Prelude.{◌≡◌};
-ghost use Rattle.drm_table.specs.BufferCalls.{buffer_call, buffer_row};
+ghost use Rattle.drm_table.specs.Table.{buffer_call, buffer_row};
 
-use crate::calls::Call;
+use crate::calls::{Call, CallKind};
 use crate::fields::Field::{self, U32, U64};
 use crate::fields::Fields;
-use crate::kinds::CallKind;
 
 impl Call {
     /// The row of a call of buffers and its fields in order.

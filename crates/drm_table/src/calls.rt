@@ -1,13 +1,17 @@
-//! What a client asks.
+//! The calls: what a client asks, and the table of them. A new call has its variants and its line here, and its fields beside
+//! those of its family.
 
-ghost use Rattle.std.specs.Prelude.{◌≡◌, is_some, true};
+ghost use Rattle.std.specs.Prelude.{◌≡◌, is_some, length, map, true};
+ghost use Rattle.drm_table.specs.Table.{all_kinds, columns, kind_row};
 
 use crate::audits::AuditKind;
 use crate::fields::Fields;
+use crate::fields::Layout::{Ids, Numbers};
+use crate::fields::Width::{U32, U64};
 use crate::flags::RowFlags;
-use crate::kinds::CallKind;
 use crate::lists::IdList;
 use crate::lookup::row;
+use crate::rows::{Family, Row};
 use bitflags::Flags;
 use std::alloc::AllocError;
 
@@ -160,6 +164,159 @@ pub enum Call {
     },
 }
 
+/// A row of the table of calls.
+#[derive(Clone, Copy, PartialEq, Eq, Debug)]
+pub enum CallKind {
+    Version,
+    GetMagic,
+    GemClose,
+    GemFlink,
+    GemOpen,
+    GetCap,
+    SetClientCap,
+    AuthMagic,
+    SetMaster,
+    DropMaster,
+    PrimeHandleToFd,
+    PrimeFdToHandle,
+    BufCreate,
+    StampWrite,
+    StampRead,
+    TokenClose,
+    ListHandles,
+    Audit,
+    GetResources,
+    GetCrtc,
+    SetCrtc,
+    GetEncoder,
+    GetConnector,
+    GetFb,
+    AddFb,
+    RmFb,
+    CreateDumb,
+    DestroyDumb,
+    GetPlaneResources,
+    GetPlane,
+    SetPlane,
+    CreateLease,
+    ListLessees,
+    GetLease,
+    RevokeLease,
+}
+
+// A line of the table: number, name, word, flags, what the fields are, and the family.
+macro_rules! row {
+    ($number:literal => $name:literal, $word:literal, $flags:expr, $layout:expr, $family:ident) => {
+        Row {
+            number: $number,
+            name: $name,
+            word: $word,
+            flags: $flags,
+            layout: $layout,
+            family: Family::$family,
+        }
+    };
+}
+
+const NONE: RowFlags = RowFlags::NONE;
+
+const AUTH: RowFlags = RowFlags::AUTH;
+
+const MASTER: RowFlags = RowFlags::MASTER;
+
+const RENDER: RowFlags = RowFlags::RENDER_ALLOW;
+
+const ROOT: RowFlags = RowFlags::ROOT_ONLY;
+
+/// The table: a line for each call, in the order of the kinds (drm-uapi; 0x40 to 0x45 are own, as are the words).
+static ROWS: [Row; 35] = [
+    row!(0x00 => "VERSION", b"version", RENDER, Numbers(&[]), Device),
+    row!(0x02 => "GET_MAGIC", b"get_magic", NONE, Numbers(&[]), Masters),
+    row!(0x09 => "GEM_CLOSE", b"gem_close", RENDER, Numbers(&[U32]), Buffers),
+    row!(0x0A => "GEM_FLINK", b"gem_flink", AUTH, Numbers(&[U32]), Sharing),
+    row!(0x0B => "GEM_OPEN", b"gem_open", AUTH, Numbers(&[U32]), Sharing),
+    row!(0x0C => "GET_CAP", b"get_cap", RENDER, Numbers(&[U64]), Device),
+    row!(0x0D => "SET_CLIENT_CAP", b"set_client_cap", NONE, Numbers(&[U64, U64]), Device),
+    row!(0x11 => "AUTH_MAGIC", b"auth_magic", MASTER, Numbers(&[U32]), Masters),
+    row!(0x1E => "SET_MASTER", b"set_master", NONE, Numbers(&[]), Masters),
+    row!(0x1F => "DROP_MASTER", b"drop_master", NONE, Numbers(&[]), Masters),
+    row!(0x2D => "PRIME_HANDLE_TO_FD", b"prime_export", RENDER, Numbers(&[U32]), Sharing),
+    row!(0x2E => "PRIME_FD_TO_HANDLE", b"prime_import", RENDER, Numbers(&[U32]), Sharing),
+    row!(0x40 => "BUF_CREATE", b"buf_create", RENDER, Numbers(&[U64]), Buffers),
+    row!(0x41 => "STAMP_WRITE", b"stamp_write", RENDER, Numbers(&[U32, U64]), Buffers),
+    row!(0x42 => "STAMP_READ", b"stamp_read", RENDER, Numbers(&[U32]), Buffers),
+    row!(0x43 => "TOKEN_CLOSE", b"token_close", RENDER, Numbers(&[U32]), Sharing),
+    row!(0x44 => "LIST_HANDLES", b"list_handles", RENDER, Numbers(&[U32]), Buffers),
+    row!(0x45 => "AUDIT", b"audit", ROOT, Numbers(&[U32, U32]), Device),
+    row!(0xA0 => "MODE_GETRESOURCES", b"getresources", NONE, Numbers(&[]), Modes),
+    row!(0xA1 => "MODE_GETCRTC", b"getcrtc", NONE, Numbers(&[U32]), Modes),
+    row!(0xA2 => "MODE_SETCRTC", b"setcrtc", MASTER, Numbers(&[U32, U32, U32]), Modes),
+    row!(0xA6 => "MODE_GETENCODER", b"getencoder", NONE, Numbers(&[U32]), Modes),
+    row!(0xA7 => "MODE_GETCONNECTOR", b"getconnector", NONE, Numbers(&[U32]), Modes),
+    row!(0xAD => "MODE_GETFB", b"getfb", NONE, Numbers(&[U32]), Framebuffers),
+    row!(0xAE => "MODE_ADDFB", b"addfb", NONE, Numbers(&[U32, U32, U32, U32, U32]), Framebuffers),
+    row!(0xAF => "MODE_RMFB", b"rmfb", NONE, Numbers(&[U32]), Framebuffers),
+    row!(0xB2 => "MODE_CREATE_DUMB", b"create_dumb", NONE, Numbers(&[U32, U32, U32]), Buffers),
+    row!(0xB4 => "MODE_DESTROY_DUMB", b"destroy_dumb", NONE, Numbers(&[U32]), Buffers),
+    row!(0xB5 => "MODE_GETPLANERESOURCES", b"getplaneresources", NONE, Numbers(&[]), Modes),
+    row!(0xB6 => "MODE_GETPLANE", b"getplane", NONE, Numbers(&[U32]), Modes),
+    row!(0xB7 => "MODE_SETPLANE", b"setplane", MASTER, Numbers(&[U32, U32, U32]), Modes),
+    row!(0xC6 => "MODE_CREATE_LEASE", b"create_lease", MASTER, Ids, Leases),
+    row!(0xC7 => "MODE_LIST_LESSEES", b"list_lessees", MASTER, Numbers(&[]), Leases),
+    row!(0xC8 => "MODE_GET_LEASE", b"get_lease", MASTER, Numbers(&[]), Leases),
+    row!(0xC9 => "MODE_REVOKE_LEASE", b"revoke_lease", MASTER, Numbers(&[U32]), Leases),
+];
+
+/// The rows in the order of the kinds.
+#[tactic(auto, unfolding(crate::specs::Table::kind_row))]
+pub(crate) fn rows() -> &'static [Row]
+    ensures rows { map columns result.now ≡ map kind_row all_kinds }
+    ensures length { length result.now ≡ length all_kinds }
+{
+    &ROWS
+}
+
+impl CallKind {
+    /// All rows, rising by number.
+    pub const ALL: [CallKind; 35] = [
+        CallKind::Version,
+        CallKind::GetMagic,
+        CallKind::GemClose,
+        CallKind::GemFlink,
+        CallKind::GemOpen,
+        CallKind::GetCap,
+        CallKind::SetClientCap,
+        CallKind::AuthMagic,
+        CallKind::SetMaster,
+        CallKind::DropMaster,
+        CallKind::PrimeHandleToFd,
+        CallKind::PrimeFdToHandle,
+        CallKind::BufCreate,
+        CallKind::StampWrite,
+        CallKind::StampRead,
+        CallKind::TokenClose,
+        CallKind::ListHandles,
+        CallKind::Audit,
+        CallKind::GetResources,
+        CallKind::GetCrtc,
+        CallKind::SetCrtc,
+        CallKind::GetEncoder,
+        CallKind::GetConnector,
+        CallKind::GetFb,
+        CallKind::AddFb,
+        CallKind::RmFb,
+        CallKind::CreateDumb,
+        CallKind::DestroyDumb,
+        CallKind::GetPlaneResources,
+        CallKind::GetPlane,
+        CallKind::SetPlane,
+        CallKind::CreateLease,
+        CallKind::ListLessees,
+        CallKind::GetLease,
+        CallKind::RevokeLease,
+    ];
+}
+
 /// The same call. It takes no memory and never fails.
 impl Clone for Call {
     ghost use Rattle.std.specs.Prelude.{◌≡◌, ⊤};
@@ -179,7 +336,7 @@ impl Clone for Call {
 
 impl Call {
     ghost use Rattle.std.specs.Option.{option_map};
-    ghost use Rattle.drm_table.specs.Table.{call_number, call_row, flags_of};
+    ghost use Rattle.drm_table.specs.Table.{call_number, call_row, family_of, flags_of};
 
     /// The row of the call and its fields in order; none of a call without a row.
     #[tactic(auto, unfolding(crate::specs::Table::call_row))]
@@ -190,6 +347,7 @@ impl Call {
             .or_else(|| self.share_row())
             .or_else(|| self.master_row())
             .or_else(|| self.mode_row())
+            .or_else(|| self.framebuffer_row())
             .or_else(|| self.lease_row())
             .or_else(|| self.device_row())
     }
@@ -278,6 +436,17 @@ impl Call {
                 Some(row) => row.flags,
                 None => RowFlags::empty(),
             },
+        }
+    }
+
+    /// The family of the call's row; none of a call without a row.
+    #[tactic(auto, unfolding(crate::specs::Table::family_of))]
+    pub fn family(&self) -> Option<Family>
+        ensures { result ≡ family_of self.now }
+    {
+        match self.kind() {
+            Some(kind) => Some(kind.family()),
+            None => None,
         }
     }
 }

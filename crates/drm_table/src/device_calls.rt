@@ -1,13 +1,12 @@
 //! The fields of the calls of the device: its version, its capabilities and its audit.
 
 ghost use Rattle.std.specs.Prelude.{◌≡◌};
-ghost use Rattle.drm_table.specs.DeviceCalls.{device_call, device_row};
+ghost use Rattle.drm_table.specs.Table.{device_call, device_row};
 
 use crate::audits::AuditKind;
-use crate::calls::Call;
+use crate::calls::{Call, CallKind};
 use crate::fields::Field::{self, U32, U64};
 use crate::fields::Fields;
-use crate::kinds::CallKind;
 
 impl Call {
     /// The row of a call of the device and its fields in order.

@@ -120,3 +120,40 @@ impl Fields {
         self.fields.as_slice()
     }
 }
+
+/// The fields of an answer in their order, 5 at most. Contracts see the list of them.
+#[derive(Drop)]
+pub struct AnswerFields {
+    fields: ArrayVec<Field, 5>,
+}
+
+impl Model for AnswerFields {
+    ghost use Rattle.std.specs.Prelude.{List};
+    ghost use Rattle.drm_table.specs.declared.fields.Field.{Field};
+
+    ghost Value = { List Field };
+
+    ghost view = { λ fields. fields.fields.items };
+
+    ghost inverse = { λ fields. record { fields = record { items = fields } } };
+}
+
+impl AnswerFields {
+    /// These fields.
+    pub(crate) fn of(fields: &[Field]) -> AnswerFields
+        requires { length fields.now ≤ 5 }
+        ensures { result ≡ fields.now }
+    {
+        let mut copy = ArrayVec::new();
+        let _ = copy.try_extend_from_slice(fields);
+        AnswerFields { fields: copy }
+    }
+
+    /// The fields in their order.
+    pub fn as_slice(&self) -> &[Field]
+        ensures fields { result.now ≡ self.now }
+        ensures within { length self.now ≤ 5 }
+    {
+        self.fields.as_slice()
+    }
+}

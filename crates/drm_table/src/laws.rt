@@ -7,7 +7,7 @@ ghost use Rattle.drm_table.specs.declared.answer_kinds.AnswerKind.{AnswerKind as
 ghost use Rattle.drm_table.specs.declared.answers.Answer.{Answer as AnAnswer};
 ghost use Rattle.drm_table.specs.declared.calls.Call.{Call as ACall};
 ghost use Rattle.drm_table.specs.declared.fields.Field.{Field as AField};
-ghost use Rattle.drm_table.specs.declared.kinds.CallKind.{CallKind as AKind};
+ghost use Rattle.drm_table.specs.declared.calls.CallKind.{CallKind as AKind};
 
 /// A call is that of its row with its fields, and of no other (own).
 pub fn calls_by_their_fields()

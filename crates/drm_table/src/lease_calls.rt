@@ -1,12 +1,11 @@
 //! The fields of the calls of leases.
 
 ghost use Rattle.std.specs.Prelude.{◌≡◌, ◌≤◌, length};
-ghost use Rattle.drm_table.specs.LeaseCalls.{lease_call, lease_row};
+ghost use Rattle.drm_table.specs.Table.{lease_call, lease_row};
 
-use crate::calls::Call;
+use crate::calls::{Call, CallKind};
 use crate::fields::Field::{self, U32};
 use crate::fields::Fields;
-use crate::kinds::CallKind;
 use crate::lists::IdList;
 
 impl Call {

@@ -12,6 +12,7 @@ mod errnos;
 mod events;
 mod fields;
 mod flags;
+mod framebuffer_calls;
 mod kinds;
 mod laws;
 mod lease_calls;
@@ -30,18 +31,17 @@ pub use answer_kinds::{AnswerKind, Told};
 pub use answers::Answer;
 pub use apart::Apart;
 pub use audits::{AuditKind, AuditPage, AuditRow};
-pub use calls::Call;
+pub use calls::{Call, CallKind};
 pub use events::{Event, Opening};
-pub use fields::{Field, Fields, Layout, Width};
+pub use fields::{AnswerFields, Field, Fields, Layout, Width};
 pub use flags::RowFlags;
-pub use kinds::CallKind;
 pub use laws::{
     answers_by_their_fields, calls_by_their_fields, refusals_by_their_numbers,
     rows_by_their_numbers_and_words,
 };
 pub use limits::{Limits, are_in_range};
-pub use lists::{IdList, ShownList};
+pub use lists::{IdList, ResourceIds, ShownList};
 pub use lookup::row;
-pub use permits::{Standing, permit};
-pub use rows::Row;
+pub use permits::{Credentials, permit};
+pub use rows::{Family, Row};
 pub use rules::Rule;

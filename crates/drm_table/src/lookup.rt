@@ -5,7 +5,7 @@ ghost use Rattle.std.specs.Option.{option_map};
 ghost use Rattle.drm_table.specs.Fields.{layout_of};
 ghost use Rattle.drm_table.specs.Table.{row_of};
 
-use crate::kinds::CallKind;
+use crate::calls::CallKind;
 use crate::rows::Row;
 
 /// The row of a number, if it has one.
@@ -16,6 +16,7 @@ pub fn row(number: u16) -> Option<Row>
     ensures layout { option_map (λ row. layout_of row.layout) result ≡ option_map (λ row. row.layout) (row_of number) }
     ensures flags { option_map (λ row. row.flags) result ≡ option_map (λ row. row.flags) (row_of number) }
     ensures name { option_map (λ row. row.name.now) result ≡ option_map (λ row. row.name) (row_of number) }
+    ensures family { option_map (λ row. row.family) result ≡ option_map (λ row. row.family) (row_of number) }
 {
     match CallKind::of_number(number) {
         Some(kind) => Some(kind.row()),

@@ -1,12 +1,11 @@
 //! The fields of the calls of masters and magics.
 
 ghost use Rattle.std.specs.Prelude.{◌≡◌};
-ghost use Rattle.drm_table.specs.MasterCalls.{master_call, master_row};
+ghost use Rattle.drm_table.specs.Table.{master_call, master_row};
 
-use crate::calls::Call;
+use crate::calls::{Call, CallKind};
 use crate::fields::Field::{self, U32};
 use crate::fields::Fields;
-use crate::kinds::CallKind;
 
 impl Call {
     /// The row of a call of masters and magics and its fields in order.

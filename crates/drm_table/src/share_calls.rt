@@ -1,12 +1,11 @@
 //! The fields of the calls that share objects: by names and by tokens.
 
 ghost use Rattle.std.specs.Prelude.{◌≡◌};
-ghost use Rattle.drm_table.specs.ShareCalls.{share_call, share_row};
+ghost use Rattle.drm_table.specs.Table.{share_call, share_row};
 
-use crate::calls::Call;
+use crate::calls::{Call, CallKind};
 use crate::fields::Field::{self, U32};
 use crate::fields::Fields;
-use crate::kinds::CallKind;
 
 impl Call {
     /// The row of a call that shares objects and its fields in order.

@@ -28,9 +28,9 @@ pub struct CutSink<const N: usize> {
 
 impl<const N: usize> Model for CutSink<N> {
     ghost use Rattle.std.specs.Prelude.{◌+◌, ◌≤◌, ◌<◌, Some, length};
-    ghost use Rattle.drm_streams.specs.Streams.{SinkAccount};
+    ghost use Rattle.drm_streams.specs.Streams.{SinkTrace};
 
-    ghost Value = { SinkAccount };
+    ghost Value = { SinkTrace };
 
     ghost view = { λ s. record {
       written = Some s.bytes.items;
@@ -105,7 +105,7 @@ impl<const N: usize> CutSink<N> {
 }
 
 impl<const N: usize> Sink for CutSink<N> {
-    ghost account = { λ s. s };
+    ghost trace = { λ s. s };
 
     fn calls(&self) -> u64 {
         self.calls

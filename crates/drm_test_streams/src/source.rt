@@ -27,9 +27,9 @@ pub struct CutSource<'a> {
 
 impl<'a> Model for CutSource<'a> {
     ghost use Rattle.std.specs.Prelude.{◌+◌, ◌≤◌, ◌<◌, Some};
-    ghost use Rattle.drm_streams.specs.Streams.{SourceAccount};
+    ghost use Rattle.drm_streams.specs.Streams.{SourceTrace};
 
-    ghost Value = { SourceAccount };
+    ghost Value = { SourceTrace };
 
     ghost view = { λ s. record {
       left = Some s.rest.now;
@@ -99,7 +99,7 @@ impl<'a> CutSource<'a> {
 }
 
 impl Source for CutSource<'_> {
-    ghost account = { λ s. s };
+    ghost trace = { λ s. s };
 
     fn calls(&self) -> u64 {
         self.calls

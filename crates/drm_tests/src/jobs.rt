@@ -131,8 +131,8 @@ fn jobs_wait_for_each_other(rt: HostRuntime) -> Result<(), Fail> {
     jobs.push(job(alloc, gate(&second, &first, 2), &HELLO_VERSION_TWICE))?;
     let device = new_device(alloc, Limits::PROGRAM)?;
     let played = match shared(alloc, device) {
-        Ok((shared, mut seat)) => {
-            let served = serve_many(&rt, alloc, &shared, &mut seat, jobs);
+        Ok((shared, mut participant)) => {
+            let served = serve_many(&rt, alloc, &shared, &mut participant, jobs);
             let told: Ends = match served {
                 Ok(sessions) => (
                     sessions.len(),
@@ -147,7 +147,7 @@ fn jobs_wait_for_each_other(rt: HostRuntime) -> Result<(), Fail> {
                 Some((SessionEnd::Ended, 4)),
             );
             same(&rt, &told, &expected, "sessions");
-            (shared.close(seat), Ok(()))
+            (shared.close(participant), Ok(()))
         }
         Err(device) => (Ok(device), Err(AllocError)),
     };

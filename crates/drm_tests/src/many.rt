@@ -28,15 +28,15 @@ fn serve_two<R: Wait + Threads + Sync>(
     rt: &R,
     alloc: Global,
     shared: &SharedDevice,
-    seat: &mut Seat,
+    participant: &mut Seat,
 ) -> Result<Ends, AllocError>
-    requires own { seat.old.table ≡ shared.now }
-    ensures own { seat.new.table ≡ shared.now }
+    requires own { participant.old.table ≡ shared.now }
+    ensures own { participant.new.table ≡ shared.now }
 {
     let mut jobs = Vec::new(alloc);
     jobs.push(job(alloc, NoGate, &HELLO_VERSION_TWICE))?;
     jobs.push(job(alloc, NoGate, &HELLO_VERSION_TWICE))?;
-    Ok(match serve_many(rt, alloc, shared, seat, jobs) {
+    Ok(match serve_many(rt, alloc, shared, participant, jobs) {
         Ok(sessions) => (
             sessions.len(),
             ended(sessions.first()),
@@ -51,16 +51,16 @@ fn serve_again<R: Wait + Threads + Sync + Abort>(
     rt: &R,
     alloc: Global,
     shared: &SharedDevice,
-    seat: &mut Seat,
+    participant: &mut Seat,
 ) -> Result<(), AllocError>
-    requires own { seat.old.table ≡ shared.now }
-    ensures own { seat.new.table ≡ shared.now }
+    requires own { participant.old.table ≡ shared.now }
+    ensures own { participant.new.table ≡ shared.now }
 {
-    let first = serve_two(rt, alloc, shared, seat)?;
+    let first = serve_two(rt, alloc, shared, participant)?;
     if first != EXPECTED {
         same(
             rt,
-            &serve_two(rt, alloc, shared, seat)?,
+            &serve_two(rt, alloc, shared, participant)?,
             &EXPECTED,
             "sessions",
         );
@@ -92,9 +92,9 @@ fn jobs_are_asked_for_again(rt: HostRuntime) -> Result<(), Fail> {
     let alloc: Global = rt.alloc();
     let device = new_device(alloc, Limits::PROGRAM)?;
     let played = match shared(alloc, device) {
-        Ok((shared, mut seat)) => {
-            let served = serve_again(&rt, alloc, &shared, &mut seat);
-            (shared.close(seat), served)
+        Ok((shared, mut participant)) => {
+            let served = serve_again(&rt, alloc, &shared, &mut participant);
+            (shared.close(participant), served)
         }
         Err(device) => (Ok(device), Err(AllocError)),
     };

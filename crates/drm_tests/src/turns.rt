@@ -147,18 +147,18 @@ const ONE_VERSION: [Turn; 1] = [VERSION];
 fn call_by(
     rt: &(impl Wait + Abort),
     shared: &SharedDevice,
-    seat: &mut Seat,
+    participant: &mut Seat,
     turn: &Turn,
     noted: &mut u64,
 ) -> Result<(), AllocError>
-    requires { seat.old.table ≡ shared.now }
-    ensures { seat.new.table ≡ seat.old.table }
+    requires { participant.old.table ≡ shared.now }
+    ensures { participant.new.table ≡ participant.old.table }
 {
     let (_, event, answer) = turn;
-    let mut given = shared.call(rt, seat, event.clone()?);
+    let mut given = shared.call(rt, participant, event.clone()?);
     if given == Err(Apart::NoMemory) {
         same(rt, &shared.peek_count(), noted, "count of a refusal");
-        given = shared.call(rt, seat, event.clone()?);
+        given = shared.call(rt, participant, event.clone()?);
     }
     same(rt, &given, answer, *noted);
     *noted = noted.saturating_add(answer.is_ok() as u64);
@@ -170,15 +170,15 @@ fn call_by(
 fn call_alone(
     rt: &(impl Wait + Abort),
     shared: &SharedDevice,
-    seat: &mut Seat,
+    participant: &mut Seat,
     turns: &[Turn],
     noted: &mut u64,
 ) -> Result<(), AllocError>
-    requires { seat.old.table ≡ shared.now }
-    ensures { seat.new.table ≡ seat.old.table }
+    requires { participant.old.table ≡ shared.now }
+    ensures { participant.new.table ≡ participant.old.table }
 {
     for turn in turns {
-        call_by(rt, shared, seat, turn, noted)?;
+        call_by(rt, shared, participant, turn, noted)?;
     }
     Ok(())
 }
@@ -187,21 +187,21 @@ fn call_alone(
 fn call_in_turn(
     rt: &(impl Wait + Abort),
     shared: &SharedDevice,
-    seat: &mut Seat,
+    participant: &mut Seat,
     other: &mut Seat,
     turns: &[Turn],
     noted: &mut u64,
 ) -> Result<(), AllocError>
-    requires seat { seat.old.table ≡ shared.now }
+    requires participant { participant.old.table ≡ shared.now }
     requires other { other.old.table ≡ shared.now }
-    ensures seat { seat.new.table ≡ seat.old.table }
+    ensures participant { participant.new.table ≡ participant.old.table }
     ensures other { other.new.table ≡ other.old.table }
 {
     for turn in turns {
         if turn.0 {
             call_by(rt, shared, other, turn, noted)?;
         } else {
-            call_by(rt, shared, seat, turn, noted)?;
+            call_by(rt, shared, participant, turn, noted)?;
         }
     }
     Ok(())
@@ -211,21 +211,21 @@ fn call_in_turn(
 fn call_all(
     rt: &(impl Wait + Abort),
     shared: &SharedDevice,
-    seat: &mut Seat,
+    participant: &mut Seat,
     alone: &[Turn],
     in_turn: &[Turn],
     noted: &mut u64,
 ) -> Result<(), AllocError>
-    requires { seat.old.table ≡ shared.now }
-    ensures { seat.new.table ≡ seat.old.table }
+    requires { participant.old.table ≡ shared.now }
+    ensures { participant.new.table ≡ participant.old.table }
 {
     same(rt, &shared.peek_count(), noted, "count of a device");
-    call_alone(rt, shared, seat, alone, noted)?;
-    let mut other = shared.split(seat);
-    call_in_turn(rt, shared, seat, &mut other, in_turn, noted)?;
+    call_alone(rt, shared, participant, alone, noted)?;
+    let mut other = shared.split(participant);
+    call_in_turn(rt, shared, participant, &mut other, in_turn, noted)?;
     let note = shared.note(&mut other);
-    shared.meet(seat, note);
-    shared.join(seat, other);
+    shared.meet(participant, note);
+    shared.join(participant, other);
     Ok(())
 }
 
@@ -239,9 +239,9 @@ fn play(
     noted: &mut u64,
 ) -> Played {
     match shared(alloc, device) {
-        Ok((shared, mut seat)) => {
-            let played = call_all(rt, &shared, &mut seat, alone, in_turn, noted);
-            (shared.close(seat), played)
+        Ok((shared, mut participant)) => {
+            let played = call_all(rt, &shared, &mut participant, alone, in_turn, noted);
+            (shared.close(participant), played)
         }
         Err(device) => (Ok(device), Err(AllocError)),
     }
@@ -338,39 +338,39 @@ fn seats_share_one_device(rt: HostRuntime) -> Result<(), Fail> {
 }
 
 /// Opens a render client and asks 99 times.
-fn hundred_events(rt: &(impl Wait + Abort), shared: &SharedDevice, mut seat: Seat) -> Seat
-    requires { seat.table ≡ shared.now }
-    ensures { result.table ≡ seat.table }
+fn hundred_events(rt: &(impl Wait + Abort), shared: &SharedDevice, mut participant: Seat) -> Seat
+    requires { participant.table ≡ shared.now }
+    ensures { result.table ≡ participant.table }
 {
-    let opened = shared.call(rt, &mut seat, Event::Open(Opening::Render));
+    let opened = shared.call(rt, &mut participant, Event::Open(Opening::Render));
     let Ok(Answer::Opened { client }) = opened else {
         assert!(rt; false, "the opening was not accepted");
-        return seat;
+        return participant;
     };
     for asked in 0..99u32 {
-        let given = shared.call(rt, &mut seat, Event::Ask(client, Call::Version));
+        let given = shared.call(rt, &mut participant, Event::Ask(client, Call::Version));
         same(rt, &given, &VERSION.2, asked);
     }
-    seat
+    participant
 }
 
 /// Two threads at once, a hundred events each.
 fn two_hundred_events<R: Wait + Threads + Abort + Sync, D: Sharing + Sync>(
     rt: &R,
     shared: &D,
-    seat: Seat,
+    participant: Seat,
     other: Seat,
 ) -> (Seat, Seat)
-    requires seat { seat.table ≡ D.table shared.now }
+    requires participant { participant.table ≡ D.table shared.now }
     requires other { other.table ≡ D.table shared.now }
     ensures { (result.0.table ≡ D.table shared.now) × (result.1.table ≡ D.table shared.now) }
 {
     thread::join(
         rt,
         || -> Seat
-            requires { seat.table ≡ D.table shared.now }
+            requires { participant.table ≡ D.table shared.now }
             ensures { result.table ≡ D.table shared.entry.now }
-        { hundred_events(rt, shared.device(), seat) },
+        { hundred_events(rt, shared.device(), participant) },
         || -> Seat
             requires { other.table ≡ D.table shared.now }
             ensures { result.table ≡ D.table shared.entry.now }
@@ -397,12 +397,12 @@ impl Trial for Noted {
 fn threads_at_once_leave_one_journal(rt: HostRuntime) -> Result<(), Fail> {
     let device = new_device(rt.alloc(), Limits::PROGRAM)?;
     let played = match shared(rt.alloc(), device) {
-        Ok((shared, mut seat)) => {
-            let other = shared.split(&mut seat);
-            let (mut seat, other) = two_hundred_events(&rt, &shared, seat, other);
+        Ok((shared, mut participant)) => {
+            let other = shared.split(&mut participant);
+            let (mut participant, other) = two_hundred_events(&rt, &shared, participant, other);
             same(&rt, &shared.peek_count(), &200, "count");
-            shared.join(&mut seat, other);
-            (shared.close(seat), Ok(()))
+            shared.join(&mut participant, other);
+            (shared.close(participant), Ok(()))
         }
         Err(device) => (Ok(device), Err(AllocError)),
     };

@@ -1,4 +1,4 @@
--- That threads may share a device, and take seats of it along.
+-- That threads may share a device, and take participants of it along.
 use mir.Syntax.{Sym}
 use denote.RattleType.{RattleType}
 use denote.Struct.Declared.{shape}
@@ -12,10 +12,8 @@ use Rattle.atomic_table.proofs.send_lease.SendLease.TheSendSync as lease
 use Rattle.atomic_table.proofs.shared.Shared.TheSendSync as steps
 use Rattle.atomic_table.proofs.shared.Seat.TheSendSync as place
 use Rattle.drm_device.proofs.Crossing.{device_send}
-use Rattle.drm_turns.specs.contracts.seat.Note as note
-use Rattle.drm_turns.specs.contracts.seat.Note.TheInside as note_inside
-use Rattle.drm_turns.specs.contracts.seat.Seat as seat
-use Rattle.drm_turns.specs.contracts.seat.Seat.TheInside as seat_inside
+use Rattle.drm_turns.specs.contracts.seat.Seat as participant
+use Rattle.drm_turns.specs.contracts.seat.Seat.TheInside as participant_inside
 use Rattle.drm_turns.specs.contracts.shared.SharedDevice as shared
 use Rattle.drm_turns.specs.contracts.shared.SharedDevice.TheInside as inside
 
@@ -25,17 +23,11 @@ inside_sync = recorded_sync inside.the_field.row _ _ inside.the_type.to_one (str
 pub shared_sync : IsSync shared.the_row
 shared_sync = view_sync inside.the_row _ _ _ _ inside_sync
 
-seat_inside_send : IsSend seat_inside.the_row
-seat_inside_send = recorded_send seat_inside.the_field.row _ _ seat_inside.the_type.to_one (struct_send (shape seat_inside.the_type) (search (place.the_send, device_send, crosses, sendable) depth 20, tt))
+participant_inside_send : IsSend participant_inside.the_row
+participant_inside_send = recorded_send participant_inside.the_field.row _ _ participant_inside.the_type.to_one (struct_send (shape participant_inside.the_type) (search (place.the_send, device_send, crosses, sendable) depth 20, tt))
 
-pub seat_send : IsSend seat.the_row
-seat_send = view_send seat_inside.the_row _ _ _ _ seat_inside_send
-
-note_inside_send : IsSend note_inside.the_row
-note_inside_send = recorded_send note_inside.the_field.row _ _ note_inside.the_type.to_one (struct_send (shape note_inside.the_type) (search (place.the_send, device_send, crosses, sendable) depth 20, tt))
-
-pub note_send : IsSend note.the_row
-note_send = view_send note_inside.the_row _ _ _ _ note_inside_send
+pub participant_send : IsSend participant.the_row
+participant_send = view_send participant_inside.the_row _ _ _ _ participant_inside_send
 
 -- ---- closures, by what they take along
 

@@ -9,13 +9,13 @@ use Rattle.atomic_table.proofs.Lists.{at_longer, set_else}
 use Rattle.drm_table.specs.declared.events.Event.{Event}
 use Rattle.drm_model.specs.Rows.{Rows}
 use Rattle.drm_model.specs.Change.{after}
-use Rattle.drm_model.specs.Run.{FoundRoom, History, start_of}
+use Rattle.drm_model.specs.Run.{FoundRoom, DeviceValue, start_of}
 use Rattle.drm_turns.specs.declared.history.Entry.{Entry}
 use Rattle.drm_turns.specs.declared.history.View.{View}
 use Rattle.drm_turns.specs.declared.history.Stage.TheVariants.{Idle, Serving, Spent}
 use Rattle.drm_turns.specs.History.{AllDiffer, Has, device_at, replayed}
 use Rattle.drm_turns.specs.Rule.{Slot, Table, Sat, World, Fits, Knows, has_ticket, Placed, AllKnow, AllHeld, IsHeld, TicketsDiffer, Orderly, Lent}
-use Rattle.drm_turns.specs.Views.{IsOwn, child, informed, lending, met_of, numbered, opening_view, out_after, spent_view, told_of}
+use Rattle.drm_turns.specs.Views.{IsOwn, child, informed, lending, met_of, numbered, opening_view, outstanding_after, spent_view, told_of}
 use Rattle.drm_turns.specs.Plays.{Reads, settles, learns}
 use Rattle.drm_turns.proofs.Histories.{starts_whole, starts_with_none, none_before, replayed-events, replayed-legal, replayed-calls}
 use Rattle.drm_turns.proofs.Rule.{at_below, no_ticket, stays_put, ticketless, word_same}
@@ -52,7 +52,7 @@ held_snoc x views c held t from to = let h = held t from to in (h.0, h.1, at_lon
 know_lending : (x : World) (id : ℕ) (v : View) → v.stage ≡ Idle → Fits x.origin x.log id v → Knows x id (lending v) v.stage
 know_lending x id v idle fits = subst (Knows x id (lending v)) (sym idle) (record { origin_is = fits.origin_is; number = fits.number; parent = fits.parent; seen = fits.seen; told = fits.told; mine = fits.mine })
 
-own_number : (origin : History) (log : List Entry) (id : ℕ) (v : View) → Fits origin log id v → v.number ≢ 0 → v.number ≡ suc id
+own_number : (origin : DeviceValue) (log : List Entry) (id : ℕ) (v : View) → Fits origin log id v → v.number ≢ 0 → v.number ≡ suc id
 own_number origin log id v fits some_number = ⊎_elim (λ (z : v.number ≡ 0). absurd (some_number z)) (λ (z : v.number ≡ suc id). z) fits.number
 
 pub splits_moves : (id : ℕ) (v : View) → v.stage ≡ Idle → v.number ≢ 0 → Splits Orderly id v (lending v) (child v)
@@ -72,7 +72,7 @@ splits_moves id v idle some_number s r at =
       few = r.few;
       behind = r.behind;
       legal = r.legal;
-      placed = placed_snoc x.out x s.homes views' c (placed_set x.out x s.homes s.views id v lent at (λ is. is) r.placed);
+      placed = placed_snoc x.outstanding x s.homes views' c (placed_set x.outstanding x s.homes s.views id v lent at (λ is. is) r.placed);
       know = know_snoc x views' c (know_set x s.views id lent (λ j u _ e. r.know j u e) (know_lending x id v idle fits)) (record {
         origin_is = fits.origin_is;
         number = inl refl;
@@ -87,7 +87,7 @@ splits_moves id v idle some_number s r at =
       taken_in = taken_snoc views' c (taken_set s.views id v lent r.taken_in at (λ is. absurd (cc)) refl) refl;
       lent = lent_split s.views id v r.lent at idle number;
       drawn = total_snoc (λ u. u.drawn) views' c ∙ (let h = total_kept (λ u. u.drawn) s.views id v lent at refl in let d = r.drawn in omega (arith, h, d));
-      noted = (let l = total_snoc (λ u. u.noted) views' c in let h = total_kept (λ u. u.noted) s.views id v lent at refl in let d = r.noted in omega (arith, l, h, d));
+      journaled = (let l = total_snoc (λ u. u.journaled) views' c in let h = total_kept (λ u. u.journaled) s.views id v lent at refl in let d = r.journaled in omega (arith, l, h, d));
     }
 
 pub settles_moves : (slots id : ℕ) (me : Sat) → me.0.stage ≡ Idle → Allows Orderly slots id me 0 (λ n. n) (settles (step slots 0 0 0 none) me)
@@ -121,15 +121,15 @@ learns_moves slots id me idle s r wide at small =
 -- two views become one, which keeps these numbers, and of which as many are out as are left
 module _ (id : ℕ) (v : View) (other : ℕ) (w : View) (kept : List ℕ) (idle : v.stage ≡ Idle) (idle' : w.stage ≡ Idle) (some_own : v.number ≢ 0) where
   abbrev pub with_told : View
-  with_told = record v { told = w.seen; kept = kept; out = out_after v.number v.out w.parent w.out; drawn = v.drawn + w.drawn; noted = v.noted + w.noted }
+  with_told = record v { told = w.seen; kept = kept; outstanding = outstanding_after v.number v.outstanding w.parent w.outstanding; drawn = v.drawn + w.drawn; journaled = v.journaled + w.journaled }
 
   lent_with : (views : List View) → Lent views → get_elem? views id ≡ some v → get_elem? views other ≡ some w → ¬ (other ≡ id) → v.number ≡ suc id → Lent (set (set views id with_told) other spent_view)
   lent_with views t at at_other apart number = ⊎_elim
-      (λ (h : (w.parent ≡ v.number) × (w.out ≡ 0) × (with_told.out ≡ v.out - 1)). lent_join views id v other w with_told t at at_other apart idle idle' number h.0 h.1 refl h.2)
-      (λ (h : with_told.out ≡ v.out). lent_set (set views id with_told) other w spent_view
+      (λ (h : (w.parent ≡ v.number) × (w.outstanding ≡ 0) × (with_told.outstanding ≡ v.outstanding - 1)). lent_join views id v other w with_told t at at_other apart idle idle' number h.0 h.1 refl h.2)
+      (λ (h : with_told.outstanding ≡ v.outstanding). lent_set (set views id with_told) other w spent_view
       (lent_set views id v with_told t at (λ e. absurd (cc)) (λ _. (refl, omega arith)))
       (set_else views id other with_told apart ∙ at_other) (λ e. absurd (cc)) (λ live. absurd (live refl)))
-      (out_cases v.number v.out w.parent w.out)
+      (out_cases v.number v.outstanding w.parent w.outstanding)
 
   pub joins_with : ((s : Table) (r : Orderly s) → get_elem? s.views id ≡ some v → ¬ (other ≡ id) → get_elem? s.views other ≡ some w → ((k : ℕ) → Has k kept → (Has k v.kept) ⊎ ((k ≡ suc other) ⊎ Has k w.kept)) × AllDiffer kept)
       → Joins Orderly id v other w with_told spent_view
@@ -148,7 +148,7 @@ module _ (id : ℕ) (v : View) (other : ℕ) (w : View) (kept : List ℕ) (idle 
         few = r.few;
         behind = r.behind;
         legal = r.legal;
-        placed = placed_set x.out x s.homes views' other w spent_view there (λ is. absurd (cc)) (placed_set x.out x s.homes s.views id v both at (λ is. absurd (cc)) r.placed);
+        placed = placed_set x.outstanding x s.homes views' other w spent_view there (λ is. absurd (cc)) (placed_set x.outstanding x s.homes s.views id v both at (λ is. absurd (cc)) r.placed);
         know = know_set x views' other spent_view (λ j u _ e. known j u e) (refl, refl);
         held = all_held_set x views' other w spent_view there (λ has. absurd (ticketless w.stage idle' has)) (all_held_set x s.views id v both at (λ has. (has, refl)) r.held);
         differ = differ_set views' other spent_view (differ_set s.views id both r.differ (no_ticket s.views id both (ap has_ticket idle))) (no_ticket views' other spent_view refl);
@@ -156,7 +156,7 @@ module _ (id : ℕ) (v : View) (other : ℕ) (w : View) (kept : List ℕ) (idle 
         taken_in = taken_join s.views id v other w both r.taken_in at at_other apart idle idle' right.0 right.1;
         lent = lent_with s.views r.lent at at_other apart (own_number x.origin x.log id v fits some_own);
         drawn = (let a = total_set (λ u. u.drawn) s.views id v both at in let b = total_set (λ u. u.drawn) views' other w spent_view there in let d = r.drawn in omega (arith, a, b, d));
-        noted = (let a = total_set (λ u. u.noted) s.views id v both at in let b = total_set (λ u. u.noted) views' other w spent_view there in let d = r.noted in omega (arith, a, b, d));
+        journaled = (let a = total_set (λ u. u.journaled) s.views id v both at in let b = total_set (λ u. u.journaled) views' other w spent_view there in let d = r.journaled in omega (arith, a, b, d));
       }
 
 pub joins_moves : (id : ℕ) (v : View) (other : ℕ) (w : View) → v.stage ≡ Idle → w.stage ≡ Idle → v.number ≢ 0 → w.number ≢ 0 → Joins Orderly id v other w (told_of v w) spent_view
@@ -180,11 +180,11 @@ replayed-length : (w : Rows) (es : List Event) → length (replayed w es) ≡ le
 replayed-length w [] = refl
 replayed-length w (e ∷ es) = ap suc (replayed-length (after w e) es)
 
-pub opens : (d : History) (n : ℕ) → n ≡ length d.journal → FoundRoom (start_of d) d.journal → Orderly (opening (n ∷ 0 ∷ 0 ∷ []) (Some d ∷ []) (opening_view d))
+pub opens : (d : DeviceValue) (n : ℕ) → n ≡ length d.journal → FoundRoom (start_of d) d.journal → Orderly (opening (n ∷ 0 ∷ 0 ∷ []) (Some d ∷ []) (opening_view d))
 opens d n is room =
     let w : Rows = start_of d in
     let log : List Entry = replayed w d.journal in
-    let x : World = record { origin = d; log = log; next = 0; serving = 0; out = false } in
+    let x : World = record { origin = d; log = log; next = 0; serving = 0; outstanding = false } in
     let v : View = opening_view d in record {
       world = x;
       words = ap (λ (k : ℕ). k ∷ 0 ∷ 0 ∷ []) (is ∙ sym (replayed-length w d.journal));
@@ -199,7 +199,7 @@ opens d n is room =
       taken_in = taken_one v refl;
       lent = lent_one v refl refl;
       drawn = refl;
-      noted = (let l = replayed-length w d.journal in omega (arith, l));
+      journaled = (let l = replayed-length w d.journal in omega (arith, l));
     }
   where
     know_one : (x : World) (v : View) → Knows x 0 v v.stage → AllKnow x (v ∷ [])
@@ -228,15 +228,15 @@ closes id v words xs next serving slot idle final at_next at_serving quiet at =
     let words_are : words ≡ length x.log ∷ x.next ∷ x.serving ∷ [] = sym final.2 ∙ r.words in
     let next_is : x.next ≡ next = some-injective x.next next (ap (λ (l : List ℕ). get_elem? l 1) (sym words_are) ∙ at_next) in
     let serving_is : x.serving ≡ serving = some-injective x.serving serving (ap (λ (l : List ℕ). get_elem? l 2) (sym words_are) ∙ at_serving) in
-    let home = quiet_home x.out x s.homes s.views (next_is ∙ (quiet ∙ sym serving_is)) r.know r.placed in
+    let home = quiet_home x.outstanding x s.homes s.views (next_is ∙ (quiet ∙ sym serving_is)) r.know r.placed in
     let found = final.4 0 (Some (device_at x.origin x.log)) home in
-    (x.log, some-injective slot (Some (device_at x.origin x.log)) (sym at ∙ found) ∙ ap (λ (d : History). Some (device_at d x.log)) (sym fits.origin_is), reads x id v fits r.legal)
+    (x.log, some-injective slot (Some (device_at x.origin x.log)) (sym at ∙ found) ∙ ap (λ (d : DeviceValue). Some (device_at d x.log)) (sym fits.origin_is), reads x id v fits r.legal)
 
--- Where all that was split off the first seat is given back, all tickets were served, and the device is there.
-pub comes_home : (id : ℕ) (v : View) (words : List ℕ) (xs : List Slot) (next serving : ℕ) (slot : Slot) → v.stage ≡ Idle → v.number ≡ 1 → v.out ≡ 0 → Final (Seen Orderly id v) words xs
+-- Where all that was split off the first participant is given back, all tickets were served, and the device is there.
+pub comes_home : (id : ℕ) (v : View) (words : List ℕ) (xs : List Slot) (next serving : ℕ) (slot : Slot) → v.stage ≡ Idle → v.number ≡ 1 → v.outstanding ≡ 0 → Final (Seen Orderly id v) words xs
     → get_elem? words 1 ≡ some next → get_elem? words 2 ≡ some serving → get_elem? xs 0 ≡ some slot
-    → (next ≡ serving) × (d : History) × (slot ≡ Some d)
-comes_home id v words xs next serving slot idle first none_out final at_next at_serving at =
+    → (next ≡ serving) × (d : DeviceValue) × (slot ≡ Some d)
+comes_home id v words xs next serving slot idle first none_outstanding final at_next at_serving at =
     let s : Table = final.0 in
     let r : Orderly s = final.1.0 in
     let x = r.world in
@@ -244,9 +244,9 @@ comes_home id v words xs next serving slot idle first none_out final at_next at_
     let number : v.number ≡ suc id = own_number x.origin x.log id v fits (λ z. absurd (omega arith)) in
     let is_first : id ≡ 0 = omega arith in
     let at_first : get_elem? s.views 0 ≡ some v = ap (get_elem? s.views) (sym is_first) ∙ final.1.1 in
-    let free : (t : ℕ) → IsHeld s.views t → ⊥ = λ t h. no_ticket_out s.views r.lent v at_first (λ e. absurd (cc)) none_out h.0 h.1 idle h.2 h.3 in
+    let free : (t : ℕ) → IsHeld s.views t → ⊥ = λ t h. no_ticket_out s.views r.lent v at_first (λ e. absurd (cc)) none_outstanding h.0 h.1 idle h.2 h.3 in
     let quiet : x.next ≡ x.serving = dite (ℕ_discrete x.next x.serving) (λ e. e) (λ ne. let b = r.behind in absurd (free x.serving (r.held x.serving (omega arith) (omega arith)))) in
-    let home = quiet_home x.out x s.homes s.views quiet r.know r.placed in
+    let home = quiet_home x.outstanding x s.homes s.views quiet r.know r.placed in
     let found = final.4 0 (Some (device_at x.origin x.log)) home in
     let words_are : words ≡ length x.log ∷ x.next ∷ x.serving ∷ [] = sym final.2 ∙ r.words in (
       some-injective next x.next (sym at_next ∙ ap (λ (l : List ℕ). get_elem? l 1) words_are) ∙ (quiet ∙ sym (some-injective serving x.serving (sym at_serving ∙ ap (λ (l : List ℕ). get_elem? l 2) words_are))),
@@ -254,22 +254,22 @@ comes_home id v words xs next serving slot idle first none_out final at_next at_
       some-injective slot (Some (device_at x.origin x.log)) (sym at ∙ found),
     )
 
--- where all that was split off the first seat is given back, the history has what was noted before and what the seat counts
+-- where all that was split off the first participant is given back, the history has what was noted before and what the participant counts
 pub closes_counted : (id : ℕ) (v : View) (words : List ℕ) (xs : List Slot) (next serving : ℕ) (slot : Slot) → v.stage ≡ Idle → Final (Seen Orderly id v) words xs
-    → get_elem? words 1 ≡ some next → get_elem? words 2 ≡ some serving → next ≡ serving → get_elem? xs 0 ≡ some slot → v.number ≡ 1 → v.out ≡ 0
-    → (log : List Entry) × (slot ≡ Some (device_at v.origin log)) × (length log ≡ length v.origin.journal + v.noted)
+    → get_elem? words 1 ≡ some next → get_elem? words 2 ≡ some serving → next ≡ serving → get_elem? xs 0 ≡ some slot → v.number ≡ 1 → v.outstanding ≡ 0
+    → (log : List Entry) × (slot ≡ Some (device_at v.origin log)) × (length log ≡ length v.origin.journal + v.journaled)
 unfolding closes
-closes_counted id v words xs next serving slot idle final at_next at_serving quiet at first none_out =
+closes_counted id v words xs next serving slot idle final at_next at_serving quiet at first none_outstanding =
     let s : Table = final.0 in
     let r : Orderly s = final.1.0 in
     let x = r.world in
     let fits : Fits x.origin x.log id v = subst (Knows x id v) idle (r.know id v final.1.1) in
     let number : v.number ≡ suc id = own_number x.origin x.log id v fits (λ z. absurd (omega arith)) in
     let is_first : id ≡ 0 = omega arith in
-    let all = (first_counts s r v (ap (get_elem? s.views) (sym is_first) ∙ final.1.1) idle none_out).1 in
+    let all = (first_counts s r v (ap (get_elem? s.views) (sym is_first) ∙ final.1.1) idle none_outstanding).1 in
     let found = closes id v words xs next serving slot idle final at_next at_serving quiet at in
-    (x.log, found.1, all ∙ ap (λ (d : History). length d.journal + v.noted) (sym fits.origin_is))
+    (x.log, found.1, all ∙ ap (λ (d : DeviceValue). length d.journal + v.journaled) (sym fits.origin_is))
 
--- the first seat
-pub opening_own : (d : History) → FoundRoom (start_of d) d.journal → IsOwn (opening_view d)
+-- the first participant
+pub opening_own : (d : DeviceValue) → FoundRoom (start_of d) d.journal → IsOwn (opening_view d)
 opening_own d room = (replayed-legal (start_of d) d.journal room, replayed-calls 0 (start_of d) d.journal)

@@ -1,4 +1,4 @@
--- The device while a seat has it.
+-- The device while a participant has it.
 use Rattle.std.proofs.Common.{◌≡◌, ℕ, suc, ◌+◌, ◌-◌, ◌<◌, ◌^◌, List, [], ◌∷◌, ◌++◌, length, get_or, sym, refl, ap, ◌∙◌, subst, Some, Result, Ok, Err, true, false, append-nil, append_assoc, arith}
 use Rattle.std.specs.Prelude.{IfErr, IfOk, OnErr, OnOk}
 use Rattle.atomic_table.specs.Table.{rest}
@@ -9,14 +9,14 @@ use Rattle.drm_table.specs.declared.events.Event.{Event}
 use Rattle.drm_table.specs.Limits.{are_in_range}
 use Rattle.drm_model.specs.Rows.{Rows}
 use Rattle.drm_model.specs.Reply.{reply}
-use Rattle.drm_model.specs.Run.{FoundRoom, History, Step, no_room, noted_in, rows_of, start_of}
+use Rattle.drm_model.specs.Run.{FoundRoom, DeviceValue, Step, no_room, journaled_in, rows_of, start_of}
 use Rattle.drm_turns.specs.declared.history.Entry.{Entry}
 use Rattle.drm_turns.specs.declared.history.View.{View}
 use Rattle.drm_turns.specs.History.{StartsWith, device_at, entry, events_of, rows_after}
 use Rattle.drm_turns.specs.Plays.{Reads}
 use Rattle.drm_turns.specs.Rule.{Slot, Sat}
 use Rattle.drm_turns.specs.Views.{Grows, IsOwn, counted, serving, waiting}
-use Rattle.drm_turns.specs.Seats.{Adds, Excuses, Standing, entries_of, tickets_of}
+use Rattle.drm_turns.specs.Participants.{Commits, Aborts, ParticipantView, entries_of, tickets_of}
 use Rattle.drm_turns.specs.Turns.{Answered, Turn}
 use Rattle.drm_turns.proofs.Histories.{calls_own, events-snoc, legal-more}
 
@@ -24,18 +24,18 @@ pub events-length : (log : List Entry) → length (events_of log) ≡ length log
 events-length [] = refl
 events-length (e ∷ es) = ap suc (events-length es)
 
--- what is taken out of the slot is what the seat's list has
+-- what is taken out of the slot is what the participant's list has
 pub held_is : (c : List (ℕ × Slot)) (found have : Slot) → c ≡ (0, found) ∷ rest c → c ≡ (0, have) ∷ [] → found ≡ have
 held_is c found have e f = ap (λ (l : List (ℕ × Slot)). (get_or l 0 (0, found)).1) (sym e ∙ f)
 
 -- the device where it lies, once it was stepped
-pub after_step : (me : Sat) (w : View) (held : List (ℕ × Slot)) (slot : Slot) (d : History) → me ≡ (w, held) → rest held ≡ [] → held ≡ (0, slot) ∷ rest held → slot ≡ Some d
+pub after_step : (me : Sat) (w : View) (held : List (ℕ × Slot)) (slot : Slot) (d : DeviceValue) → me ≡ (w, held) → rest held ≡ [] → held ≡ (0, slot) ∷ rest held → slot ≡ Some d
     → d ≡ device_at w.origin w.seen → me.1 ≡ (0, Some (device_at me.0.origin me.0.seen)) ∷ []
 after_step me w held slot d e none_more has full is =
-    ap (λ (m : Sat). m.1) e ∙ (has ∙ (λ i. (0, full i) ∷ none_more i) ∙ (ap (λ (x : History). (0, Some x) ∷ []) is ∙ ap (λ (m : Sat). (0, Some (device_at m.0.origin m.0.seen)) ∷ []) (sym e)))
+    ap (λ (m : Sat). m.1) e ∙ (has ∙ (λ i. (0, full i) ∷ none_more i) ∙ (ap (λ (x : DeviceValue). (0, Some x) ∷ []) is ∙ ap (λ (m : Sat). (0, Some (device_at m.0.origin m.0.seen)) ∷ []) (sym e)))
 
 -- and after a step the history is one entry longer
-pub noting_at : (origin : History) (log : List Entry) (e : Entry) → noted_in (device_at origin log) e.event ≡ device_at origin (log ++ e ∷ [])
+pub noting_at : (origin : DeviceValue) (log : List Entry) (e : Entry) → journaled_in (device_at origin log) e.event ≡ device_at origin (log ++ e ∷ [])
 noting_at origin log e = ap (λ (l : List Event). record origin { journal = l }) (sym (events-snoc log e))
 
 pub grows_by : (v : View) (e : Entry) (w : View) → w ≡ counted v e → IsOwn v → e.by ≡ v.number
@@ -47,12 +47,12 @@ grows_by v e w is own by room answer = (
 
 pub grows_not : (v w : View) → w ≡ v → IsOwn v → Grows v w
 grows_not v w is own =
-    let same : v.noted ≡ v.noted + 0 = omega arith in
-    (([], is ∙ (λ i. record v { seen = sym (append-nil v.seen) i; mine = sym (append-nil v.mine) i; noted = same i })), subst IsOwn (sym is) own)
+    let same : v.journaled ≡ v.journaled + 0 = omega arith in
+    (([], is ∙ (λ i. record v { seen = sym (append-nil v.seen) i; mine = sym (append-nil v.mine) i; journaled = same i })), subst IsOwn (sym is) own)
 
 -- a whole turn
 pub turned : (v : View) (ticket : ℕ) (seen : List Entry) (w : View) → Reads v seen → Grows (serving (waiting v ticket) seen) w
-    → (w.number ≡ v.number) × (w.origin ≡ v.origin) × (w.told ≡ v.told) × StartsWith w.seen v.seen × IsOwn w × (w.kept ≡ v.kept) × (w.ticket ≡ ticket) × (w.parent ≡ v.parent) × (w.out ≡ v.out) × (w.drawn ≡ v.drawn + 1)
+    → (w.number ≡ v.number) × (w.origin ≡ v.origin) × (w.told ≡ v.told) × StartsWith w.seen v.seen × IsOwn w × (w.kept ≡ v.kept) × (w.ticket ≡ ticket) × (w.parent ≡ v.parent) × (w.outstanding ≡ v.outstanding) × (w.drawn ≡ v.drawn + 1)
 turned v ticket seen w reads grows =
     let more : List Entry = grows.0.0 in
     let is = grows.0.1 in
@@ -65,7 +65,7 @@ turned v ticket seen w reads grows =
       ap (λ (u : View). u.kept) is,
       ap (λ (u : View). u.ticket) is,
       ap (λ (u : View). u.parent) is,
-      ap (λ (u : View). u.out) is,
+      ap (λ (u : View). u.outstanding) is,
       ap (λ (u : View). u.drawn) is,
     )
 
@@ -75,17 +75,17 @@ pub step_ok : (w : Rows) (event : Event) (answer : Answer) (v : Rows) → Step w
 unfolding Step
 step_ok w event answer v s = (s.0, s.1)
 
-pub turn_of : (old new : History) (event : Event) (result : Result Answer Apart) → Step (rows_of old) event result (rows_of new) → OnOk result (new ≡ noted_in old event) → OnErr result (new ≡ old)
+pub turn_of : (old new : DeviceValue) (event : Event) (result : Result Answer Apart) → Step (rows_of old) event result (rows_of new) → OnOk result (new ≡ journaled_in old event) → OnErr result (new ≡ old)
     → are_in_range new.limits ≡ true → FoundRoom (start_of new) new.journal → Turn event result
 turn_of old new event (Ok answer) step ok err in_range found_room = record { before = old; after = new; steps = record { step = step; history = ok }; in_range = in_range; found_room = found_room }
 turn_of old new event (Err apart) step ok err in_range found_room = record { before = old; after = new; steps = record { step = step; history = err }; in_range = in_range; found_room = found_room }
 
-pub refuses : (old new : History) (event : Event) (result : Result Answer Apart) (v w : View) → old ≡ device_at v.origin v.seen → Step (rows_of old) event result (rows_of new) → OnErr result (new ≡ old) → OnErr result (w ≡ v)
+pub refuses : (old new : DeviceValue) (event : Event) (result : Result Answer Apart) (v w : View) → old ≡ device_at v.origin v.seen → Step (rows_of old) event result (rows_of new) → OnErr result (new ≡ old) → OnErr result (w ≡ v)
     → IfErr result (λ apart. (w ≡ v) × Step (rows_after v.origin v.seen) event (Err apart) (rows_after v.origin v.seen))
 refuses old new event (Ok answer) v w at step same is = tt
 refuses old new event (Err apart) v w at step same is = (
   is,
-  subst (λ (d : History). Step (rows_of d) event (Err apart) (rows_of d)) at (subst (λ (d : History). Step (rows_of old) event (Err apart) (rows_of d)) same step),
+  subst (λ (d : DeviceValue). Step (rows_of d) event (Err apart) (rows_of d)) at (subst (λ (d : DeviceValue). Step (rows_of old) event (Err apart) (rows_of d)) same step),
 )
 
 pub answered : (event : Event) (result : Result Answer Apart) → Turn event result → Answered event result
@@ -94,31 +94,31 @@ answered event (Err JournalFull) turn = turn
 answered event (Err NoMemory) turn = turn
 answered event (Err Worn) turn = tt
 
--- ---- what a call answers, where its seat had the view v, u in its turn, and w after it
+-- ---- what a call answers, where its participant had the view v, u in its turn, and w after it
 
-excused : (s t : Standing) (event : Event) (apart : Apart) → t.mine ≡ s.mine → t.found < 2 ^ 64 - 1 → Step (rows_after t.origin t.seen) event (Err apart) (rows_after t.origin t.seen) → Excuses s event apart t
+excused : (s t : ParticipantView) (event : Event) (apart : Apart) → t.mine ≡ s.mine → t.found < 2 ^ 64 - 1 → Step (rows_after t.origin t.seen) event (Err apart) (rows_after t.origin t.seen) → Aborts s event apart t
 unfolding Step
 excused s t event JournalFull mine few step = (mine, few, step.0)
 excused s t event NoMemory mine few step = (mine, few, step.0, step.1)
 excused s t event Worn mine few step = absurd step
 
-pub excuses : (result : Result Answer Apart) (event : Event) (s t : Standing) (u w : View)
+pub aborts : (result : Result Answer Apart) (event : Event) (s t : ParticipantView) (u w : View)
     → IfErr result (λ apart. (w ≡ u) × Step (rows_after u.origin u.seen) event (Err apart) (rows_after u.origin u.seen))
     → t.origin ≡ w.origin → t.seen ≡ w.seen → t.mine ≡ w.mine → u.mine ≡ s.mine → t.found < 2 ^ 64 - 1
-    → IfErr result (λ apart. Excuses s event apart t)
-excuses (Ok answer) event s t u w h origin seen mine ours few = tt
-excuses (Err apart) event s t u w h origin seen mine ours few =
+    → IfErr result (λ apart. Aborts s event apart t)
+aborts (Ok answer) event s t u w h origin seen mine ours few = tt
+aborts (Err apart) event s t u w h origin seen mine ours few =
     let from : t.origin ≡ u.origin = origin ∙ ap (λ (x : View). x.origin) h.0 in
     let saw : t.seen ≡ u.seen = seen ∙ ap (λ (x : View). x.seen) h.0 in
     excused s t event apart (mine ∙ (ap (λ (x : View). x.mine) h.0 ∙ ours)) few
-    (subst (λ (z : History × List Entry). Step (rows_after z.0 z.1) event (Err apart) (rows_after z.0 z.1)) (λ i. (sym from i, sym saw i)) h.1)
+    (subst (λ (z : DeviceValue × List Entry). Step (rows_after z.0 z.1) event (Err apart) (rows_after z.0 z.1)) (λ i. (sym from i, sym saw i)) h.1)
 
-pub adds : (result : Result Answer Apart) (event : Event) (s t : Standing) (u w : View) (between : List Entry)
+pub commits : (result : Result Answer Apart) (event : Event) (s t : ParticipantView) (u w : View) (between : List Entry)
     → IfOk result (λ answer. w ≡ counted u (entry u.number event answer))
     → t.seen ≡ w.seen → t.mine ≡ w.mine → u.number ≡ s.number → u.seen ≡ s.seen ++ between → u.mine ≡ s.mine → t.found < 2 ^ 64 - 1
-    → IfOk result (λ answer. Adds s event answer t)
-adds (Err apart) event s t u w between h seen mine number saw ours few = tt
-adds (Ok answer) event s t u w between h seen mine number saw ours few = (
+    → IfOk result (λ answer. Commits s event answer t)
+commits (Err apart) event s t u w between h seen mine number saw ours few = tt
+commits (Ok answer) event s t u w between h seen mine number saw ours few = (
   between,
   seen ∙ (ap (λ (x : View). x.seen) h ∙ (λ i. saw i ++ entry (number i) event answer ∷ [])),
   mine ∙ (ap (λ (x : View). x.mine) h ∙ (λ i. ours i ++ entry (number i) event answer ∷ [])),
@@ -136,9 +136,9 @@ turn_tickets event (Err NoMemory) turn = refl
 turn_tickets event (Err Worn) turn = absurd turn.steps.step
 
 pub turn_entries : (result : Result Answer Apart) (event : Event) (u w : View) → IfOk result (λ answer. w ≡ counted u (entry u.number event answer))
-    → IfErr result (λ apart. (w ≡ u) × Step (rows_after u.origin u.seen) event (Err apart) (rows_after u.origin u.seen)) → w.noted ≡ u.noted + entries_of result
-turn_entries (Ok answer) event u w ok err = ap (λ (x : View). x.noted) ok
-turn_entries (Err apart) event u w ok err = let same = ap (λ (x : View). x.noted) err.0 in omega arith
+    → IfErr result (λ apart. (w ≡ u) × Step (rows_after u.origin u.seen) event (Err apart) (rows_after u.origin u.seen)) → w.journaled ≡ u.journaled + entries_of result
+turn_entries (Ok answer) event u w ok err = ap (λ (x : View). x.journaled) ok
+turn_entries (Err apart) event u w ok err = let same = ap (λ (x : View). x.journaled) err.0 in omega arith
 
 -- what had its turn found a ticket
 pub not_worn : (event : Event) (result : Result Answer Apart) → Turn event result → result ≡ Err Worn → ⊥

@@ -4,7 +4,7 @@ use Rattle.drm_table.specs.declared.events.Event.{Event}
 use Rattle.drm_model.specs.Rows.{Rows}
 use Rattle.drm_model.specs.Change.{after}
 use Rattle.drm_model.specs.Reply.{reply}
-use Rattle.drm_model.specs.Run.{FoundRoom, History, no_room, rows_of, run, start_of}
+use Rattle.drm_model.specs.Run.{FoundRoom, DeviceValue, no_room, rows_of, run, start_of}
 use Rattle.drm_turns.specs.declared.history.Entry.{Entry}
 use Rattle.drm_turns.specs.History.{IsLegal, Legal, StartsWith, calls_by, entry, events_of, replayed, rows_after}
 
@@ -31,7 +31,7 @@ unfolding run
 legal-snoc w [] e l room answer = (room, answer, tt)
 legal-snoc w (x ∷ xs) e l room answer = (l.0, l.1, legal-snoc (after w x.event) xs e l.2 room answer)
 
-pub legal-more : (origin : History) (log : List Entry) (e : Entry) → IsLegal origin log → no_room (rows_after origin log) e.event ≡ false → e.answer ≡ reply (rows_after origin log) e.event → IsLegal origin (log ++ e ∷ [])
+pub legal-more : (origin : DeviceValue) (log : List Entry) (e : Entry) → IsLegal origin log → no_room (rows_after origin log) e.event ≡ false → e.answer ≡ reply (rows_after origin log) e.event → IsLegal origin (log ++ e ∷ [])
 unfolding rows_of
 legal-more origin log e l room answer = legal-snoc (start_of origin) log e l room answer
 

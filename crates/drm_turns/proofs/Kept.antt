@@ -1,4 +1,4 @@
--- The numbers that a view keeps of the seats that were joined into it.
+-- The numbers that a view keeps of the participants that were joined into it.
 use Rattle.std.proofs.Common.{◌≡◌, ◌≢◌, ◌⊎◌, ⊎_elim, inl, inr, ℕ, zero, suc, List, [], ◌∷◌, ◌++◌, length, set, sym, refl, ap, ◌∙◌, subst, arith}
 use mathlib.Core.Option.{some, some-injective, some-ne-none}
 use lib.ListN.{get_elem?}
@@ -34,7 +34,7 @@ taken_snoc views c t empty =
 pub taken_one : (v : View) → v.kept ≡ [] → TakenIn (v ∷ [])
 taken_one v empty = taken_snoc [] v (record { spent = λ i u k at has. absurd (some-ne-none u (sym at)); apart = λ i u at. absurd (some-ne-none u (sym at)); once = λ i j a b k at_i at_j has_i has_j. absurd (some-ne-none a (sym at_i)) }) empty
 
--- a seat that is not spent is kept by none
+-- a participant that is not spent is kept by none
 pub not_kept : (views : List View) (id : ℕ) (v : View) (j : ℕ) (u : View) → TakenIn views → get_elem? views id ≡ some v → (v.stage ≡ Spent → ⊥) → get_elem? views j ≡ some u → Has (suc id) u.kept → ⊥
 not_kept views id v j u t at unspent at_j has =
     let s = t.spent j u (suc id) at_j has in

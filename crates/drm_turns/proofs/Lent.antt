@@ -10,7 +10,7 @@ use Rattle.drm_turns.specs.declared.history.View.{View}
 use Rattle.drm_turns.specs.declared.history.Stage.TheVariants.{Idle, Spent}
 use Rattle.drm_turns.specs.History.{Has}
 use Rattle.drm_turns.specs.Rule.{IsBack, IsSpent, Lent, has_ticket}
-use Rattle.drm_turns.specs.Views.{child, lending, out_after, spent_view}
+use Rattle.drm_turns.specs.Views.{child, lending, outstanding_after, spent_view}
 use Rattle.drm_turns.proofs.Rule.{at_below, spent_stays, ticketless}
 use Rattle.drm_turns.proofs.Kept.{at_end}
 
@@ -75,14 +75,14 @@ put_else id xs away p ne = ap (λ (b : Bool). cond b xs (away p)) (ne_eqb p id n
 -- ---- the count of those that are out
 
 -- one that is given back counts, or it doesn't
-pub out_cases : (number out parent theirs : ℕ) → ((parent ≡ number) × (theirs ≡ 0) × (out_after number out parent theirs ≡ out - 1)) ⊎ (out_after number out parent theirs ≡ out)
-out_cases number out parent theirs = dite (ℕ_discrete parent number)
+pub out_cases : (number outstanding parent theirs : ℕ) → ((parent ≡ number) × (theirs ≡ 0) × (outstanding_after number outstanding parent theirs ≡ outstanding - 1)) ⊎ (outstanding_after number outstanding parent theirs ≡ outstanding)
+out_cases number outstanding parent theirs = dite (ℕ_discrete parent number)
     (λ p. dite (ℕ_discrete theirs 0)
-    (λ t. inl (p, t, (λ i. cond (eq-eqb parent number p i && eq-eqb theirs 0 t i) (out - 1) out)))
-    (λ t. inr (λ i. cond (eq-eqb parent number p i && ne_eqb theirs 0 t i) (out - 1) out)))
-    (λ p. inr (ap (λ (b : Bool). cond (b && (theirs == 0)) (out - 1) out) (ne_eqb parent number p)))
+    (λ t. inl (p, t, (λ i. cond (eq-eqb parent number p i && eq-eqb theirs 0 t i) (outstanding - 1) outstanding)))
+    (λ t. inr (λ i. cond (eq-eqb parent number p i && ne_eqb theirs 0 t i) (outstanding - 1) outstanding)))
+    (λ p. inr (ap (λ (b : Bool). cond (b && (theirs == 0)) (outstanding - 1) outstanding) (ne_eqb parent number p)))
 
-pub lent_one : (v : View) → v.parent ≡ 0 → v.out ≡ 0 → Lent (v ∷ [])
+pub lent_one : (v : View) → v.parent ≡ 0 → v.outstanding ≡ 0 → Lent (v ∷ [])
 lent_one v parent none = record {
   away = λ p. [];
   within = λ p c has. absurd has;
@@ -100,7 +100,7 @@ is_spent views j u at s =
 not_spent : (views : List View) (id j : ℕ) (v : View) → get_elem? views id ≡ some v → (v.stage ≡ Spent → ⊥) → IsSpent views (suc j) → j ≢ id
 not_spent views id j v at unspent s e = unspent (is_spent views id v at (subst (λ (k : ℕ). IsSpent views (suc k)) e s))
 
--- a seat or a note is split off
+-- a participant or a note is split off
 module _ (views : List View) (id : ℕ) (v : View) (t : Lent views) (at : get_elem? views id ≡ some v) (idle : v.stage ≡ Idle) (number : v.number ≡ suc id) where
   abbrev next : ℕ
   next = length views
@@ -117,8 +117,8 @@ module _ (views : List View) (id : ℕ) (v : View) (t : Lent views) (at : get_el
   longer : length split ≡ next + 1
   longer = let a = length-append (set views id (lending v)) (child v ∷ []) in let b = length-set views id (lending v) in omega arith
 
-  live_seat : v.stage ≡ Spent → ⊥
-  live_seat e = absurd (cc)
+  live_participant : v.stage ≡ Spent → ⊥
+  live_participant e = absurd (cc)
 
   has_then : (p k : ℕ) → Has k (away_then p) → ((p ≡ id) × (k ≡ next)) ⊎ Has k (t.away p)
   has_then p k h = dite (ℕ_discrete p id)
@@ -142,12 +142,12 @@ module _ (views : List View) (id : ℕ) (v : View) (t : Lent views) (at : get_el
 
   spent_still : (k : ℕ) → IsSpent views k → IsSpent split k
   spent_still k s =
-      let w = spent_stays views id v (lending v) k at live_seat s in
+      let w = spent_stays views id v (lending v) k at live_participant s in
       (w.0, w.1, w.2, at_longer (set views id (lending v)) (child v ∷ []) w.0 w.1 w.3, w.4)
 
   back_then : (c : ℕ) (z : View) → get_elem? views (suc c) ≡ some z → IsBack split away_then (suc c) ⊎ ((p : ℕ) × Has (suc c) (away_then p))
   back_then c z at_c = ⊎_elim
-      (λ (b : IsBack views t.away (suc c)). inl (spent_still (suc (suc c)) b.0, put_else id (next ∷ t.away id) t.away (suc c) (not_spent views id (suc c) v at live_seat b.0) ∙ b.1))
+      (λ (b : IsBack views t.away (suc c)). inl (spent_still (suc (suc c)) b.0, put_else id (next ∷ t.away id) t.away (suc c) (not_spent views id (suc c) v at live_participant b.0) ∙ b.1))
       (λ (b : (p : ℕ) × Has (suc c) (t.away p)). inr (b.0, has_more b.0 (suc c) b.1))
       (t.back c z at_c)
 
@@ -161,7 +161,7 @@ module _ (views : List View) (id : ℕ) (v : View) (t : Lent views) (at : get_el
       r)
       (whence c u at_c))
       (λ (h : Has c (t.away p)). ⊎_elim
-      (λ (a : (c ≡ id) × (lending v ≡ u)). ap (λ (z : View). z.parent) (sym a.1) ∙ t.parent p id v (subst (λ (q : ℕ). Has q (t.away p)) a.0 h) at live_seat)
+      (λ (a : (c ≡ id) × (lending v ≡ u)). ap (λ (z : View). z.parent) (sym a.1) ∙ t.parent p id v (subst (λ (q : ℕ). Has q (t.away p)) a.0 h) at live_participant)
       (λ (r : ((c ≢ id) × (get_elem? views c ≡ some u)) ⊎ ((c ≡ next) × (child v ≡ u))). ⊎_elim
       (λ (a : (c ≢ id) × (get_elem? views c ≡ some u)). t.parent p c u h a.1 live)
       (λ (a : (c ≡ next) × (child v ≡ u)). let b = (t.within p c h).1 in let e = a.0 in absurd (omega arith))
@@ -171,7 +171,7 @@ module _ (views : List View) (id : ℕ) (v : View) (t : Lent views) (at : get_el
 
   first_then : (u : View) → get_elem? split 0 ≡ some u → (u.stage ≡ Spent → ⊥) → u.parent ≡ 0
   first_then u at_0 live = ⊎_elim
-      (λ (a : (0 ≡ id) × (lending v ≡ u)). ap (λ (z : View). z.parent) (sym a.1) ∙ t.first v (ap (get_elem? views) a.0 ∙ at) live_seat)
+      (λ (a : (0 ≡ id) × (lending v ≡ u)). ap (λ (z : View). z.parent) (sym a.1) ∙ t.first v (ap (get_elem? views) a.0 ∙ at) live_participant)
       (λ (r : ((0 ≢ id) × (get_elem? views 0 ≡ some u)) ⊎ ((0 ≡ next) × (child v ≡ u))). ⊎_elim
       (λ (a : (0 ≢ id) × (get_elem? views 0 ≡ some u)). t.first u a.1 live)
       (λ (a : (0 ≡ next) × (child v ≡ u)). let b = below in let e = a.0 in absurd (omega arith))
@@ -181,12 +181,12 @@ module _ (views : List View) (id : ℕ) (v : View) (t : Lent views) (at : get_el
   none_of_next : t.away next ≡ []
   none_of_next = no_member (t.away next) (λ k h. let w = t.within next k h in let a = w.0 in let b = w.1 in absurd (omega arith))
 
-  count_then : (j : ℕ) (u : View) → get_elem? split j ≡ some u → (u.stage ≡ Spent → ⊥) → length (away_then j) ≤ u.out
+  count_then : (j : ℕ) (u : View) → get_elem? split j ≡ some u → (u.stage ≡ Spent → ⊥) → length (away_then j) ≤ u.outstanding
   count_then j u at_j live = ⊎_elim
       (λ (a : (j ≡ id) × (lending v ≡ u)).
       let e = ap (λ (l : List ℕ). length l) (put_here id (next ∷ t.away id) t.away j a.0) in
-      let m = t.count id v at live_seat in
-      let o = ap (λ (z : View). z.out) a.1 in omega arith)
+      let m = t.count id v at live_participant in
+      let o = ap (λ (z : View). z.outstanding) a.1 in omega arith)
       (λ (r : ((j ≢ id) × (get_elem? views j ≡ some u)) ⊎ ((j ≡ next) × (child v ≡ u))). ⊎_elim
       (λ (a : (j ≢ id) × (get_elem? views j ≡ some u)).
       let e = ap (λ (l : List ℕ). length l) (put_else id (next ∷ t.away id) t.away j a.0) in
@@ -218,11 +218,11 @@ module _ (views : List View) (id : ℕ) (v : View) (t : Lent views) (at : get_el
     count = count_then;
   }
 
--- a seat or a note is given back, and counts
+-- a participant or a note is given back, and counts
 module _ (views : List View) (id : ℕ) (v : View) (other : ℕ) (w both : View) (t : Lent views) (at : get_elem? views id ≡ some v) (at_other : get_elem? views other ≡ some w) (apart : ¬ (other ≡ id))
-    (idle : v.stage ≡ Idle) (idle_other : w.stage ≡ Idle) (number : v.number ≡ suc id) (child_is : w.parent ≡ v.number) (whole : w.out ≡ 0) (parent : both.parent ≡ v.parent) (fewer : both.out ≡ v.out - 1) where
-  abbrev joined : List View
-  joined = set (set views id both) other spent_view
+    (idle : v.stage ≡ Idle) (idle_other : w.stage ≡ Idle) (number : v.number ≡ suc id) (child_is : w.parent ≡ v.number) (whole : w.outstanding ≡ 0) (parent : both.parent ≡ v.parent) (fewer : both.outstanding ≡ v.outstanding - 1) where
+  abbrev merged : List View
+  merged = set (set views id both) other spent_view
 
   abbrev away_less : ℕ → List ℕ
   away_less = put id (without other (t.away id)) t.away
@@ -236,13 +236,13 @@ module _ (views : List View) (id : ℕ) (v : View) (other : ℕ) (w both : View)
   there : get_elem? (set views id both) other ≡ some w
   there = set_else views id other both apart ∙ at_other
 
-  same_length : length joined ≡ length views
+  same_length : length merged ≡ length views
   same_length = length-set (set views id both) other spent_view ∙ length-set views id both
 
-  now_spent : IsSpent joined (suc other)
+  now_spent : IsSpent merged (suc other)
   now_spent = (other, spent_view, refl, set_here (set views id both) other spent_view (at_below (set views id both) other w there), refl)
 
-  spent_kept : (k : ℕ) → IsSpent views k → IsSpent joined k
+  spent_kept : (k : ℕ) → IsSpent views k → IsSpent merged k
   spent_kept k s = spent_stays (set views id both) other w spent_view k there live_w (spent_stays views id v both k at live_v s)
 
   had : (p k : ℕ) → Has k (away_less p) → Has k (t.away p)
@@ -258,7 +258,7 @@ module _ (views : List View) (id : ℕ) (v : View) (other : ℕ) (w both : View)
   none_still : (p : ℕ) → t.away p ≡ [] → away_less p ≡ []
   none_still p none = no_member (away_less p) (λ k h. none_in k (t.away p) none (had p k h))
 
-  -- it was away with this seat
+  -- it was away with this participant
   pair : (o : ℕ) → o ≡ other → Has other (t.away id)
   pair zero e = let z = t.first w (ap (get_elem? views) e ∙ at_other) live_w in let c = child_is in let n = number in absurd (omega arith)
   pair (suc o) e = ⊎_elim
@@ -275,7 +275,7 @@ module _ (views : List View) (id : ℕ) (v : View) (other : ℕ) (w both : View)
   abbrev Before : ℕ → View → Type 0
   Before j u = ((j ≡ other) × (spent_view ≡ u)) ⊎ (((j ≡ id) × (both ≡ u)) ⊎ ((j ≢ id) × (j ≢ other) × (get_elem? views j ≡ some u)))
 
-  before : (j : ℕ) (u : View) → get_elem? joined j ≡ some u → Before j u
+  before : (j : ℕ) (u : View) → get_elem? merged j ≡ some u → Before j u
   before j u at_j = ⊎_elim
       (λ (h : (j ≡ other) × (spent_view ≡ u)). inl h)
       (λ (h : (j ≢ other) × (get_elem? (set views id both) j ≡ some u)). ⊎_elim
@@ -284,7 +284,7 @@ module _ (views : List View) (id : ℕ) (v : View) (other : ℕ) (w both : View)
       (at_set views id j both u h.1))
       (at_set (set views id both) other j spent_view u at_j)
 
-  back_less : (c : ℕ) (z : View) → suc c ≢ other → get_elem? views (suc c) ≡ some z → IsBack joined away_less (suc c) ⊎ ((p : ℕ) × Has (suc c) (away_less p))
+  back_less : (c : ℕ) (z : View) → suc c ≢ other → get_elem? views (suc c) ≡ some z → IsBack merged away_less (suc c) ⊎ ((p : ℕ) × Has (suc c) (away_less p))
   back_less c z ne at_c = ⊎_elim
       (λ (b : IsBack views t.away (suc c)). inl (spent_kept (suc (suc c)) b.0, none_still (suc c) b.1))
       (λ (b : (p : ℕ) × Has (suc c) (t.away p)). inr (b.0, has_still b.0 (suc c) ne b.1))
@@ -296,12 +296,12 @@ module _ (views : List View) (id : ℕ) (v : View) (other : ℕ) (w both : View)
   all_back_then : away_less other ≡ []
   all_back_then = none_still other (empty_of (t.away other) (let m = t.count other w at_other live_w in let o = whole in omega arith))
 
-  pub lent_join : Lent joined
+  pub lent_join : Lent merged
   lent_join = record {
     away = away_less;
     within = λ p c has. let h = t.within p c (had p c has) in (h.0, (let l = same_length in let b = h.1 in omega arith));
     back = λ c u at_c. ⊎_elim
-        (λ (a : (suc c ≡ other) × (spent_view ≡ u)). inl (subst (λ (n : ℕ). IsSpent joined (suc n)) (sym a.0) now_spent, ap away_less a.0 ∙ all_back_then))
+        (λ (a : (suc c ≡ other) × (spent_view ≡ u)). inl (subst (λ (n : ℕ). IsSpent merged (suc n)) (sym a.0) now_spent, ap away_less a.0 ∙ all_back_then))
         (λ (r : ((suc c ≡ id) × (both ≡ u)) ⊎ ((suc c ≢ id) × (suc c ≢ other) × (get_elem? views (suc c) ≡ some u))). ⊎_elim
         (λ (a : (suc c ≡ id) × (both ≡ u)). back_less c v (λ e. apart (sym e ∙ a.0)) (ap (get_elem? views) a.0 ∙ at))
         (λ (a : (suc c ≢ id) × (suc c ≢ other) × (get_elem? views (suc c) ≡ some u)). back_less c u a.1 a.2)
@@ -328,7 +328,7 @@ module _ (views : List View) (id : ℕ) (v : View) (other : ℕ) (w both : View)
         let e = ap (λ (l : List ℕ). length l) (put_here id (without other (t.away id)) t.away j a.0) in
         let f = one_fewer other (t.away id) (pair other refl) in
         let m = t.count id v at live_v in
-        let o = ap (λ (z : View). z.out) a.1 in
+        let o = ap (λ (z : View). z.outstanding) a.1 in
         let n = fewer in omega arith)
         (λ (a : (j ≢ id) × (j ≢ other) × (get_elem? views j ≡ some u)).
         let e = ap (λ (l : List ℕ). length l) (put_else id (without other (t.away id)) t.away j a.0) in
@@ -337,11 +337,11 @@ module _ (views : List View) (id : ℕ) (v : View) (other : ℕ) (w both : View)
         (before j u at_j);
   }
 
--- ---- where none is out of the first seat, each other is spent
+-- ---- where none is out of the first participant, each other is spent
 
-module _ (views : List View) (t : Lent views) (v : View) (at : get_elem? views 0 ≡ some v) (live : v.stage ≡ Spent → ⊥) (none_out : v.out ≡ 0) where
+module _ (views : List View) (t : Lent views) (v : View) (at : get_elem? views 0 ≡ some v) (live : v.stage ≡ Spent → ⊥) (none_outstanding : v.outstanding ≡ 0) where
   none_away : t.away 0 ≡ []
-  none_away = empty_of (t.away 0) (let m = t.count 0 v at live in let o = none_out in omega arith)
+  none_away = empty_of (t.away 0) (let m = t.count 0 v at live in let o = none_outstanding in omega arith)
 
   -- nothing is away with one of those before, where these are back
   none_with : (c p : ℕ) → p < suc c → suc c < length views → ((q : ℕ) (z : View) → q < c → get_elem? views (suc q) ≡ some z → IsBack views t.away (suc q)) → t.away p ≡ []

@@ -10,7 +10,7 @@ use Rattle.atomic_table.specs.Table.{step, keeps, takes, gives, homes_after, ste
 use Rattle.atomic_table.proofs.Lists.{set_here}
 use Rattle.drm_model.specs.Rows.{Rows}
 use Rattle.drm_model.specs.Reply.{reply}
-use Rattle.drm_model.specs.Run.{History, no_room}
+use Rattle.drm_model.specs.Run.{DeviceValue, no_room}
 use Rattle.drm_turns.specs.declared.history.Entry.{Entry}
 use Rattle.drm_turns.specs.declared.history.View.{View}
 use Rattle.drm_turns.specs.declared.history.Stage.{Stage}
@@ -22,14 +22,14 @@ use Rattle.drm_turns.proofs.Counts.{first_counts}
 use Rattle.drm_turns.proofs.Totals.{total_kept, total_set}
 use Rattle.drm_turns.specs.Plays.{Reads, finds, draws, looks, counts, passes}
 use Rattle.drm_turns.proofs.Histories.{calls_other, calls_own, legal-more, starts_more, starts_whole}
-use Rattle.drm_turns.proofs.Rule.{at_below, all_held_set, held_set, lent_set, same_ticket, no_ticket, placed_set, taken_set, stays, stays_put, stays_whole, ticketless, word_same, word_is, refits}
+use Rattle.drm_turns.proofs.Rule.{at_below, all_held_set, held_set, lent_set, same_ticket, no_ticket, placed_set, taken_set, unchanged, stays_put, stays_whole, ticketless, word_same, word_is, refits}
 
--- the next ticket is as many as the first seat drew, where none is out of it
-found_all : (s : Table) (r : Orderly s) (id : ℕ) (v : View) → get_elem? s.views id ≡ some v → v.stage ≡ Idle → v.number ≡ 1 → v.out ≡ 0 → slice_index s.words 1 ≡ v.drawn
-found_all s r id v at idle first none_out =
+-- the next ticket is as many as the first participant drew, where none is out of it
+found_all : (s : Table) (r : Orderly s) (id : ℕ) (v : View) → get_elem? s.views id ≡ some v → v.stage ≡ Idle → v.number ≡ 1 → v.outstanding ≡ 0 → slice_index s.words 1 ≡ v.drawn
+found_all s r id v at idle first none_outstanding =
     let fits : Fits r.world.origin r.world.log id v = subst (Knows r.world id v) idle (r.know id v at) in
     let is_first : id ≡ 0 = ⊎_elim (λ (z : v.number ≡ 0). absurd (omega arith)) (λ (z : v.number ≡ suc id). omega arith) fits.number in
-    (word_is s r).1 ∙ (first_counts s r v (ap (get_elem? s.views) (sym is_first) ∙ at) idle none_out).0
+    (word_is s r).1 ∙ (first_counts s r v (ap (get_elem? s.views) (sym is_first) ∙ at) idle none_outstanding).0
 
 pub finds_moves : (slots id : ℕ) (me : Sat) → me.0.stage ≡ Idle → Allows Orderly slots id me 1 (λ n. n) (finds (step slots 1 0 0 none) me)
 finds_moves slots id me idle s r wide at small =
@@ -39,7 +39,7 @@ finds_moves slots id me idle s r wide at small =
       keeps,
       tt,
       stays_put s r 1 id me.1 me.0 w (word_same s r).1 at (λ is. absurd (cc)) (refits r.world.origin r.world.log id me.0 w.ticket Idle me.0.drawn fits) (λ has. absurd (ticketless me.0.stage idle has)) (no_ticket s.views id w refl) (λ is. absurd (cc)) refl refl refl refl refl,
-      (refl, λ first none_out. found_all s r id me.0 at idle first none_out),
+      (refl, λ first none_outstanding. found_all s r id me.0 at idle first none_outstanding),
     )
 
 -- what the others know, where the next ticket is a later one
@@ -84,15 +84,15 @@ draws_moves slots id me old idle room s r wide at small =
       keeps,
       tt,
       subst (λ (b : Bool). Orderly (stepped s 1 (either b (old + 1) n) id me.1 w keeps)) (sym (eq-eqb n old hit))
-          (stays s r y 1 (old + 1) id me.1 w keeps (ap (λ (l : List ℕ). slice_set l 1 (old + 1)) r.words) (omega arith) (omega arith) r.legal
-          (placed_drawn x.out x old s.homes s.views id me.0 w at (λ k. absurd (cc)) r.placed)
+          (unchanged s r y 1 (old + 1) id me.1 w keeps (ap (λ (l : List ℕ). slice_set l 1 (old + 1)) r.words) (omega arith) (omega arith) r.legal
+          (placed_drawn x.outstanding x old s.homes s.views id me.0 w at (λ k. absurd (cc)) r.placed)
           (λ j u ne e. later x (old + 1) j u u.stage (omega arith) (r.know j u e))
           (refits x.origin x.log id me.0 old Waiting (me.0.drawn + 1) fits, omega arith, omega arith)
           (held_drawn x s.views id me.0 old at idle next_is r.held)
           (λ j u ne e has _ same. tickets_below x j u u.stage has (r.know j u e) (same ∙ sym next_is))
           r.unborn (taken_set s.views id me.0 w r.taken_in at (λ k. absurd (cc)) refl) (lent_set s.views id me.0 w r.lent at (λ k. absurd (cc)) (λ _. (refl, omega arith)))
           (let more = total_set (λ u. u.drawn) s.views id me.0 w at in let drawn = r.drawn in omega (arith, more, drawn, next_is))
-          (ap (λ (n : ℕ). length x.origin.journal + n) (total_kept (λ u. u.noted) s.views id me.0 w at refl) ∙ r.noted)),
+          (ap (λ (n : ℕ). length x.origin.journal + n) (total_kept (λ u. u.journaled) s.views id me.0 w at refl) ∙ r.journaled)),
       ((λ _. refl), λ not. absurd (not hit)),
     ))
     (λ miss. (
@@ -103,7 +103,7 @@ draws_moves slots id me old idle room s r wide at small =
       ((λ hit. absurd (miss hit)), λ _. refl),
     ))
 
--- the device is at home, where the seat that is served has not taken it
+-- the device is at home, where the participant that is served has not taken it
 is_home : (b : Bool) (x : World) (homes : List (maybe Slot)) (views : List View) (id : ℕ) (v : View) → get_elem? views id ≡ some v → v.stage ≡ Waiting → v.ticket ≡ x.serving
     → AllKnow x views → TicketsDiffer views → Placed b x homes views → get_elem? homes 0 ≡ some (some (Some (device_at x.origin x.log)))
 is_home false x homes views id v at stage is know differ p = p
@@ -116,21 +116,21 @@ is_home true x homes views id v at stage is know differ p =
     absurd (cc)
 
 -- what the others know, where the device is taken out
-taken : (x : World) (j : ℕ) (u : View) (g : Stage) → Knows x j u g → Knows (record x { out = true }) j u g
+taken : (x : World) (j : ℕ) (u : View) (g : Stage) → Knows x j u g → Knows (record x { outstanding = true }) j u g
 taken x j u Idle k = k
 taken x j u Waiting k = k
 taken x j u Serving k = (k.0, k.1, k.2, refl, k.4)
 taken x j u Spent k = k
 
--- a seat's own entries in the history
-own_calls : (origin : History) (log : List Entry) (id : ℕ) (v : View) → Fits origin log id v → v.number ≢ 0 → calls_by v.number log ≡ v.mine
+-- a participant's own entries in the history
+own_calls : (origin : DeviceValue) (log : List Entry) (id : ℕ) (v : View) → Fits origin log id v → v.number ≢ 0 → calls_by v.number log ≡ v.mine
 own_calls origin log id v f some_number = ⊎_elim (λ (z : v.number ≡ 0). absurd (some_number z)) (λ (z : v.number ≡ suc id). ap (λ (n : ℕ). calls_by n log) z ∙ f.mine) f.number
 
 pub reads : (x : World) (id : ℕ) (v : View) → Fits x.origin x.log id v → IsLegal x.origin x.log → Reads v x.log
-reads x id v f legal = (f.seen, f.told, subst (λ (d : History). IsLegal d x.log) (sym f.origin_is) legal, own_calls x.origin x.log id v f)
+reads x id v f legal = (f.seen, f.told, subst (λ (d : DeviceValue). IsLegal d x.log) (sym f.origin_is) legal, own_calls x.origin x.log id v f)
 
 -- the view, where it has seen all
-sees : (origin : History) (log : List Entry) (id : ℕ) (v : View) (stage : Stage) → Fits origin log id v → Fits origin log id (record v { seen = log; stage = stage })
+sees : (origin : DeviceValue) (log : List Entry) (id : ℕ) (v : View) (stage : Stage) → Fits origin log id v → Fits origin log id (record v { seen = log; stage = stage })
 sees origin log id v stage f = record { origin_is = f.origin_is; number = f.number; parent = f.parent; seen = starts_whole log; told = f.told; mine = f.mine }
 
 pub looks_moves : (slots id : ℕ) (me : Sat) → me.0.stage ≡ Waiting → Allows Orderly slots id me 2 (λ n. n) (looks (step slots 2 0 0 none) me)
@@ -141,13 +141,13 @@ looks_moves slots id me waits s r wide at small =
     let known : Knows x id me.0 Waiting = subst (Knows x id me.0) waits (r.know id me.0 at) in
     let fits : Fits x.origin x.log id me.0 = known.0 in
     let w : View = serving me.0 x.log in
-    let y : World = record x { out = true } in
+    let y : World = record x { outstanding = true } in
     dite (ℕ_discrete n me.0.ticket)
     (λ hit. (
       w,
       takes 0 (Some (device_at x.origin x.log)),
-      is_home x.out x s.homes s.views id me.0 at waits (sym hit ∙ is) r.know r.differ r.placed,
-      stays s r y 2 n id me.1 w (takes 0 (Some (device_at x.origin x.log))) ((word_same s r).2 ∙ r.words) r.few r.behind r.legal
+      is_home x.outstanding x s.homes s.views id me.0 at waits (sym hit ∙ is) r.know r.differ r.placed,
+      unchanged s r y 2 n id me.1 w (takes 0 (Some (device_at x.origin x.log))) ((word_same s r).2 ∙ r.words) r.few r.behind r.legal
           (id, w, set_here s.views id w (at_below s.views id me.0 at), refl)
           (λ j u _ e. taken x j u u.stage (r.know j u e))
           (sees x.origin x.log id me.0 Serving fits, sym hit ∙ is, (let a = known.1 in let b = known.2 in let e : me.0.ticket ≡ x.serving = sym hit ∙ is in omega arith), refl, refl)
@@ -157,8 +157,8 @@ looks_moves slots id me waits s r wide at small =
           (taken_set s.views id me.0 w r.taken_in at (λ k. absurd (cc)) refl)
           (lent_set s.views id me.0 w r.lent at (λ k. absurd (cc)) (λ _. (refl, omega arith)))
           (total_kept (λ u. u.drawn) s.views id me.0 w at refl ∙ r.drawn)
-          (ap (λ (n : ℕ). length x.origin.journal + n) (total_kept (λ u. u.noted) s.views id me.0 w at refl) ∙ r.noted),
-      ((λ _. (x.log, ap (λ (d : History). (serving me.0 x.log, (0, Some (device_at d x.log)) ∷ me.1)) (sym fits.origin_is), reads x id me.0 fits r.legal)), λ not. absurd (not hit)),
+          (ap (λ (n : ℕ). length x.origin.journal + n) (total_kept (λ u. u.journaled) s.views id me.0 w at refl) ∙ r.journaled),
+      ((λ _. (x.log, ap (λ (d : DeviceValue). (serving me.0 x.log, (0, Some (device_at d x.log)) ∷ me.1)) (sym fits.origin_is), reads x id me.0 fits r.legal)), λ not. absurd (not hit)),
     ))
     (λ miss. (
       me.0,
@@ -169,7 +169,7 @@ looks_moves slots id me waits s r wide at small =
     ))
 
 -- what others know, where an entry is added that is not theirs
-fits_more : (origin : History) (log : List Entry) (j : ℕ) (u : View) (e : Entry) → e.by ≢ suc j → Fits origin log j u → Fits origin (log ++ e ∷ []) j u
+fits_more : (origin : DeviceValue) (log : List Entry) (j : ℕ) (u : View) (e : Entry) → e.by ≢ suc j → Fits origin log j u → Fits origin (log ++ e ∷ []) j u
 fits_more origin log j u e other f = record {
   origin_is = f.origin_is;
   number = f.number;
@@ -185,14 +185,14 @@ others_count x j u Waiting e other idles k = (fits_more x.origin x.log j u e oth
 others_count x j u Serving e other idles k = absurd (idles refl)
 others_count x j u Spent e other idles k = k
 
--- there is one seat that is served
+-- there is one participant that is served
 alone : (x : World) (views : List View) (id j : ℕ) (v u : View) → TicketsDiffer views → get_elem? views id ≡ some v → v.stage ≡ Serving → v.ticket ≡ x.serving → j ≢ id → get_elem? views j ≡ some u
     → Knows x j u u.stage → u.stage ≡ Serving → ⊥
 alone x views id j v u differ at is ticket ne at_j k serves =
     let known : Knows x j u Serving = subst (Knows x j u) serves k in ne (differ j id u v at_j at (ap has_ticket serves) (ap has_ticket is) (known.1 ∙ sym ticket))
 
 placed_here : (b : Bool) (y : World) (homes : List (maybe Slot)) (views : List View) (id : ℕ) (w : View) → b ≡ true → get_elem? views id ≡ some w → w.stage ≡ Serving → Placed b y homes views
-placed_here b y homes views id w out at is = subst (λ (z : Bool). Placed z y homes views) (sym out) (id, w, at, is)
+placed_here b y homes views id w outstanding at is = subst (λ (z : Bool). Placed z y homes views) (sym outstanding) (id, w, at, is)
 
 pub counts_moves : (slots id : ℕ) (me : Sat) (e : Entry) → me.0.stage ≡ Serving → e.by ≡ me.0.number → me.0.number ≢ 0 → length me.0.seen < 2 ^ 64 - 1
     → no_room (rows_after me.0.origin me.0.seen) e.event ≡ false → e.answer ≡ reply (rows_after me.0.origin me.0.seen) e.event
@@ -216,9 +216,9 @@ counts_moves slots id me e serves by some_number few room answer s r wide at sma
       w,
       keeps,
       tt,
-      stays s r y 0 ((n + 1) % 2 ^ 64) id me.1 w keeps words r.few r.behind
+      unchanged s r y 0 ((n + 1) % 2 ^ 64) id me.1 w keeps words r.few r.behind
           (legal-more x.origin x.log e r.legal (subst (λ (z : Rows). no_room z e.event ≡ false) rows_are room) (subst (λ (z : Rows). e.answer ≡ reply z e.event) rows_are answer))
-          (placed_here x.out y s.homes (set s.views id w) id w known.3 (set_here s.views id w (at_below s.views id v at)) serves)
+          (placed_here x.outstanding y s.homes (set s.views id w) id w known.3 (set_here s.views id w (at_below s.views id v at)) serves)
           (λ j u ne at_j. others_count x j u u.stage e (λ b. ne (let h : suc j ≡ suc id = sym b ∙ by_id in omega arith)) (alone x s.views id j v u r.differ at serves known.1 ne at_j (r.know j u at_j)) (r.know j u at_j))
           (subst (Knows y id w) (sym serves) (
             record {
@@ -240,12 +240,12 @@ counts_moves slots id me e serves by some_number few room answer s r wide at sma
           (taken_set s.views id v w r.taken_in at (λ k. absurd (cc)) refl)
           (lent_set s.views id v w r.lent at (λ k. absurd (cc)) (λ _. (refl, omega arith)))
           (total_kept (λ u. u.drawn) s.views id v w at refl ∙ r.drawn)
-          (let more = total_set (λ u. u.noted) s.views id v w at in let noted = r.noted in omega (arith, more, noted, len)),
+          (let more = total_set (λ u. u.journaled) s.views id v w at in let journaled = r.journaled in omega (arith, more, journaled, len)),
       refl,
     )
 
 -- what others know, where the ticket that was served is passed
-others_pass : (x : World) (j : ℕ) (u : View) (g : Stage) → (g ≡ Serving → ⊥) → (has_ticket g ≡ true → u.ticket ≢ x.serving) → Knows x j u g → Knows (record x { serving = x.serving + 1; out = false }) j u g
+others_pass : (x : World) (j : ℕ) (u : View) (g : Stage) → (g ≡ Serving → ⊥) → (has_ticket g ≡ true → u.ticket ≢ x.serving) → Knows x j u g → Knows (record x { serving = x.serving + 1; outstanding = false }) j u g
 others_pass x j u Idle idles other k = k
 others_pass x j u Waiting idles other k = let ne = other refl in (k.0, (let h = k.1 in omega arith), k.2)
 others_pass x j u Serving idles other k = absurd (idles refl)
@@ -261,7 +261,7 @@ passes_moves slots id me more some_slot serves holds s r wide at small =
     let known : Knows x id v Serving = subst (Knows x id v) serves (r.know id v at) in
     let fits : Fits x.origin x.log id v = known.0 in
     let w : View = passed v in
-    let y : World = record x { serving = x.serving + 1; out = false } in
+    let y : World = record x { serving = x.serving + 1; outstanding = false } in
     let few = r.few in
     let below = known.2 in
     let word : (n + 1) % 2 ^ 64 ≡ x.serving + 1 = omega arith in
@@ -270,7 +270,7 @@ passes_moves slots id me more some_slot serves holds s r wide at small =
       w,
       gives,
       tt,
-      stays s r y 2 ((n + 1) % 2 ^ 64) id me.1 w gives words r.few (omega arith) r.legal
+      unchanged s r y 2 ((n + 1) % 2 ^ 64) id me.1 w gives words r.few (omega arith) r.legal
           (subst (λ (c : List (ℕ × Slot)). get_elem? (homes_after s.homes c gives) 0 ≡ some (some (Some (device_at x.origin x.log)))) (sym holds)
           (set_here s.homes 0 (some (Some (device_at v.origin v.seen))) (omega arith) ∙ ap (λ d. some (some (Some d))) device_is))
           (λ j u ne at_j. others_pass x j u u.stage (alone x s.views id j v u r.differ at serves known.1 ne at_j (r.know j u at_j))
@@ -282,6 +282,6 @@ passes_moves slots id me more some_slot serves holds s r wide at small =
           (taken_set s.views id v w r.taken_in at (λ k. absurd (cc)) refl)
           (lent_set s.views id v w r.lent at (λ k. absurd (cc)) (λ _. (refl, omega arith)))
           (total_kept (λ u. u.drawn) s.views id v w at refl ∙ r.drawn)
-          (ap (λ (n : ℕ). length x.origin.journal + n) (total_kept (λ u. u.noted) s.views id v w at refl) ∙ r.noted),
+          (ap (λ (n : ℕ). length x.origin.journal + n) (total_kept (λ u. u.journaled) s.views id v w at refl) ∙ r.journaled),
       refl,
     )

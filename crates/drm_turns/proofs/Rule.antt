@@ -7,7 +7,7 @@ use native.Mathlib.Decide.{ℕ_discrete}
 use lib.ListN.{get_elem?}
 use Rattle.atomic_table.specs.Table.{Act, homes_after, stepped}
 use Rattle.atomic_table.proofs.Lists.{at_set, set_here, set_else}
-use Rattle.drm_model.specs.Run.{History}
+use Rattle.drm_model.specs.Run.{DeviceValue}
 use Rattle.drm_turns.specs.declared.history.Entry.{Entry}
 use Rattle.drm_turns.specs.declared.history.View.{View}
 use Rattle.drm_turns.specs.declared.history.Stage.{Stage}
@@ -37,7 +37,7 @@ spent_stays views id v w k at unspent s = (
   s.4,
 )
 
--- no other seat has the ticket of w
+-- no other participant has the ticket of w
 abbrev pub IsFresh : List View → ℕ → View → Type 0
 IsFresh views id w = (j : ℕ) (u : View) → j ≢ id → get_elem? views j ≡ some u → has_ticket u.stage ≡ true → has_ticket w.stage ≡ true → u.ticket ≡ w.ticket → ⊥
 
@@ -54,11 +54,11 @@ differ_set views id w old fresh i j a b at_i at_j has_i has_j same =
     (at_set views id j w b at_j))
     (at_set views id i w a at_i)
 
--- a seat that keeps its ticket
+-- a participant that keeps its ticket
 pub same_ticket : (views : List View) (id : ℕ) (v w : View) → TicketsDiffer views → get_elem? views id ≡ some v → has_ticket v.stage ≡ true → w.ticket ≡ v.ticket → IsFresh views id w
 same_ticket views id v w differ at has is j u ne at_j has_j has_w same = ne (differ j id u v at_j at has_j has (same ∙ is))
 
--- a seat that has none
+-- a participant that has none
 pub no_ticket : (views : List View) (id : ℕ) (w : View) → has_ticket w.stage ≡ false → IsFresh views id w
 no_ticket views id w none_now j u ne at_j has_j has_w same = absurd (cc)
 
@@ -85,7 +85,7 @@ taken_set views id v w t at unspent same =
 pub ticketless : (g : Stage) → g ≡ Idle → has_ticket g ≡ true → ⊥
 ticketless g idle has = let none : false ≡ true = sym (ap has_ticket idle) ∙ has in absurd (cc)
 
--- where a seat that has a ticket keeps it
+-- where a participant that has a ticket keeps it
 pub held_set : (views : List View) (id : ℕ) (v w : View) (t : ℕ) → get_elem? views id ≡ some v → (has_ticket v.stage ≡ true → v.ticket ≡ t → (has_ticket w.stage ≡ true) × (w.ticket ≡ t))
     → IsHeld views t → IsHeld (set views id w) t
 held_set views id v w t at keeps h = dite (ℕ_discrete h.0 id)
@@ -99,13 +99,13 @@ pub all_held_set : (x : World) (views : List View) (id : ℕ) (v w : View) → g
 all_held_set x views id v w at keeps held t from to = held_set views id v w t at (λ has is. let k = keeps has in (k.0, k.1 ∙ is)) (held t from to)
 
 -- where one view keeps its parent, and counts no fewer
-pub lent_set : (views : List View) (id : ℕ) (v w : View) → Lent views → get_elem? views id ≡ some v → (v.stage ≡ Spent → ⊥) → ((w.stage ≡ Spent → ⊥) → (w.parent ≡ v.parent) × (v.out ≤ w.out)) → Lent (set views id w)
+pub lent_set : (views : List View) (id : ℕ) (v w : View) → Lent views → get_elem? views id ≡ some v → (v.stage ≡ Spent → ⊥) → ((w.stage ≡ Spent → ⊥) → (w.parent ≡ v.parent) × (v.outstanding ≤ w.outstanding)) → Lent (set views id w)
 lent_set views id v w t at unspent keeps =
-    let before : (j : ℕ) (u : View) → get_elem? (set views id w) j ≡ some u → (u.stage ≡ Spent → ⊥) → (z : View) × (get_elem? views j ≡ some z) × (z.stage ≡ Spent → ⊥) × (u.parent ≡ z.parent) × (z.out ≤ u.out) =
+    let before : (j : ℕ) (u : View) → get_elem? (set views id w) j ≡ some u → (u.stage ≡ Spent → ⊥) → (z : View) × (get_elem? views j ≡ some z) × (z.stage ≡ Spent → ⊥) × (u.parent ≡ z.parent) × (z.outstanding ≤ u.outstanding) =
     λ j u at_j live. ⊎_elim
     (λ (h : (j ≡ id) × (w ≡ u)).
     let k = keeps (λ e. live (ap (λ (z : View). z.stage) (sym h.1) ∙ e)) in
-    (v, ap (get_elem? views) h.0 ∙ at, unspent, ap (λ (z : View). z.parent) (sym h.1) ∙ k.0, subst (λ (z : View). v.out ≤ z.out) h.1 k.1))
+    (v, ap (get_elem? views) h.0 ∙ at, unspent, ap (λ (z : View). z.parent) (sym h.1) ∙ k.0, subst (λ (z : View). v.outstanding ≤ z.outstanding) h.1 k.1))
     (λ (h : (j ≢ id) × (get_elem? views j ≡ some u)). (u, h.1, live, refl, omega arith))
     (at_set views id j w u at_j) in
     let there : (j : ℕ) (u : View) → get_elem? (set views id w) j ≡ some u → (z : View) × (get_elem? views j ≡ some z) = λ j u at_j. ⊎_elim
@@ -123,10 +123,10 @@ lent_set views id v w t at unspent keeps =
       count = λ j u at_j live. let b = before j u at_j live in let k = t.count j b.0 b.1 b.2 in let m = b.4 in omega arith;
     }
 
-pub stays : (s : Table) (r : Orderly s) (y : World) (i n id : ℕ) (c : List (ℕ × Slot)) (w : View) (a : Act Slot)
+pub unchanged : (s : Table) (r : Orderly s) (y : World) (i n id : ℕ) (c : List (ℕ × Slot)) (w : View) (a : Act Slot)
     → slice_set s.words i n ≡ length y.log ∷ y.next ∷ y.serving ∷ []
     → y.next < 2 ^ 64 → y.serving ≤ y.next → IsLegal y.origin y.log
-    → Placed y.out y (homes_after s.homes c a) (set s.views id w)
+    → Placed y.outstanding y (homes_after s.homes c a) (set s.views id w)
     → ((j : ℕ) (u : View) → j ≢ id → get_elem? s.views j ≡ some u → Knows y j u u.stage)
     → Knows y id w w.stage
     → AllHeld y (set s.views id w)
@@ -135,11 +135,11 @@ pub stays : (s : Table) (r : Orderly s) (y : World) (i n id : ℕ) (c : List (�
     → TakenIn (set s.views id w)
     → Lent (set s.views id w)
     → total (λ u. u.drawn) (set s.views id w) ≡ y.next
-    → length y.origin.journal + total (λ u. u.noted) (set s.views id w) ≡ length y.log
+    → length y.origin.journal + total (λ u. u.journaled) (set s.views id w) ≡ length y.log
     → Orderly (stepped s i n id c w a)
-stays s r y i n id c w a words few behind legal placed others mine held fresh unborn taken_in lent drawn noted = record {
+unchanged s r y i n id c w a words few behind legal placed others mine held fresh unborn taken_in lent drawn journaled = record {
   drawn = drawn;
-  noted = noted;
+  journaled = journaled;
   held = held;
   taken_in = taken_in;
   lent = lent;
@@ -165,14 +165,14 @@ pub stays_put : (s : Table) (r : Orderly s) (i id : ℕ) (c : List (ℕ × Slot)
     → (v.stage ≡ Spent → ⊥)
     → w.kept ≡ v.kept
     → w.parent ≡ v.parent
-    → w.out ≡ v.out
+    → w.outstanding ≡ v.outstanding
     → w.drawn ≡ v.drawn
-    → w.noted ≡ v.noted
+    → w.journaled ≡ v.journaled
     → Orderly (stepped s i (slice_index s.words i) id c w Rattle.atomic_table.specs.Table.keeps)
-stays_put s r i id c v w words at still mine keeps fresh unspent same parent out drawn noted = stays s r r.world i (slice_index s.words i) id c w Rattle.atomic_table.specs.Table.keeps (words ∙ r.words) r.few r.behind r.legal
-    (placed_set r.world.out r.world s.homes s.views id v w at still r.placed) (λ j u _ e. r.know j u e) mine
-    (all_held_set r.world s.views id v w at keeps r.held) fresh r.unborn (taken_set s.views id v w r.taken_in at unspent same) (lent_set s.views id v w r.lent at unspent (λ _. (parent, (let o = out in omega arith))))
-    (total_kept (λ u. u.drawn) s.views id v w at drawn ∙ r.drawn) (ap (λ (n : ℕ). length r.world.origin.journal + n) (total_kept (λ u. u.noted) s.views id v w at noted) ∙ r.noted)
+stays_put s r i id c v w words at still mine keeps fresh unspent same parent outstanding drawn journaled = unchanged s r r.world i (slice_index s.words i) id c w Rattle.atomic_table.specs.Table.keeps (words ∙ r.words) r.few r.behind r.legal
+    (placed_set r.world.outstanding r.world s.homes s.views id v w at still r.placed) (λ j u _ e. r.know j u e) mine
+    (all_held_set r.world s.views id v w at keeps r.held) fresh r.unborn (taken_set s.views id v w r.taken_in at unspent same) (lent_set s.views id v w r.lent at unspent (λ _. (parent, (let o = outstanding in omega arith))))
+    (total_kept (λ u. u.drawn) s.views id v w at drawn ∙ r.drawn) (ap (λ (n : ℕ). length r.world.origin.journal + n) (total_kept (λ u. u.journaled) s.views id v w at journaled) ∙ r.journaled)
 
 -- the same with no change at all
 pub stays_whole : (s : Table) (r : Orderly s) (i id : ℕ) (c : List (ℕ × Slot)) (v : View) → slice_set s.words i (slice_index s.words i) ≡ s.words → get_elem? s.views id ≡ some v → (v.stage ≡ Spent → ⊥)
@@ -191,11 +191,11 @@ pub word_is : (s : Table) (r : Orderly s) → (slice_index s.words 0 ≡ length 
 word_is s r = (ap (λ (l : List ℕ). slice_index l 0) r.words, ap (λ (l : List ℕ). slice_index l 1) r.words, ap (λ (l : List ℕ). slice_index l 2) r.words)
 
 -- the view with another ticket and stage, and another count of tickets
-pub refits : (origin : History) (log : List Entry) (id : ℕ) (v : View) (ticket : ℕ) (stage : Stage) (drawn : ℕ) → Fits origin log id v → Fits origin log id (record v { ticket = ticket; stage = stage; drawn = drawn })
+pub refits : (origin : DeviceValue) (log : List Entry) (id : ℕ) (v : View) (ticket : ℕ) (stage : Stage) (drawn : ℕ) → Fits origin log id v → Fits origin log id (record v { ticket = ticket; stage = stage; drawn = drawn })
 refits origin log id v ticket stage drawn f = record { origin_is = f.origin_is; number = f.number; parent = f.parent; seen = f.seen; told = f.told; mine = f.mine }
 
 pub placed_at : (b : Bool) (s : Table) (r : Orderly s) → Placed b r.world s.homes s.views
-    → ((origin : History) × (log : List Entry) × (get_elem? s.homes 0 ≡ some (some (Some (device_at origin log)))) × IsLegal origin log)
+    → ((origin : DeviceValue) × (log : List Entry) × (get_elem? s.homes 0 ≡ some (some (Some (device_at origin log)))) × IsLegal origin log)
     ⊎ ((id : ℕ) × (v : View) × (get_elem? s.views id ≡ some v) × (v.stage ≡ Serving) × (v.ticket ≡ slice_index s.words 2))
 placed_at false s r p = inl (r.world.origin, r.world.log, p, r.legal)
 placed_at true s r p = let k : Knows r.world p.0 p.1 Serving = subst (Knows r.world p.0 p.1) p.3 (r.know p.0 p.1 p.2) in inr (p.0, p.1, p.2, p.3, k.1 ∙ sym (word_is s r).2)

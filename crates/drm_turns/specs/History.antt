@@ -1,11 +1,11 @@
--- Histories of a shared device: what was asked, by the seat of which number, and what was answered.
+-- Histories of a shared device: what was asked, by the participant of which number, and what was answered.
 use Rattle.std.specs.Prelude.{◌≡◌, ◌⊎◌, ℕ, ◌==◌, false, List, [], ◌∷◌, ◌++◌, cond}
 use Rattle.drm_table.specs.declared.answers.Answer.{Answer}
 use Rattle.drm_table.specs.declared.events.Event.{Event}
 use Rattle.drm_model.specs.Rows.{Rows}
 use Rattle.drm_model.specs.Change.{after}
 use Rattle.drm_model.specs.Reply.{reply}
-use Rattle.drm_model.specs.Run.{History, no_room, rows_of, start_of}
+use Rattle.drm_model.specs.Run.{DeviceValue, no_room, rows_of, start_of}
 use Rattle.drm_turns.specs.declared.history.Entry.{Entry}
 
 abbrev pub entry : ℕ → Event → Answer → Entry
@@ -26,21 +26,21 @@ replayed w [] = []
 replayed w (e ∷ es) = entry 0 e (reply w e) ∷ replayed (after w e) es
 
 -- what the device had noted before it was shared
-abbrev pub noted_before : History → List Entry
-noted_before origin = replayed (start_of origin) origin.journal
+abbrev pub journaled_before : DeviceValue → List Entry
+journaled_before origin = replayed (start_of origin) origin.journal
 
 -- a legal history of a device with this topology and these limits
-abbrev pub IsLegal : History → List Entry → Type 0
+abbrev pub IsLegal : DeviceValue → List Entry → Type 0
 IsLegal origin log = Legal (start_of origin) log
 
 -- the device with this history
-abbrev pub device_at : History → List Entry → History
+abbrev pub device_at : DeviceValue → List Entry → DeviceValue
 device_at origin log = record origin { journal = events_of log }
 
-abbrev pub rows_after : History → List Entry → Rows
+abbrev pub rows_after : DeviceValue → List Entry → Rows
 rows_after origin log = rows_of (device_at origin log)
 
--- the entries of one seat
+-- the entries of one participant
 abbrev pub calls_by : ℕ → List Entry → List Entry
 calls_by n [] = []
 calls_by n (e ∷ es) = cond (e.by == n) (e ∷ calls_by n es) (calls_by n es)

@@ -2,6 +2,6 @@ pub mod History
 pub mod Views
 pub mod Rule
 pub mod Plays
-pub mod Seats
+pub mod Participants
 pub mod Turns
-pub mod Sitting
+pub mod ParticipantFields

@@ -1,4 +1,4 @@
--- What each step tells: of the step, the seat before, the number found and the seat after.
+-- What each step tells: of the step, the participant before, the number found and the participant after.
 use Rattle.std.specs.Prelude.{◌≡◌, ◌≢◌, ℕ, List, [], ◌∷◌, Some}
 use Rattle.atomic_table.specs.Table.{Step, rest}
 use Rattle.drm_turns.specs.declared.history.Entry.{Entry}
@@ -10,18 +10,18 @@ use Rattle.drm_turns.specs.Rule.{Slot, Sat}
 abbrev pub Play : Type 1
 Play = Step Slot → Sat → ℕ → Sat → Type 0
 
--- the history so far, which begins with all that was seen and told, and in which the seat's own entries are those that it made
+-- the history so far, which begins with all that was seen and told, and in which the participant's own entries are those that it made
 abbrev pub Reads : View → List Entry → Type 0
 Reads v seen = StartsWith seen v.seen × StartsWith seen v.told × IsLegal v.origin seen × (v.number ≢ 0 → calls_by v.number seen ≡ v.mine)
 
--- the next ticket is as many as the first seat drew, where none is out of it
+-- the next ticket is as many as the first participant drew, where none is out of it
 abbrev pub finds : Play
-finds st m r n = (n ≡ (found_at m.0 r, m.1)) × (m.0.number ≡ 1 → m.0.out ≡ 0 → r ≡ m.0.drawn)
+finds st m r n = (n ≡ (found_at m.0 r, m.1)) × (m.0.number ≡ 1 → m.0.outstanding ≡ 0 → r ≡ m.0.drawn)
 
 abbrev pub draws : Play
 draws st m r n = (r ≡ st.first → n ≡ (waiting m.0 st.first, m.1)) × (r ≢ st.first → n ≡ m)
 
--- the seat is served, and has the device, with the history for its journal
+-- the participant is served, and has the device, with the history for its journal
 abbrev pub IsServed : Sat → Sat → Type 0
 IsServed m n = (seen : List Entry) × (n ≡ (serving m.0 seen, (0, Some (device_at m.0.origin seen)) ∷ m.1)) × Reads m.0 seen
 
@@ -34,7 +34,7 @@ counts e st m r n = n ≡ (counted m.0 e, m.1)
 abbrev pub passes : Play
 passes st m r n = n ≡ (passed m.0, rest m.1)
 
--- a new seat learns its number
+-- a new participant learns its number
 abbrev pub IsNumbered : Sat → Sat → Type 0
 IsNumbered m n = (number : ℕ) × (n ≡ (numbered m.0 number, m.1)) × (number ≢ 0) × (number ≢ m.0.parent) × (m.0.mine ≡ [] → calls_by number m.0.seen ≡ [])
 

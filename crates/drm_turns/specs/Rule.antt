@@ -4,7 +4,7 @@ use Rattle.std.specs.Prelude.{◌≡◌, ◌≢◌, ◌⊎◌, ℕ, suc, ◌+◌
 use mathlib.Core.Option.{Option as maybe, some}
 use lib.ListN.{get_elem?}
 use Rattle.atomic_table.specs.Table.{State, Me}
-use Rattle.drm_model.specs.Run.{History}
+use Rattle.drm_model.specs.Run.{DeviceValue}
 use Rattle.drm_turns.specs.declared.history.Entry.{Entry}
 use Rattle.drm_turns.specs.declared.history.View.{View}
 use Rattle.drm_turns.specs.declared.history.Stage.{Stage}
@@ -12,7 +12,7 @@ use Rattle.drm_turns.specs.declared.history.Stage.TheVariants.{Idle, Waiting, Se
 use Rattle.drm_turns.specs.History.{AllDiffer, Has, IsLegal, StartsWith, calls_by, device_at}
 
 abbrev pub Slot : Type 0
-Slot = Option History
+Slot = Option DeviceValue
 
 abbrev pub Table : Type 0
 Table = State Slot View
@@ -22,11 +22,11 @@ Sat = Me Slot View
 
 -- the facts behind the words: the whole history, the next ticket, the ticket that is served, and whether the device is out of its slot
 pub record World : Type 0 where
-  pub origin : History
+  pub origin : DeviceValue
   pub log : List Entry
   pub next : ℕ
   pub serving : ℕ
-  pub out : Bool
+  pub outstanding : Bool
 
 -- what the views count, added up
 abbrev pub total : (View → ℕ) → List View → ℕ
@@ -34,7 +34,7 @@ total count [] = 0
 total count (v ∷ views) = count v + total count views
 
 -- what holds of each view that is not spent
-pub record Fits (origin : History) (log : List Entry) (id : ℕ) (v : View) : Type 0 where
+pub record Fits (origin : DeviceValue) (log : List Entry) (id : ℕ) (v : View) : Type 0 where
   pub origin_is : v.origin ≡ origin
   pub number : (v.number ≡ 0) ⊎ (v.number ≡ suc id)
   pub parent : v.parent ≢ suc id
@@ -45,17 +45,17 @@ pub record Fits (origin : History) (log : List Entry) (id : ℕ) (v : View) : Ty
 abbrev pub Knows : World → ℕ → View → Stage → Type 0
 Knows x id v Idle = Fits x.origin x.log id v
 Knows x id v Waiting = Fits x.origin x.log id v × (x.serving ≤ v.ticket) × (v.ticket < x.next)
-Knows x id v Serving = Fits x.origin x.log id v × (v.ticket ≡ x.serving) × (x.serving < x.next) × (x.out ≡ true) × (v.seen ≡ x.log)
-Knows x id v Spent = (v.drawn ≡ 0) × (v.noted ≡ 0)
+Knows x id v Serving = Fits x.origin x.log id v × (v.ticket ≡ x.serving) × (x.serving < x.next) × (x.outstanding ≡ true) × (v.seen ≡ x.log)
+Knows x id v Spent = (v.drawn ≡ 0) × (v.journaled ≡ 0)
 
--- a seat in these stages has a ticket
+-- a participant in these stages has a ticket
 abbrev pub has_ticket : Stage → Bool
 has_ticket Idle = false
 has_ticket Waiting = true
 has_ticket Serving = true
 has_ticket Spent = false
 
--- the device is at home and has the events of the history for its journal, or it is with the seat that is served
+-- the device is at home and has the events of the history for its journal, or it is with the participant that is served
 abbrev pub Placed : Bool → World → List (maybe Slot) → List View → Type 0
 Placed false x homes views = get_elem? homes 0 ≡ some (some (Some (device_at x.origin x.log)))
 Placed true x homes views = (id : ℕ) × (v : View) × (get_elem? views id ≡ some v) × (v.stage ≡ Serving)
@@ -63,15 +63,15 @@ Placed true x homes views = (id : ℕ) × (v : View) × (get_elem? views id ≡ 
 abbrev pub AllKnow : World → List View → Type 0
 AllKnow x views = (id : ℕ) (v : View) → get_elem? views id ≡ some v → Knows x id v v.stage
 
--- a seat has this ticket
+-- a participant has this ticket
 abbrev pub IsHeld : List View → ℕ → Type 0
 IsHeld views t = (id : ℕ) × (v : View) × (get_elem? views id ≡ some v) × (has_ticket v.stage ≡ true) × (v.ticket ≡ t)
 
--- a seat has each ticket that was drawn and not passed on
+-- a participant has each ticket that was drawn and not passed on
 abbrev pub AllHeld : World → List View → Type 0
 AllHeld x views = (t : ℕ) → x.serving ≤ t → t < x.next → IsHeld views t
 
--- no two seats have one ticket
+-- no two participants have one ticket
 abbrev pub TicketsDiffer : List View → Type 0
 TicketsDiffer views = (i j : ℕ) (v w : View) → get_elem? views i ≡ some v → get_elem? views j ≡ some w
     → has_ticket v.stage ≡ true → has_ticket w.stage ≡ true → v.ticket ≡ w.ticket → i ≡ j
@@ -79,7 +79,7 @@ TicketsDiffer views = (i j : ℕ) (v w : View) → get_elem? views i ≡ some v 
 abbrev pub Unborn : List Entry → List View → Type 0
 Unborn log views = (id : ℕ) → length views ≤ id → calls_by (suc id) log ≡ []
 
--- the seat with this number was joined into another
+-- the participant with this number was joined into another
 abbrev pub IsSpent : List View → ℕ → Type 0
 IsSpent views k = (j : ℕ) × (u : View) × (k ≡ suc j) × (get_elem? views j ≡ some u) × (u.stage ≡ Spent)
 
@@ -101,7 +101,7 @@ pub record Lent (views : List View) : Type 0 where
   pub back : (c : ℕ) (u : View) → get_elem? views (suc c) ≡ some u → IsBack views away (suc c) ⊎ ((p : ℕ) × Has (suc c) (away p))
   pub parent : (p c : ℕ) (u : View) → Has c (away p) → get_elem? views c ≡ some u → (u.stage ≡ Spent → ⊥) → u.parent ≡ suc p
   pub first : (u : View) → get_elem? views 0 ≡ some u → (u.stage ≡ Spent → ⊥) → u.parent ≡ 0
-  pub count : (id : ℕ) (v : View) → get_elem? views id ≡ some v → (v.stage ≡ Spent → ⊥) → length (away id) ≤ v.out
+  pub count : (id : ℕ) (v : View) → get_elem? views id ≡ some v → (v.stage ≡ Spent → ⊥) → length (away id) ≤ v.outstanding
 
 pub record Orderly (s : Table) : Type 0 where
   pub world : World
@@ -109,7 +109,7 @@ pub record Orderly (s : Table) : Type 0 where
   pub few : world.next < 2 ^ 64
   pub behind : world.serving ≤ world.next
   pub legal : IsLegal world.origin world.log
-  pub placed : Placed world.out world s.homes s.views
+  pub placed : Placed world.outstanding world s.homes s.views
   pub know : AllKnow world s.views
   pub held : AllHeld world s.views
   pub differ : TicketsDiffer s.views
@@ -117,4 +117,4 @@ pub record Orderly (s : Table) : Type 0 where
   pub taken_in : TakenIn s.views
   pub lent : Lent s.views
   pub drawn : total (λ v. v.drawn) s.views ≡ world.next
-  pub noted : length world.origin.journal + total (λ v. v.noted) s.views ≡ length world.log
+  pub journaled : length world.origin.journal + total (λ v. v.journaled) s.views ≡ length world.log

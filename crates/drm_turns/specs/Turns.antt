@@ -5,31 +5,31 @@ use Rattle.drm_table.specs.declared.apart.Apart.{Apart}
 use Rattle.drm_table.specs.declared.apart.Apart.TheVariants.{JournalFull, NoMemory, Worn}
 use Rattle.drm_table.specs.declared.events.Event.{Event}
 use Rattle.drm_table.specs.Limits.{are_in_range}
-use Rattle.drm_model.specs.Run.{History, FoundRoom, Step, noted_in, rows_of, start_of}
+use Rattle.drm_model.specs.Run.{DeviceValue, FoundRoom, Step, journaled_in, rows_of, start_of}
 
 -- what is answered is noted, and what stands apart leaves the device as it was
-abbrev pub history_after : History → Event → Result Answer Apart → History
-history_after old event (Ok answer) = noted_in old event
+abbrev pub history_after : DeviceValue → Event → Result Answer Apart → DeviceValue
+history_after old event (Ok answer) = journaled_in old event
 history_after old event (Err apart) = old
 
 -- The device answered the event from its rows, which are those of its journal.
-pub record Steps (old : History) (event : Event) (result : Result Answer Apart) (new : History) : Type 0 where
+pub record DeviceSteps (old : DeviceValue) (event : Event) (result : Result Answer Apart) (new : DeviceValue) : Type 0 where
   pub step : Step (rows_of old) event result (rows_of new)
   pub history : new ≡ history_after old event result
 
 -- The device that has its turn answered the event, and is left as the step left it: its limits are in their ranges, and
 -- each event of its journal found room.
 pub record Turn (event : Event) (result : Result Answer Apart) : Type 0 where
-  pub before : History
-  pub after : History
-  pub steps : Steps before event result after
+  pub before : DeviceValue
+  pub after : DeviceValue
+  pub steps : DeviceSteps before event result after
   pub in_range : are_in_range after.limits ≡ true
   pub found_room : FoundRoom (start_of after) after.journal
 
 -- What a step does to the device, as the device says it.
-pub record Stepped (old : History) (event : Event) (result : Result Answer Apart) (new : History) : Type 0 where
+pub record Stepped (old : DeviceValue) (event : Event) (result : Result Answer Apart) (new : DeviceValue) : Type 0 where
   pub step : Step (rows_of old) event result (rows_of new)
-  pub ok : OnOk result (new ≡ noted_in old event)
+  pub ok : OnOk result (new ≡ journaled_in old event)
   pub err : OnErr result (new ≡ old)
   pub in_range : are_in_range new.limits ≡ true
   pub found_room : FoundRoom (start_of new) new.journal

@@ -1,24 +1,24 @@
--- What a seat knows, from step to step.
+-- What a participant knows, from step to step.
 use Rattle.std.specs.Prelude.{◌≡◌, ℕ, ◌+◌, ◌-◌, ◌==◌, ◌&&◌, cond, List, [], ◌∷◌, ◌++◌, length}
-use Rattle.drm_model.specs.Run.{History}
+use Rattle.drm_model.specs.Run.{DeviceValue}
 use Rattle.drm_turns.specs.declared.history.Entry.{Entry}
 use Rattle.drm_turns.specs.declared.history.View.{View}
 use Rattle.drm_turns.specs.declared.history.Stage.TheVariants.{Idle, Waiting, Serving, Spent}
-use Rattle.drm_turns.specs.History.{IsLegal, calls_by, noted_before}
+use Rattle.drm_turns.specs.History.{IsLegal, calls_by, journaled_before}
 
--- the view of the first seat, of a device that is shared
-abbrev pub opening_view : History → View
+-- the view of the first participant, of a device that is shared
+abbrev pub opening_view : DeviceValue → View
 opening_view origin = record {
   origin = origin;
   number = 1;
   parent = 0;
-  out = 0;
-  seen = noted_before origin;
+  outstanding = 0;
+  seen = journaled_before origin;
   mine = [];
   told = [];
   kept = [];
   drawn = 0;
-  noted = 0;
+  journaled = 0;
   ticket = 0;
   stage = Idle;
 }
@@ -33,28 +33,28 @@ abbrev pub serving : View → List Entry → View
 serving v seen = record v { seen = seen; stage = Serving }
 
 abbrev pub counted : View → Entry → View
-counted v e = record v { seen = v.seen ++ e ∷ []; mine = v.mine ++ e ∷ []; noted = v.noted + 1 }
+counted v e = record v { seen = v.seen ++ e ∷ []; mine = v.mine ++ e ∷ []; journaled = v.journaled + 1 }
 
 abbrev pub passed : View → View
 passed v = record v { stage = Idle }
 
 -- one more is split off it
 abbrev pub lending : View → View
-lending v = record v { out = v.out + 1 }
+lending v = record v { outstanding = v.outstanding + 1 }
 
--- what a seat that is split off begins with
+-- what a participant that is split off begins with
 abbrev pub child : View → View
 child v = record {
   origin = v.origin;
   number = 0;
   parent = v.number;
-  out = 0;
+  outstanding = 0;
   seen = v.seen;
   mine = [];
   told = [];
   kept = [];
   drawn = 0;
-  noted = 0;
+  journaled = 0;
   ticket = 0;
   stage = Idle;
 }
@@ -62,20 +62,20 @@ child v = record {
 abbrev pub numbered : View → ℕ → View
 numbered v number = record v { number = number }
 
--- How many are out of a seat of this number, once one with this parent is given back, of which so many are out itself. It
--- counts where it was split off this seat and all of its own are given back.
-abbrev pub out_after : ℕ → ℕ → ℕ → ℕ → ℕ
-out_after number out parent theirs = cond ((parent == number) && (theirs == 0)) (out - 1) out
+-- How many are out of a participant of this number, once one with this parent is given back, of which so many are out itself. It
+-- counts where it was split off this participant and all of its own are given back.
+abbrev pub outstanding_after : ℕ → ℕ → ℕ → ℕ → ℕ
+outstanding_after number outstanding parent theirs = cond ((parent == number) && (theirs == 0)) (outstanding - 1) outstanding
 
 abbrev pub told_of : View → View → View
-told_of v w = record v { told = w.seen; kept = v.kept ++ w.number ∷ w.kept; out = out_after v.number v.out w.parent w.out; drawn = v.drawn + w.drawn; noted = v.noted + w.noted }
+told_of v w = record v { told = w.seen; kept = v.kept ++ w.number ∷ w.kept; outstanding = outstanding_after v.number v.outstanding w.parent w.outstanding; drawn = v.drawn + w.drawn; journaled = v.journaled + w.journaled }
 
 -- the same of a note, which has no number
 abbrev pub met_of : View → View → View
-met_of v w = record v { told = w.seen; out = out_after v.number v.out w.parent w.out; drawn = v.drawn + w.drawn; noted = v.noted + w.noted }
+met_of v w = record v { told = w.seen; outstanding = outstanding_after v.number v.outstanding w.parent w.outstanding; drawn = v.drawn + w.drawn; journaled = v.journaled + w.journaled }
 
 -- some device, where a view knows none
-abbrev pub no_device : History
+abbrev pub no_device : DeviceValue
 no_device = record {
   topology = record { crtcs = 0; planes = []; kinds = []; encoders = []; connectors = [] };
   limits = record { clients = 0; handles = 0; names = 0; tokens = 0; objects = 0; framebuffers = 0; lessees = 0; journal = 0 };
@@ -87,13 +87,13 @@ spent_view = record {
   origin = no_device;
   number = 0;
   parent = 0;
-  out = 0;
+  outstanding = 0;
   seen = [];
   mine = [];
   told = [];
   kept = [];
   drawn = 0;
-  noted = 0;
+  journaled = 0;
   ticket = 0;
   stage = Spent;
 }
@@ -103,9 +103,9 @@ informed v seen = record v { seen = seen; told = [] }
 
 -- the view with more entries, which are its own
 abbrev pub grown : View → List Entry → View
-grown v more = record v { seen = v.seen ++ more; mine = v.mine ++ more; noted = v.noted + length more }
+grown v more = record v { seen = v.seen ++ more; mine = v.mine ++ more; journaled = v.journaled + length more }
 
--- What was seen is legal, and has of the seat's entries just its own.
+-- What was seen is legal, and has of the participant's entries just its own.
 abbrev pub IsOwn : View → Type 0
 IsOwn v = IsLegal v.origin v.seen × (calls_by v.number v.seen ≡ v.mine)
 

@@ -1,4 +1,4 @@
-//! What happened to a shared device, and what a seat of it knows.
+//! What happened to a shared device, and what a participant of it knows.
 
 use drm_device::Device;
 use drm_table::{Answer, Event};
@@ -7,7 +7,7 @@ use std::collections::LinkedList;
 /// One event of a history, as contracts speak of it.
 #[derive(Drop)]
 pub struct Entry {
-    /// The number of the seat that made it, or 0 where the device had noted it before it was shared (own).
+    /// The number of the participant that made it, or 0 where the device had noted it before it was shared (own).
     pub by: u64,
     /// What was asked.
     pub event: Event,
@@ -15,7 +15,7 @@ pub struct Entry {
     pub answer: Answer,
 }
 
-/// Where a seat stands in its turn, as contracts speak of it.
+/// Where a participant stands in its turn, as contracts speak of it.
 pub enum Stage {
     /// Between two turns.
     Idle,
@@ -27,28 +27,28 @@ pub enum Stage {
     Spent,
 }
 
-/// What a seat at the table knows. No value of it is made.
+/// What a participant at the table knows. No value of it is made.
 pub struct View {
     /// The device as it was when it was shared.
     pub origin: Device,
-    /// The seat's number, 0 until it is known.
+    /// The participant's number, 0 until it is known.
     pub number: u64,
-    /// The number of the seat that this one was split from.
+    /// The number of the participant that this one was split from.
     pub parent: u64,
-    /// How many seats and notes that were split off it are not given back to it.
-    pub out: u64,
+    /// How many participants and notes that were split off it are not given back to it.
+    pub outstanding: u64,
     /// The history, as far as it knows it.
     pub seen: LinkedList<Entry>,
     /// The entries that it made.
     pub mine: LinkedList<Entry>,
-    /// What a joined seat or a note had seen.
+    /// What a joined participant or a note had seen.
     pub told: LinkedList<Entry>,
-    /// The numbers that were joined into it, with those that the joined seats kept.
+    /// The numbers that were joined into it, with those that the joined participants kept.
     pub kept: LinkedList<u64>,
     /// How many tickets it and those that it kept the numbers of drew.
     pub drawn: u64,
     /// How many entries they made.
-    pub noted: u64,
+    pub journaled: u64,
     /// The number last found in the word of the next ticket.
     pub ticket: u64,
     /// Where it stands in its turn.

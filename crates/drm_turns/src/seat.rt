@@ -6,35 +6,47 @@ use atomic_table::Seat as Place;
 use std::marker::Model;
 
 /// The right of one thread to call a shared device, with what it has seen and made. It takes no memory.
+///
+/// ```rust
+/// let Some(topology) = Topology::new(2, &[1, 2], &[3, 2], &[5, 6]) else { return };
+/// let Ok(device) = Device::new(alloc, topology, Limits::PROGRAM) else { return };
+/// let Ok((shared, mut participant)) = SharedDevice::new(alloc, device) else { return };
+/// assert!(shared.call(&rt, &mut participant, Event::Open(Opening::Render)).is_ok());
+/// ```
 #[derive(Drop)]
 pub struct Seat {
     pub(crate) place: Place<Slot, View>,
 }
 
 impl Model for Seat {
-    ghost use Rattle.drm_turns.specs.Seats.{Standing};
+    ghost use Rattle.drm_turns.specs.Participants.{ParticipantView};
 
-    ghost Value = { Standing };
+    ghost Value = { ParticipantView };
 
-    ghost use Rattle.drm_turns.specs.Sitting.{standing_of, IsSeated};
+    ghost use Rattle.drm_turns.specs.ParticipantFields.{participant_view_of, IsSeated};
 
-    ghost view = { standing_of };
+    ghost view = { participant_view_of };
 
     ghost invariant = { IsSeated };
 }
 
-/// What a seat had seen, for another seat. It takes no memory.
+/// What a participant had seen, for another participant. It takes no memory.
+///
+/// ```rust
+/// let note = shared.note(&mut participant);
+/// shared.meet(&mut participant, note);
+/// ```
 #[derive(Drop)]
 pub struct Note {
     pub(crate) place: Place<Slot, View>,
 }
 
 impl Model for Note {
-    ghost use Rattle.drm_turns.specs.Seats.{Witness};
+    ghost use Rattle.drm_turns.specs.Participants.{Witness};
 
     ghost Value = { Witness };
 
-    ghost use Rattle.drm_turns.specs.Sitting.{witness_of, IsNoted};
+    ghost use Rattle.drm_turns.specs.ParticipantFields.{witness_of, IsNoted};
 
     ghost view = { witness_of };
 

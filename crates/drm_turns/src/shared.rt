@@ -2,14 +2,14 @@
 
 ghost use Rattle.std.specs.Prelude.{◌≡◌, ◌≢◌, ◌<◌, ◌-◌, ◌^◌, ◌++◌, [], ◌∷◌, true, false, Some, None, Err, IfSome, IfNone, IfOk, IfErr, IsOk, IsSome, ◌+◌, length};
 ghost use Rattle.drm_table.specs.Limits.{are_in_range};
-ghost use Rattle.drm_table.specs.Results.{IsFew};
+ghost use Rattle.drm_table.specs.Results.{FitsOneFrame};
 ghost use Rattle.drm_model.specs.Reply.{reply};
-ghost use Rattle.drm_model.specs.Run.{History, Step, no_room};
+ghost use Rattle.drm_model.specs.Run.{DeviceValue, Step, no_room};
 ghost use Rattle.drm_turns.specs.declared.history.Stage.TheVariants.{Idle, Serving, Waiting};
-ghost use Rattle.drm_turns.specs.History.{AllDiffer, StartsWith, calls_by, device_at, entry, noted_before, rows_after};
-ghost use Rattle.drm_turns.specs.Views.{Grows, IsOwn, counted, found_at, out_after, passed, waiting};
+ghost use Rattle.drm_turns.specs.History.{AllDiffer, StartsWith, calls_by, device_at, entry, journaled_before, rows_after};
+ghost use Rattle.drm_turns.specs.Views.{Grows, IsOwn, counted, found_at, outstanding_after, passed, waiting};
 ghost use Rattle.drm_turns.specs.Plays.{IsInformed, IsServed};
-ghost use Rattle.drm_turns.specs.Seats.{Adds, Closes, Excuses, Reaches, Stays, entries_of, tickets_of, with_out};
+ghost use Rattle.drm_turns.specs.Participants.{Commits, Closes, Aborts, Extends, Unchanged, entries_of, tickets_of, with_outstanding};
 ghost use Rattle.drm_table.specs.declared.apart.Apart.TheVariants.{Worn};
 ghost use Rattle.drm_turns.specs.Turns.{Answered, Stepped, Turn};
 
@@ -45,15 +45,37 @@ const LOOKS: u32 = 500;
 const PATIENCE: u32 = 64;
 
 /// No memory for a shared device.
+///
+/// ```rust
+/// let Some(topology) = Topology::new(2, &[1, 2], &[3, 2], &[5, 6]) else { return };
+/// let Ok(device) = Device::new(alloc, topology, Limits::PROGRAM) else { return };
+/// let (second, its_participant) = match SharedDevice::new(alloc, device) {
+///     Ok(made) => made,
+///     Err((_device, NoMemory)) => return,
+/// };
+/// ```
 #[derive(Clone, Copy, Debug, PartialEq, Eq)]
 pub struct NoMemory;
 
 /// A ticket was drawn that was not passed on.
+///
+/// ```rust
+/// match second.close(its_participant) {
+///     Ok(device) => assert!(device.journal().is_empty()),
+///     Err(TurnOut) => return,
+/// }
+/// ```
 #[derive(Clone, Copy, Debug, PartialEq, Eq)]
 pub struct TurnOut;
 
 /// A device that threads share by reference. Each call has the device alone (own). Contracts see the name that it shares
-/// with its seats and notes.
+/// with its participants and notes.
+///
+/// ```rust
+/// let Some(topology) = Topology::new(2, &[1, 2], &[3, 2], &[5, 6]) else { return };
+/// let Ok(device) = Device::new(alloc, topology, Limits::PROGRAM) else { return };
+/// let Ok((shared, mut participant)) = SharedDevice::new(alloc, device) else { return };
+/// ```
 pub struct SharedDevice {
     table: Table<Slot, View, Snapshot<Device>, InTurn, Global>,
     /// How many calls sleep, or are about to.
@@ -84,6 +106,10 @@ impl Model for SharedDevice {
 
 /// What threads share a device by. A function that starts threads takes it as a type parameter, so that what crosses to
 /// a thread is told by a bound (`Sync`).
+///
+/// ```rust
+/// assert!(shared.device().peek_count() == 1);
+/// ```
 pub trait Sharing {
     ghost use Rattle.atomic_table.specs.Seated.{TableId};
 
@@ -106,8 +132,8 @@ impl Sharing for SharedDevice {
 /// Steps the device that the slot has, where it lies.
 fn step_in(slot: &mut Slot, event: Event) -> Result<Answer, Apart>
     requires full { IsSome slot.old }
-    ensures steps { (old : History) → slot.old ≡ Some old → (new : History) × (slot.new ≡ Some new) × Stepped old event result new }
-    ensures few { IsFew result }
+    ensures steps { (old : DeviceValue) → slot.old ≡ Some old → (new : DeviceValue) × (slot.new ≡ Some new) × Stepped old event result new }
+    ensures few { FitsOneFrame result }
 {
     match slot {
         Some(device) => device.step(event),
@@ -148,7 +174,7 @@ impl SharedDevice {
         ensures some { IfSome result (λ ticket. (ticket < 2 ^ 64 - 1)
             × (place.new.me ≡ (waiting place.old.me.0 ticket, place.old.me.1))) }
         ensures none { IfNone result (place.new.me ≡ (found_at place.old.me.0 (2 ^ 64 - 1), place.old.me.1)) }
-        ensures worn { IfNone result (place.old.me.0.number ≡ 1 → place.old.me.0.out ≡ 0 → place.old.me.0.drawn ≡ 2 ^ 64 - 1) }
+        ensures worn { IfNone result (place.old.me.0.number ≡ 1 → place.old.me.0.outstanding ≡ 0 → place.old.me.0.drawn ≡ 2 ^ 64 - 1) }
     {
         let shared = &self.table.shared;
         let mut waits = 0;
@@ -214,7 +240,7 @@ impl SharedDevice {
     }
 
     /// Steps the device where it lies, and counts the step where it was noted.
-    fn carry_out(&self, place: &mut Place<Slot, View>, event: Event) -> Result<Answer, Apart>
+    fn step_in_turn(&self, place: &mut Place<Slot, View>, event: Event) -> Result<Answer, Apart>
         requires own { place.old.table_id ≡ self.now }
         requires serving { (place.old.me.0.stage ≡ Serving) × (place.old.me.0.number ≢ 0) }
         requires device { place.old.me.1 ≡ (0, Some (device_at place.old.me.0.origin place.old.me.0.seen)) ∷ [] }
@@ -226,13 +252,13 @@ impl SharedDevice {
             × Step (rows_after place.old.me.0.origin place.old.me.0.seen) event (Err apart) (rows_after place.old.me.0.origin place.old.me.0.seen)) }
         ensures device { place.new.me.1 ≡ (0, Some (device_at place.new.me.0.origin place.new.me.0.seen)) ∷ [] }
         ensures turn { Turn event result }
-        ensures few { IsFew result }
+        ensures few { FitsOneFrame result }
     {
-        let noted = Snapshot::of(&event);
+        let journaled = Snapshot::of(&event);
         let slot = place.slot_mut(&self.table.shared, 0);
         let result = step_in(slot, event);
         match &result {
-            Ok(answer) => self.count::<Brand>(place, &noted, answer),
+            Ok(answer) => self.count::<Brand>(place, &journaled, answer),
             Err(_) => {}
         }
         result
@@ -268,24 +294,28 @@ impl SharedDevice {
         self.table.shared.load::<Learn>(place, COUNT);
     }
 
-    /// Shares the device, and gives the first seat, which has number 1 and has seen what the device had noted. Without
+    /// Shares the device, and gives the first participant, which has number 1 and has seen what the device had noted. Without
     /// memory there is no shared device, and the device is given back.
+    ///
+    /// ```rust
+    /// assert!(shared.peek_count() == 0);
+    /// ```
     pub fn new(alloc: Global, device: Device) -> Result<(SharedDevice, Seat), (Device, NoMemory)>
         ensures own { IfOk result (λ made. made.1.table ≡ made.0) }
-        ensures seen { IfOk result (λ made. (made.1.origin ≡ device) × (made.1.seen ≡ noted_before device)) }
-        ensures fresh { IfOk result (λ made. (made.1.mine ≡ []) × (made.1.joined ≡ [])) }
+        ensures seen { IfOk result (λ made. (made.1.origin ≡ device) × (made.1.seen ≡ journaled_before device)) }
+        ensures fresh { IfOk result (λ made. (made.1.mine ≡ []) × (made.1.merged ≡ [])) }
         ensures number { IfOk result (λ made. made.1.number ≡ 1) }
-        ensures none_out { IfOk result (λ made. made.1.out ≡ 0) }
-        ensures counts { IfOk result (λ made. (made.1.drawn ≡ 0) × (made.1.noted ≡ 0)) }
+        ensures none_outstanding { IfOk result (λ made. made.1.outstanding ≡ 0) }
+        ensures counts { IfOk result (λ made. (made.1.drawn ≡ 0) × (made.1.journaled ≡ 0)) }
         ensures refused { IfErr result (λ refused. refused.0 ≡ device) }
     {
         let Ok(mut slots) = Vec::with_capacity(alloc, 1) else {
             return Err((device, NoMemory));
         };
-        let noted = device.journal().len() as u64;
+        let journaled = device.journal().len() as u64;
         let about = Snapshot::of(&device);
         slots.push_reserved(Some(device));
-        match Table::new(alloc, &[noted, 0, 0], slots, &about) {
+        match Table::new(alloc, &[journaled, 0, 0], slots, &about) {
             Ok((table, place)) => {
                 let sleepers = AtomicU64::new(0);
                 Ok((SharedDevice { table, sleepers }, Seat { place }))
@@ -294,118 +324,154 @@ impl SharedDevice {
         }
     }
 
-    /// Answers one event, in the seat's turn. It may wait for the turns before it.
+    /// Answers one event, in the participant's turn. It may wait for the turns before it.
     ///
     /// The device answers from its rows, those of its journal, and notes what it answers; its limits are in their ranges,
-    /// and each event of its journal found room. What is answered ends the history that the seat has seen then; resources
+    /// and each event of its journal found room. What is answered ends the history that the participant has seen then; resources
     /// have 251 ids at most together. What stands apart, a full journal (own) and want of memory, leaves the device as it was
-    /// and adds no entry. Without a ticket for the turn the device isn't asked; the first seat, where none is out of it, lacks one
+    /// and adds no entry. Without a ticket for the turn the device isn't asked; the first participant, where none is out of it, lacks one
     /// only where it drew all 2^64 - 1, with those that it took in.
-    pub fn call<R: Wait>(&self, rt: &R, seat: &mut Seat, event: Event) -> Result<Answer, Apart>
-        requires own { seat.old.table ≡ self.now }
-        ensures reaches { Reaches seat.old seat.new }
-        ensures joined { seat.new.joined ≡ seat.old.joined }
-        ensures stays { Stays seat.old seat.new }
-        ensures ok { IfOk result (λ answer. Adds seat.old event answer seat.new) }
-        ensures err { IfErr result (λ apart. Excuses seat.old event apart seat.new) }
+    ///
+    /// ```rust
+    /// let opening = Event::Open(Opening::Render);
+    /// assert!(shared.call(&rt, &mut participant, opening) == Ok(Answer::Opened { client: 1 }));
+    /// ```
+    pub fn call<R: Wait>(
+        &self,
+        rt: &R,
+        participant: &mut Seat,
+        event: Event,
+    ) -> Result<Answer, Apart>
+        requires own { participant.old.table ≡ self.now }
+        ensures extends { Extends participant.old participant.new }
+        ensures merged { participant.new.merged ≡ participant.old.merged }
+        ensures unchanged { Unchanged participant.old participant.new }
+        ensures ok { IfOk result (λ answer. Commits participant.old event answer participant.new) }
+        ensures err { IfErr result (λ apart. Aborts participant.old event apart participant.new) }
         ensures turn { Answered event result }
-        ensures few { IsFew result }
-        ensures counts { (seat.new.drawn ≡ seat.old.drawn + tickets_of result)
-            × (seat.new.noted ≡ seat.old.noted + entries_of result) }
-        ensures worn { result ≡ Err Worn → seat.old.number ≡ 1 → seat.old.out ≡ 0 → seat.old.drawn ≡ 2 ^ 64 - 1 }
+        ensures few { FitsOneFrame result }
+        ensures counts { (participant.new.drawn ≡ participant.old.drawn + tickets_of result)
+            × (participant.new.journaled ≡ participant.old.journaled + entries_of result) }
+        ensures worn { result ≡ Err Worn → participant.old.number ≡ 1 → participant.old.outstanding ≡ 0 → participant.old.drawn ≡ 2 ^ 64 - 1 }
     {
-        let place = &mut seat.place;
+        let place = &mut participant.place;
         let Some(ticket) = self.draw(rt, place) else {
             return Err(Apart::Worn);
         };
         self.wait_turn(rt, place, ticket);
-        let result = self.carry_out(place, event);
+        let result = self.step_in_turn(place, event);
         self.pass(place);
         result
     }
 
-    /// A further seat, of a number of its own, which has seen as much. The seat that it is split off counts one more that
+    /// A further participant, of a number of its own, which has seen as much. The participant that it is split off counts one more that
     /// is out, and else stays as it is.
-    pub fn split(&self, seat: &mut Seat) -> Seat
-        requires own { seat.old.table ≡ self.now }
-        ensures same { seat.new ≡ with_out seat.old (seat.old.out + 1) }
-        ensures own { (result.table ≡ seat.old.table) × (result.origin ≡ seat.old.origin) }
-        ensures number { result.number ≢ seat.old.number }
-        ensures parent { result.parent ≡ seat.old.number }
-        ensures seen { result.seen ≡ seat.old.seen }
-        ensures fresh { (result.mine ≡ []) × (result.joined ≡ []) }
-        ensures none_out { result.out ≡ 0 }
-        ensures counts { (result.drawn ≡ 0) × (result.noted ≡ 0) }
+    ///
+    /// ```rust
+    /// let mut other = shared.split(&mut participant);
+    /// let closing = Event::Close(1);
+    /// assert!(shared.call(&rt, &mut other, closing) == Ok(Answer::Closed));
+    /// ```
+    pub fn split(&self, participant: &mut Seat) -> Seat
+        requires own { participant.old.table ≡ self.now }
+        ensures same { participant.new ≡ with_outstanding participant.old (participant.old.outstanding + 1) }
+        ensures own { (result.table ≡ participant.old.table) × (result.origin ≡ participant.old.origin) }
+        ensures number { result.number ≢ participant.old.number }
+        ensures parent { result.parent ≡ participant.old.number }
+        ensures seen { result.seen ≡ participant.old.seen }
+        ensures fresh { (result.mine ≡ []) × (result.merged ≡ []) }
+        ensures none_outstanding { result.outstanding ≡ 0 }
+        ensures counts { (result.drawn ≡ 0) × (result.journaled ≡ 0) }
     {
         let shared = &self.table.shared;
-        let mut place = shared.split_seat::<Another>(&mut seat.place);
+        let mut place = shared.split_seat::<Another>(&mut participant.place);
         shared.load::<Settle>(&mut place, COUNT);
         Seat { place }
     }
 
-    /// Takes in another seat, which ends: what it had seen, its number, and the numbers that it had taken in. They all
-    /// differ from each other. Where it was split off this seat, and none is out of it any more, one fewer is out.
-    pub fn join(&self, seat: &mut Seat, other: Seat)
-        requires own { seat.old.table ≡ self.now }
+    /// Takes in another participant, which ends: what it had seen, its number, and the numbers that it had taken in. They all
+    /// differ from each other. Where it was split off this participant, and none is out of it any more, one fewer is out.
+    ///
+    /// ```rust
+    /// shared.join(&mut participant, other);
+    /// ```
+    pub fn join(&self, participant: &mut Seat, other: Seat)
+        requires own { participant.old.table ≡ self.now }
         requires other { other.table ≡ self.now }
-        ensures reaches { Reaches seat.old seat.new }
-        ensures mine { seat.new.mine ≡ seat.old.mine }
-        ensures seen { StartsWith seat.new.seen other.seen }
+        ensures extends { Extends participant.old participant.new }
+        ensures mine { participant.new.mine ≡ participant.old.mine }
+        ensures seen { StartsWith participant.new.seen other.seen }
         ensures theirs { calls_by other.number other.seen ≡ other.mine }
-        ensures joined { seat.new.joined ≡ seat.old.joined ++ other.number ∷ other.joined }
-        ensures parent { seat.new.parent ≡ seat.old.parent }
-        ensures out { seat.new.out ≡ out_after seat.old.number seat.old.out other.parent other.out }
-        ensures differ { AllDiffer (seat.new.number ∷ seat.new.joined) }
-        ensures counts { (seat.new.drawn ≡ seat.old.drawn + other.drawn) × (seat.new.noted ≡ seat.old.noted + other.noted) }
+        ensures merged { participant.new.merged ≡ participant.old.merged ++ other.number ∷ other.merged }
+        ensures parent { participant.new.parent ≡ participant.old.parent }
+        ensures outstanding { participant.new.outstanding ≡ outstanding_after participant.old.number participant.old.outstanding other.parent other.outstanding }
+        ensures differ { AllDiffer (participant.new.number ∷ participant.new.merged) }
+        ensures counts { (participant.new.drawn ≡ participant.old.drawn + other.drawn) × (participant.new.journaled ≡ participant.old.journaled + other.journaled) }
     {
         let Seat { place: ended } = other;
-        let place = &mut seat.place;
+        let place = &mut participant.place;
         self.table.shared.join_seat::<Told>(place, ended);
         self.learn(place);
     }
 
-    /// What the seat has seen, for another seat. The seat counts one more that is out, and else stays as it is.
-    pub fn note(&self, seat: &mut Seat) -> Note
-        requires own { seat.old.table ≡ self.now }
-        ensures same { seat.new ≡ with_out seat.old (seat.old.out + 1) }
-        ensures own { (result.table ≡ seat.old.table) × (result.origin ≡ seat.old.origin) }
-        ensures parent { result.parent ≡ seat.old.number }
-        ensures seen { result.seen ≡ seat.old.seen }
+    /// What the participant has seen, for another participant. The participant counts one more that is out, and else stays as it is.
+    ///
+    /// ```rust
+    /// let note = shared.note(&mut participant);
+    /// ```
+    pub fn note(&self, participant: &mut Seat) -> Note
+        requires own { participant.old.table ≡ self.now }
+        ensures same { participant.new ≡ with_outstanding participant.old (participant.old.outstanding + 1) }
+        ensures own { (result.table ≡ participant.old.table) × (result.origin ≡ participant.old.origin) }
+        ensures parent { result.parent ≡ participant.old.number }
+        ensures seen { result.seen ≡ participant.old.seen }
     {
-        let place = self.table.shared.split_seat::<Another>(&mut seat.place);
+        let place = self
+            .table
+            .shared
+            .split_seat::<Another>(&mut participant.place);
         Note { place }
     }
 
-    /// Takes in what a note tells. Where it was the seat's own, one fewer is out.
-    pub fn meet(&self, seat: &mut Seat, note: Note)
-        requires own { seat.old.table ≡ self.now }
+    /// Takes in what a note tells. Where it was the participant's own, one fewer is out.
+    ///
+    /// ```rust
+    /// shared.meet(&mut participant, note);
+    /// ```
+    pub fn meet(&self, participant: &mut Seat, note: Note)
+        requires own { participant.old.table ≡ self.now }
         requires note { note.table ≡ self.now }
-        ensures reaches { Reaches seat.old seat.new }
-        ensures mine { seat.new.mine ≡ seat.old.mine }
-        ensures seen { StartsWith seat.new.seen note.seen }
-        ensures joined { seat.new.joined ≡ seat.old.joined }
-        ensures parent { seat.new.parent ≡ seat.old.parent }
-        ensures out { seat.new.out ≡ out_after seat.old.number seat.old.out note.parent 0 }
-        ensures counts { (seat.new.drawn ≡ seat.old.drawn) × (seat.new.noted ≡ seat.old.noted) }
+        ensures extends { Extends participant.old participant.new }
+        ensures mine { participant.new.mine ≡ participant.old.mine }
+        ensures seen { StartsWith participant.new.seen note.seen }
+        ensures merged { participant.new.merged ≡ participant.old.merged }
+        ensures parent { participant.new.parent ≡ participant.old.parent }
+        ensures outstanding { participant.new.outstanding ≡ outstanding_after participant.old.number participant.old.outstanding note.parent 0 }
+        ensures counts { (participant.new.drawn ≡ participant.old.drawn) × (participant.new.journaled ≡ participant.old.journaled) }
     {
         let Note { place: ended } = note;
-        let place = &mut seat.place;
+        let place = &mut participant.place;
         self.table.shared.join_seat::<Met>(place, ended);
         self.learn(place);
     }
 
     /// The device, once nobody shares it. Where a ticket was drawn that was not passed on, it is out with a call: then it
-    /// is lost with the seat that had it. That isn't so where the seat is the first, and each seat and note that was split
-    /// off it is given back to it with all of its own: then the device has noted what it had before, and the entries of the seat
+    /// is lost with the participant that had it. That isn't so where the participant is the first, and each participant and note that was split
+    /// off it is given back to it with all of its own: then the device has noted what it had before, and the entries of the participant
     /// and of those that it took in, and nothing else.
-    pub fn close(self, seat: Seat) -> Result<Device, TurnOut>
-        requires own { seat.table ≡ self }
-        ensures closes { IfOk result (λ device. Closes seat device) }
-        ensures home { seat.number ≡ 1 → seat.out ≡ 0 → IsOk result }
-        ensures counted { IfOk result (λ device. seat.number ≡ 1 → seat.out ≡ 0
-            → length device.journal ≡ length seat.origin.journal + seat.noted) }
+    ///
+    /// ```rust
+    /// let Ok(device) = shared.close(participant) else { return };
+    /// assert!(device.journal().len() == 2);
+    /// ```
+    pub fn close(self, participant: Seat) -> Result<Device, TurnOut>
+        requires own { participant.table ≡ self }
+        ensures closes { IfOk result (λ device. Closes participant device) }
+        ensures home { participant.number ≡ 1 → participant.outstanding ≡ 0 → IsOk result }
+        ensures counted { IfOk result (λ device. participant.number ≡ 1 → participant.outstanding ≡ 0
+            → length device.journal ≡ length participant.origin.journal + participant.journaled) }
     {
-        let Seat { place } = seat;
+        let Seat { place } = participant;
         let SharedDevice { table, sleepers } = self;
         let mut closed = table.close_with(place);
         let is_quiet = closed.word(TICKET) == closed.word(SERVING);
@@ -419,6 +485,10 @@ impl SharedDevice {
     }
 
     /// The length of the history at some moment. It waits for nobody.
+    ///
+    /// ```rust
+    /// assert!(shared.peek_count() == 2);
+    /// ```
     pub fn peek_count(&self) -> u64 {
         self.table.shared.peek(COUNT)
     }

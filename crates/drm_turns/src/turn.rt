@@ -11,7 +11,7 @@ use drm_device::Device;
 use std::marker::{Brand, PhantomData};
 use std::snapshot::Snapshot;
 
-/// The slot has the device, unless the seat that is served has taken it.
+/// The slot has the device, unless the participant that is served has taken it.
 pub(crate) type Slot = Option<Device>;
 
 /// The rule of the turn. What the table is told is the device as it was shared.
@@ -75,21 +75,21 @@ impl Play<Slot, View> for Pass {
     ghost then = { passes };
 }
 
-/// Tells a new seat its number.
+/// Tells a new participant its number.
 pub(crate) struct Settle;
 
 impl Play<Slot, View> for Settle {
     ghost then = { settles };
 }
 
-/// Tells a seat the history so far.
+/// Tells a participant the history so far.
 pub(crate) struct Learn;
 
 impl Play<Slot, View> for Learn {
     ghost then = { learns };
 }
 
-/// A seat or a note beside a seat, which has seen as much, and which the seat counts.
+/// A participant or a note beside a participant, which has seen as much, and which the participant counts.
 pub(crate) struct Another;
 
 impl Split<View> for Another {
@@ -98,7 +98,7 @@ impl Split<View> for Another {
     ghost right = { child };
 }
 
-/// A seat is joined: what it had seen is told, its number is kept, and it is counted as given back.
+/// A participant is joined: what it had seen is told, its number is kept, and it is counted as given back.
 pub(crate) struct Told;
 
 impl Join<View> for Told {

@@ -3,65 +3,65 @@ use Rattle.drm_table.specs.declared.answers.Answer.TheVariants.{Done}
 use Rattle.drm_table.specs.declared.calls.Call.TheVariants.{GemClose, DestroyDumb}
 use Rattle.drm_table.specs.declared.events.Event.TheVariants.{Ask}
 use Rattle.drm_table.specs.declared.rules.Rule.TheVariants.{NoHandleToClose}
-use Rattle.drm_files.specs.Files.{without_hold}
-use Rattle.drm_model.specs.Rows.{Rows, is_hold, without}
+use Rattle.drm_files.specs.Files.{without_handle_row}
+use Rattle.drm_model.specs.Rows.{Rows, is_handle, without}
 use Rattle.drm_model.specs.Calls.{meaning}
 use Rattle.drm_model.specs.Change.{changed, swept}
 use Rattle.drm_model.specs.Reply.{answer_of}
 use Rattle.drm_state.specs.Parts.{keys_of, referring_keys}
-use Rattle.drm_state.specs.Ties.{IsTied, Leaves}
-use Rattle.drm_state.specs.Refinement.{OwesReply, Represents}
-use Rattle.drm_state.proofs.Outcomes.{denied, carried, call_verdict}
-use Rattle.drm_state.proofs.Contents.{holds_it, first_tied, first_named, handle_gone_tied}
+use Rattle.drm_state.specs.Invariants.{MeetsInvariants, Leaves}
+use Rattle.drm_state.specs.Refinement.{RefinesReply, Represents}
+use Rattle.drm_state.proofs.Refinements.{denied, carried, call_verdict}
+use Rattle.drm_state.proofs.Contents.{holds_it, first_invariants, first_named, handle_gone_invariants}
 use Rattle.drm_state.proofs.Sweeps.{handle_gone}
 use Rattle.drm_buffer_calls.proofs.buffers.gem_close.Goals as goal
 
 pub returns-in_default-clause-destroy : goal.returns-in_default-clause-destroy
-unfolding OwesReply meaning
+unfolding RefinesReply meaning
 returns-in_default-clause-destroy c = λ w h a.
     let none = holds_it c.args.state.now w h c.args.client c.args.handle _ None c.object_of.ensures.object c.in_default.is in
     denied c.args.state.now w (Ask c.args.client (DestroyDumb c.args.handle)) NoHandleToClose (call_verdict w c.args.client (DestroyDumb c.args.handle) a ∙ rw none refl) h
 
 pub returns-in_default-clause-close : goal.returns-in_default-clause-close
-unfolding OwesReply meaning
+unfolding RefinesReply meaning
 returns-in_default-clause-close c = λ w h a.
     let none = holds_it c.args.state.now w h c.args.client c.args.handle _ None c.object_of.ensures.object c.in_default.is in
     denied c.args.state.now w (Ask c.args.client (GemClose c.args.handle)) NoHandleToClose (call_verdict w c.args.client (GemClose c.args.handle) a ∙ rw none refl) h
 
 pub release-requires : goal.release-requires
 release-requires c = record {
-  tied = (
-    keys_of (without_hold c.args.state.now.files c.args.client c.args.handle).holds,
+  invariants = (
+    keys_of (without_handle_row c.args.state.now.files c.args.client c.args.handle).holds,
     referring_keys c.args.state.now,
-    first_tied c.args.state.now c.args.client c.args.handle c.in-Some.object _ c.requires.tied c.object_of.ensures.object c.in-Some.is,
+    first_invariants c.args.state.now c.args.client c.args.handle c.in-Some.object _ c.requires.invariants c.object_of.ensures.object c.in-Some.is,
   );
 }
 
-left : (c : goal.After-release) → Leaves c.args.state.now.names c.args.state.now.objects (keys_of (without_hold c.args.state.now.files c.args.client c.args.handle).holds) (referring_keys c.args.state.now) c.release.new.names c.release.new.objects
+left : (c : goal.After-release) → Leaves c.args.state.now.names c.args.state.now.objects (keys_of (without_handle_row c.args.state.now.files c.args.client c.args.handle).holds) (referring_keys c.args.state.now) c.release.new.names c.release.new.objects
 left c =
-    c.release.ensures.leaves (keys_of (without_hold c.args.state.now.files c.args.client c.args.handle).holds) (referring_keys c.args.state.now)
-    (first_tied c.args.state.now c.args.client c.args.handle c.in-Some.object _ c.requires.tied c.object_of.ensures.object c.in-Some.is) (first_named c.args.state.now c.args.client c.args.handle c.in-Some.object _ c.requires.tied c.object_of.ensures.object c.in-Some.is)
+    c.release.ensures.leaves (keys_of (without_handle_row c.args.state.now.files c.args.client c.args.handle).holds) (referring_keys c.args.state.now)
+    (first_invariants c.args.state.now c.args.client c.args.handle c.in-Some.object _ c.requires.invariants c.object_of.ensures.object c.in-Some.is) (first_named c.args.state.now c.args.client c.args.handle c.in-Some.object _ c.requires.invariants c.object_of.ensures.object c.in-Some.is)
 
 -- the rows without the handle, and what it alone named
 gone : (c : goal.After-release) (w : Rows) → Represents c.args.state.now w →
-    Represents (record c.args.state.now { files = c.drop_handle-object.new.self; names = c.release.new.names; objects = c.release.new.objects }) (swept (record w { holds = without (is_hold c.args.client c.args.handle) w.holds }))
+    Represents (record c.args.state.now { files = c.drop_handle-object.new.self; names = c.release.new.names; objects = c.release.new.objects }) (swept (record w { holds = without (is_handle c.args.client c.args.handle) w.holds }))
 gone c w h =
-    subst (λ fs. Represents (record c.args.state.now { files = fs; names = c.release.new.names; objects = c.release.new.objects }) (swept (record w { holds = without (is_hold c.args.client c.args.handle) w.holds }))) (sym c.drop_handle-object.ensures.dropped)
-    (handle_gone c.args.state.now w c.args.client c.args.handle c.release.new.names c.release.new.objects c.requires.tied (left c) h)
+    subst (λ fs. Represents (record c.args.state.now { files = fs; names = c.release.new.names; objects = c.release.new.objects }) (swept (record w { holds = without (is_handle c.args.client c.args.handle) w.holds }))) (sym c.drop_handle-object.ensures.dropped)
+    (handle_gone c.args.state.now w c.args.client c.args.handle c.release.new.names c.release.new.objects c.requires.invariants (left c) h)
 
 pub returns-clause-destroy : goal.returns-clause-destroy
-unfolding OwesReply meaning changed answer_of
+unfolding RefinesReply meaning changed answer_of
 returns-clause-destroy c = λ w h a.
     let some = holds_it c.args.state.now w h c.args.client c.args.handle _ (Some c.in-Some.object) c.object_of.ensures.object c.in-Some.is in
     carried (record c.args.state.now { files = c.drop_handle-object.new.self; names = c.release.new.names; objects = c.release.new.objects }) w (Ask c.args.client (DestroyDumb c.args.handle)) Done (call_verdict w c.args.client (DestroyDumb c.args.handle) a ∙ rw some refl) refl (gone c w h)
 
 pub returns-clause-close : goal.returns-clause-close
-unfolding OwesReply meaning changed answer_of
+unfolding RefinesReply meaning changed answer_of
 returns-clause-close c = λ w h a.
     let some = holds_it c.args.state.now w h c.args.client c.args.handle _ (Some c.in-Some.object) c.object_of.ensures.object c.in-Some.is in
     carried (record c.args.state.now { files = c.drop_handle-object.new.self; names = c.release.new.names; objects = c.release.new.objects }) w (Ask c.args.client (GemClose c.args.handle)) Done (call_verdict w c.args.client (GemClose c.args.handle) a ∙ rw some refl) refl (gone c w h)
 
-pub returns-clause-tied : goal.returns-clause-tied
-returns-clause-tied c =
-    subst (λ fs. IsTied (record c.args.state.now { files = fs; names = c.release.new.names; objects = c.release.new.objects })) (sym c.drop_handle-object.ensures.dropped)
-    (handle_gone_tied c.args.state.now c.args.client c.args.handle c.release.new.names c.release.new.objects c.requires.tied (left c))
+pub returns-clause-invariants : goal.returns-clause-invariants
+returns-clause-invariants c =
+    subst (λ fs. MeetsInvariants (record c.args.state.now { files = fs; names = c.release.new.names; objects = c.release.new.objects })) (sym c.drop_handle-object.ensures.dropped)
+    (handle_gone_invariants c.args.state.now c.args.client c.args.handle c.release.new.names c.release.new.objects c.requires.invariants (left c))

@@ -6,11 +6,11 @@ use Rattle.drm_files.specs.Files as files
 use Rattle.drm_model.specs.Rows.{Rows, free_handle, has_object_room}
 use Rattle.drm_model.specs.Buffers.{has_buffer_room, with_object}
 use Rattle.drm_state.specs.declared.state.State.{State}
-use Rattle.drm_state.specs.Ties.{IsTied}
+use Rattle.drm_state.specs.Invariants.{MeetsInvariants}
 use Rattle.drm_state.specs.Refinement.{MakesBuffer, Represents}
-use Rattle.drm_state.proofs.Outcomes.{no_object_room, object_room}
+use Rattle.drm_state.proofs.Refinements.{no_object_room, object_room}
 use Rattle.drm_state.proofs.Sweeps.{unswept}
-use Rattle.drm_state.proofs.Made.{made_there, taken_back, free_handle_is, made, made_tied}
+use Rattle.drm_state.proofs.Made.{made_there, taken_back, free_handle_is, made, made_invariants}
 use Rattle.drm_buffer_calls.proofs.buffers.new_buffer.Goals as goal
 
 no_handle : (w : Rows) (c : ℕ) → is_some (free_handle w c) ≡ false → has_buffer_room w c ≡ false
@@ -48,10 +48,10 @@ returns-in-Err-NoMemory-clause-makes c = λ w s.
     (room w c.args.client free (object_room c.args.state.now w s.rows less), subst (λ o. Represents (record c.args.state.now { objects = o }) w) (sym c.in-Err-NoMemory.ensures.err) s.rows)
 
 pub unhold-dead-requires : goal.unhold-dead-requires
-unhold-dead-requires c = made_there c.args.state.now.objects c.create.new.self c.in-Ok.made c.args.birth c.args.size c.in-Ok.ensures.fresh c.in-Ok.ensures.ok
+unhold-dead-requires c = made_there c.args.state.now.objects c.create.new.self c.in-Ok.made c.args.step_number c.args.size c.in-Ok.ensures.fresh c.in-Ok.ensures.ok
 
 back : (c : goal.After-unhold-dead) → c.unhold-dead.new.self ≡ c.args.state.now.objects
-back c = taken_back c.args.state.now.objects c.create.new.self c.unhold-dead.new.self c.in-Ok.made c.args.birth c.args.size c.unhold-dead.result c.in-Ok.ensures.fresh c.in-Ok.ensures.ok c.unhold-dead.ensures.dead c.unhold-dead.ensures.gone
+back c = taken_back c.args.state.now.objects c.create.new.self c.unhold-dead.new.self c.in-Ok.made c.args.step_number c.args.size c.unhold-dead.result c.in-Ok.ensures.fresh c.in-Ok.ensures.ok c.unhold-dead.ensures.dead c.unhold-dead.ensures.gone
 
 pub returns-in_default-clause-makes : goal.returns-in_default-clause-makes
 unfolding MakesBuffer
@@ -62,16 +62,16 @@ returns-in_default-clause-makes c = λ w s.
           (subst (λ o. Represents (record c.args.state.now { objects = o }) w) (sym (back c)) s.rows),
     )
 
-pub returns-in_default-clause-tied : goal.returns-in_default-clause-tied
-returns-in_default-clause-tied c =
-    subst (λ fs. IsTied (record c.args.state.now { files = fs; objects = c.unhold-dead.new.self })) (sym c.in_default.ensures.err)
-    (subst (λ o. IsTied (record c.args.state.now { objects = o })) (sym (back c)) c.requires.ready.tied)
+pub returns-in_default-clause-invariants : goal.returns-in_default-clause-invariants
+returns-in_default-clause-invariants c =
+    subst (λ fs. MeetsInvariants (record c.args.state.now { files = fs; objects = c.unhold-dead.new.self })) (sym c.in_default.ensures.err)
+    (subst (λ o. MeetsInvariants (record c.args.state.now { objects = o })) (sym (back c)) c.requires.precondition.invariants)
 
-pub returns-clause-tied : goal.returns-clause-tied
-returns-clause-tied c =
-    subst (λ fs. IsTied (record c.args.state.now { files = fs; objects = c.create.new.self })) (sym c.in-Ok-add_handle.ensures.ok)
-    (subst (λ o. IsTied (record c.args.state.now { files = files.with_hold c.args.state.now.files (files.hold c.args.client c.in-Ok-add_handle.handle c.in-Ok.made None); objects = o })) (sym c.in-Ok.ensures.ok)
-    (made_tied c.args.state.now c.args.client c.in-Ok-add_handle.handle c.in-Ok.made c.args.birth c.args.size c.requires.ready.tied c.requires.ready.later.objects c.in-Ok.ensures.fresh c.in-Ok-add_handle.ensures.given))
+pub returns-clause-invariants : goal.returns-clause-invariants
+returns-clause-invariants c =
+    subst (λ fs. MeetsInvariants (record c.args.state.now { files = fs; objects = c.create.new.self })) (sym c.in-Ok-add_handle.ensures.ok)
+    (subst (λ o. MeetsInvariants (record c.args.state.now { files = files.with_handle_row c.args.state.now.files (files.hold c.args.client c.in-Ok-add_handle.handle c.in-Ok.made None); objects = o })) (sym c.in-Ok.ensures.ok)
+    (made_invariants c.args.state.now c.args.client c.in-Ok-add_handle.handle c.in-Ok.made c.args.step_number c.args.size c.requires.precondition.invariants c.requires.precondition.later.objects c.in-Ok.ensures.fresh c.in-Ok-add_handle.ensures.given))
 
 pub returns-clause-makes : goal.returns-clause-makes
 unfolding MakesBuffer
@@ -81,9 +81,9 @@ returns-clause-makes c = λ w s.
     let state : State = record c.args.state.now { files = c.add_handle.new.self; objects = c.create.new.self } in
     let more : Represents state (with_object w c.args.client c.args.size) =
     subst (λ fs. Represents (record c.args.state.now { files = fs; objects = c.create.new.self }) (with_object w c.args.client c.args.size)) (sym c.in-Ok-add_handle.ensures.ok)
-    (subst (λ o. Represents (record c.args.state.now { files = files.with_hold c.args.state.now.files (files.hold c.args.client c.in-Ok-add_handle.handle c.in-Ok.made None); objects = o }) (with_object w c.args.client c.args.size)) (sym c.in-Ok.ensures.ok)
-    (made c.args.state.now w c.args.client c.in-Ok-add_handle.handle c.in-Ok.made c.args.birth c.args.size c.requires.ready.tied s c.in-Ok.ensures.fresh c.in-Ok-add_handle.ensures.given)) in (
+    (subst (λ o. Represents (record c.args.state.now { files = files.with_handle_row c.args.state.now.files (files.hold c.args.client c.in-Ok-add_handle.handle c.in-Ok.made None); objects = o }) (with_object w c.args.client c.args.size)) (sym c.in-Ok.ensures.ok)
+    (made c.args.state.now w c.args.client c.in-Ok-add_handle.handle c.in-Ok.made c.args.step_number c.args.size c.requires.precondition.invariants s c.in-Ok.ensures.fresh c.in-Ok-add_handle.ensures.given)) in (
       room w c.args.client (ap is_some free ∙ sym c.has_room.ensures ∙ c.if-not-has_room.false) (object_room c.args.state.now w s.rows c.in-Ok.ensures.room),
       number,
-      unswept state (with_object w c.args.client c.args.size) (returns-clause-tied c) more,
+      unswept state (with_object w c.args.client c.args.size) (returns-clause-invariants c) more,
     )

@@ -5,13 +5,13 @@ use Rattle.drm_table.specs.declared.events.Event.TheVariants.{Ask}
 use Rattle.drm_model.specs.Calls.{meaning}
 use Rattle.drm_model.specs.Change.{changed}
 use Rattle.drm_model.specs.Reply.{answer_of}
-use Rattle.drm_state.specs.Refinement.{OwesReply}
-use Rattle.drm_state.proofs.Outcomes.{carried_on, call_verdict}
+use Rattle.drm_state.specs.Refinement.{RefinesReply}
+use Rattle.drm_state.proofs.Refinements.{carried_on, call_verdict}
 use Rattle.drm_state.proofs.Contents.{handles_listed}
 use Rattle.drm_buffer_calls.proofs.lists.list_handles.Goals as goal
 
 pub returns : goal.returns
-unfolding OwesReply meaning changed answer_of
+unfolding RefinesReply meaning changed answer_of
 returns c = λ w h a.
-    carried_on c.args.state.now w (Ask c.args.client (ListHandles c.args.from)) _ c.requires.tied (call_verdict w c.args.client (ListHandles c.args.from) a)
-    (ap ListIs (c.handles_of.ensures ∙ handles_listed c.args.state.now w c.requires.tied h c.args.client c.args.from)) h
+    carried_on c.args.state.now w (Ask c.args.client (ListHandles c.args.from)) _ c.requires.invariants (call_verdict w c.args.client (ListHandles c.args.from) a)
+    (ap ListIs (c.handles_of.ensures ∙ handles_listed c.args.state.now w c.requires.invariants h c.args.client c.args.from)) h

@@ -23,8 +23,8 @@ lines-init g c =
 
 pub returns-in-Some-clause-checks : goal.returns-in-Some-clause-checks
 returns-in-Some-clause-checks g c =
-    let source = g.S.Source.account in
-    let sink = g.K.Sink.account in
+    let source = g.S.Source.trace in
+    let sink = g.K.Sink.trace in
     let name = c.as_bytes-name.result.now in
     let command = c.as_bytes-command.result.now in
     let named : file_of name command ≡ file_of c.args.name.now c.args.command.now =

@@ -5,8 +5,8 @@ use Rattle.drm_checks.proofs.check.check_on.Given as goal
 
 abbrev pub invariant-lines : goal.invariant-lines
 invariant-lines g l =
-    let source = g.S.Source.account in
-    let sink = g.K.Sink.account in
+    let source = g.S.Source.trace in
+    let sink = g.K.Sink.trace in
     record {
       so_far : StandsSoFar l.fn.setup (file_of l.fn.name l.fn.command) (source l.fn.source) (source l.source) (sink l.fn.sink) (sink l.sink) l.fn.turns l.check;
       passed : l.check.checker.passed ≤ l.check.checker.number;

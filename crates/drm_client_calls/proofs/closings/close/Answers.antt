@@ -18,20 +18,20 @@ use Rattle.drm_leases.specs.Leases.{LeaseSet, AreLeases}
 use Rattle.drm_modes.specs.declared.rows.Framebuffer.{Framebuffer}
 use Rattle.drm_modes.specs.Modes.{is_made_by}
 use Rattle.drm_state.specs.Parts.{keys_of, token_keys, framebuffer_keys, referring, without_tokens_of, without_its_master, without_its_leases}
-use Rattle.drm_state.specs.Ties.{IsTied, Leaves}
-use Rattle.drm_state.specs.Refinement.{OwesAnswer, Represents}
+use Rattle.drm_state.specs.Invariants.{MeetsInvariants, Leaves}
+use Rattle.drm_state.specs.Refinement.{RefinesAnswer, Represents}
 use Rattle.drm_state.proofs.Counting.{named_trans}
 use Rattle.drm_state.proofs.Frames.{some_framed}
 use Rattle.drm_state.proofs.Leaving.{names_stay, leaves_trans}
 use Rattle.drm_state.proofs.Represented.{objects_counted, names_held, masters_so, leases_agree}
 use Rattle.drm_state.proofs.Lookups.{client_row_is, no_client}
-use Rattle.drm_state.proofs.Outcomes.{denied, carried}
-use Rattle.drm_state.proofs.Sweeps.{client_gone, client_gone_tied, without_its, keys_without, references_without, some_pass}
+use Rattle.drm_state.proofs.Refinements.{denied, carried}
+use Rattle.drm_state.proofs.Sweeps.{client_gone, client_gone_invariants, without_its, keys_without, references_without, some_pass}
 use Rattle.drm_client_calls.proofs.closings.close.Goals as goal
 
-pub returns-in_default-clause-owes : goal.returns-in_default-clause-owes
-unfolding OwesAnswer
-returns-in_default-clause-owes c = λ w h.
+pub returns-in_default-clause-refines : goal.returns-in_default-clause-refines
+unfolding RefinesAnswer
+returns-in_default-clause-refines c = λ w h.
     let absent = no_client c.args.state.now w h c.args.client (sym c.in_default.is ∙ c.flags_of.ensures.flags) in
     denied c.args.state.now w (Close c.args.client) NoClient (closing_verdict w c.args.client ∙ rw absent refl) h
 
@@ -41,14 +41,14 @@ close_tokens-requires c = (keys_of c.args.state.now.files.holds, framebuffer_key
 pub close_framebuffers-requires : goal.close_framebuffers-requires
 close_framebuffers-requires c =
     let s = c.args.state.now in
-    (keys_of s.files.holds, token_keys c.close_tokens.new.tokens.tokens, c.close_tokens.ensures.tied (keys_of s.files.holds) (framebuffer_keys s.modes.framebuffers) (objects_counted s c.requires))
+    (keys_of s.files.holds, token_keys c.close_tokens.new.tokens.tokens, c.close_tokens.ensures.invariants (keys_of s.files.holds) (framebuffer_keys s.modes.framebuffers) (objects_counted s c.requires))
 
-pub release_all-requires-clause-tied : goal.release_all-requires-clause-tied
-release_all-requires-clause-tied c =
+pub release_all-requires-clause-invariants : goal.release_all-requires-clause-invariants
+release_all-requires-clause-invariants c =
     let s = c.args.state.now in
     let keys = keys_of s.files.holds in
     let tokens = c.close_tokens.new.tokens.tokens in
-    (referring tokens c.close_framebuffers.new.modes.framebuffers, c.close_framebuffers.ensures.tied keys (token_keys tokens) (c.close_tokens.ensures.tied keys (framebuffer_keys s.modes.framebuffers) (objects_counted s c.requires)))
+    (referring tokens c.close_framebuffers.new.modes.framebuffers, c.close_framebuffers.ensures.invariants keys (token_keys tokens) (c.close_tokens.ensures.invariants keys (framebuffer_keys s.modes.framebuffers) (objects_counted s c.requires)))
 
 pub release_all-requires-clause-named : goal.release_all-requires-clause-named
 release_all-requires-clause-named c = names_held c.args.state.now c.requires
@@ -77,14 +77,14 @@ leaves c =
     let now_frames = c.close_framebuffers.new.modes.framebuffers in
     let refs = referring tokens now_frames in
     let middle = c.close_framebuffers.new.objects in
-    let without_tokens = c.close_tokens.ensures.tied keys frames (objects_counted s c.requires) in
-    let tied = c.close_framebuffers.ensures.tied keys (token_keys tokens) without_tokens in
+    let without_tokens = c.close_tokens.ensures.invariants keys frames (objects_counted s c.requires) in
+    let invariants = c.close_framebuffers.ensures.invariants keys (token_keys tokens) without_tokens in
     let those = named_trans s.objects.objects c.close_tokens.new.objects.objects middle.objects (keys ++ (token_keys tokens ++ frames)) (keys ++ refs)
     (λ n e. fewer_framed keys (token_keys tokens) (λ (x : Framebuffer). not (is_made_by client x)) s.modes.framebuffers now_frames c.close_framebuffers.ensures.loses.framebuffers n e)
     (c.close_tokens.ensures.those keys frames (objects_counted s c.requires)) (c.close_framebuffers.ensures.those keys (token_keys tokens) without_tokens) in
-    let closed : Leaves s.names s.objects keys refs s.names middle = record { tied = tied; those = those; limit = c.close_framebuffers.ensures.limit ∙ c.close_tokens.ensures.limit; names = names_stay s.names keys (names_held s c.requires) } in
+    let closed : Leaves s.names s.objects keys refs s.names middle = record { invariants = invariants; those = those; limit = c.close_framebuffers.ensures.limit ∙ c.close_tokens.ensures.limit; names = names_stay s.names keys (names_held s c.requires) } in
     let released : Leaves s.names middle (keys_without s client) refs c.release_all.new.names c.release_all.new.objects =
-    subst (λ (fs : FileLists). Leaves s.names middle (keys_of fs.holds) refs c.release_all.new.names c.release_all.new.objects) c.release_all.ensures.files (c.release_all.ensures.leaves refs tied) in
+    subst (λ (fs : FileLists). Leaves s.names middle (keys_of fs.holds) refs c.release_all.new.names c.release_all.new.objects) c.release_all.ensures.files (c.release_all.ensures.leaves refs invariants) in
     subst (λ (ts : TokenList). Leaves s.names s.objects (keys_without s client) (referring ts.tokens now_frames) c.release_all.new.names c.release_all.new.objects) c.close_tokens.ensures.tokens
     (leaves_trans s.names s.names c.release_all.new.names s.objects middle c.release_all.new.objects keys (keys_without s client) refs (λ n e. some_pass (λ x. not (of_client client x)) s.files.holds n e) closed released)
 
@@ -108,8 +108,8 @@ are c = subst AreMasters c.close_master.ensures.masters c.laws.ensures
 leases_are : (c : goal.After-release_all) → AreLeases (without_its_leases c.args.client c.args.state.now.masters c.args.state.now.leases)
 leases_are c = subst AreLeases c.close_master.ensures.leases c.laws-2.ensures
 
-gone_tied : (c : goal.After-release_all) → IsTied (without_its c.args.state.now c.args.client c.close_framebuffers.new.modes c.release_all.new.names c.release_all.new.objects)
-gone_tied c = client_gone_tied c.args.state.now c.args.client c.close_framebuffers.new.modes c.release_all.new.names c.release_all.new.objects c.requires (are c) (leases_are c) c.laws-3.ensures (leaves c)
+gone_invariants : (c : goal.After-release_all) → MeetsInvariants (without_its c.args.state.now c.args.client c.close_framebuffers.new.modes c.release_all.new.names c.release_all.new.objects)
+gone_invariants c = client_gone_invariants c.args.state.now c.args.client c.close_framebuffers.new.modes c.release_all.new.names c.release_all.new.objects c.requires (are c) (leases_are c) c.laws-3.ensures (leaves c)
 
 pub close_master-requires-clause-are : goal.close_master-requires-clause-are
 close_master-requires-clause-are c = masters_so c.args.state.now c.requires
@@ -117,15 +117,15 @@ close_master-requires-clause-are c = masters_so c.args.state.now c.requires
 pub close_master-requires-clause-agreed : goal.close_master-requires-clause-agreed
 close_master-requires-clause-agreed c = leases_agree c.args.state.now c.requires
 
-pub returns-clause-tied : goal.returns-clause-tied
-returns-clause-tied c = told IsTied c (gone_tied c)
+pub returns-clause-invariants : goal.returns-clause-invariants
+returns-clause-invariants c = told MeetsInvariants c (gone_invariants c)
 
-pub returns-clause-owes : goal.returns-clause-owes
-unfolding OwesAnswer changed answer_of
-returns-clause-owes c = λ w h.
+pub returns-clause-refines : goal.returns-clause-refines
+unfolding RefinesAnswer changed answer_of
+returns-clause-refines c = λ w h.
     let s = c.args.state.now in
     let is = client_row_is s w h c.args.client c.in-Some._flags (sym c.in-Some.is ∙ c.flags_of.ensures.flags) in
-    let present : is_open w c.args.client ≡ true = ap is_some is in
-    carried (now c c.release_all.new.files c.close_tokens.new.tokens c.close_master.new.masters c.close_master.new.leases) w (Close c.args.client) Closed (closing_verdict w c.args.client ∙ rw present refl) refl
+    let open_client : is_open w c.args.client ≡ true = ap is_some is in
+    carried (now c c.release_all.new.files c.close_tokens.new.tokens c.close_master.new.masters c.close_master.new.leases) w (Close c.args.client) Closed (closing_verdict w c.args.client ∙ rw open_client refl) refl
     (told (λ t. Represents t (swept (closed w c.args.client))) c
     (client_gone s w c.args.client c.in-Some._flags c.close_framebuffers.new.modes c.release_all.new.names c.release_all.new.objects c.requires (are c) (leases_are c) c.laws-3.ensures c.close_framebuffers.ensures.loses is (leaves c) h))

@@ -5,7 +5,7 @@ use Rattle.drm_gem.specs.Objects.{ObjectSet}
 use Rattle.drm_modes.specs.declared.rows.Framebuffer.{Framebuffer}
 use Rattle.drm_modes.specs.Modes.{ModeSet}
 use Rattle.drm_state.specs.Parts.{framebuffer_keys, LosesFramebuffersOf}
-use Rattle.drm_state.specs.Ties.{AreTied, AreThoseNamed}
+use Rattle.drm_state.specs.Invariants.{AreCounted, AreThoseNamed}
 use Rattle.drm_state.proofs.Counting.{all_named, same_references}
 use Rattle.drm_state.proofs.Contents.{has_reference, unreferred_step, unrefer_limit}
 use Rattle.drm_state.proofs.Frames.{all_shown, dark_further}
@@ -30,7 +30,7 @@ loop-taken-init c = record {
   last = refl;
   others = refl;
   shown = all_shown c.args.modes.now c.laws.ensures;
-  left = λ keys more h. record { tied = h; named = all_named keys _ c.args.objects.now.objects h };
+  left = λ keys more h. record { invariants = h; named = all_named keys _ c.args.objects.now.objects h };
   limit = refl;
 }
 
@@ -40,8 +40,8 @@ one_goes client key more set new one =
     same-trans (more ++ framebuffer_keys set.framebuffers) (more ++ key ∷ framebuffer_keys new.framebuffers) (key ∷ (more ++ framebuffer_keys new.framebuffers))
     (same-append more more (framebuffer_keys set.framebuffers) (key ∷ framebuffer_keys new.framebuffers) (same-refl more) one.keys) (same-middle key more (framebuffer_keys new.framebuffers))
 
-tied_yet : (set : ObjectSet) (client key : ℕ) (keys more : List ℕ) (old new : ModeSet) → IsTaken client_of key_of client key old.framebuffers new.framebuffers → AreTied keys (more ++ framebuffer_keys old.framebuffers) set.objects → AreTied keys (key ∷ (more ++ framebuffer_keys new.framebuffers)) set.objects
-tied_yet set client key keys more old new one h = same_references keys (more ++ framebuffer_keys old.framebuffers) (key ∷ (more ++ framebuffer_keys new.framebuffers)) set.objects (one_goes client key more old new one) h
+invariants_yet : (set : ObjectSet) (client key : ℕ) (keys more : List ℕ) (old new : ModeSet) → IsTaken client_of key_of client key old.framebuffers new.framebuffers → AreCounted keys (more ++ framebuffer_keys old.framebuffers) set.objects → AreCounted keys (key ∷ (more ++ framebuffer_keys new.framebuffers)) set.objects
+invariants_yet set client key keys more old new one h = same_references keys (more ++ framebuffer_keys old.framebuffers) (key ∷ (more ++ framebuffer_keys new.framebuffers)) set.objects (one_goes client key more old new one) h
 
 pub unrefer-dead-requires : goal.unrefer-dead-requires
 unrefer-dead-requires c =
@@ -51,7 +51,7 @@ unrefer-dead-requires c =
     let keys = c.requires.0 in
     let more = c.requires.1 in
     let one : IsTaken client_of key_of c.args.client key old.framebuffers new.framebuffers = rw c.in-Some.ensures.removed (first_taken framebuffer client_of key_of c.args.client c.in-Some.taken.0 key old.framebuffers c.loop-taken.invariant.are.framebuffers_rise c.in-Some.ensures.first) in
-    has_reference c.loop-taken.objects key keys (more ++ framebuffer_keys new.framebuffers) (tied_yet c.loop-taken.objects c.args.client key keys more old new one (c.loop-taken.invariant.left keys more c.requires.2).tied)
+    has_reference c.loop-taken.objects key keys (more ++ framebuffer_keys new.framebuffers) (invariants_yet c.loop-taken.objects c.args.client key keys more old new one (c.loop-taken.invariant.left keys more c.requires.2).invariants)
 
 pub loop-taken-smaller : goal.loop-taken-smaller
 loop-taken-smaller c =
@@ -73,7 +73,7 @@ loop-taken-preserved c =
       left = λ keys more h.
           let left = c.loop-taken.invariant.left keys more h in
           further c.args.objects.now.objects c.loop-taken.objects c.unrefer-dead.new.self keys (more ++ framebuffer_keys old.framebuffers) (more ++ framebuffer_keys new.framebuffers) key (one_goes c.args.client key more old new one) left
-          (unreferred_step c.loop-taken.objects c.unrefer-dead.new.self key keys (more ++ framebuffer_keys new.framebuffers) c.unrefer-dead.result (tied_yet c.loop-taken.objects c.args.client key keys more old new one left.tied) c.unrefer-dead.ensures.dead c.unrefer-dead.ensures.gone c.unrefer-dead.ensures.stays);
+          (unreferred_step c.loop-taken.objects c.unrefer-dead.new.self key keys (more ++ framebuffer_keys new.framebuffers) c.unrefer-dead.result (invariants_yet c.loop-taken.objects c.args.client key keys more old new one left.invariants) c.unrefer-dead.ensures.dead c.unrefer-dead.ensures.gone c.unrefer-dead.ensures.stays);
       limit = unrefer_limit c.loop-taken.objects c.unrefer-dead.new.self key c.unrefer-dead.result c.unrefer-dead.ensures.gone c.unrefer-dead.ensures.stays ∙ c.loop-taken.invariant.limit;
     }
 
@@ -87,8 +87,8 @@ returns-clause-loses c =
       shown = c.loop-taken.invariant.shown;
     })
 
-pub returns-clause-tied : goal.returns-clause-tied
-returns-clause-tied c = λ keys more h. subst (λ (set : ModeSet). AreTied keys (more ++ framebuffer_keys set.framebuffers) c.loop-taken.objects.objects) (sym c.in_default.ensures.none) (c.loop-taken.invariant.left keys more h).tied
+pub returns-clause-invariants : goal.returns-clause-invariants
+returns-clause-invariants c = λ keys more h. subst (λ (set : ModeSet). AreCounted keys (more ++ framebuffer_keys set.framebuffers) c.loop-taken.objects.objects) (sym c.in_default.ensures.none) (c.loop-taken.invariant.left keys more h).invariants
 
 pub returns-clause-those : goal.returns-clause-those
 returns-clause-those c = λ keys more h. subst (λ (set : ModeSet). AreThoseNamed c.args.objects.now.objects (keys ++ (more ++ framebuffer_keys set.framebuffers)) c.loop-taken.objects.objects) (sym c.in_default.ensures.none) (c.loop-taken.invariant.left keys more h).named

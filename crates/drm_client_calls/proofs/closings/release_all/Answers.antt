@@ -8,21 +8,21 @@ use Rattle.drm_files.specs.Files.{FileLists, left_by, without_client}
 use Rattle.drm_share.specs.declared.rows.SharedName.{SharedName}
 use Rattle.drm_share.specs.Names.{NameList}
 use Rattle.drm_state.specs.Parts.{keys_of}
-use Rattle.drm_state.specs.Ties.{AreTied, AreNamed, Leaves}
-use Rattle.drm_state.proofs.Counting.{same_tied}
+use Rattle.drm_state.specs.Invariants.{AreCounted, AreNamed, Leaves}
+use Rattle.drm_state.proofs.Counting.{same_invariants}
 use Rattle.drm_state.proofs.Contents.{rest_keys, first_rest, shorter_rest, no_rest, all_keys}
 use Rattle.drm_state.proofs.Leaving.{leaves_all, leaves_trans}
 use Rattle.drm_state.proofs.Sweeps.{named_left}
 use Rattle.drm_client_calls.proofs.closings.release_all.Goals as goal
 
 -- the keys of all handles, those of the client before the others
-parted : (old new : FileLists) (c : ℕ) (names : NameList) (objects : ObjectSet) (refs : List ℕ) → new ≡ without_client old c → AreNamed (keys_of old.holds) names.names → AreTied (keys_of old.holds) refs objects.objects →
+parted : (old new : FileLists) (c : ℕ) (names : NameList) (objects : ObjectSet) (refs : List ℕ) → new ≡ without_client old c → AreNamed (keys_of old.holds) names.names → AreCounted (keys_of old.holds) refs objects.objects →
     Leaves names objects (rest_keys (left_by old c) ++ keys_of new.holds) refs names objects
-parted old new c names objects refs e named tied =
+parted old new c names objects refs e named invariants =
     let all = rest_keys (left_by old c) ++ keys_of (without_client old c).holds in
     let same = all_keys old c in
     subst (λ (fs : FileLists). Leaves names objects (rest_keys (left_by old c) ++ keys_of fs.holds) refs names objects) (sym e)
-    (leaves_all names objects all refs (same_tied (keys_of old.holds) all refs objects.objects same tied)
+    (leaves_all names objects all refs (same_invariants (keys_of old.holds) all refs objects.objects same invariants)
     (all_weaker (λ (x : SharedName). is_among (keys_of old.holds) x.object ≡ true) (λ (x : SharedName). is_among all x.object ≡ true) (λ x a. sym (same-any (λ k. k == x.object) (keys_of old.holds) all same) ∙ a) names.names named))
 
 -- the first of the rest stands before all others
@@ -35,18 +35,18 @@ loop-hold-init c = rw c.close-rest.ensures.rest (λ refs h. parted c.args.files.
 pub release-requires : goal.release-requires
 release-requires c =
     let held = keys_of c.close-rest.new.self.holds in
-    let refs = c.requires.tied.0 in
+    let refs = c.requires.invariants.0 in
     let keys = first_rest c.loop-hold.rest c.in-Some.hold.0 c.in-Some.hold.1 c.in-Some.ensures.first ∙ ap (λ rest. c.in-Some.hold.1 ∷ rest_keys rest) (sym c.in-Some.ensures.rest) in
-    let left = first c.args.names.now c.loop-hold.names c.args.objects.now c.loop-hold.objects refs held c.loop-hold.rest c.take_next.new.self c.in-Some.hold.1 keys (c.loop-hold.invariant refs c.requires.tied.1) in
-    record { tied = (rest_keys c.take_next.new.self ++ held, refs, left.tied) }
+    let left = first c.args.names.now c.loop-hold.names c.args.objects.now c.loop-hold.objects refs held c.loop-hold.rest c.take_next.new.self c.in-Some.hold.1 keys (c.loop-hold.invariant refs c.requires.invariants.1) in
+    record { invariants = (rest_keys c.take_next.new.self ++ held, refs, left.invariants) }
 
 pub loop-hold-smaller : goal.loop-hold-smaller
 loop-hold-smaller c = rw c.in-Some.ensures.rest (shorter_rest c.loop-hold.rest c.in-Some.hold.0 c.in-Some.hold.1 c.in-Some.ensures.first)
 
 -- one step further
-further : (names middle now : NameList) (objects set new : ObjectSet) (k : ℕ) (keys refs : List ℕ) → Leaves names objects (k ∷ keys) refs middle set → (AreTied (k ∷ keys) refs set.objects → AreNamed (k ∷ keys) middle.names → Leaves middle set keys refs now new) → Leaves names objects keys refs now new
+further : (names middle now : NameList) (objects set new : ObjectSet) (k : ℕ) (keys refs : List ℕ) → Leaves names objects (k ∷ keys) refs middle set → (AreCounted (k ∷ keys) refs set.objects → AreNamed (k ∷ keys) middle.names → Leaves middle set keys refs now new) → Leaves names objects keys refs now new
 further names middle now objects set new k keys refs h step =
-    leaves_trans names middle now objects set new (k ∷ keys) keys refs (λ n e. among-more keys k n e) h (step h.tied (named_left names middle objects set (k ∷ keys) refs h))
+    leaves_trans names middle now objects set new (k ∷ keys) keys refs (λ n e. among-more keys k n e) h (step h.invariants (named_left names middle objects set (k ∷ keys) refs h))
 
 pub loop-hold-preserved : goal.loop-hold-preserved
 loop-hold-preserved c =

@@ -7,26 +7,26 @@ use Rattle.drm_table.specs.declared.events.Opening.TheVariants.{Lease}
 use Rattle.drm_table.specs.declared.rules.Rule.TheVariants.{NoLeaseToken, Full}
 use Rattle.std.specs.List.{AllByRecursion}
 use Rattle.drm_files.specs.declared.rows.FileClient.{FileClient}
-use Rattle.drm_files.specs.Files.{FileLists, AreFiles, is_present, without_client}
+use Rattle.drm_files.specs.Files.{FileLists, AreFiles, is_open_client, without_client}
 use Rattle.drm_masters.specs.declared.rows.Master.{Master}
-use Rattle.drm_masters.specs.Masters.{MasterSet, AreMasters, IsKeyOf, birth_at, is_key, is_lessee, master_at}
+use Rattle.drm_masters.specs.Masters.{MasterSet, AreMasters, IsKeyOf, step_number_at, is_key, is_lessee, master_at}
 use Rattle.drm_masters.specs.Calls.{redeemed}
 use Rattle.drm_leases.specs.Leases.{LeaseSet, AreLeases, token_master}
 use Rattle.drm_leases.specs.Calls.{without_token}
-use Rattle.drm_model.specs.Rows.{Rows, MasterRow, has_client_room, birth}
+use Rattle.drm_model.specs.Rows.{Rows, MasterRow, has_client_room, step_number}
 use Rattle.drm_model.specs.Verdict.{verdict}
 use Rattle.drm_model.specs.Leases.{lease_master}
 use Rattle.drm_model.specs.Clients.{opening_checks, opened, opened_lease}
 use Rattle.drm_model.specs.Change.{changed}
 use Rattle.drm_model.specs.Reply.{answer_of}
 use Rattle.drm_state.specs.declared.state.State.{State}
-use Rattle.drm_state.specs.Ties.{IsTied}
-use Rattle.drm_state.specs.Refinement.{Owes, Represents}
+use Rattle.drm_state.specs.Invariants.{MeetsInvariants}
+use Rattle.drm_state.specs.Refinement.{Refines, Represents}
 use Rattle.drm_state.proofs.Members.{found_last}
-use Rattle.drm_state.proofs.Outcomes.{denied, carried_on, refused, opening_verdict, client_room}
+use Rattle.drm_state.proofs.Refinements.{denied, carried_on, refused, opening_verdict, client_room}
 use Rattle.drm_state.proofs.Represented.{masters_are, masters_so, kept_have_tokens, tokens_of_lessees}
 use Rattle.drm_client_calls.proofs.Opened.{joined, with_file, not_full, newer, room_for, back, closed_again}
-use Rattle.drm_client_calls.proofs.Redeemed.{not_leased, no_token, of_lessee, lease_flags, opens, its_row, redeemed_tied, redeemed_represents, unredeemed, with_redeemer}
+use Rattle.drm_client_calls.proofs.Redeemed.{not_leased, no_token, of_lessee, lease_flags, opens, its_row, redeemed_invariants, redeemed_represents, unredeemed, with_lease_client}
 use Rattle.drm_client_calls.proofs.openings.open_lease.Goals as goal
 
 accepted : (w : Rows) (token : ℕ) (root universal : Bool) → is_some (lease_master w token) ≡ true → has_client_room w ≡ true → verdict w (Open (Lease token root universal)) ≡ None
@@ -35,11 +35,11 @@ accepted w token root universal leased room = opening_verdict w (Lease token roo
 
 longer : (w : Rows) (token : ℕ) (root universal : Bool) → length w.clients < length (opened_lease w token root universal).clients
 longer w token root universal =
-    omega (arith, length-append w.clients (record { client = birth w; render = false; root = root; authenticated = true; once_master = false; is_master = true; master = option_map (λ (row : MasterRow). row.master) (lease_master w token); universal = universal } ∷ []))
+    omega (arith, length-append w.clients (record { client = step_number w; render = false; root = root; authenticated = true; once_master = false; is_master = true; master = option_map (λ (row : MasterRow). row.master) (lease_master w token); universal = universal } ∷ []))
 
-pub returns-in_default-clause-owes : goal.returns-in_default-clause-owes
-unfolding Owes opening_checks
-returns-in_default-clause-owes c = λ w s.
+pub returns-in_default-clause-refines : goal.returns-in_default-clause-refines
+unfolding Refines opening_checks
+returns-in_default-clause-refines c = λ w s.
     let old = c.args.state.now in
     let none : is_some (lease_master w c.args.token) ≡ false = ap is_some (not_leased w old.leases.tokens old.masters.masters c.args.token (masters_are old w s.rows) (no_token old.leases.tokens c.args.token (sym c.token_master.ensures ∙ c.in_default.is))) in
     denied old w (Open (Lease c.args.token c.args.root c.args.universal)) NoLeaseToken (opening_verdict w (Lease c.args.token c.args.root c.args.universal) ∙ rw none refl) s.rows
@@ -51,83 +51,83 @@ lessee_there ms m h e = let n : false ≡ true = ap (λ o. is_some (option_and_t
 pub unreachable-requires : goal.unreachable-requires
 unreachable-requires c =
     let s = c.args.state.now in
-    lessee_there s.masters.masters c.in-Some.number (of_lessee s.leases.tokens s.masters.masters c.args.token c.in-Some.number (tokens_of_lessees s c.requires.tied) (sym c.token_master.ensures ∙ c.in-Some.is)) (sym c.master.ensures.master ∙ c.in_default-master.is)
+    lessee_there s.masters.masters c.in-Some.number (of_lessee s.leases.tokens s.masters.masters c.args.token c.in-Some.number (tokens_of_lessees s c.requires.invariants) (sym c.token_master.ensures ∙ c.in-Some.is)) (sym c.master.ensures.master ∙ c.in_default-master.is)
 
 -- the lessee's row
-leased : (s : State) (w : Rows) (token m : ℕ) (x : Master) → IsTied s → token_master s.leases.tokens token ≡ Some m → master_at s.masters.masters m ≡ Some x → Represents s w → is_some (lease_master w token) ≡ true
+leased : (s : State) (w : Rows) (token m : ℕ) (x : Master) → MeetsInvariants s → token_master s.leases.tokens token ≡ Some m → master_at s.masters.masters m ≡ Some x → Represents s w → is_some (lease_master w token) ≡ true
 leased s w token m x t is there h = ap is_some (its_row s token m t is w x there h)
 
 -- and where the lessee wasn't looked up yet
-leased_yet : (s : State) (w : Rows) (token m : ℕ) → IsTied s → token_master s.leases.tokens token ≡ Some m → Represents s w → is_some (lease_master w token) ≡ true
+leased_yet : (s : State) (w : Rows) (token m : ℕ) → MeetsInvariants s → token_master s.leases.tokens token ≡ Some m → Represents s w → is_some (lease_master w token) ≡ true
 leased_yet s w token m t is h = by_row (master_at s.masters.masters m) refl
   where
     by_row : (o : Option Master) → master_at s.masters.masters m ≡ o → is_some (lease_master w token) ≡ true
     by_row None e = absurd (lessee_there s.masters.masters m (of_lessee s.leases.tokens s.masters.masters token m (tokens_of_lessees s t) is) e)
     by_row (Some x) e = leased s w token m x t is e h
 
-pub returns-then-is_full-clause-owes : goal.returns-then-is_full-clause-owes
-unfolding Owes opening_checks
-returns-then-is_full-clause-owes c = λ w s.
+pub returns-then-is_full-clause-refines : goal.returns-then-is_full-clause-refines
+unfolding Refines opening_checks
+returns-then-is_full-clause-refines c = λ w s.
     let old = c.args.state.now in
     let full = client_room old w s.rows ∙ ap not (sym c.is_full.ensures.full ∙ c.if-is_full.true) in
-    let there = leased_yet old w c.args.token c.in-Some.number c.requires.tied (sym c.token_master.ensures ∙ c.in-Some.is) s.rows in
+    let there = leased_yet old w c.args.token c.in-Some.number c.requires.invariants (sym c.token_master.ensures ∙ c.in-Some.is) s.rows in
     denied old w (Open (Lease c.args.token c.args.root c.args.universal)) Full (opening_verdict w (Lease c.args.token c.args.root c.args.universal) ∙ rw there (rw full refl)) s.rows
 
-pub returns-in_err-open_file-clause-owes : goal.returns-in_err-open_file-clause-owes
-unfolding Owes changed opened
-returns-in_err-open_file-clause-owes c = λ w s.
+pub returns-in_err-open_file-clause-refines : goal.returns-in_err-open_file-clause-refines
+unfolding Refines changed opened
+returns-in_err-open_file-clause-refines c = λ w s.
     let old = c.args.state.now in
     let room = client_room old w s.rows ∙ ap not (sym c.is_full.ensures.full ∙ c.if-is_full.false) in
-    let there = leased_yet old w c.args.token c.in-Some.number c.requires.tied (sym c.token_master.ensures ∙ c.in-Some.is) s.rows in
+    let there = leased_yet old w c.args.token c.in-Some.number c.requires.invariants (sym c.token_master.ensures ∙ c.in-Some.is) s.rows in
     let p = err_from_is_err_and c.from_residual.result c.from_residual.ensures.1 in
     rw p.1 (refused (record old { files = c.open_file.new.files }) w (Open (Lease c.args.token c.args.root c.args.universal)) p.0 (accepted w c.args.token c.args.root c.args.universal there room) (inl (longer w c.args.token c.args.root c.args.universal))
     (subst (λ fs. Represents (record old { files = fs }) w) (sym c.in_err-open_file.ensures.err) s.rows))
 
 pub on_redeem-requires-clause-new_client : goal.on_redeem-requires-clause-new_client
-on_redeem-requires-clause-new_client c = newer c.args.state.now c.args.birth c.requires.tied c.requires.later
+on_redeem-requires-clause-new_client c = newer c.args.state.now c.args.step_number c.requires.invariants c.requires.later
 
 pub on_redeem-requires-clause-room : goal.on_redeem-requires-clause-room
-on_redeem-requires-clause-room c = room_for c.args.state.now c.requires.tied (not_full c.args.state.now.files.limit (length c.args.state.now.files.clients) (sym c.is_full.ensures.full ∙ c.if-is_full.false))
+on_redeem-requires-clause-room c = room_for c.args.state.now c.requires.invariants (not_full c.args.state.now.files.limit (length c.args.state.now.files.clients) (sym c.is_full.ensures.full ∙ c.if-is_full.false))
 
 pub on_redeem-requires-clause-unredeemed : goal.on_redeem-requires-clause-unredeemed
 on_redeem-requires-clause-unredeemed c =
     let s = c.args.state.now in
     let is = sym c.token_master.ensures ∙ c.in-Some.is in
-    unredeemed s.leases.tokens s.masters.masters c.in-Some.number c.in-Some-master.lessee.key (masters_so s c.requires.tied).masters_rise (kept_have_tokens s c.requires.tied) (opens s c.args.token c.in-Some.number c.requires.tied is)
-    (of_lessee s.leases.tokens s.masters.masters c.args.token c.in-Some.number (tokens_of_lessees s c.requires.tied) is) c.in-Some-master.ensures.keyed
+    unredeemed s.leases.tokens s.masters.masters c.in-Some.number c.in-Some-master.lessee.key (masters_so s c.requires.invariants).masters_rise (kept_have_tokens s c.requires.invariants) (opens s c.args.token c.in-Some.number c.requires.invariants is)
+    (of_lessee s.leases.tokens s.masters.masters c.args.token c.in-Some.number (tokens_of_lessees s c.requires.invariants) is) c.in-Some-master.ensures.keyed
 
 pub close-rest-requires : goal.close-rest-requires
-close-rest-requires c = record { present = subst (λ fs. is_present fs c.args.birth ≡ true) (sym c.in_ok-open_file.ensures.ok) (found_last (record { client = c.args.birth; flags = lease_flags c.args.root c.args.universal }) c.args.state.now.files.clients) }
+close-rest-requires c = record { open_client = subst (λ fs. is_open_client fs c.args.step_number ≡ true) (sym c.in_ok-open_file.ensures.ok) (found_last (record { client = c.args.step_number; flags = lease_flags c.args.root c.args.universal }) c.args.state.now.files.clients) }
 
 -- the client's file is gone again
 closed_file : (old opened closed : FileLists) (c : ℕ) (root universal : Bool) → closed ≡ without_client opened c → opened ≡ with_file old c (lease_flags root universal) → AreFiles old → AllByRecursion (λ (f : FileClient). f.client < c) old.clients → closed ≡ old
 closed_file old opened closed c root universal is e are newest = is ∙ ap (λ (l : FileLists). without_client l c) e ∙ closed_again old c (lease_flags root universal) are newest
 
-pub returns-in-Err-clause-tied : goal.returns-in-Err-clause-tied
-returns-in-Err-clause-tied c = back IsTied c.args.state.now c.close-rest.new.self c.on_redeem.new.self (closed_file c.args.state.now.files c.open_file.new.files c.close-rest.new.self c.args.birth c.args.root c.args.universal c.close-rest.ensures.closed c.in_ok-open_file.ensures.ok c.is_full.ensures.lists c.requires.later.clients) c.in-Err.ensures.err c.requires.tied
+pub returns-in-Err-clause-invariants : goal.returns-in-Err-clause-invariants
+returns-in-Err-clause-invariants c = back MeetsInvariants c.args.state.now c.close-rest.new.self c.on_redeem.new.self (closed_file c.args.state.now.files c.open_file.new.files c.close-rest.new.self c.args.step_number c.args.root c.args.universal c.close-rest.ensures.closed c.in_ok-open_file.ensures.ok c.is_full.ensures.lists c.requires.later.clients) c.in-Err.ensures.err c.requires.invariants
 
-pub returns-in-Err-clause-owes : goal.returns-in-Err-clause-owes
-unfolding Owes changed opened
-returns-in-Err-clause-owes c = λ w s.
+pub returns-in-Err-clause-refines : goal.returns-in-Err-clause-refines
+unfolding Refines changed opened
+returns-in-Err-clause-refines c = λ w s.
     let old = c.args.state.now in
     let room = client_room old w s.rows ∙ ap not (sym c.is_full.ensures.full ∙ c.if-is_full.false) in
-    let there = leased_yet old w c.args.token c.in-Some.number c.requires.tied (sym c.token_master.ensures ∙ c.in-Some.is) s.rows in
+    let there = leased_yet old w c.args.token c.in-Some.number c.requires.invariants (sym c.token_master.ensures ∙ c.in-Some.is) s.rows in
     refused (record old { files = c.close-rest.new.self; masters = c.on_redeem.new.self }) w (Open (Lease c.args.token c.args.root c.args.universal)) (record {}) (accepted w c.args.token c.args.root c.args.universal there room) (inl (longer w c.args.token c.args.root c.args.universal))
-    (back (λ t. Represents t w) old c.close-rest.new.self c.on_redeem.new.self (closed_file c.args.state.now.files c.open_file.new.files c.close-rest.new.self c.args.birth c.args.root c.args.universal c.close-rest.ensures.closed c.in_ok-open_file.ensures.ok c.is_full.ensures.lists c.requires.later.clients) c.in-Err.ensures.err s.rows)
+    (back (λ t. Represents t w) old c.close-rest.new.self c.on_redeem.new.self (closed_file c.args.state.now.files c.open_file.new.files c.close-rest.new.self c.args.step_number c.args.root c.args.universal c.close-rest.ensures.closed c.in_ok-open_file.ensures.ok c.is_full.ensures.lists c.requires.later.clients) c.in-Err.ensures.err s.rows)
 
 -- ---- the client is there
 
 -- a master's key names it
-number_is : (ms : List Master) (m key : ℕ) → IsKeyOf ms m key → birth_at ms key ≡ m
+number_is : (ms : List Master) (m key : ℕ) → IsKeyOf ms m key → step_number_at ms key ≡ m
 number_is ms m key h = by_row (find (is_key key) ms) h
   where
-    by_row : (o : Option Master) → option_map (λ (x : Master). x.birth) o ≡ Some m → option_map_or (λ (x : Master). x.birth) o 0 ≡ m
+    by_row : (o : Option Master) → option_map (λ (x : Master). x.step_number) o ≡ Some m → option_map_or (λ (x : Master). x.step_number) o 0 ≡ m
     by_row None k = absurd (let n : None ≡ Some m = k in cc)
-    by_row (Some x) k = let n : Some x.birth ≡ Some m = k in cc
+    by_row (Some x) k = let n : Some x.step_number ≡ Some m = k in cc
 
 -- told by the parts as they were
-told : (P : State → Type 0) (s : State) (b t m key : ℕ) (root universal : Bool) (fs : FileLists) (set : MasterSet) (l : LeaseSet) → IsKeyOf s.masters.masters m key → fs ≡ with_file s.files b (lease_flags root universal) → set ≡ redeemed b (birth_at s.masters.masters key) s.masters → l ≡ without_token t s.leases →
-    P (with_redeemer s b t m root universal) → P (record s { files = fs; masters = set; leases = l })
+told : (P : State → Type 0) (s : State) (b t m key : ℕ) (root universal : Bool) (fs : FileLists) (set : MasterSet) (l : LeaseSet) → IsKeyOf s.masters.masters m key → fs ≡ with_file s.files b (lease_flags root universal) → set ≡ redeemed b (step_number_at s.masters.masters key) s.masters → l ≡ without_token t s.leases →
+    P (with_lease_client s b t m root universal) → P (record s { files = fs; masters = set; leases = l })
 told P s b t m key root universal fs set l is e f g h =
     let number = number_is s.masters.masters m key is in
     subst (λ files. P (record s { files = files; masters = set; leases = l })) (sym e)
@@ -135,28 +135,28 @@ told P s b t m key root universal fs set l is e f g h =
     (subst (λ ls. P (joined s b (lease_flags root universal) (redeemed b m s.masters) ls)) (sym g) h))
 
 -- the masters are those that a redeeming leaves
-masters_after : (s : State) (b m key : ℕ) (set : MasterSet) → IsKeyOf s.masters.masters m key → set ≡ redeemed b (birth_at s.masters.masters key) s.masters → AreMasters set → AreMasters (redeemed b m s.masters)
+masters_after : (s : State) (b m key : ℕ) (set : MasterSet) → IsKeyOf s.masters.masters m key → set ≡ redeemed b (step_number_at s.masters.masters key) s.masters → AreMasters set → AreMasters (redeemed b m s.masters)
 masters_after s b m key set is e = subst AreMasters (e ∙ (λ i. redeemed b (number_is s.masters.masters m key is i) s.masters))
 
-pub returns-clause-tied : goal.returns-clause-tied
-returns-clause-tied c =
+pub returns-clause-invariants : goal.returns-clause-invariants
+returns-clause-invariants c =
     let s = c.args.state.now in
     let m = c.in-Some.number in
     let key = c.in-Some-master.lessee.key in
     let is = sym c.token_master.ensures ∙ c.in-Some.is in
-    told IsTied s c.args.birth c.args.token m key c.args.root c.args.universal c.open_file.new.files c.on_redeem.new.self c.redeem-spent.new.self c.in-Some-master.ensures.keyed c.in_ok-open_file.ensures.ok c.in_default-on_redeem.ensures.ok c.redeem-spent.ensures.spent
-    (redeemed_tied s c.args.token m c.requires.tied is c.args.birth c.args.root c.args.universal (masters_after s c.args.birth m key c.on_redeem.new.self c.in-Some-master.ensures.keyed c.in_default-on_redeem.ensures.ok c.laws.ensures) (subst AreLeases c.redeem-spent.ensures.spent c.laws-2.ensures))
+    told MeetsInvariants s c.args.step_number c.args.token m key c.args.root c.args.universal c.open_file.new.files c.on_redeem.new.self c.redeem-spent.new.self c.in-Some-master.ensures.keyed c.in_ok-open_file.ensures.ok c.in_default-on_redeem.ensures.ok c.redeem-spent.ensures.spent
+    (redeemed_invariants s c.args.token m c.requires.invariants is c.args.step_number c.args.root c.args.universal (masters_after s c.args.step_number m key c.on_redeem.new.self c.in-Some-master.ensures.keyed c.in_default-on_redeem.ensures.ok c.laws.ensures) (subst AreLeases c.redeem-spent.ensures.spent c.laws-2.ensures))
 
-pub returns-clause-owes : goal.returns-clause-owes
-unfolding Owes changed opened answer_of
-returns-clause-owes c = λ w r.
+pub returns-clause-refines : goal.returns-clause-refines
+unfolding Refines changed opened answer_of
+returns-clause-refines c = λ w r.
     let s = c.args.state.now in
     let m = c.in-Some.number in
     let key = c.in-Some-master.lessee.key in
     let is = sym c.token_master.ensures ∙ c.in-Some.is in
     let found = sym c.master.ensures.master ∙ c.in-Some-master.is in
     let room = client_room s w r.rows ∙ ap not (sym c.is_full.ensures.full ∙ c.if-is_full.false) in
-    let there = leased s w c.args.token m c.in-Some-master.lessee c.requires.tied is found r.rows in
-    carried_on (record s { files = c.open_file.new.files; masters = c.on_redeem.new.self; leases = c.redeem-spent.new.self }) w (Open (Lease c.args.token c.args.root c.args.universal)) (Opened c.args.birth) (returns-clause-tied c) (accepted w c.args.token c.args.root c.args.universal there room) (ap Opened (sym r.birth_is))
-    (told (λ t. Represents t (opened_lease w c.args.token c.args.root c.args.universal)) s c.args.birth c.args.token m key c.args.root c.args.universal c.open_file.new.files c.on_redeem.new.self c.redeem-spent.new.self c.in-Some-master.ensures.keyed c.in_ok-open_file.ensures.ok c.in_default-on_redeem.ensures.ok c.redeem-spent.ensures.spent
-    (redeemed_represents s c.args.token m c.requires.tied is w c.in-Some-master.lessee found r.rows c.args.birth c.args.root c.args.universal c.requires.later r.birth_is))
+    let there = leased s w c.args.token m c.in-Some-master.lessee c.requires.invariants is found r.rows in
+    carried_on (record s { files = c.open_file.new.files; masters = c.on_redeem.new.self; leases = c.redeem-spent.new.self }) w (Open (Lease c.args.token c.args.root c.args.universal)) (Opened c.args.step_number) (returns-clause-invariants c) (accepted w c.args.token c.args.root c.args.universal there room) (ap Opened (sym r.step_number_is))
+    (told (λ t. Represents t (opened_lease w c.args.token c.args.root c.args.universal)) s c.args.step_number c.args.token m key c.args.root c.args.universal c.open_file.new.files c.on_redeem.new.self c.redeem-spent.new.self c.in-Some-master.ensures.keyed c.in_ok-open_file.ensures.ok c.in_default-on_redeem.ensures.ok c.redeem-spent.ensures.spent
+    (redeemed_represents s c.args.token m c.requires.invariants is w c.in-Some-master.lessee found r.rows c.args.step_number c.args.root c.args.universal c.requires.later r.step_number_is))

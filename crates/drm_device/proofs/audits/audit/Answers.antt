@@ -5,13 +5,13 @@ use Rattle.drm_table.specs.declared.events.Event.TheVariants.{Ask}
 use Rattle.drm_model.specs.Calls.{meaning}
 use Rattle.drm_model.specs.Change.{changed}
 use Rattle.drm_model.specs.Reply.{answer_of}
-use Rattle.drm_state.specs.Refinement.{OwesCall}
+use Rattle.drm_state.specs.Refinement.{RefinesCall}
 use Rattle.drm_device.specs.Audits.{IsPage}
-use Rattle.drm_state.proofs.Outcomes.{carried_on, call_verdict}
+use Rattle.drm_state.proofs.Refinements.{carried_on, call_verdict}
 use Rattle.drm_device.proofs.audits.audit.Goals as goal
 
 pub returns : goal.returns
-unfolding OwesCall IsPage meaning changed answer_of
+unfolding RefinesCall IsPage meaning changed answer_of
 returns c = λ client w s a.
-    let page = c.page_of.ensures w (record { rows = s.rows; births = s.births; steps_are = omega (arith, s.birth_is) }) in
-    carried_on c.args.state.now w (Ask client (Audit c.args.kind c.args.from)) (answers.Audit c.page_of.result) c.requires.tied (call_verdict w client (Audit c.args.kind c.args.from) a) (ap answers.Audit page) s.rows
+    let page = c.page_of.ensures w (record { rows = s.rows; step_numbers = s.step_numbers; steps_are = omega (arith, s.step_number_is) }) in
+    carried_on c.args.state.now w (Ask client (Audit c.args.kind c.args.from)) (answers.Audit c.page_of.result) c.requires.invariants (call_verdict w client (Audit c.args.kind c.args.from) a) (ap answers.Audit page) s.rows

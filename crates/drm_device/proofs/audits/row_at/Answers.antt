@@ -10,67 +10,67 @@ use Rattle.drm_device.proofs.AuditRows.{object_row_at, client_rows, master_rows,
 use Rattle.drm_device.proofs.audits.row_at.Goals as goal
 
 -- what the look-up found, of the list itself
-there : {X : Type 0} (found got : Option X) (items xs : List X) (place : ℕ) → found ≡ got → found ≡ slice_get xs place → xs ≡ items → got ≡ slice_get items place
-there found got items xs place e f g = sym e ∙ f ∙ ap (λ ys. slice_get ys place) g
+there : {X : Type 0} (found got : Option X) (items xs : List X) (position : ℕ) → found ≡ got → found ≡ slice_get xs position → xs ≡ items → got ≡ slice_get items position
+there found got items xs position e f g = sym e ∙ f ∙ ap (λ ys. slice_get ys position) g
 
 pub returns-in_err-file-in-Client : goal.returns-in_err-file-in-Client
 unfolding IsRowAt
 returns-in_err-file-in-Client c = rw c.in-Client.is (λ w h.
-    c.from_residual.ensures ∙ row_of_item (λ f. client_audit w (client_row_of c.args.state.now.masters.members f)) c.args.state.now.files.clients _ c.args.place None (client_rows c.args.state.now c.args.steps w h) (sym c.in_err-file-in-Client.was ∙ c.nth_client.ensures))
+    c.from_residual.ensures ∙ row_of_item (λ f. client_audit w (client_row_of c.args.state.now.masters.members f)) c.args.state.now.files.clients _ c.args.position None (client_rows c.args.state.now c.args.steps w h) (sym c.in_err-file-in-Client.was ∙ c.nth_client.ensures))
 
 pub returns-in_ok-file-in-Client : goal.returns-in_ok-file-in-Client
 unfolding IsRowAt
 returns-in_ok-file-in-Client c = rw c.in-Client.is (λ w h.
     let file = c.in_ok-file-in-Client.file in
     ap Some (c.client_row.ensures w (magic_is c.args.state.now w c.requires h.rows file.client ∙ ap (option_and_then magic_row_of) (sym c.member.ensures.member))) ∙ ap (λ m. Some (client_audit w (client_row_by file m))) c.member.ensures.member
-    ∙ row_of_item (λ f. client_audit w (client_row_of c.args.state.now.masters.members f)) c.args.state.now.files.clients _ c.args.place (Some file) (client_rows c.args.state.now c.args.steps w h) (sym c.in_ok-file-in-Client.was ∙ c.nth_client.ensures))
+    ∙ row_of_item (λ f. client_audit w (client_row_of c.args.state.now.masters.members f)) c.args.state.now.files.clients _ c.args.position (Some file) (client_rows c.args.state.now c.args.steps w h) (sym c.in_ok-file-in-Client.was ∙ c.nth_client.ensures))
 
 pub returns-in_err-master-in-Master : goal.returns-in_err-master-in-Master
 unfolding IsRowAt
 returns-in_err-master-in-Master c = rw c.in-Master.is (λ w h.
     c.from_residual-in_err-master-in-Master.ensures
-    ∙ row_of_item (λ (x : Master). master_audit (master_row_of c.args.state.now.leases.tokens x)) c.args.state.now.masters.masters _ c.args.place None (master_rows c.args.state.now c.args.steps w h) (sym c.in_err-master-in-Master.was ∙ c.nth_master.ensures))
+    ∙ row_of_item (λ (x : Master). master_audit (master_row_of c.args.state.now.leases.tokens x)) c.args.state.now.masters.masters _ c.args.position None (master_rows c.args.state.now c.args.steps w h) (sym c.in_err-master-in-Master.was ∙ c.nth_master.ensures))
 
 pub returns-in_ok-master-in-Master : goal.returns-in_ok-master-in-Master
 unfolding IsRowAt
 returns-in_ok-master-in-Master c = rw c.in-Master.is (λ w h.
     ap Some (c.master_row.ensures c.args.state.now.leases.tokens c.token_of.ensures)
-    ∙ row_of_item (λ (x : Master). master_audit (master_row_of c.args.state.now.leases.tokens x)) c.args.state.now.masters.masters _ c.args.place (Some c.in_ok-master-in-Master.master) (master_rows c.args.state.now c.args.steps w h)
+    ∙ row_of_item (λ (x : Master). master_audit (master_row_of c.args.state.now.leases.tokens x)) c.args.state.now.masters.masters _ c.args.position (Some c.in_ok-master-in-Master.master) (master_rows c.args.state.now c.args.steps w h)
     (sym c.in_ok-master-in-Master.was ∙ c.nth_master.ensures))
 
 pub returns-in_err-nth-in-Object : goal.returns-in_err-nth-in-Object
 unfolding IsRowAt
-returns-in_err-nth-in-Object c = rw c.in-Object.is (λ w h. c.from_residual-in_err-nth-in-Object.ensures ∙ object_row_at c.args.state.now w c.args.place None c.args.steps c.requires h (sym c.in_err-nth-in-Object.was ∙ c.nth.ensures))
+returns-in_err-nth-in-Object c = rw c.in-Object.is (λ w h. c.from_residual-in_err-nth-in-Object.ensures ∙ object_row_at c.args.state.now w c.args.position None c.args.steps c.requires h (sym c.in_err-nth-in-Object.was ∙ c.nth.ensures))
 
 pub returns-in_ok-nth-in-Object : goal.returns-in_ok-nth-in-Object
 unfolding IsRowAt
-returns-in_ok-nth-in-Object c = rw c.in-Object.is (λ w h. ap Some c.object_row.ensures ∙ object_row_at c.args.state.now w c.args.place (Some c.in_ok-nth-in-Object.field-0) c.args.steps c.requires h (sym c.in_ok-nth-in-Object.was ∙ c.nth.ensures))
+returns-in_ok-nth-in-Object c = rw c.in-Object.is (λ w h. ap Some c.object_row.ensures ∙ object_row_at c.args.state.now w c.args.position (Some c.in_ok-nth-in-Object.field-0) c.args.steps c.requires h (sym c.in_ok-nth-in-Object.was ∙ c.nth.ensures))
 
 pub returns-in-Hold : goal.returns-in-Hold
 unfolding IsRowAt
-returns-in-Hold c = rw c.in-Hold.is (λ w h. c.hold_at.ensures ∙ ap (λ rows. slice_get rows c.args.place) (sym (hold_rows c.args.state.now c.args.steps w c.requires h)))
+returns-in-Hold c = rw c.in-Hold.is (λ w h. c.handle_at.ensures ∙ ap (λ rows. slice_get rows c.args.position) (sym (hold_rows c.args.state.now c.args.steps w c.requires h)))
 
 pub returns-in-Name : goal.returns-in-Name
 unfolding IsRowAt
-returns-in-Name c = rw c.in-Name.is (λ w h. c.name_at.ensures.row ∙ ap (λ rows. slice_get rows c.args.place) (sym (name_rows c.args.state.now c.args.steps w c.name_at.ensures.names h)))
+returns-in-Name c = rw c.in-Name.is (λ w h. c.name_at.ensures.row ∙ ap (λ rows. slice_get rows c.args.position) (sym (name_rows c.args.state.now c.args.steps w c.name_at.ensures.names h)))
 
 pub returns-in-Token : goal.returns-in-Token
 unfolding IsRowAt
-returns-in-Token c = rw c.in-Token.is (λ w h. c.token_at.ensures.row ∙ ap (λ rows. slice_get rows c.args.place) (sym (token_rows c.args.state.now c.args.steps w c.token_at.ensures.tokens h)))
+returns-in-Token c = rw c.in-Token.is (λ w h. c.token_at.ensures.row ∙ ap (λ rows. slice_get rows c.args.position) (sym (token_rows c.args.state.now c.args.steps w c.token_at.ensures.tokens h)))
 
 pub returns-in-Device : goal.returns-in-Device
 unfolding IsRowAt
-returns-in-Device c = rw c.in-Device.is (λ w h. c.item_at.ensures ∙ ap (λ row. slice_get (row ∷ []) c.args.place) (c.device_row.ensures ∙ (λ i. audit_row (or_zero (c.device_master.ensures i)) (or_zero (c.last_given.ensures.last_given i)) (or_zero (c.last_given-in-Device.ensures i)) c.args.steps))
-    ∙ sym (ap (λ rows. slice_get rows c.args.place) (device_rows c.args.state.now c.args.steps w h)))
+returns-in-Device c = rw c.in-Device.is (λ w h. c.item_at.ensures ∙ ap (λ row. slice_get (row ∷ []) c.args.position) (c.device_row.ensures ∙ (λ i. audit_row (or_zero (c.device_master.ensures i)) (or_zero (c.last_given.ensures.last_given i)) (or_zero (c.last_given-in-Device.ensures i)) c.args.steps))
+    ∙ sym (ap (λ rows. slice_get rows c.args.position) (device_rows c.args.state.now c.args.steps w h)))
 
 pub returns-in-Framebuffer : goal.returns-in-Framebuffer
 unfolding IsRowAt
-returns-in-Framebuffer c = rw c.in-Framebuffer.is (λ w h. c.framebuffer_at.ensures ∙ ap (λ rows. slice_get rows c.args.place) (sym (framebuffer_rows c.args.state.now c.args.steps w c.requires h)))
+returns-in-Framebuffer c = rw c.in-Framebuffer.is (λ w h. c.framebuffer_at.ensures ∙ ap (λ rows. slice_get rows c.args.position) (sym (framebuffer_rows c.args.state.now c.args.steps w c.requires h)))
 
 pub returns-in-Shown : goal.returns-in-Shown
 unfolding IsRowAt
-returns-in-Shown c = rw c.in-Shown.is (λ w h. c.shown_at.ensures ∙ ap (λ rows. slice_get rows c.args.place) (sym (shown_audits c.args.state.now c.args.steps w h)))
+returns-in-Shown c = rw c.in-Shown.is (λ w h. c.shown_at.ensures ∙ ap (λ rows. slice_get rows c.args.position) (sym (shown_audits c.args.state.now c.args.steps w h)))
 
 pub returns-in-Grant : goal.returns-in-Grant
 unfolding IsRowAt
-returns-in-Grant c = rw c.in-Grant.is (λ w h. c.grant_at.ensures ∙ ap (λ rows. slice_get rows c.args.place) (sym (grant_rows c.args.state.now c.args.steps w c.requires h)))
+returns-in-Grant c = rw c.in-Grant.is (λ w h. c.grant_at.ensures ∙ ap (λ rows. slice_get rows c.args.position) (sym (grant_rows c.args.state.now c.args.steps w c.requires h)))

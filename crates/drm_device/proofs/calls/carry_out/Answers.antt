@@ -1,14 +1,8 @@
-use Rattle.std.proofs.Common.{◌≡◌, None, Some}
-use Rattle.drm_table.specs.declared.rules.Rule.{Rule}
-use Rattle.drm_model.specs.Verdict.{admission_checks}
-use Rattle.drm_state.specs.Refinement.{OwesCall}
+use Rattle.std.proofs.Common.{sym, ◌∙◌}
+use Rattle.drm_state.specs.Refinement.{RefinesCall}
+use Rattle.drm_device.proofs.Unadmitted.{never_admitted}
 use Rattle.drm_device.proofs.calls.carry_out.Goals as goal
 
--- such a call is never admitted
-pub returns-in-Unknown-clause-owes : goal.returns-in-Unknown-clause-owes
-unfolding OwesCall admission_checks
-returns-in-Unknown-clause-owes c = λ w s a. let none : Some Rule.Unknown ≡ None = rw c.in-Unknown.is at a in cc
-
-pub returns-in-BadLayout-clause-owes : goal.returns-in-BadLayout-clause-owes
-unfolding OwesCall admission_checks
-returns-in-BadLayout-clause-owes c = λ w s a. let none : Some Rule.Layout ≡ None = rw c.in-BadLayout.is at a in cc
+pub returns-in-None-clause-refines : goal.returns-in-None-clause-refines
+unfolding RefinesCall
+returns-in-None-clause-refines c = λ w s a. absurd (never_admitted w c.args.client c.args.call.now (sym c.family.ensures ∙ c.in-None.is) a)

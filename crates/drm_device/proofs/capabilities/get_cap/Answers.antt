@@ -7,22 +7,22 @@ use Rattle.drm_table.specs.declared.rules.Rule.TheVariants.{BadCap}
 use Rattle.drm_model.specs.Calls.{meaning}
 use Rattle.drm_model.specs.Change.{changed}
 use Rattle.drm_model.specs.Reply.{answer_of}
-use Rattle.drm_state.specs.Refinement.{OwesReply}
-use Rattle.drm_state.proofs.Outcomes.{denied, carried_on, call_verdict}
+use Rattle.drm_state.specs.Refinement.{RefinesReply}
+use Rattle.drm_state.proofs.Refinements.{denied, carried_on, call_verdict}
 use Rattle.drm_device.proofs.capabilities.get_cap.Goals as goal
 
 pub returns-in-1 : goal.returns-in-1
-unfolding OwesReply meaning changed answer_of
+unfolding RefinesReply meaning changed answer_of
 returns-in-1 c = λ w h a.
     carried_on c.args.state.now w (Ask c.args.client (GetCap c.args.cap)) (Number 1) c.requires (call_verdict w c.args.client (GetCap c.args.cap) a ∙ rw c.in-1.is refl) (rw c.in-1.is refl) h
 
 pub returns-in-5 : goal.returns-in-5
-unfolding OwesReply meaning changed answer_of
+unfolding RefinesReply meaning changed answer_of
 returns-in-5 c = λ w h a.
     carried_on c.args.state.now w (Ask c.args.client (GetCap c.args.cap)) (Number 3) c.requires (call_verdict w c.args.client (GetCap c.args.cap) a ∙ rw c.in-5.is refl) (rw c.in-5.is refl) h
 
 pub returns-in_default : goal.returns-in_default
-unfolding OwesReply meaning
+unfolding RefinesReply meaning
 returns-in_default c =
     let other : ((c.args.cap == 1) || (c.args.cap == 5)) ≡ false = grind (arith, nat_tests) in
     λ w h a.

@@ -12,24 +12,24 @@ use Rattle.drm_masters.specs.Masters as masters
 use Rattle.drm_masters.specs.Masters.{MasterSet, AreMasters}
 use Rattle.drm_leases.specs.Leases.{LeaseSet, AreLeases}
 use Rattle.drm_leases.specs.Calls as leases
-use Rattle.drm_leases.proofs.Keyed.{keyed_birth}
+use Rattle.drm_leases.proofs.Keyed.{keyed_step_number}
 use Rattle.drm_model.specs.Leases.{ended, lessee_master}
 use Rattle.drm_model.specs.Calls.{meaning}
 use Rattle.drm_model.specs.Change.{changed, swept}
 use Rattle.drm_model.specs.Reply.{answer_of}
-use Rattle.drm_state.specs.Ties.{IsTied}
-use Rattle.drm_state.specs.Refinement.{OwesReply, Represents}
+use Rattle.drm_state.specs.Invariants.{MeetsInvariants}
+use Rattle.drm_state.specs.Refinement.{RefinesReply, Represents}
 use Rattle.drm_state.proofs.Represented.{leases_agree}
-use Rattle.drm_state.proofs.Outcomes.{denied, carried}
+use Rattle.drm_state.proofs.Refinements.{denied, carried}
 use Rattle.drm_state.proofs.Callers.{file_of, never_admitted, own_master_is}
 use Rattle.drm_lease_calls.proofs.Flags.{revoke_lease_flags}
-use Rattle.drm_lease_calls.proofs.Lessees.{lessee_birth, revoke_verdict}
-use Rattle.drm_lease_calls.proofs.Revoked.{revoked_tied, revoked_represents}
+use Rattle.drm_lease_calls.proofs.Lessees.{lessee_step_number, revoke_verdict}
+use Rattle.drm_lease_calls.proofs.Revoked.{revoked_invariants, revoked_represents}
 use Rattle.drm_lease_calls.proofs.leases.revoke_lease.Goals as goal
 
-pub returns-in_default-clause-owes : goal.returns-in_default-clause-owes
-unfolding OwesReply
-returns-in_default-clause-owes c = λ w h admitted. absurd (never_admitted c.args.state.now w c.args.client (RevokeLease c.args.lessee) c.requires.tied c.requires.present h (revoke_lease_flags c.args.lessee) (sym c.member.ensures.member ∙ c.in_default.is) admitted)
+pub returns-in_default-clause-refines : goal.returns-in_default-clause-refines
+unfolding RefinesReply
+returns-in_default-clause-refines c = λ w h admitted. absurd (never_admitted c.args.state.now w c.args.client (RevokeLease c.args.lessee) c.requires.invariants c.requires.open_client h (revoke_lease_flags c.args.lessee) (sym c.member.ensures.member ∙ c.in_default.is) admitted)
 
 pub unreachable-requires : goal.unreachable-requires
 unreachable-requires c =
@@ -39,58 +39,58 @@ unreachable-requires c =
     cc
 
 -- the lessee that was looked for
-looked : (v : MasterSet) (m key id : ℕ) (r o : Option Master) → masters.IsKeyOf v.masters m key → r ≡ find (masters.is_lessee_of v.masters (masters.owner_of v.masters (masters.birth_at v.masters key)) id) v.masters → r ≡ o → find (masters.is_lessee_of v.masters (masters.owner_of v.masters m) id) v.masters ≡ o
-looked v m key id r o keyed e is = ap (λ n. find (masters.is_lessee_of v.masters (masters.owner_of v.masters n) id) v.masters) (sym (keyed_birth v.masters m key keyed)) ∙ sym e ∙ is
+looked : (v : MasterSet) (m key id : ℕ) (r o : Option Master) → masters.IsKeyOf v.masters m key → r ≡ find (masters.is_lessee_of v.masters (masters.owner_of v.masters (masters.step_number_at v.masters key)) id) v.masters → r ≡ o → find (masters.is_lessee_of v.masters (masters.owner_of v.masters m) id) v.masters ≡ o
+looked v m key id r o keyed e is = ap (λ n. find (masters.is_lessee_of v.masters (masters.owner_of v.masters n) id) v.masters) (sym (keyed_step_number v.masters m key keyed)) ∙ sym e ∙ is
 
-pub returns-in_default-lessee-clause-owes : goal.returns-in_default-lessee-clause-owes
-unfolding OwesReply
-returns-in_default-lessee-clause-owes c = λ w h admitted.
+pub returns-in_default-lessee-clause-refines : goal.returns-in_default-lessee-clause-refines
+unfolding RefinesReply
+returns-in_default-lessee-clause-refines c = λ w h admitted.
     let s = c.args.state.now in
     let client = c.args.client in
     let x = c.in-Some.member in
-    let file = file_of s client c.requires.present in
+    let file = file_of s client c.requires.open_client in
     let own = own_master_is s w client file.0 x h file.1 (sym c.member.ensures.member ∙ c.in-Some.is) in
     let none = looked s.masters x.master c.in-Some-master.master.key c.args.lessee c.lessee.result None c.in-Some-master.ensures.keyed c.lessee.ensures.lessee c.in_default-lessee.is in
     denied s w (Ask client (RevokeLease c.args.lessee)) NoLessee (revoke_verdict s w h client x.master c.args.lessee None own admitted none) h
 
-pub returns-then-not-is_lent_by-clause-owes : goal.returns-then-not-is_lent_by-clause-owes
-unfolding OwesReply
-returns-then-not-is_lent_by-clause-owes c = λ w h admitted.
+pub returns-then-not-is_lent_by-clause-refines : goal.returns-then-not-is_lent_by-clause-refines
+unfolding RefinesReply
+returns-then-not-is_lent_by-clause-refines c = λ w h admitted.
     let s = c.args.state.now in
     let client = c.args.client in
     let x = c.in-Some.member in
     let lessee = c.in-Some-lessee.found in
-    let file = file_of s client c.requires.present in
+    let file = file_of s client c.requires.open_client in
     let own = own_master_is s w client file.0 x h file.1 (sym c.member.ensures.member ∙ c.in-Some.is) in
     let one = looked s.masters x.master c.in-Some-master.master.key c.args.lessee c.lessee.result (Some lessee) c.in-Some-master.ensures.keyed c.lessee.ensures.lessee c.in-Some-lessee.is in
     denied s w (Ask client (RevokeLease c.args.lessee)) NotYourLessee
     (revoke_verdict s w h client x.master c.args.lessee (Some lessee) own admitted one ∙ ap (λ b. first_failing (check NotYourLessee b ∷ [])) (sym c.is_lent_by.ensures ∙ c.if-not-is_lent_by.true)) h
 
 pub revoke-requires : goal.revoke-requires
-revoke-requires c = leases_agree c.args.state.now c.requires.tied
+revoke-requires c = leases_agree c.args.state.now c.requires.invariants
 
-pub returns-clause-tied : goal.returns-clause-tied
-returns-clause-tied c =
+pub returns-clause-invariants : goal.returns-clause-invariants
+returns-clause-invariants c =
     let s = c.args.state.now in
-    let top = c.in-Some-lessee.found.birth in
-    subst (λ (l : LeaseSet). IsTied (record s { masters = c.revoke.new.masters; leases = l })) (sym c.revoke.ensures.leases)
-    (subst (λ (v : MasterSet). IsTied (record s { masters = v; leases = leases.ended s.masters.masters top s.leases })) (sym c.revoke.ensures.masters)
-    (revoked_tied s top c.requires.tied (subst AreMasters c.revoke.ensures.masters c.laws.ensures) (subst AreLeases c.revoke.ensures.leases c.laws-2.ensures)))
+    let top = c.in-Some-lessee.found.step_number in
+    subst (λ (l : LeaseSet). MeetsInvariants (record s { masters = c.revoke.new.masters; leases = l })) (sym c.revoke.ensures.leases)
+    (subst (λ (v : MasterSet). MeetsInvariants (record s { masters = v; leases = leases.ended s.masters.masters top s.leases })) (sym c.revoke.ensures.masters)
+    (revoked_invariants s top c.requires.invariants (subst AreMasters c.revoke.ensures.masters c.laws.ensures) (subst AreLeases c.revoke.ensures.leases c.laws-2.ensures)))
 
-pub returns-clause-owes : goal.returns-clause-owes
-unfolding OwesReply meaning changed answer_of
-returns-clause-owes c = λ w h admitted.
+pub returns-clause-refines : goal.returns-clause-refines
+unfolding RefinesReply meaning changed answer_of
+returns-clause-refines c = λ w h admitted.
     let s = c.args.state.now in
     let client = c.args.client in
     let x = c.in-Some.member in
     let lessee = c.in-Some-lessee.found in
-    let file = file_of s client c.requires.present in
+    let file = file_of s client c.requires.open_client in
     let own = own_master_is s w client file.0 x h file.1 (sym c.member.ensures.member ∙ c.in-Some.is) in
     let one = looked s.masters x.master c.in-Some-master.master.key c.args.lessee c.lessee.result (Some lessee) c.in-Some-master.ensures.keyed c.lessee.ensures.lessee c.in-Some-lessee.is in
     let new = record s { masters = c.revoke.new.masters; leases = c.revoke.new.self } in
     carried new w (Ask client (RevokeLease c.args.lessee)) Done
     (revoke_verdict s w h client x.master c.args.lessee (Some lessee) own admitted one ∙ ap (λ b. first_failing (check NotYourLessee b ∷ [])) (sym c.is_lent_by.ensures ∙ c.if-not-is_lent_by.false)) refl
-    (subst (λ m. Represents new (swept (ended w m))) (sym (ap (λ m. lessee_master w m c.args.lessee) own ∙ lessee_birth s w h x.master c.args.lessee lessee one))
-    (subst (λ (l : LeaseSet). Represents (record s { masters = c.revoke.new.masters; leases = l }) (swept (ended w lessee.birth))) (sym c.revoke.ensures.leases)
-    (subst (λ (v : MasterSet). Represents (record s { masters = v; leases = leases.ended s.masters.masters lessee.birth s.leases }) (swept (ended w lessee.birth))) (sym c.revoke.ensures.masters)
-    (revoked_represents s lessee.birth c.requires.tied (subst AreMasters c.revoke.ensures.masters c.laws.ensures) (subst AreLeases c.revoke.ensures.leases c.laws-2.ensures) w h))))
+    (subst (λ m. Represents new (swept (ended w m))) (sym (ap (λ m. lessee_master w m c.args.lessee) own ∙ lessee_step_number s w h x.master c.args.lessee lessee one))
+    (subst (λ (l : LeaseSet). Represents (record s { masters = c.revoke.new.masters; leases = l }) (swept (ended w lessee.step_number))) (sym c.revoke.ensures.leases)
+    (subst (λ (v : MasterSet). Represents (record s { masters = v; leases = leases.ended s.masters.masters lessee.step_number s.leases }) (swept (ended w lessee.step_number))) (sym c.revoke.ensures.masters)
+    (revoked_represents s lessee.step_number c.requires.invariants (subst AreMasters c.revoke.ensures.masters c.laws.ensures) (subst AreLeases c.revoke.ensures.leases c.laws-2.ensures) w h))))

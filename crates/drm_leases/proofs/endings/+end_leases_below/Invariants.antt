@@ -10,7 +10,7 @@ decreases-end_leases_below l = 4294967296 - l.top
 
 -- the leases below those lessees are gone that were looked at
 abbrev pub invariant-loop-lessee : goal.invariant-loop-lessee
-invariant-loop-lessee l = l.granted.rows ≡ filter (λ (x : Lease). not (list_any (λ y. is_under (lessor_of l.masters.masters) y x.lessee) (take l.place (lessees_of l.masters.masters l.top)))) l.fn.granted.rows
+invariant-loop-lessee l = l.granted.rows ≡ filter (λ (x : Lease). not (list_any (λ y. is_under (lessor_of l.masters.masters) y x.lessee) (take l.position (lessees_of l.masters.masters l.top)))) l.fn.granted.rows
 
 abbrev pub decreases-loop-lessee : goal.decreases-loop-lessee
-decreases-loop-lessee l = length (lessees_of l.masters.masters l.top) - l.place
+decreases-loop-lessee l = length (lessees_of l.masters.masters l.top) - l.position

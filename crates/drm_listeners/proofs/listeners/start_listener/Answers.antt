@@ -10,8 +10,8 @@ use Rattle.std.proofs.result.Result.TheSendSync as result
 use Rattle.std.specs.contracts.alloc.Global as global
 use Rattle.std.specs.contracts.impls.GlobalAllocator.TheImpl.{ghosts}
 use Rattle.std.specs.contracts.vec.Vec as vec
-use Rattle.drm_turns.proofs.Crossing.{closure_send, seat_send}
-use Rattle.drm_turns.specs.contracts.seat.Seat as seat
+use Rattle.drm_turns.proofs.Crossing.{closure_send, participant_send}
+use Rattle.drm_turns.specs.contracts.seat.Seat as participant
 use Rattle.drm_sessions.proofs.end.Session.TheSendSync as session
 use Rattle.drm_sessions.specs.contracts.end.Session as session_type
 use Rattle.drm_listeners.proofs.connections.Listener.TheSendSync as listener
@@ -20,15 +20,15 @@ use Rattle.drm_listeners.specs.contracts.connections.Listener as listener_type
 use Rattle.drm_listeners.proofs.Crossing.{listener_send}
 use Rattle.drm_listeners.proofs.listeners.start_listener.Goals as goal
 
--- what the thread takes along: the runtime and the device by `&`, the seat, the listener and the list for its sessions
+-- what the thread takes along: the runtime and the device by `&`, the participant, the listener and the list for its sessions
 pub spawn_with-served-requires-send-F : goal.spawn_with-served-requires-send-F
 spawn_with-served-requires-send-F g c κs within =
     let rt : RattleType = (shr_ref_field record { mir = named 6; lft = κs.1.1.1.1.1.1.0 } (param 1 g.row.R) tt).row in
     let shared : RattleType = (shr_ref_field record { mir = named 7; lft = κs.1.1.1.1.1.1.1.0 } (param 2 g.row.D) tt).row in
     let sessions : RattleType = vec.the_row session_type.the_row global.the_row ghosts in
     param_send _ _ (arg_send _ no _ (closure_send (codes "drm_listeners::listeners::fn::start_listener::spawn_with+Self")
-    (rt ∷ shared ∷ seat.the_row ∷ listener_type.the_row ∷ sessions ∷ [])
-    (shr_send _ _ _ c.type_bounds.sync-R, (shr_send _ _ _ c.type_bounds.sync-D, (seat_send, (listener.the_send, (Vec-send _ session.the_send, tt)))))))
+    (rt ∷ shared ∷ participant.the_row ∷ listener_type.the_row ∷ sessions ∷ [])
+    (shr_send _ _ _ c.type_bounds.sync-R, (shr_send _ _ _ c.type_bounds.sync-D, (participant_send, (listener.the_send, (Vec-send _ session.the_send, tt)))))))
 
 pub spawn_with-served-requires-send-T : goal.spawn_with-served-requires-send-T
 spawn_with-served-requires-send-T g c κs within = param_send _ _ (arg_send _ no _ (result.the_send _ _ listener_send fault.the_send))

@@ -9,21 +9,21 @@ use Rattle.drm_masters.specs.declared.faults.SetFault.{SetFault}
 use Rattle.drm_masters.specs.declared.rows.Member.{Member}
 use Rattle.drm_state.specs.declared.state.State.{State}
 use Rattle.drm_masters.specs.Calls.{SetOf}
-use Rattle.drm_model.specs.Rows.{birth}
+use Rattle.drm_model.specs.Rows.{step_number}
 use Rattle.drm_model.specs.Magics.{is_current, is_master, mastered}
 use Rattle.drm_model.specs.Masters.{new_master}
 use Rattle.drm_model.specs.Run.{IsLonger}
 use Rattle.drm_model.specs.Change.{changed, swept}
 use Rattle.drm_model.specs.Calls.{meaning}
 use Rattle.drm_model.specs.Reply.{answer_of}
-use Rattle.drm_state.specs.Ties.{IsTied}
-use Rattle.drm_state.specs.Refinement.{OwesCall, Represents}
-use Rattle.drm_state.proofs.Outcomes.{denied, refused, carried, carried_on}
+use Rattle.drm_state.specs.Invariants.{MeetsInvariants}
+use Rattle.drm_state.specs.Refinement.{RefinesCall, Represents}
+use Rattle.drm_state.proofs.Refinements.{denied, refused, carried, carried_on}
 use Rattle.drm_state.proofs.Callers.{file_of, same_client, never_admitted, its_master}
 use Rattle.drm_master_calls.proofs.Callers.{set_verdict, current_is, master_is}
-use Rattle.drm_master_calls.proofs.Changed.{device_tied, device_represents}
+use Rattle.drm_master_calls.proofs.Changed.{device_invariants, device_represents}
 use Rattle.drm_master_calls.proofs.Flags.{set_master_flags}
-use Rattle.drm_master_calls.proofs.Remade.{own_rows, remade_tied, remade_represents}
+use Rattle.drm_master_calls.proofs.Remade.{own_rows, remade_invariants, remade_represents}
 use Rattle.drm_files.specs.Files.{with_authenticated}
 use Rattle.drm_master_calls.proofs.owners.set_master.Goals as goal
 
@@ -31,75 +31,75 @@ use Rattle.drm_master_calls.proofs.owners.set_master.Goals as goal
 came : {r result : Result SetDone SetFault} {o : Option Member} (s : State) (x : Member) (root : Bool) (step : ℕ) (new : MasterSet) → o ≡ Some x → r ≡ result → IfSome o (λ y. SetOf s.masters y root step r new) → SetOf s.masters x root step result new
 came {r = r} s x root step new look is h = subst (λ v. SetOf s.masters x root step v new) is (subst (λ o. IfSome o (λ y. SetOf s.masters y root step r new)) look h)
 
-pub returns-in_default-clause-owes : goal.returns-in_default-clause-owes
-unfolding OwesCall
-returns-in_default-clause-owes c = λ w r admitted. absurd (never_admitted c.args.state.now w c.args.client SetMaster c.requires.ready.tied c.requires.present r.rows set_master_flags (sym c.member.ensures.member ∙ c.in_default.is) admitted)
+pub returns-in_default-clause-refines : goal.returns-in_default-clause-refines
+unfolding RefinesCall
+returns-in_default-clause-refines c = λ w r admitted. absurd (never_admitted c.args.state.now w c.args.client SetMaster c.requires.precondition.invariants c.requires.open_client r.rows set_master_flags (sym c.member.ensures.member ∙ c.in_default.is) admitted)
 
-pub returns-in-Ok-Already-clause-tied : goal.returns-in-Ok-Already-clause-tied
-returns-in-Ok-Already-clause-tied c =
+pub returns-in-Ok-Already-clause-invariants : goal.returns-in-Ok-Already-clause-invariants
+returns-in-Ok-Already-clause-invariants c =
     let s = c.args.state.now in
     let look = sym c.member.ensures.member ∙ c.in-Some.is in
     let x = c.in-Some._member in
-    let by = came s x c.is_root-root.result c.args.birth c.set.new.self look (c.in-Ok-Already.is ∙ ap Ok c.in-Ok-Already.field-0-is) c.set.ensures.set in
-    subst (λ v. IsTied (record s { masters = v })) (sym by.1.1) c.requires.ready.tied
+    let by = came s x c.is_root-root.result c.args.step_number c.set.new.self look (c.in-Ok-Already.is ∙ ap Ok c.in-Ok-Already.field-0-is) c.set.ensures.set in
+    subst (λ v. MeetsInvariants (record s { masters = v })) (sym by.1.1) c.requires.precondition.invariants
 
-pub returns-in-Ok-Already-clause-owes : goal.returns-in-Ok-Already-clause-owes
-unfolding OwesCall meaning changed answer_of
-returns-in-Ok-Already-clause-owes c = λ w r admitted.
+pub returns-in-Ok-Already-clause-refines : goal.returns-in-Ok-Already-clause-refines
+unfolding RefinesCall meaning changed answer_of
+returns-in-Ok-Already-clause-refines c = λ w r admitted.
     let s = c.args.state.now in
     let look = sym c.member.ensures.member ∙ c.in-Some.is in
     let x = c.in-Some._member in
-    let by = came s x c.is_root-root.result c.args.birth c.set.new.self look (c.in-Ok-Already.is ∙ ap Ok c.in-Ok-Already.field-0-is) c.set.ensures.set in
-    let file = file_of s c.args.client c.requires.present in
+    let by = came s x c.is_root-root.result c.args.step_number c.set.new.self look (c.in-Ok-Already.is ∙ ap Ok c.in-Ok-Already.field-0-is) c.set.ensures.set in
+    let file = file_of s c.args.client c.requires.open_client in
     let checks = set_verdict s w c.args.client file.0 x r.rows file.1 look c.is_root-root.result c.is_root-root.ensures admitted ∙ by.0 in
     let current : is_current w c.args.client ≡ true = current_is s w c.args.client file.0 x r.rows file.1 look ∙ by.1.0 in
-    carried_on (record s { masters = c.set.new.self }) w (Ask c.args.client SetMaster) Done (returns-in-Ok-Already-clause-tied c) checks refl
+    carried_on (record s { masters = c.set.new.self }) w (Ask c.args.client SetMaster) Done (returns-in-Ok-Already-clause-invariants c) checks refl
     (subst (λ b. Represents (record s { masters = c.set.new.self }) (mastered w c.args.client b (is_master w c.args.client))) (sym current) (subst (λ v. Represents (record s { masters = v }) w) (sym by.1.1) r.rows))
 
-pub returns-in-Ok-Again-clause-tied : goal.returns-in-Ok-Again-clause-tied
-returns-in-Ok-Again-clause-tied c =
+pub returns-in-Ok-Again-clause-invariants : goal.returns-in-Ok-Again-clause-invariants
+returns-in-Ok-Again-clause-invariants c =
     let s = c.args.state.now in
     let look = sym c.member.ensures.member ∙ c.in-Some.is in
     let x = c.in-Some._member in
-    let by = came s x c.is_root-root.result c.args.birth c.set.new.self look (c.in-Ok-Again.is ∙ ap Ok c.in-Ok-Again.field-0-is) c.set.ensures.set in
-    subst (λ v. IsTied (record s { masters = v })) (sym by.1.2) (device_tied s (Some x.master) c.requires.ready.tied (subst AreMasters by.1.2 c.laws-in-Ok-Again.ensures))
+    let by = came s x c.is_root-root.result c.args.step_number c.set.new.self look (c.in-Ok-Again.is ∙ ap Ok c.in-Ok-Again.field-0-is) c.set.ensures.set in
+    subst (λ v. MeetsInvariants (record s { masters = v })) (sym by.1.2) (device_invariants s (Some x.master) c.requires.precondition.invariants (subst AreMasters by.1.2 c.laws-in-Ok-Again.ensures))
 
-pub returns-in-Ok-Again-clause-owes : goal.returns-in-Ok-Again-clause-owes
-unfolding OwesCall meaning changed answer_of
-returns-in-Ok-Again-clause-owes c = λ w r admitted.
+pub returns-in-Ok-Again-clause-refines : goal.returns-in-Ok-Again-clause-refines
+unfolding RefinesCall meaning changed answer_of
+returns-in-Ok-Again-clause-refines c = λ w r admitted.
     let s = c.args.state.now in
     let look = sym c.member.ensures.member ∙ c.in-Some.is in
     let x = c.in-Some._member in
-    let by = came s x c.is_root-root.result c.args.birth c.set.new.self look (c.in-Ok-Again.is ∙ ap Ok c.in-Ok-Again.field-0-is) c.set.ensures.set in
-    let file = file_of s c.args.client c.requires.present in
+    let by = came s x c.is_root-root.result c.args.step_number c.set.new.self look (c.in-Ok-Again.is ∙ ap Ok c.in-Ok-Again.field-0-is) c.set.ensures.set in
+    let file = file_of s c.args.client c.requires.open_client in
     let checks = set_verdict s w c.args.client file.0 x r.rows file.1 look c.is_root-root.result c.is_root-root.ensures admitted ∙ by.0 in
     let current : is_current w c.args.client ≡ false = current_is s w c.args.client file.0 x r.rows file.1 look ∙ by.1.0 in
     let own : is_master w c.args.client ≡ true = master_is s w c.args.client file.0 x r.rows file.1 look ∙ by.1.1 in
-    carried_on (record s { masters = c.set.new.self }) w (Ask c.args.client SetMaster) Done (returns-in-Ok-Again-clause-tied c) checks refl
+    carried_on (record s { masters = c.set.new.self }) w (Ask c.args.client SetMaster) Done (returns-in-Ok-Again-clause-invariants c) checks refl
     (subst (λ b. Represents (record s { masters = c.set.new.self }) (mastered w c.args.client b (is_master w c.args.client))) (sym current)
     (subst (λ b. Represents (record s { masters = c.set.new.self }) (mastered w c.args.client false b)) (sym own)
     (subst (λ d. Represents (record s { masters = c.set.new.self }) (record w { device_master = d })) (sym (its_master s w c.args.client file.0 x r.rows file.1 look))
     (subst (λ v. Represents (record s { masters = v }) (record w { device_master = Some x.master })) (sym by.1.2) (device_represents s w (Some x.master) r.rows)))))
 
-pub returns-in-Ok-Made-clause-tied : goal.returns-in-Ok-Made-clause-tied
-returns-in-Ok-Made-clause-tied c =
+pub returns-in-Ok-Made-clause-invariants : goal.returns-in-Ok-Made-clause-invariants
+returns-in-Ok-Made-clause-invariants c =
     let s = c.args.state.now in
     let look = sym c.member.ensures.member ∙ c.in-Some.is in
     let x = c.in-Some._member in
-    let by = came s x c.is_root-root.result c.args.birth c.set.new.self look (c.in-Ok-Made.is ∙ ap Ok c.in-Ok-Made.field-0-is) c.set.ensures.set in
+    let by = came s x c.is_root-root.result c.args.step_number c.set.new.self look (c.in-Ok-Made.is ∙ ap Ok c.in-Ok-Made.field-0-is) c.set.ensures.set in
     let same = same_client s.masters.members c.args.client x look in
-    subst (λ fs. IsTied (record s { files = fs; masters = c.set.new.self })) (sym (c.set_authenticated.ensures ∙ ap (with_authenticated s.files) (sym same.0)))
-    (subst (λ v. IsTied (record s { files = with_authenticated s.files x.client; masters = v })) (sym by.1.2.2)
-    (remade_tied s x by.1.2.0 c.args.birth c.requires.ready.tied c.requires.ready.later.leases.tokens (subst AreMasters by.1.2.2 c.laws.ensures) same.1 by.1.1))
+    subst (λ fs. MeetsInvariants (record s { files = fs; masters = c.set.new.self })) (sym (c.set_authenticated.ensures ∙ ap (with_authenticated s.files) (sym same.0)))
+    (subst (λ v. MeetsInvariants (record s { files = with_authenticated s.files x.client; masters = v })) (sym by.1.2.2)
+    (remade_invariants s x by.1.2.0 c.args.step_number c.requires.precondition.invariants c.requires.precondition.later.leases.tokens (subst AreMasters by.1.2.2 c.laws.ensures) same.1 by.1.1))
 
-pub returns-in-Ok-Made-clause-owes : goal.returns-in-Ok-Made-clause-owes
-unfolding OwesCall meaning changed answer_of
-returns-in-Ok-Made-clause-owes c = λ w r admitted.
+pub returns-in-Ok-Made-clause-refines : goal.returns-in-Ok-Made-clause-refines
+unfolding RefinesCall meaning changed answer_of
+returns-in-Ok-Made-clause-refines c = λ w r admitted.
     let s = c.args.state.now in
     let look = sym c.member.ensures.member ∙ c.in-Some.is in
     let x = c.in-Some._member in
-    let by = came s x c.is_root-root.result c.args.birth c.set.new.self look (c.in-Ok-Made.is ∙ ap Ok c.in-Ok-Made.field-0-is) c.set.ensures.set in
-    let file = file_of s c.args.client c.requires.present in
+    let by = came s x c.is_root-root.result c.args.step_number c.set.new.self look (c.in-Ok-Made.is ∙ ap Ok c.in-Ok-Made.field-0-is) c.set.ensures.set in
+    let file = file_of s c.args.client c.requires.open_client in
     let checks = set_verdict s w c.args.client file.0 x r.rows file.1 look c.is_root-root.result c.is_root-root.ensures admitted ∙ by.0 in
     let current : is_current w c.args.client ≡ false = current_is s w c.args.client file.0 x r.rows file.1 look ∙ by.1.0 in
     let own : is_master w c.args.client ≡ false = master_is s w c.args.client file.0 x r.rows file.1 look ∙ by.1.1 in
@@ -108,50 +108,50 @@ returns-in-Ok-Made-clause-owes c = λ w r admitted.
     carried new w (Ask c.args.client SetMaster) Done checks refl
     (subst (λ b. Represents new (swept (mastered w c.args.client b (is_master w c.args.client)))) (sym current)
     (subst (λ b. Represents new (swept (mastered w c.args.client false b))) (sym own)
-    (subst (λ n. Represents new (swept (own_rows w c.args.client n))) (sym r.birth_is)
-    (subst (λ fs. Represents (record s { files = fs; masters = c.set.new.self }) (swept (own_rows w c.args.client c.args.birth))) (sym c.set_authenticated.ensures)
-    (subst (λ n. Represents (record s { files = with_authenticated s.files n; masters = c.set.new.self }) (swept (own_rows w n c.args.birth))) same.0
-    (subst (λ v. Represents (record s { files = with_authenticated s.files x.client; masters = v }) (swept (own_rows w x.client c.args.birth))) (sym by.1.2.2)
-    (remade_represents s x by.1.2.0 c.args.birth c.requires.ready.tied c.requires.ready.later.leases.tokens (subst AreMasters by.1.2.2 c.laws.ensures) same.1 by.1.1 w r.rows)))))))
+    (subst (λ n. Represents new (swept (own_rows w c.args.client n))) (sym r.step_number_is)
+    (subst (λ fs. Represents (record s { files = fs; masters = c.set.new.self }) (swept (own_rows w c.args.client c.args.step_number))) (sym c.set_authenticated.ensures)
+    (subst (λ n. Represents (record s { files = with_authenticated s.files n; masters = c.set.new.self }) (swept (own_rows w n c.args.step_number))) same.0
+    (subst (λ v. Represents (record s { files = with_authenticated s.files x.client; masters = v }) (swept (own_rows w x.client c.args.step_number))) (sym by.1.2.2)
+    (remade_represents s x by.1.2.0 c.args.step_number c.requires.precondition.invariants c.requires.precondition.later.leases.tokens (subst AreMasters by.1.2.2 c.laws.ensures) same.1 by.1.1 w r.rows)))))))
 
-pub returns-in-Err-Denied-clause-tied : goal.returns-in-Err-Denied-clause-tied
-returns-in-Err-Denied-clause-tied c =
+pub returns-in-Err-Denied-clause-invariants : goal.returns-in-Err-Denied-clause-invariants
+returns-in-Err-Denied-clause-invariants c =
     let s = c.args.state.now in
     let look = sym c.member.ensures.member ∙ c.in-Some.is in
     let x = c.in-Some._member in
-    let by = came s x c.is_root-root.result c.args.birth c.set.new.self look (c.in-Err-Denied.is ∙ ap Err c.in-Err-Denied.field-0-is) c.set.ensures.set in
-    subst (λ v. IsTied (record s { masters = v })) (sym by.1) c.requires.ready.tied
+    let by = came s x c.is_root-root.result c.args.step_number c.set.new.self look (c.in-Err-Denied.is ∙ ap Err c.in-Err-Denied.field-0-is) c.set.ensures.set in
+    subst (λ v. MeetsInvariants (record s { masters = v })) (sym by.1) c.requires.precondition.invariants
 
-pub returns-in-Err-Denied-clause-owes : goal.returns-in-Err-Denied-clause-owes
-unfolding OwesCall meaning
-returns-in-Err-Denied-clause-owes c = λ w r admitted.
+pub returns-in-Err-Denied-clause-refines : goal.returns-in-Err-Denied-clause-refines
+unfolding RefinesCall meaning
+returns-in-Err-Denied-clause-refines c = λ w r admitted.
     let s = c.args.state.now in
     let look = sym c.member.ensures.member ∙ c.in-Some.is in
     let x = c.in-Some._member in
-    let by = came s x c.is_root-root.result c.args.birth c.set.new.self look (c.in-Err-Denied.is ∙ ap Err c.in-Err-Denied.field-0-is) c.set.ensures.set in
-    let file = file_of s c.args.client c.requires.present in
+    let by = came s x c.is_root-root.result c.args.step_number c.set.new.self look (c.in-Err-Denied.is ∙ ap Err c.in-Err-Denied.field-0-is) c.set.ensures.set in
+    let file = file_of s c.args.client c.requires.open_client in
     let checks = set_verdict s w c.args.client file.0 x r.rows file.1 look c.is_root-root.result c.is_root-root.ensures admitted ∙ by.0 in
     denied (record s { masters = c.set.new.self }) w (Ask c.args.client SetMaster) c.in-Err-Denied.rule checks (subst (λ v. Represents (record s { masters = v }) w) (sym by.1) r.rows)
 
-pub returns-in-Err-NoMemory-clause-tied : goal.returns-in-Err-NoMemory-clause-tied
-returns-in-Err-NoMemory-clause-tied c =
+pub returns-in-Err-NoMemory-clause-invariants : goal.returns-in-Err-NoMemory-clause-invariants
+returns-in-Err-NoMemory-clause-invariants c =
     let s = c.args.state.now in
     let look = sym c.member.ensures.member ∙ c.in-Some.is in
     let x = c.in-Some._member in
-    let by = came s x c.is_root-root.result c.args.birth c.set.new.self look (c.in-Err-NoMemory.is ∙ ap Err c.in-Err-NoMemory.field-0-is) c.set.ensures.set in
-    subst (λ v. IsTied (record s { masters = v })) (sym by.3) c.requires.ready.tied
+    let by = came s x c.is_root-root.result c.args.step_number c.set.new.self look (c.in-Err-NoMemory.is ∙ ap Err c.in-Err-NoMemory.field-0-is) c.set.ensures.set in
+    subst (λ v. MeetsInvariants (record s { masters = v })) (sym by.3) c.requires.precondition.invariants
 
-pub returns-in-Err-NoMemory-clause-owes : goal.returns-in-Err-NoMemory-clause-owes
-unfolding OwesCall meaning changed
-returns-in-Err-NoMemory-clause-owes c = λ w r admitted.
+pub returns-in-Err-NoMemory-clause-refines : goal.returns-in-Err-NoMemory-clause-refines
+unfolding RefinesCall meaning changed
+returns-in-Err-NoMemory-clause-refines c = λ w r admitted.
     let s = c.args.state.now in
     let look = sym c.member.ensures.member ∙ c.in-Some.is in
     let x = c.in-Some._member in
-    let by = came s x c.is_root-root.result c.args.birth c.set.new.self look (c.in-Err-NoMemory.is ∙ ap Err c.in-Err-NoMemory.field-0-is) c.set.ensures.set in
-    let file = file_of s c.args.client c.requires.present in
+    let by = came s x c.is_root-root.result c.args.step_number c.set.new.self look (c.in-Err-NoMemory.is ∙ ap Err c.in-Err-NoMemory.field-0-is) c.set.ensures.set in
+    let file = file_of s c.args.client c.requires.open_client in
     let checks = set_verdict s w c.args.client file.0 x r.rows file.1 look c.is_root-root.result c.is_root-root.ensures admitted ∙ by.0 in
     let current : is_current w c.args.client ≡ false = current_is s w c.args.client file.0 x r.rows file.1 look ∙ by.1 in
     let own : is_master w c.args.client ≡ false = master_is s w c.args.client file.0 x r.rows file.1 look ∙ by.2 in
     refused (record s { masters = c.set.new.self }) w (Ask c.args.client SetMaster) _ checks
-    (subst (λ b. IsLonger w (mastered w c.args.client b (is_master w c.args.client))) (sym current) (subst (λ b. IsLonger w (mastered w c.args.client false b)) (sym own) (inr (inl (omega (arith, length-append w.masters (new_master (birth w) ∷ [])))))))
+    (subst (λ b. IsLonger w (mastered w c.args.client b (is_master w c.args.client))) (sym current) (subst (λ b. IsLonger w (mastered w c.args.client false b)) (sym own) (inr (inl (omega (arith, length-append w.masters (new_master (step_number w) ∷ [])))))))
     (subst (λ v. Represents (record s { masters = v }) w) (sym by.3) r.rows)

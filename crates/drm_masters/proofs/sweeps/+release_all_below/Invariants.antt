@@ -2,7 +2,7 @@ use Rattle.std.proofs.Common.{◌-◌}
 use Rattle.drm_masters.proofs.Released.{Releasing}
 use Rattle.drm_masters.proofs.sweeps.+release_all_below.Given as goal
 
--- those below its lessees up to this birth are kept no more
+-- those below its lessees up to this step number are kept no more
 abbrev pub invariant-loop-lessee : goal.invariant-loop-lessee
 invariant-loop-lessee l = Releasing l.fn.masters.items l.top l.after l.masters.items
 

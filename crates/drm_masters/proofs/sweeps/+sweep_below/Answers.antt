@@ -5,7 +5,7 @@ use Rattle.drm_masters.specs.declared.rows.Master.{Master}
 use Rattle.drm_masters.specs.Masters.{is_option, master_at, lessor_of}
 use Rattle.drm_masters.specs.Sweeps.{IsSweptBelow}
 use Rattle.drm_masters.proofs.Owned.{unnamed}
-use Rattle.drm_masters.proofs.Sound.{at_birth}
+use Rattle.drm_masters.proofs.Sound.{at_step_number}
 use Rattle.drm_masters.proofs.SweptBelow.{none_swept, one_swept, swept_absent, swept_kept, swept_gone}
 use Rattle.drm_masters.proofs.sweeps.+sweep_below.Goals as goal
 
@@ -37,7 +37,7 @@ pub remove-requires-clause-no_lessee : goal.remove-requires-clause-no_lessee
 remove-requires-clause-no_lessee t c =
     let ms = c.loop-lessee.masters.items in
     let x = c.in-Some-at.master in
-    let is = at_birth ms c.args.top x (sym c.at.ensures ∙ c.in-Some-at.is) in
+    let is = at_step_number ms c.args.top x (sym c.at.ensures ∙ c.in-Some-at.is) in
     subst (λ b. list_any (λ (y : Master). is_option b y.lessor) ms ≡ false) is.0 (unnamed c.args.members.now.items ms x (sym c.is_used.ensures ∙ c.if-not-is_used.true))
 
 pub returns-in_default-at : goal.returns-in_default-at
@@ -49,7 +49,7 @@ returns-then-not-is_used t c =
     let at : master_at c.loop-lessee.masters.items c.args.top ≡ Some c.in-Some-at.master = sym c.at.ensures ∙ c.in-Some-at.is in
     subst (IsSweptBelow c.args.members.now.items c.args.top c.args.masters.now.items) (sym c.remove.ensures)
     (swept_gone c.args.members.now.items c.args.masters.now.items c.requires.rise c.requires.older c.args.top c.loop-lessee.after c.loop-lessee.masters.items c.loop-lessee.invariant c.in_default.ensures.none_above c.in-Some-at.master at
-    (at_birth c.loop-lessee.masters.items c.args.top c.in-Some-at.master at).0 (sym c.is_used.ensures ∙ c.if-not-is_used.true))
+    (at_step_number c.loop-lessee.masters.items c.args.top c.in-Some-at.master at).0 (sym c.is_used.ensures ∙ c.if-not-is_used.true))
 
 pub returns-else-not-is_used : goal.returns-else-not-is_used
 returns-else-not-is_used t c =

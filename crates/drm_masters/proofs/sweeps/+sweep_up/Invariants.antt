@@ -1,4 +1,4 @@
 use Rattle.drm_masters.proofs.sweeps.+sweep_up.Given as goal
 
 abbrev pub decreases-sweep_up : goal.decreases-sweep_up
-decreases-sweep_up l = l.birth
+decreases-sweep_up l = l.step_number

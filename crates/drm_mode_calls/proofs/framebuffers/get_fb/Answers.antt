@@ -9,25 +9,25 @@ use Rattle.drm_model.specs.Modes.{framebuffer_object}
 use Rattle.drm_model.specs.Calls.{meaning}
 use Rattle.drm_model.specs.Change.{changed}
 use Rattle.drm_model.specs.Reply.{answer_of}
-use Rattle.drm_state.specs.Parts.{birth_at}
-use Rattle.drm_state.specs.Refinement.{OwesCall, AddsHandle}
-use Rattle.drm_state.proofs.Outcomes.{denied, carried, carried_on, refused, call_verdict}
+use Rattle.drm_state.specs.Parts.{step_number_at}
+use Rattle.drm_state.specs.Refinement.{RefinesCall, AddsHandle}
+use Rattle.drm_state.proofs.Refinements.{denied, carried, carried_on, refused, call_verdict}
 use Rattle.drm_state.proofs.Framing.{framebuffer_is, framebuffer_told, framebuffer_object_is, framebuffer_known}
 use Rattle.drm_state.proofs.Added.{added_none, added_some, longer}
 use Rattle.drm_mode_calls.proofs.framebuffers.get_fb.Goals as goal
 
-pub returns-in_default-clause-owes : goal.returns-in_default-clause-owes
-unfolding OwesCall meaning
-returns-in_default-clause-owes c = λ w r a.
+pub returns-in_default-clause-refines : goal.returns-in_default-clause-refines
+unfolding RefinesCall meaning
+returns-in_default-clause-refines c = λ w r a.
     let s = c.args.state.now in
-    let none = framebuffer_is s w c.requires.ready.tied r.rows c.args.framebuffer ∙ sym c.fb.ensures.there ∙ ap is_some c.in_default.is in
+    let none = framebuffer_is s w c.requires.precondition.invariants r.rows c.args.framebuffer ∙ sym c.fb.ensures.there ∙ ap is_some c.in_default.is in
     denied s w (Ask c.args.client (GetFb c.args.framebuffer)) NoFb (call_verdict w c.args.client (GetFb c.args.framebuffer) a ∙ rw none refl) r.rows
 
-pub returns-then-not-gives_handle-clause-owes : goal.returns-then-not-gives_handle-clause-owes
-unfolding OwesCall meaning changed answer_of
-returns-then-not-gives_handle-clause-owes c = λ w r a.
+pub returns-then-not-gives_handle-clause-refines : goal.returns-then-not-gives_handle-clause-refines
+unfolding RefinesCall meaning changed answer_of
+returns-then-not-gives_handle-clause-refines c = λ w r a.
     let s = c.args.state.now in
-    let t = c.requires.ready.tied in
+    let t = c.requires.precondition.invariants in
     let there = framebuffer_is s w t r.rows c.args.framebuffer ∙ sym c.fb.ensures.there ∙ ap is_some c.in-Some.is in
     let gives = sym (c.gives_handle.ensures w r.rows) ∙ c.if-not-gives_handle.true in
     let told = framebuffer_told s w t r.rows c.args.framebuffer c.in-Some.row (sym c.fb.ensures.found ∙ c.in-Some.is) 0 in
@@ -36,35 +36,35 @@ returns-then-not-gives_handle-clause-owes c = λ w r a.
 pub new_handle-requires-clause-known : goal.new_handle-requires-clause-known
 new_handle-requires-clause-known c = framebuffer_known c.args.state.now c.args.framebuffer c.in-Some.row.object (sym (ap (option_map (λ (x : Framebuffer). x.object)) (sym c.fb.ensures.found ∙ c.in-Some.is)))
 
-pub returns-in_err-handle-clause-owes : goal.returns-in_err-handle-clause-owes
-unfolding OwesCall AddsHandle meaning changed
-returns-in_err-handle-clause-owes c = λ w r a.
+pub returns-in_err-handle-clause-refines : goal.returns-in_err-handle-clause-refines
+unfolding RefinesCall AddsHandle meaning changed
+returns-in_err-handle-clause-refines c = λ w r a.
     let s = c.args.state.now in
     let p = err_from_is_err_and c.from_residual.result c.from_residual.ensures.1 in
-    let there = framebuffer_is s w c.requires.ready.tied r.rows c.args.framebuffer ∙ sym c.fb.ensures.there ∙ ap is_some c.in-Some.is in
+    let there = framebuffer_is s w c.requires.precondition.invariants r.rows c.args.framebuffer ∙ sym c.fb.ensures.there ∙ ap is_some c.in-Some.is in
     let gives = sym (c.gives_handle.ensures w r.rows) ∙ c.if-not-gives_handle.false in
     let came = c.in_err-handle.ensures.adds w r.rows in
     rw p.1 (refused c.new_handle.new.state w (Ask c.args.client (GetFb c.args.framebuffer)) p.0 (call_verdict w c.args.client (GetFb c.args.framebuffer) a ∙ rw (there, gives, came.0) refl)
     (rw gives (longer w c.args.client (framebuffer_object w c.args.framebuffer) None)) came.1)
 
-pub returns-in_default-2-clause-owes : goal.returns-in_default-2-clause-owes
-unfolding OwesCall AddsHandle meaning
-returns-in_default-2-clause-owes c = λ w r a.
+pub returns-in_default-2-clause-refines : goal.returns-in_default-2-clause-refines
+unfolding RefinesCall AddsHandle meaning
+returns-in_default-2-clause-refines c = λ w r a.
     let s = c.args.state.now in
-    let there = framebuffer_is s w c.requires.ready.tied r.rows c.args.framebuffer ∙ sym c.fb.ensures.there ∙ ap is_some c.in-Some.is in
+    let there = framebuffer_is s w c.requires.precondition.invariants r.rows c.args.framebuffer ∙ sym c.fb.ensures.there ∙ ap is_some c.in-Some.is in
     let gives = sym (c.gives_handle.ensures w r.rows) ∙ c.if-not-gives_handle.false in
-    let came = added_none w c.args.client (birth_at s.objects.objects c.in-Some.row.object) None c.new_handle.new.state c.in_ok-handle.field-0 c.in_default-2.is (c.in_ok-handle.ensures.adds w r.rows) in
+    let came = added_none w c.args.client (step_number_at s.objects.objects c.in-Some.row.object) None c.new_handle.new.state c.in_ok-handle.field-0 c.in_default-2.is (c.in_ok-handle.ensures.adds w r.rows) in
     denied c.new_handle.new.state w (Ask c.args.client (GetFb c.args.framebuffer)) Full (call_verdict w c.args.client (GetFb c.args.framebuffer) a ∙ rw (there, gives, came.0) refl) came.1
 
-pub returns-clause-owes : goal.returns-clause-owes
-unfolding OwesCall AddsHandle meaning changed answer_of
-returns-clause-owes c = λ w r a.
+pub returns-clause-refines : goal.returns-clause-refines
+unfolding RefinesCall AddsHandle meaning changed answer_of
+returns-clause-refines c = λ w r a.
     let s = c.args.state.now in
-    let t = c.requires.ready.tied in
+    let t = c.requires.precondition.invariants in
     let found = sym c.fb.ensures.found ∙ c.in-Some.is in
     let there = framebuffer_is s w t r.rows c.args.framebuffer ∙ sym c.fb.ensures.there ∙ ap is_some c.in-Some.is in
     let gives = sym (c.gives_handle.ensures w r.rows) ∙ c.if-not-gives_handle.false in
-    let came = added_some w c.args.client (birth_at s.objects.objects c.in-Some.row.object) None c.new_handle.new.state c.in_ok-handle.field-0 c.in-Some-2.handle c.in-Some-2.is (c.in_ok-handle.ensures.adds w r.rows) in
+    let came = added_some w c.args.client (step_number_at s.objects.objects c.in-Some.row.object) None c.new_handle.new.state c.in_ok-handle.field-0 c.in-Some-2.handle c.in-Some-2.is (c.in_ok-handle.ensures.adds w r.rows) in
     let object = framebuffer_object_is s w t r.rows c.args.framebuffer c.in-Some.row found in
     let told = framebuffer_told s w t r.rows c.args.framebuffer c.in-Some.row found c.in-Some-2.handle in
     carried c.new_handle.new.state w (Ask c.args.client (GetFb c.args.framebuffer)) _ (call_verdict w c.args.client (GetFb c.args.framebuffer) a ∙ rw (there, gives, came.0) refl) (c.framebuffer_answer-2.ensures ∙ rw (gives, came.0) (sym told)) (rw (gives, object) came.1)

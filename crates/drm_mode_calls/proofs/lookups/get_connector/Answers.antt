@@ -8,26 +8,26 @@ use Rattle.drm_model.specs.Sees as model
 use Rattle.drm_model.specs.Calls.{meaning}
 use Rattle.drm_model.specs.Change.{changed}
 use Rattle.drm_model.specs.Reply.{answer_of}
-use Rattle.drm_state.specs.Refinement.{OwesReply}
-use Rattle.drm_state.proofs.Outcomes.{denied, carried_on, call_verdict}
+use Rattle.drm_state.specs.Refinement.{RefinesReply}
+use Rattle.drm_state.proofs.Refinements.{denied, carried_on, call_verdict}
 use Rattle.std.specs.Prelude.{unwrap_or}
 use Rattle.drm_modes.specs.Topology.{encoder_of}
 use Rattle.drm_state.proofs.Seeing.{topology_is, connector_seen}
 use Rattle.drm_mode_calls.proofs.lookups.get_connector.Goals as goal
 
 pub returns-then-not-sees_object : goal.returns-then-not-sees_object
-unfolding OwesReply meaning
+unfolding RefinesReply meaning
 returns-then-not-sees_object c = λ w h a.
     let s = c.args.state.now in
     let x = c.args.connector in
-    let unseen : model.sees_connector w c.args.client x ≡ false = connector_seen s w c.args.client c.requires.present h x ∙ sym c.sees_object.ensures ∙ c.if-not-sees_object.true in
+    let unseen : model.sees_connector w c.args.client x ≡ false = connector_seen s w c.args.client c.requires.open_client h x ∙ sym c.sees_object.ensures ∙ c.if-not-sees_object.true in
     denied s w (Ask c.args.client (GetConnector x)) NoModeObject (call_verdict w c.args.client (GetConnector x) a ∙ ap (λ b. first_failing (check NoModeObject b ∷ [])) unseen) h
 
 pub returns : goal.returns
-unfolding OwesReply meaning changed answer_of
+unfolding RefinesReply meaning changed answer_of
 returns c = λ w h a.
     let s = c.args.state.now in
     let x = c.args.connector in
-    let seen : model.sees_connector w c.args.client x ≡ true = connector_seen s w c.args.client c.requires.present h x ∙ sym c.sees_object.ensures ∙ c.if-not-sees_object.false in
-    carried_on s w (Ask c.args.client (GetConnector x)) (Number c.unwrap_or.result) c.requires.tied (call_verdict w c.args.client (GetConnector x) a ∙ ap (λ b. first_failing (check NoModeObject b ∷ [])) seen)
+    let seen : model.sees_connector w c.args.client x ≡ true = connector_seen s w c.args.client c.requires.open_client h x ∙ sym c.sees_object.ensures ∙ c.if-not-sees_object.false in
+    carried_on s w (Ask c.args.client (GetConnector x)) (Number c.unwrap_or.result) c.requires.invariants (call_verdict w c.args.client (GetConnector x) a ∙ ap (λ b. first_failing (check NoModeObject b ∷ [])) seen)
     (ap Number (c.unwrap_or.ensures ∙ ap (λ o. unwrap_or o 0) (c.encoder_of.ensures ∙ ap (λ t. encoder_of t x) (sym (topology_is s w h))))) h

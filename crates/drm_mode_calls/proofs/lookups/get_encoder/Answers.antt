@@ -7,14 +7,14 @@ use Rattle.drm_table.specs.Permit.{check, first_failing}
 use Rattle.drm_model.specs.Calls.{meaning}
 use Rattle.drm_model.specs.Change.{changed}
 use Rattle.drm_model.specs.Reply.{answer_of}
-use Rattle.drm_state.specs.Refinement.{OwesReply}
-use Rattle.drm_state.proofs.Outcomes.{denied, carried_on, call_verdict}
+use Rattle.drm_state.specs.Refinement.{RefinesReply}
+use Rattle.drm_state.proofs.Refinements.{denied, carried_on, call_verdict}
 use Rattle.drm_modes.specs.Topology.{is_encoder}
 use Rattle.drm_state.proofs.Seeing.{encoder_seen, mask_visible}
 use Rattle.drm_mode_calls.proofs.lookups.get_encoder.Goals as goal
 
 pub returns-then-not-sees_object : goal.returns-then-not-sees_object
-unfolding OwesReply meaning
+unfolding RefinesReply meaning
 returns-then-not-sees_object c = λ w h a.
     let s = c.args.state.now in
     let x = c.args.encoder in
@@ -22,10 +22,10 @@ returns-then-not-sees_object c = λ w h a.
     denied s w (Ask c.args.client (GetEncoder x)) NoModeObject (call_verdict w c.args.client (GetEncoder x) a ∙ ap (λ b. first_failing (check NoModeObject b ∷ [])) unseen) h
 
 pub returns : goal.returns
-unfolding OwesReply meaning changed answer_of
+unfolding RefinesReply meaning changed answer_of
 returns c = λ w h a.
     let s = c.args.state.now in
     let x = c.args.encoder in
     let seen : is_encoder w.topology x ≡ true = encoder_seen s w c.args.client h x ∙ sym c.sees_object.ensures ∙ c.if-not-sees_object.false in
-    carried_on s w (Ask c.args.client (GetEncoder x)) (Number c.visible_mask.result) c.requires.tied (call_verdict w c.args.client (GetEncoder x) a ∙ ap (λ b. first_failing (check NoModeObject b ∷ [])) seen)
-    (ap Number (c.visible_mask.ensures ∙ sym (mask_visible s w c.args.client c.requires.present h x))) h
+    carried_on s w (Ask c.args.client (GetEncoder x)) (Number c.visible_mask.result) c.requires.invariants (call_verdict w c.args.client (GetEncoder x) a ∙ ap (λ b. first_failing (check NoModeObject b ∷ [])) seen)
+    (ap Number (c.visible_mask.ensures ∙ sym (mask_visible s w c.args.client c.requires.open_client h x))) h

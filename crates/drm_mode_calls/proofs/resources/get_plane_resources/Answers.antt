@@ -5,16 +5,16 @@ use Rattle.drm_table.specs.declared.events.Event.TheVariants.{Ask}
 use Rattle.drm_model.specs.Calls.{meaning}
 use Rattle.drm_model.specs.Change.{changed}
 use Rattle.drm_model.specs.Reply.{answer_of}
-use Rattle.drm_state.specs.Refinement.{OwesReply}
-use Rattle.drm_state.proofs.Outcomes.{carried_on, call_verdict}
+use Rattle.drm_state.specs.Refinement.{RefinesReply}
+use Rattle.drm_state.proofs.Refinements.{carried_on, call_verdict}
 use Rattle.drm_state.proofs.Seeing.{planes_visible}
 use Rattle.drm_mode_calls.proofs.resources.get_plane_resources.Goals as goal
 
 pub returns : goal.returns
-unfolding OwesReply meaning changed answer_of
+unfolding RefinesReply meaning changed answer_of
 returns c = λ w h a.
     let s = c.args.state.now in
     let client = c.args.client in
-    let present = c.requires.present in
-    carried_on s w (Ask client GetPlaneResources) (ListIs c.visible.result) c.requires.tied (call_verdict w client GetPlaneResources a)
-    (ap ListIs (c.visible.ensures ∙ sym (planes_visible s w client present h))) h
+    let open_client = c.requires.open_client in
+    carried_on s w (Ask client GetPlaneResources) (ListIs c.visible.result) c.requires.invariants (call_verdict w client GetPlaneResources a)
+    (ap ListIs (c.visible.ensures ∙ sym (planes_visible s w client open_client h))) h

@@ -1,5 +1,5 @@
-use Rattle.drm_model.proofs.Journals.{rows_noted}
+use Rattle.drm_model.proofs.Journals.{rows_journaled}
 use Rattle.drm_model.proofs.laws.rows_follow_the_journal.Goals as goal
 
 pub returns : goal.returns
-returns c = rows_noted
+returns c = rows_journaled

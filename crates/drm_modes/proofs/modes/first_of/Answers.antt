@@ -3,7 +3,7 @@ use Rattle.std.proofs.lemmas.Bool.{false≢true, ne_eqb}
 use Rattle.drm_index_array.proofs.Least.{least_some}
 use Rattle.drm_modes.specs.Modes.{is_made_by}
 use Rattle.drm_modes.specs.Tables.{framebuffer_row}
-use Rattle.drm_modes.proofs.Numbered.{first_found, fail_to, fail_past, none_found, none_left}
+use Rattle.drm_id_alloc.proofs.Numbered.{first_found, fail_to, fail_past, none_found, none_left}
 use Rattle.drm_modes.proofs.modes.first_of.Goals as goal
 
 pub loop-framebuffer-init : goal.loop-framebuffer-init

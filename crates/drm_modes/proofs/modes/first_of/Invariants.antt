@@ -1,7 +1,7 @@
 use Rattle.std.proofs.Common.{◌-◌}
 use Rattle.drm_modes.specs.Modes.{is_made_by}
 use Rattle.drm_modes.specs.Tables.{framebuffer_row}
-use Rattle.drm_modes.proofs.Numbered.{FailBelow}
+use Rattle.drm_id_alloc.proofs.Numbered.{FailBelow}
 use Rattle.drm_modes.proofs.modes.first_of.Given as goal
 
 -- no framebuffer below the next one is the client's

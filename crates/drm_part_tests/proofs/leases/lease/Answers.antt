@@ -7,6 +7,6 @@ use Rattle.drm_part_tests.proofs.leases.lease.Goals as goal
 
 pub returns-clause-lessees : goal.returns-clause-lessees
 returns-clause-lessees c =
-    of_some (member_of c.args.masters.now.members c.args.client) (λ (x : Member). Created c.args.leases.now c.args.masters.now c.args.modes.now x.master c.args.universal c.args.ids.now c.args.birth c.create.result c.create.new.self c.create.new.masters) (IsNewLessee c.create.new.self (c.args.birth + 1))
+    of_some (member_of c.args.masters.now.members c.args.client) (λ (x : Member). Created c.args.leases.now c.args.masters.now c.args.modes.now x.master c.args.universal c.args.ids.now c.args.step_number c.create.result c.create.new.self c.create.new.masters) (IsNewLessee c.create.new.self (c.args.step_number + 1))
     (search rules) c.create.ensures.created
-    (λ x made. created_lessees c.args.leases.now c.args.masters.now c.args.modes.now x.master c.args.universal c.args.ids.now c.args.birth c.create.result c.create.new.self c.create.new.masters c.requires.lessees made)
+    (λ x made. created_lessees c.args.leases.now c.args.masters.now c.args.modes.now x.master c.args.universal c.args.ids.now c.args.step_number c.create.result c.create.new.self c.create.new.masters c.requires.lessees made)

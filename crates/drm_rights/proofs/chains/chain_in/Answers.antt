@@ -1,5 +1,5 @@
 use Rattle.std.proofs.Common.{◌≡◌, ℕ, ◌<◌, List, [], ◌∷◌, ◌++◌, length, None, Some, sym, ◌∙◌, ap, take, ◌+◌, arith, option_map}
-use Rattle.drm_history.specs.History.{Entry}
+use Rattle.drm_history.specs.History.{AnsweredEvent}
 use Rattle.drm_rights.specs.Steps.{history_of, key_of, source_of}
 use Rattle.drm_rights.specs.Searches.{last_gift, last_sharing, sharing_by}
 use Rattle.drm_rights.specs.declared.steps.Step.{Step}
@@ -16,7 +16,7 @@ returns-in_default-clause-none c =
     (c.links.invariant.same ∙ told-last_gift (history_of (take c.links.moment c.args.steps.now)) c.links.holder c.links.held ∙ ap told_from_gift (sym c.in_default.ensures.last))
 
 -- the chain that is found where the step of a handle made its object
-found_made : (history : List Entry) (steps : List Step) (links items : List Link) (moment past c h d k : ℕ) → LeadsOn history (history_of (take moment steps)) c h d k links → past < length steps →
+found_made : (history : List AnsweredEvent) (steps : List Step) (links items : List Link) (moment past c h d k : ℕ) → LeadsOn history (history_of (take moment steps)) c h d k links → past < length steps →
     Some (record { source = source_of sources.Creation; past = history_of (take past steps) }) ≡ last_gift (history_of (take moment steps)) d k → items ≡ links ++ record { step = past + 1; client = d; handle = k; origin = origins.Made } ∷ [] →
     (o : ℕ) × Explains history c h o items
 found_made history steps links items moment past c h d k leads inside last same =

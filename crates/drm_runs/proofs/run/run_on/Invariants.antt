@@ -4,8 +4,8 @@ use Rattle.drm_runs.proofs.run.run_on.Given as goal
 
 abbrev pub invariant-lines : goal.invariant-lines
 invariant-lines g l =
-    let source = g.S.Source.account in
-    let sink = g.K.Sink.account in
+    let source = g.S.Source.trace in
+    let sink = g.K.Sink.trace in
     record {
       so_far : StandsSoFar l.fn.setup (source l.fn.source) (source l.source) (sink l.fn.sink) (sink l.sink) l.fn.turns l.run;
       source_calls : (source l.source).counts.calls + l.run.turns ≤ (source l.fn.source).counts.calls + l.fn.turns;

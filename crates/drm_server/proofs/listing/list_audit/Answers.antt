@@ -2,16 +2,16 @@ use Rattle.std.proofs.Common.{refl, subst, take, drop, suc, arith}
 use Rattle.std.specs.List.{flat_map}
 use Rattle.drm_table.specs.Audits.{kinds}
 use Rattle.drm_model.specs.Run.{rows_of}
-use Rattle.drm_streams.specs.Turns.{Pays}
+use Rattle.drm_streams.specs.Turns.{WriteCost}
 use Rattle.drm_streams.specs.declared.turns.Written.TheVariants as written
 use Rattle.drm_server.specs.Listing.{kind_text, audit_text}
-use Rattle.drm_streams.proofs.Accounts.{Pays-none, Pays-then}
+use Rattle.drm_streams.proofs.Traces.{WriteCost-none, WriteCost-then}
 use Rattle.drm_streams.proofs.TextLemmas.{stops, next-text, whole-text, all-taken}
 use Rattle.drm_server.proofs.ListingLemmas.{listed, listed-fault, listed-turns}
 use Rattle.drm_server.proofs.listing.list_audit.Goals as goal
 
 pub loop-kind-init : goal.loop-kind-init
-loop-kind-init g c = record { all = refl; pays = Pays-none (g.K.Sink.account c.args.sink.now) c.args.turns }
+loop-kind-init g c = record { all = refl; pays = WriteCost-none (g.K.Sink.trace c.args.sink.now) c.args.turns }
 
 pub list_kind-requires : goal.list_kind-requires
 list_kind-requires g c = let paid = c.loop-kind.invariant.pays.cost in omega (arith, paid, c.requires)
@@ -37,13 +37,13 @@ loop-kind-preserved g c =
     let text = kind_text (rows_of c.args.device.now) in
     record {
       all = refl;
-      pays = subst (λ all. Pays (g.K.Sink.account c.args.sink.now) (g.K.Sink.account c.list_kind.new.sink) all c.args.turns c.list_kind.new.turns)
-          (next-text text kinds c.loop-kind.kind-index _ c.loop-kind-test.true) (Pays-then c.loop-kind.invariant.pays c.in-Whole.ensures);
+      pays = subst (λ all. WriteCost (g.K.Sink.trace c.args.sink.now) (g.K.Sink.trace c.list_kind.new.sink) all c.args.turns c.list_kind.new.turns)
+          (next-text text kinds c.loop-kind.kind-index _ c.loop-kind-test.true) (WriteCost-then c.loop-kind.invariant.pays c.in-Whole.ensures);
     }
 
 pub returns : goal.returns
 unfolding audit_text
 returns g c =
     let text = kind_text (rows_of c.args.device.now) in
-    listed (rows_of c.args.device.now) _ _ _ _ (subst (λ xs. Pays (g.K.Sink.account c.args.sink.now) (g.K.Sink.account c.loop-kind.sink) (flat_map text xs) c.args.turns c.loop-kind.left)
+    listed (rows_of c.args.device.now) _ _ _ _ (subst (λ xs. WriteCost (g.K.Sink.trace c.args.sink.now) (g.K.Sink.trace c.loop-kind.sink) (flat_map text xs) c.args.turns c.loop-kind.left)
     (all-taken text kinds c.loop-kind.kind-index (omega arith)) c.loop-kind.invariant.pays)

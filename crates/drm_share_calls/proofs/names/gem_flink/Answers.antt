@@ -14,19 +14,19 @@ use Rattle.drm_model.specs.Calls.{meaning}
 use Rattle.drm_model.specs.Change.{changed, swept}
 use Rattle.drm_model.specs.Reply.{answer_of}
 use Rattle.drm_model.specs.Run.{IsLonger}
-use Rattle.drm_state.specs.Parts.{birth_at}
-use Rattle.drm_state.specs.Ties.{IsTied}
-use Rattle.drm_state.specs.Refinement.{OwesCall, Represents}
-use Rattle.drm_state.proofs.Outcomes.{denied, carried, carried_on, refused, call_verdict}
+use Rattle.drm_state.specs.Parts.{step_number_at}
+use Rattle.drm_state.specs.Invariants.{MeetsInvariants}
+use Rattle.drm_state.specs.Refinement.{RefinesCall, Represents}
+use Rattle.drm_state.proofs.Refinements.{denied, carried, carried_on, refused, call_verdict}
 use Rattle.drm_state.proofs.Contents.{holds_it}
 use Rattle.drm_state.proofs.SharedLookups.{free_name_found}
 use Rattle.drm_state.proofs.Held.{among, has_it, object_is, name_is, some_free}
-use Rattle.drm_state.proofs.SharedChanges.{flinked, flinked_tied}
+use Rattle.drm_state.proofs.SharedChanges.{flinked, flinked_invariants}
 use Rattle.drm_share_calls.proofs.names.gem_flink.Goals as goal
 
-pub returns-in_default-clause-owes : goal.returns-in_default-clause-owes
-unfolding OwesCall meaning
-returns-in_default-clause-owes c = λ w r a.
+pub returns-in_default-clause-refines : goal.returns-in_default-clause-refines
+unfolding RefinesCall meaning
+returns-in_default-clause-refines c = λ w r a.
     let none = holds_it c.args.state.now w r.rows c.args.client c.args.handle _ None c.object_of.ensures.object c.in_default.is in
     denied c.args.state.now w (Ask c.args.client (GemFlink c.args.handle)) NoHandle (call_verdict w c.args.client (GemFlink c.args.handle) a ∙ rw none refl) r.rows
 
@@ -34,59 +34,59 @@ returns-in_default-clause-owes c = λ w r a.
 longer : (w : Rows) (o : ℕ) → IsLonger w (record w { names = w.names ++ record { name = unwrap_or (free_name w) 0; object = o } ∷ [] })
 longer w o = inr (inr (inr (inr (inr (inl (omega (arith, length-append w.names (record { name = unwrap_or (free_name w) 0; object = o } ∷ []))))))))
 
-pub returns-in-Some-name_of-clause-owes : goal.returns-in-Some-name_of-clause-owes
-unfolding OwesCall meaning changed answer_of
-returns-in-Some-name_of-clause-owes c = λ w r a.
+pub returns-in-Some-name_of-clause-refines : goal.returns-in-Some-name_of-clause-refines
+unfolding RefinesCall meaning changed answer_of
+returns-in-Some-name_of-clause-refines c = λ w r a.
     let s = c.args.state.now in
     let found = sym c.in-Some.is ∙ c.object_of.ensures.object in
-    let one = has_it s c.args.client c.args.handle c.in-Some.object c.requires.ready.tied found w r.rows in
-    let number = object_is s c.args.client c.args.handle c.in-Some.object c.requires.ready.tied found w r.rows in
-    let had = name_is s c.args.client c.args.handle c.in-Some.object c.requires.ready.tied found w r.rows c.name_of.ensures.names ∙ sym c.name_of.ensures.name ∙ c.in-Some-name_of.is in
-    carried_on s w (Ask c.args.client (GemFlink c.args.handle)) (Number c.in-Some-name_of.name) c.requires.ready.tied (call_verdict w c.args.client (GemFlink c.args.handle) a ∙ rw (one, number, had) refl) (rw (number, had) refl)
+    let one = has_it s c.args.client c.args.handle c.in-Some.object c.requires.precondition.invariants found w r.rows in
+    let number = object_is s c.args.client c.args.handle c.in-Some.object c.requires.precondition.invariants found w r.rows in
+    let had = name_is s c.args.client c.args.handle c.in-Some.object c.requires.precondition.invariants found w r.rows c.name_of.ensures.names ∙ sym c.name_of.ensures.name ∙ c.in-Some-name_of.is in
+    carried_on s w (Ask c.args.client (GemFlink c.args.handle)) (Number c.in-Some-name_of.name) c.requires.precondition.invariants (call_verdict w c.args.client (GemFlink c.args.handle) a ∙ rw (one, number, had) refl) (rw (number, had) refl)
     (rw (number, had) r.rows)
 
-pub returns-in-Err-Full-clause-owes : goal.returns-in-Err-Full-clause-owes
-unfolding OwesCall meaning
-returns-in-Err-Full-clause-owes c = λ w r a.
+pub returns-in-Err-Full-clause-refines : goal.returns-in-Err-Full-clause-refines
+unfolding RefinesCall meaning
+returns-in-Err-Full-clause-refines c = λ w r a.
     let s = c.args.state.now in
     let found = sym c.in-Some.is ∙ c.object_of.ensures.object in
-    let one = has_it s c.args.client c.args.handle c.in-Some.object c.requires.ready.tied found w r.rows in
-    let number = object_is s c.args.client c.args.handle c.in-Some.object c.requires.ready.tied found w r.rows in
-    let had = name_is s c.args.client c.args.handle c.in-Some.object c.requires.ready.tied found w r.rows c.name_of.ensures.names ∙ sym c.name_of.ensures.name ∙ c.in_default-name_of.is in
+    let one = has_it s c.args.client c.args.handle c.in-Some.object c.requires.precondition.invariants found w r.rows in
+    let number = object_is s c.args.client c.args.handle c.in-Some.object c.requires.precondition.invariants found w r.rows in
+    let had = name_is s c.args.client c.args.handle c.in-Some.object c.requires.precondition.invariants found w r.rows c.name_of.ensures.names ∙ sym c.name_of.ensures.name ∙ c.in_default-name_of.is in
     let none = free_name_found s w r.rows ∙ c.in-Err-Full.ensures.full.0 (subst IsFull (sym c.in-Err-Full.field-0-is) tt) in
     denied (record s { names = c.give.new.self }) w (Ask c.args.client (GemFlink c.args.handle)) Full (call_verdict w c.args.client (GemFlink c.args.handle) a ∙ rw (one, number, had, none) refl)
     (subst (λ ns. Represents (record s { names = ns }) w) (sym c.in-Err-Full.ensures.err) r.rows)
 
-pub returns-in-Err-NoMemory-clause-owes : goal.returns-in-Err-NoMemory-clause-owes
-unfolding OwesCall meaning changed
-returns-in-Err-NoMemory-clause-owes c = λ w r a.
+pub returns-in-Err-NoMemory-clause-refines : goal.returns-in-Err-NoMemory-clause-refines
+unfolding RefinesCall meaning changed
+returns-in-Err-NoMemory-clause-refines c = λ w r a.
     let s = c.args.state.now in
     let found = sym c.in-Some.is ∙ c.object_of.ensures.object in
-    let one = has_it s c.args.client c.args.handle c.in-Some.object c.requires.ready.tied found w r.rows in
-    let number = object_is s c.args.client c.args.handle c.in-Some.object c.requires.ready.tied found w r.rows in
-    let had = name_is s c.args.client c.args.handle c.in-Some.object c.requires.ready.tied found w r.rows c.name_of.ensures.names ∙ sym c.name_of.ensures.name ∙ c.in_default-name_of.is in
+    let one = has_it s c.args.client c.args.handle c.in-Some.object c.requires.precondition.invariants found w r.rows in
+    let number = object_is s c.args.client c.args.handle c.in-Some.object c.requires.precondition.invariants found w r.rows in
+    let had = name_is s c.args.client c.args.handle c.in-Some.object c.requires.precondition.invariants found w r.rows c.name_of.ensures.names ∙ sym c.name_of.ensures.name ∙ c.in_default-name_of.is in
     let free = ap is_some (free_name_found s w r.rows) ∙ some_free (names.free_name s.names) (λ e. subst IsFull c.in-Err-NoMemory.field-0-is (c.in-Err-NoMemory.ensures.full.1 e)) in
     refused (record s { names = c.give.new.self }) w (Ask c.args.client (GemFlink c.args.handle)) (record {}) (call_verdict w c.args.client (GemFlink c.args.handle) a ∙ rw (one, number, had, free) refl)
-    (rw (number, had) (longer w (birth_at s.objects.objects c.in-Some.object)))
+    (rw (number, had) (longer w (step_number_at s.objects.objects c.in-Some.object)))
     (subst (λ ns. Represents (record s { names = ns }) w) (sym c.in-Err-NoMemory.ensures.err) r.rows)
 
-pub returns-clause-tied : goal.returns-clause-tied
-returns-clause-tied c =
+pub returns-clause-invariants : goal.returns-clause-invariants
+returns-clause-invariants c =
     let s = c.args.state.now in
     let found = sym c.in-Some.is ∙ c.object_of.ensures.object in
-    subst (λ ns. IsTied (record s { names = ns })) (sym c.in-Ok.ensures.ok) (flinked_tied s c.in-Ok.given c.in-Some.object c.requires.ready.tied (among s c.args.client c.args.handle c.in-Some.object c.requires.ready.tied found))
+    subst (λ ns. MeetsInvariants (record s { names = ns })) (sym c.in-Ok.ensures.ok) (flinked_invariants s c.in-Ok.given c.in-Some.object c.requires.precondition.invariants (among s c.args.client c.args.handle c.in-Some.object c.requires.precondition.invariants found))
 
-pub returns-clause-owes : goal.returns-clause-owes
-unfolding OwesCall meaning changed answer_of
-returns-clause-owes c = λ w r a.
+pub returns-clause-refines : goal.returns-clause-refines
+unfolding RefinesCall meaning changed answer_of
+returns-clause-refines c = λ w r a.
     let s = c.args.state.now in
     let found = sym c.in-Some.is ∙ c.object_of.ensures.object in
-    let one = has_it s c.args.client c.args.handle c.in-Some.object c.requires.ready.tied found w r.rows in
-    let number = object_is s c.args.client c.args.handle c.in-Some.object c.requires.ready.tied found w r.rows in
-    let had = name_is s c.args.client c.args.handle c.in-Some.object c.requires.ready.tied found w r.rows c.name_of.ensures.names ∙ sym c.name_of.ensures.name ∙ c.in_default-name_of.is in
+    let one = has_it s c.args.client c.args.handle c.in-Some.object c.requires.precondition.invariants found w r.rows in
+    let number = object_is s c.args.client c.args.handle c.in-Some.object c.requires.precondition.invariants found w r.rows in
+    let had = name_is s c.args.client c.args.handle c.in-Some.object c.requires.precondition.invariants found w r.rows c.name_of.ensures.names ∙ sym c.name_of.ensures.name ∙ c.in_default-name_of.is in
     let free = free_name_found s w r.rows ∙ c.in-Ok.ensures.given in
-    let o = birth_at s.objects.objects c.in-Some.object in
+    let o = step_number_at s.objects.objects c.in-Some.object in
     carried (record s { names = c.give.new.self }) w (Ask c.args.client (GemFlink c.args.handle)) (Number c.in-Ok.given) (call_verdict w c.args.client (GemFlink c.args.handle) a ∙ rw (one, number, had, free) refl) (rw (number, had, free) refl)
     (rw (number, had)
     (subst (λ ns. Represents (record s { names = ns }) (swept (record w { names = w.names ++ record { name = unwrap_or (free_name w) 0; object = o } ∷ [] }))) (sym c.in-Ok.ensures.ok)
-    (flinked s c.in-Ok.given c.in-Some.object c.requires.ready.tied (among s c.args.client c.args.handle c.in-Some.object c.requires.ready.tied found) w o r.rows refl (ap (λ f. unwrap_or f 0) free))))
+    (flinked s c.in-Ok.given c.in-Some.object c.requires.precondition.invariants (among s c.args.client c.args.handle c.in-Some.object c.requires.precondition.invariants found) w o r.rows refl (ap (λ f. unwrap_or f 0) free))))

@@ -2,13 +2,13 @@ use Rattle.std.proofs.Common.{refl, sym, ap, ◌∙◌, subst}
 use Rattle.std.specs.Option.{is_some}
 use Rattle.drm_files.specs.FileFault.{IsFull}
 use Rattle.drm_files.specs.Files as files
-use Rattle.drm_model.specs.Rows.{with_hold}
+use Rattle.drm_model.specs.Rows.{with_handle_row}
 use Rattle.drm_model.specs.Change.{swept}
-use Rattle.drm_state.specs.Parts.{birth_at}
-use Rattle.drm_state.specs.Ties.{IsTied}
+use Rattle.drm_state.specs.Parts.{step_number_at}
+use Rattle.drm_state.specs.Invariants.{MeetsInvariants}
 use Rattle.drm_state.specs.Refinement.{AddsHandle, Represents}
 use Rattle.drm_state.proofs.Made.{free_handle_is}
-use Rattle.drm_state.proofs.SharedChanges.{added, added_tied, can_hold}
+use Rattle.drm_state.proofs.SharedChanges.{added, added_invariants, can_hold}
 use Rattle.drm_state.proofs.Held.{some_free}
 use Rattle.drm_state.proofs.handles.new_handle.Goals as goal
 
@@ -24,20 +24,20 @@ returns-in-Err-NoMemory-clause-adds c = λ w r.
     (ap is_some (free_handle_is c.args.state.now w r c.args.client) ∙ some, subst (λ fs. Represents (record c.args.state.now { files = fs }) w) (sym c.in-Err-NoMemory.ensures.err) r)
 
 pub hold-requires : goal.hold-requires
-hold-requires c = can_hold c.args.state.now c.args.object c.args.birth c.requires.ready.tied c.requires.known c.requires.ready.later.holds c.requires.ready.fits
+hold-requires c = can_hold c.args.state.now c.args.object c.args.step_number c.requires.precondition.invariants c.requires.known c.requires.precondition.later.holds c.requires.precondition.fits
 
-pub returns-clause-tied : goal.returns-clause-tied
-returns-clause-tied c =
-    subst (λ fs. IsTied (record c.args.state.now { files = fs; objects = c.hold.new.self })) (sym c.in-Ok.ensures.ok)
-    (subst (λ o. IsTied (record c.args.state.now { files = files.with_hold c.args.state.now.files (files.hold c.args.client c.in-Ok.handle c.args.object c.args.place); objects = o })) (sym c.hold.ensures)
-    (added_tied c.args.state.now c.args.client c.in-Ok.handle c.args.object c.args.place c.requires.ready.tied c.requires.known c.in-Ok.ensures.given))
+pub returns-clause-invariants : goal.returns-clause-invariants
+returns-clause-invariants c =
+    subst (λ fs. MeetsInvariants (record c.args.state.now { files = fs; objects = c.hold.new.self })) (sym c.in-Ok.ensures.ok)
+    (subst (λ o. MeetsInvariants (record c.args.state.now { files = files.with_handle_row c.args.state.now.files (files.hold c.args.client c.in-Ok.handle c.args.object c.args.export_order); objects = o })) (sym c.hold.ensures)
+    (added_invariants c.args.state.now c.args.client c.in-Ok.handle c.args.object c.args.export_order c.requires.precondition.invariants c.requires.known c.in-Ok.ensures.given))
 
 pub returns-clause-adds : goal.returns-clause-adds
 unfolding AddsHandle
 returns-clause-adds c = λ w r.
-    let o = birth_at c.args.state.now.objects.objects c.args.object in (
+    let o = step_number_at c.args.state.now.objects.objects c.args.object in (
       free_handle_is c.args.state.now w r c.args.client ∙ c.in-Ok.ensures.given,
-      subst (λ fs. Represents (record c.args.state.now { files = fs; objects = c.hold.new.self }) (swept (record w { holds = with_hold w c.args.client o c.args.place }))) (sym c.in-Ok.ensures.ok)
-          (subst (λ x. Represents (record c.args.state.now { files = files.with_hold c.args.state.now.files (files.hold c.args.client c.in-Ok.handle c.args.object c.args.place); objects = x }) (swept (record w { holds = with_hold w c.args.client o c.args.place }))) (sym c.hold.ensures)
-          (added c.args.state.now c.args.client c.in-Ok.handle c.args.object c.args.place c.requires.ready.tied c.requires.known c.in-Ok.ensures.given w o r refl)),
+      subst (λ fs. Represents (record c.args.state.now { files = fs; objects = c.hold.new.self }) (swept (record w { holds = with_handle_row w c.args.client o c.args.export_order }))) (sym c.in-Ok.ensures.ok)
+          (subst (λ x. Represents (record c.args.state.now { files = files.with_handle_row c.args.state.now.files (files.hold c.args.client c.in-Ok.handle c.args.object c.args.export_order); objects = x }) (swept (record w { holds = with_handle_row w c.args.client o c.args.export_order }))) (sym c.hold.ensures)
+          (added c.args.state.now c.args.client c.in-Ok.handle c.args.object c.args.export_order c.requires.precondition.invariants c.requires.known c.in-Ok.ensures.given w o r refl)),
     )

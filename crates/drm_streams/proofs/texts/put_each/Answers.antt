@@ -1,13 +1,13 @@
 use Rattle.std.proofs.Common.{subst, take, drop, arith, suc, List, ℕ}
 use Rattle.std.specs.Borrow.{Bor}
-use Rattle.drm_streams.specs.Turns.{Pays}
+use Rattle.drm_streams.specs.Turns.{WriteCost}
 use Rattle.drm_streams.specs.Texts.{joined_texts}
-use Rattle.drm_streams.proofs.Accounts.{Pays-none, Pays-then}
+use Rattle.drm_streams.proofs.Traces.{WriteCost-none, WriteCost-then}
 use Rattle.drm_streams.proofs.TextLemmas.{stops, writes_out, next-text, whole-text, all-taken}
 use Rattle.drm_streams.proofs.texts.put_each.Goals as goal
 
 pub loop-text-init : goal.loop-text-init
-loop-text-init g c = Pays-none (g.K.Sink.account c.args.sink.now) c.args.turns.now
+loop-text-init g c = WriteCost-none (g.K.Sink.trace c.args.sink.now) c.args.turns.now
 
 pub put_all-requires : goal.put_all-requires
 put_all-requires g c = let paid = c.loop-text.invariant.cost in record { countable = omega (arith, paid, c.requires) }
@@ -20,11 +20,11 @@ returns-in_default g c =
 
 pub loop-text-preserved : goal.loop-text-preserved
 loop-text-preserved g c =
-    subst (λ all. Pays (g.K.Sink.account c.args.sink.now) (g.K.Sink.account c.put_all.new.sink) all c.args.turns.now c.put_all.new.turns)
+    subst (λ all. WriteCost (g.K.Sink.trace c.args.sink.now) (g.K.Sink.trace c.put_all.new.sink) all c.args.turns.now c.put_all.new.turns)
     (next-text (λ (t : Bor (List ℕ)). t.now) c.args.texts.now c.loop-text.text-index _ c.loop-text-test.true)
-    (Pays-then c.loop-text.invariant c.in-Whole.ensures.writes.0)
+    (WriteCost-then c.loop-text.invariant c.in-Whole.ensures.writes.0)
 
 pub returns : goal.returns
 returns g c =
-    subst (λ (texts : List (Bor (List ℕ))). Pays (g.K.Sink.account c.args.sink.now) (g.K.Sink.account c.loop-text.sink) (joined_texts texts) c.args.turns.now c.loop-text.turns)
+    subst (λ (texts : List (Bor (List ℕ))). WriteCost (g.K.Sink.trace c.args.sink.now) (g.K.Sink.trace c.loop-text.sink) (joined_texts texts) c.args.turns.now c.loop-text.turns)
     (all-taken (λ (t : Bor (List ℕ)). t.now) c.args.texts.now c.loop-text.text-index (omega arith)) c.loop-text.invariant

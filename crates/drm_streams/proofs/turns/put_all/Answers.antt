@@ -5,9 +5,9 @@ use Rattle.drm_streams.proofs.turns.put_all.Goals as goal
 
 pub pieces-preserved-in-Took : goal.pieces-preserved-in-Took
 pieces-preserved-in-Took g c =
-    let account = g.K.Sink.account in
+    let trace = g.K.Sink.trace in
     let so_far = c.pieces.invariant in (
-      PutSoFar-took (account c.args.sink.now) (account c.pieces.sink) (account c.put.new.self) _ _ _ _ _ _ _ so_far.0 (omega arith) (omega arith)
+      PutSoFar-took (trace c.args.sink.now) (trace c.pieces.sink) (trace c.put.new.self) _ _ _ _ _ _ _ so_far.0 (omega arith) (omega arith)
           c.in-Took.ensures.gives c.in-Took.ensures.counts c.split_at.ensures.back,
       PutPieces-took _ _ so_far.1 so_far.0.patient (omega arith) c.in-Took.ensures.gives.0 c.in-Took.ensures.counts,
     )

@@ -4,9 +4,9 @@ use Rattle.drm_streams.proofs.turns.put_all.Given as goal
 
 abbrev pub invariant-pieces : goal.invariant-pieces
 invariant-pieces g l =
-    let account = g.K.Sink.account in
-    PutSoFar (account l.fn.sink) (account l.sink) l.fn.text l.rest l.fn.turns l.turns l.interruptions
-    × PutPieces (account l.fn.sink).counts (account l.sink).counts l.interruptions
+    let trace = g.K.Sink.trace in
+    PutSoFar (trace l.fn.sink) (trace l.sink) l.fn.text l.rest l.fn.turns l.turns l.interruptions
+    × PutPieces (trace l.fn.sink).counts (trace l.sink).counts l.interruptions
 
 abbrev pub decreases-pieces : goal.decreases-pieces
 decreases-pieces g l = l.turns

@@ -2,10 +2,10 @@ use Rattle.std.proofs.Common.{◌^◌, ◌<◌, length, sym, ◌∙◌, arith}
 use Rattle.drm_lists.proofs.Orders.{length-sorted}
 use Rattle.drm_model.specs.Audit.{audit_rows, is_before, rising_rows}
 use Rattle.drm_model.specs.Run.{rows_of}
-use Rattle.drm_model.proofs.Births.{births_rise}
+use Rattle.drm_model.proofs.StepNumbers.{step_numbers_rise}
 use Rattle.drm_model.proofs.Counts.{few_rows, few_audit_rows}
 use Rattle.drm_model.proofs.Journals.{rows_of-steps}
-use Rattle.drm_device.specs.Device.{history_of}
+use Rattle.drm_device.specs.Device.{value_of}
 use Rattle.drm_device.specs.Audits.{IsPage}
 use Rattle.drm_device.proofs.Devices.{fixed_topology}
 use Rattle.drm_device.proofs.device.Device.audit.Goals as goal
@@ -14,17 +14,17 @@ pub returns-clause-page : goal.returns-clause-page
 unfolding IsPage
 returns-clause-page c =
     let d = c.self.inside in
-    rw (← c.self.view_is) (c.page_of.ensures (rows_of (history_of d)) (record {
+    rw (← c.self.view_is) (c.page_of.ensures (rows_of (value_of d)) (record {
       rows = c.self.invariant.rows;
-      births = births_rise (history_of d);
-      steps_are = rows_of-steps (history_of d) ∙ sym d.journal.ok.0 ∙ sym c.len.ensures;
+      step_numbers = step_numbers_rise (value_of d);
+      steps_are = rows_of-steps (value_of d) ∙ sym d.journal.ok.0 ∙ sym c.len.ensures;
     }))
 
 pub returns-clause-few : goal.returns-clause-few
 returns-clause-few c =
     let d = c.self.inside in
-    let few = few_audit_rows (rows_of (history_of d)) _ (few_rows (history_of d) (fixed_topology d c.self.invariant)) c.args.kind in
-    let steps = rows_of-steps (history_of d) in
-    let same = length-sorted is_before (audit_rows (rows_of (history_of d)) c.args.kind) in
-    let small : length (rising_rows (audit_rows (rows_of (history_of d)) c.args.kind)) < 2 ^ 31 = omega (arith, few, same, steps, d.journal.ok.0, c.self.invariant.places, c.self.invariant.journal_fits) in
+    let few = few_audit_rows (rows_of (value_of d)) _ (few_rows (value_of d) (fixed_topology d c.self.invariant)) c.args.kind in
+    let steps = rows_of-steps (value_of d) in
+    let same = length-sorted is_before (audit_rows (rows_of (value_of d)) c.args.kind) in
+    let small : length (rising_rows (audit_rows (rows_of (value_of d)) c.args.kind)) < 2 ^ 31 = omega (arith, few, same, steps, d.journal.ok.0, c.self.invariant.places, c.self.invariant.journal_fits) in
     rw (← c.self.view_is) small

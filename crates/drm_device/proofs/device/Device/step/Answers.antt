@@ -1,11 +1,11 @@
 use Rattle.std.proofs.Common.{refl, sym, ap, ◌∙◌, subst, Ok}
 use Rattle.std.proofs.lemmas.Bool.{not-false, not-true}
 use Rattle.drm_table.specs.declared.answers.Answer.{Answer}
-use Rattle.drm_table.specs.Results.{IsFew}
-use Rattle.drm_model.specs.Run.{Step, rows_of, noted_in}
-use Rattle.drm_device.specs.Device.{history_of}
-use Rattle.drm_state.specs.Refinement.{Owes}
-use Rattle.drm_device.proofs.Devices.{stands, ready, has_place, next_history, next_rows, same_history, topology_same, topology_after, few_answer, next_device, same_device, within_after}
+use Rattle.drm_table.specs.Results.{FitsOneFrame}
+use Rattle.drm_model.specs.Run.{Step, rows_of, journaled_in}
+use Rattle.drm_device.specs.Device.{value_of}
+use Rattle.drm_state.specs.Refinement.{Refines}
+use Rattle.drm_device.proofs.Devices.{stands, precondition, has_room_for, next_history, next_rows, same_history, topology_same, topology_after, few_answer, next_device, same_device, within_after}
 use Rattle.drm_device.proofs.device.Device.step.Goals as goal
 
 pub returns-then-not-has_room-clause-step : goal.returns-then-not-has_room-clause-step
@@ -13,59 +13,59 @@ unfolding Step
 returns-then-not-has_room-clause-step c = (not-false _ (sym c.has_room.ensures ∙ c.if-not-has_room.true), refl)
 
 pub advance-requires : goal.advance-requires
-advance-requires c = ready c.self.inside c.len.result c.self.invariant c.len.ensures
+advance-requires c = precondition c.self.inside c.len.result c.self.invariant c.len.ensures
 
 pub push_reserved-requires : goal.push_reserved-requires
 push_reserved-requires c =
     let room = not-true _ (sym c.has_room.ensures ∙ c.if-not-has_room.false) in
-    has_place c.self.inside c.args.event c.self.invariant (rw (ap rows_of c.self.view_is) room)
+    has_room_for c.self.inside c.args.event c.self.invariant (rw (ap rows_of c.self.view_is) room)
 
 pub invariant_of-self : goal.invariant_of-self
-unfolding Owes
+unfolding Refines
 invariant_of-self c =
     let room = not-true _ (sym c.has_room.ensures ∙ c.if-not-has_room.false) in
-    let out = c.in-Ok.ensures.owes (rows_of (history_of c.self.inside)) (stands c.self.inside c.len.result c.self.invariant c.len.ensures) in
+    let out = c.in-Ok.ensures.refines (rows_of (value_of c.self.inside)) (stands c.self.inside c.len.result c.self.invariant c.len.ensures) in
     next_device c.self.inside c.args.event c.push_reserved.new.self c.advance.new.state c.self.invariant (rw (ap rows_of c.self.view_is) room)
-    c.push_reserved.ensures.items c.push_reserved.ensures.len c.push_reserved.ensures.capacity c.in-Ok.ensures.tied out.1
+    c.push_reserved.ensures.items c.push_reserved.ensures.len c.push_reserved.ensures.capacity c.in-Ok.ensures.invariants out.1
 
 pub invariant_of-self-in-Err : goal.invariant_of-self-in-Err
-unfolding Owes
+unfolding Refines
 invariant_of-self-in-Err c =
-    let out = c.in-Err.ensures.owes (rows_of (history_of c.self.inside)) (stands c.self.inside c.len.result c.self.invariant c.len.ensures) in
-    same_device c.self.inside c.advance.new.state c.self.invariant c.in-Err.ensures.tied out.1
+    let out = c.in-Err.ensures.refines (rows_of (value_of c.self.inside)) (stands c.self.inside c.len.result c.self.invariant c.len.ensures) in
+    same_device c.self.inside c.advance.new.state c.self.invariant c.in-Err.ensures.invariants out.1
 
 pub returns-in-Ok-clause-step : goal.returns-in-Ok-clause-step
-unfolding Step Owes
+unfolding Step Refines
 returns-in-Ok-clause-step c =
     let room = not-true _ (sym c.has_room.ensures ∙ c.if-not-has_room.false) in
-    let out = c.in-Ok.ensures.owes (rows_of (history_of c.self.inside)) (stands c.self.inside c.len.result c.self.invariant c.len.ensures) in
+    let out = c.in-Ok.ensures.refines (rows_of (value_of c.self.inside)) (stands c.self.inside c.len.result c.self.invariant c.len.ensures) in
     (room, rw (← ap rows_of c.self.view_is) out.0, rw (← ap rows_of c.self.view_is) (next_rows c.self.inside c.args.event c.push_reserved.new.self c.advance.new.state c.push_reserved.ensures.items (topology_after c.self.inside c.args.event c.advance.new.state out.1)))
 
 pub returns-in-Err-clause-step : goal.returns-in-Err-clause-step
-unfolding Step Owes
+unfolding Step Refines
 returns-in-Err-clause-step c =
     let room = not-true _ (sym c.has_room.ensures ∙ c.if-not-has_room.false) in
-    let out = c.in-Err.ensures.owes (rows_of (history_of c.self.inside)) (stands c.self.inside c.len.result c.self.invariant c.len.ensures) in
-    let fixed = topology_same c.self.inside c.advance.new.state (rows_of (history_of c.self.inside)) out.1 refl in
+    let out = c.in-Err.ensures.refines (rows_of (value_of c.self.inside)) (stands c.self.inside c.len.result c.self.invariant c.len.ensures) in
+    let fixed = topology_same c.self.inside c.advance.new.state (rows_of (value_of c.self.inside)) out.1 refl in
     (room, rw (← ap rows_of c.self.view_is) out.0, ap rows_of (same_history c.self.inside c.advance.new.state fixed ∙ c.self.view_is))
 
 pub returns-in-Ok-clause-few : goal.returns-in-Ok-clause-few
-unfolding Owes
+unfolding Refines
 returns-in-Ok-clause-few c =
-    let out = c.in-Ok.ensures.owes (rows_of (history_of c.self.inside)) (stands c.self.inside c.len.result c.self.invariant c.len.ensures) in
-    subst (λ (a : Answer). IsFew (Ok a)) (sym out.0) (few_answer c.self.inside c.args.event c.self.invariant)
+    let out = c.in-Ok.ensures.refines (rows_of (value_of c.self.inside)) (stands c.self.inside c.len.result c.self.invariant c.len.ensures) in
+    subst (λ (a : Answer). FitsOneFrame (Ok a)) (sym out.0) (few_answer c.self.inside c.args.event c.self.invariant)
 
 pub returns-in-Ok-clause-ok : goal.returns-in-Ok-clause-ok
-unfolding Owes
+unfolding Refines
 returns-in-Ok-clause-ok c =
-    let out = c.in-Ok.ensures.owes (rows_of (history_of c.self.inside)) (stands c.self.inside c.len.result c.self.invariant c.len.ensures) in
-    next_history c.self.inside c.args.event c.push_reserved.new.self c.advance.new.state c.push_reserved.ensures.items (topology_after c.self.inside c.args.event c.advance.new.state out.1) ∙ ap (λ h. noted_in h c.args.event) c.self.view_is
+    let out = c.in-Ok.ensures.refines (rows_of (value_of c.self.inside)) (stands c.self.inside c.len.result c.self.invariant c.len.ensures) in
+    next_history c.self.inside c.args.event c.push_reserved.new.self c.advance.new.state c.push_reserved.ensures.items (topology_after c.self.inside c.args.event c.advance.new.state out.1) ∙ ap (λ h. journaled_in h c.args.event) c.self.view_is
 
 pub returns-in-Err-clause-err : goal.returns-in-Err-clause-err
-unfolding Owes
+unfolding Refines
 returns-in-Err-clause-err c =
-    let out = c.in-Err.ensures.owes (rows_of (history_of c.self.inside)) (stands c.self.inside c.len.result c.self.invariant c.len.ensures) in
-    same_history c.self.inside c.advance.new.state (topology_same c.self.inside c.advance.new.state (rows_of (history_of c.self.inside)) out.1 refl) ∙ c.self.view_is
+    let out = c.in-Err.ensures.refines (rows_of (value_of c.self.inside)) (stands c.self.inside c.len.result c.self.invariant c.len.ensures) in
+    same_history c.self.inside c.advance.new.state (topology_same c.self.inside c.advance.new.state (rows_of (value_of c.self.inside)) out.1 refl) ∙ c.self.view_is
 
 pub returns-in-Err-clause-found_room : goal.returns-in-Err-clause-found_room
 returns-in-Err-clause-found_room c = (invariant_of-self-in-Err c).found_room

@@ -2,7 +2,7 @@ use Rattle.std.proofs.Common.{refl, ap, sym, ◌∙◌}
 use Rattle.std.proofs.lemmas.Option.{none-some}
 use Rattle.drm_id_alloc.specs.Groups.{GroupMap, has}
 use Rattle.drm_files.specs.declared.files.Held.{Held}
-use Rattle.drm_files.specs.Files.{FileLists, hold, with_hold}
+use Rattle.drm_files.specs.Files.{FileLists, hold, with_handle_row}
 use Rattle.drm_files.specs.Records.{lists_of}
 use Rattle.drm_files.proofs.Calls.{added, rewritten}
 use Rattle.drm_files.proofs.Removal.{taken_back}
@@ -12,8 +12,8 @@ use Rattle.drm_files.proofs.files.Files.add_handle.Goals as goal
 pub unreachable-requires : goal.unreachable-requires
 unreachable-requires c =
     let inside = c.self.inside in
-    let present = rw (← c.self.view_is) at c.requires.present in
-    nobody inside.open_limit inside.last_handle inside.clients.items c.args.client present c.in_default.ensures.value
+    let open_client = rw (← c.self.view_is) at c.requires.open_client in
+    nobody inside.open_limit inside.last_handle inside.clients.items c.args.client open_client c.in_default.ensures.value
 
 pub invariant_of-self : goal.invariant_of-self
 invariant_of-self c =
@@ -63,22 +63,22 @@ returns-clause-given c =
 pub returns-clause-ok : goal.returns-clause-ok
 returns-clause-ok c =
     let inside = c.self.inside in
-    let made : Held = record { object = c.args.object; place = c.args.place } in
+    let made : Held = record { object = c.args.object; export_order = c.args.export_order } in
     added inside.open_limit inside.last_handle inside.clients.items c.args.client c.in-Some.record.now (with_both c.in-Some.record.now c.add.new.self c.note.new.self) c.in-Ok.handle made (sym c.in-Some.ensures.value) c.in-Ok.ensures.fresh refl (ap (λ t. t.slots) c.in-Ok.ensures.ok)
-    ∙ ap (λ (l : FileLists). with_hold l (hold c.args.client c.in-Ok.handle c.args.object c.args.place)) c.self.view_is
+    ∙ ap (λ (l : FileLists). with_handle_row l (hold c.args.client c.in-Ok.handle c.args.object c.args.export_order)) c.self.view_is
 
 -- the handle that was given is taken back
 
 pub invariant_of-self-in-Err : goal.invariant_of-self-in-Err
 invariant_of-self-in-Err c =
     let inside = c.self.inside in
-    let back = taken_back c.in-Some.record.now.handles c.add.new.self c.remove-held.new.self c.in-Ok.handle (record { object = c.args.object; place = c.args.place }) c.in-Ok.ensures.fresh c.in-Ok.ensures.ok c.remove-held.ensures.after in
+    let back = taken_back c.in-Some.record.now.handles c.add.new.self c.remove-held.new.self c.in-Ok.handle (record { object = c.args.object; export_order = c.args.export_order }) c.in-Ok.ensures.fresh c.in-Ok.ensures.ok c.remove-held.ensures.after in
     are-kept inside.open_limit inside.last_handle inside.clients.items c.args.client c.in-Some.record.now c.remove-held.new.self (sym c.in-Some.ensures.value) c.self.invariant c.note.new.self back (λ d u. ap (λ (m : GroupMap). has m d u) c.in-Err.ensures.err)
 
 pub returns-in-Err-clause-err : goal.returns-in-Err-clause-err
 returns-in-Err-clause-err c =
     let inside = c.self.inside in
-    let back = taken_back c.in-Some.record.now.handles c.add.new.self c.remove-held.new.self c.in-Ok.handle (record { object = c.args.object; place = c.args.place }) c.in-Ok.ensures.fresh c.in-Ok.ensures.ok c.remove-held.ensures.after in
+    let back = taken_back c.in-Some.record.now.handles c.add.new.self c.remove-held.new.self c.in-Ok.handle (record { object = c.args.object; export_order = c.args.export_order }) c.in-Ok.ensures.fresh c.in-Ok.ensures.ok c.remove-held.ensures.after in
     rewritten inside.open_limit inside.last_handle inside.clients.items c.args.client c.in-Some.record.now (with_both c.in-Some.record.now c.remove-held.new.self c.note.new.self) (sym c.in-Some.ensures.value) refl (ap (λ t. t.slots) back)
     ∙ c.self.view_is
 
@@ -92,5 +92,5 @@ returns-in-Err-clause-full c =
 pub invariant_of-self-2 : goal.invariant_of-self-2
 invariant_of-self-2 c =
     let inside = c.self.inside in
-    let made : Held = record { object = c.args.object; place = c.args.place } in
+    let made : Held = record { object = c.args.object; export_order = c.args.export_order } in
     are-added inside.open_limit inside.last_handle inside.clients.items c.args.client c.in-Some.record.now c.add.new.self (sym c.in-Some.ensures.value) c.self.invariant c.note.new.self c.in-Ok.handle made c.in-Ok.ensures.low c.in-Ok.ensures.high c.in-Ok.ensures.fresh c.in-Ok.ensures.ok (rw c.number.ensures at c.in_default-note.ensures.ok)

@@ -1,6 +1,6 @@
 use Rattle.std.proofs.Common.{refl, ap, sym, ◌∙◌, option_map, option_and_then}
 use Rattle.std.specs.FinMap as fin
-use Rattle.drm_files.specs.Files.{FileLists, without_hold}
+use Rattle.drm_files.specs.Files.{FileLists, without_handle_row}
 use Rattle.drm_files.specs.Records.{lists_of}
 use Rattle.drm_files.proofs.Calls.{dropped, object_is}
 use Rattle.drm_files.proofs.RecordFacts.{nobody, unchanged, are-unchanged, are-dropped, with_table, with_both}
@@ -9,8 +9,8 @@ use Rattle.drm_files.proofs.files.Files.drop_handle.Goals as goal
 pub unreachable-requires : goal.unreachable-requires
 unreachable-requires c =
     let inside = c.self.inside in
-    let present = rw (← c.self.view_is) at c.requires.present in
-    nobody inside.open_limit inside.last_handle inside.clients.items c.args.client present c.in_default.ensures.value
+    let open_client = rw (← c.self.view_is) at c.requires.open_client in
+    nobody inside.open_limit inside.last_handle inside.clients.items c.args.client open_client c.in_default.ensures.value
 
 pub invariant_of-self : goal.invariant_of-self
 invariant_of-self c =
@@ -29,7 +29,7 @@ pub returns-in_err-held-clause-dropped : goal.returns-in_err-held-clause-dropped
 returns-in_err-held-clause-dropped c =
     let inside = c.self.inside in
     dropped inside.open_limit inside.last_handle inside.clients.items c.args.client c.in-Some.record.now (with_table c.in-Some.record.now c.remove.new.self) c.args.handle (sym c.in-Some.ensures.value) refl (ap (λ t. t.slots) c.in_err-held.ensures.after)
-    ∙ ap (λ (l : FileLists). without_hold l c.args.client c.args.handle) c.self.view_is
+    ∙ ap (λ (l : FileLists). without_handle_row l c.args.client c.args.handle) c.self.view_is
 
 pub returns-in_err-held-clause-none : goal.returns-in_err-held-clause-none
 returns-in_err-held-clause-none c =
@@ -55,4 +55,4 @@ pub returns-clause-dropped : goal.returns-clause-dropped
 returns-clause-dropped c =
     let inside = c.self.inside in
     dropped inside.open_limit inside.last_handle inside.clients.items c.args.client c.in-Some.record.now (with_both c.in-Some.record.now c.remove.new.self c.forget.new.self) c.args.handle (sym c.in-Some.ensures.value) refl (ap (λ t. t.slots) c.in_ok-held.ensures.after)
-    ∙ ap (λ (l : FileLists). without_hold l c.args.client c.args.handle) c.self.view_is
+    ∙ ap (λ (l : FileLists). without_handle_row l c.args.client c.args.handle) c.self.view_is

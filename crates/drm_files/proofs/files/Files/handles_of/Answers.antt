@@ -6,8 +6,8 @@ use Rattle.drm_files.proofs.files.Files.handles_of.Goals as goal
 pub unreachable-requires : goal.unreachable-requires
 unreachable-requires c =
     let inside = c.self.inside in
-    let present = rw (← c.self.view_is) at c.requires.present in
-    nobody inside.open_limit inside.last_handle inside.clients.items c.args.client present c.in_default.ensures.value
+    let open_client = rw (← c.self.view_is) at c.requires.open_client in
+    nobody inside.open_limit inside.last_handle inside.clients.items c.args.client open_client c.in_default.ensures.value
 
 pub returns : goal.returns
 returns c =

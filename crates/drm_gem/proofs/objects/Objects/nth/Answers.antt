@@ -3,7 +3,7 @@ use Rattle.std.specs.FinMap as fin
 use Rattle.slab.specs.Slab.{get}
 use Rattle.drm_gem.specs.Fields.{object}
 use Rattle.drm_gem.specs.Objects.{ObjectSet, object_at}
-use Rattle.drm_gem.proofs.Records.{found, at_place}
+use Rattle.drm_gem.proofs.Records.{found, at_position}
 use Rattle.drm_gem.proofs.objects.Objects.nth.Goals as goal
 
 pub returns : goal.returns
@@ -15,6 +15,6 @@ returns c =
     ∙ sym (found keys kept c.self.invariant c.from_number.result)
     ∙ ap (λ k. option_map (object k) (get kept k)) c.from_number.ensures
     ∙ ap (option_and_then (λ k. option_map (object k) (get kept k))) c.in_ok-key.ensures.value
-    ∙ ap (option_and_then (λ b. option_and_then (λ k. option_map (object k) (get kept k)) (fin.get keys b))) c.in_ok-birth.ensures.nth
-    ∙ at_place keys kept c.self.invariant c.args.place
-    ∙ ap (λ (s : ObjectSet). slice_get s.objects c.args.place) c.self.view_is
+    ∙ ap (option_and_then (λ b. option_and_then (λ k. option_map (object k) (get kept k)) (fin.get keys b))) c.in_ok-step_number.ensures.nth
+    ∙ at_position keys kept c.self.invariant c.args.position
+    ∙ ap (λ (s : ObjectSet). slice_get s.objects c.args.position) c.self.view_is

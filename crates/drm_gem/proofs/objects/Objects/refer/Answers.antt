@@ -1,10 +1,10 @@
 use Rattle.std.proofs.Common.{◌∙◌}
 use Rattle.drm_gem.specs.Objects.{referred}
-use Rattle.drm_gem.proofs.Places.{birth_there, changed_there}
+use Rattle.drm_gem.proofs.Places.{step_number_there, changed_there}
 use Rattle.drm_gem.proofs.objects.Objects.refer.Goals as goal
 
 pub set-requires : goal.set-requires
-set-requires c = birth_there c.args.key c.args.self.now.objects c.there-object.result c.there-object.ensures.value
+set-requires c = step_number_there c.args.key c.args.self.now.objects c.there-object.result c.there-object.ensures.value
 
 pub returns : goal.returns
 returns c = c.set.ensures ∙ changed_there c.args.self.now c.args.key referred c.there-object.result c.there-object.ensures.rising c.there-object.ensures.value

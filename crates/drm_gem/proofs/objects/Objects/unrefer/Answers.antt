@@ -1,10 +1,10 @@
 use Rattle.std.proofs.Common.{sym, ◌∙◌}
 use Rattle.drm_gem.specs.Objects.{unreferred}
-use Rattle.drm_gem.proofs.Places.{birth_there, changed_there, without_there, dead-same}
+use Rattle.drm_gem.proofs.Places.{step_number_there, changed_there, without_there, dead-same}
 use Rattle.drm_gem.proofs.objects.Objects.unrefer.Goals as goal
 
 pub settle-requires : goal.settle-requires
-settle-requires c = birth_there c.args.key c.args.self.now.objects c.there-object.result c.there-object.ensures.value
+settle-requires c = step_number_there c.args.key c.args.self.now.objects c.there-object.result c.there-object.ensures.value
 
 pub returns-clause-dead : goal.returns-clause-dead
 returns-clause-dead c = c.settle.ensures.dead ∙ sym (dead-same c.args.key unreferred c.args.self.now.objects c.there-object.result c.there-object.ensures.rising c.there-object.ensures.value)

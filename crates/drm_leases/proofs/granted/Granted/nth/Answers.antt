@@ -8,7 +8,7 @@ use Rattle.drm_leases.proofs.granted.Granted.nth.Goals as goal
 pub returns-in_err-lessee : goal.returns-in_err-lessee
 returns-in_err-lessee c =
     let kept = c.self.inside.leases.items in
-    c.from_residual.ensures ∙ ap (option_and_then (λ m. option_map (λ v. lease_row (m, v)) (fin.get kept m))) c.in_err-lessee.ensures.nth ∙ lease_at kept c.args.place ∙ ap (λ (a : LeaseRows). slice_get a.rows c.args.place) c.self.view_is
+    c.from_residual.ensures ∙ ap (option_and_then (λ m. option_map (λ v. lease_row (m, v)) (fin.get kept m))) c.in_err-lessee.ensures.nth ∙ lease_at kept c.args.position ∙ ap (λ (a : LeaseRows). slice_get a.rows c.args.position) c.self.view_is
 
 pub returns-in_err-kept : goal.returns-in_err-kept
 returns-in_err-kept c =
@@ -16,7 +16,7 @@ returns-in_err-kept c =
     c.from_residual-in_err-kept.ensures
     ∙ ap (option_map (λ v. lease_row (c.in_ok-lessee.lessee, v))) c.in_err-kept.ensures.value
     ∙ ap (option_and_then (λ m. option_map (λ v. lease_row (m, v)) (fin.get kept m))) c.in_ok-lessee.ensures.nth
-    ∙ lease_at kept c.args.place ∙ ap (λ (a : LeaseRows). slice_get a.rows c.args.place) c.self.view_is
+    ∙ lease_at kept c.args.position ∙ ap (λ (a : LeaseRows). slice_get a.rows c.args.position) c.self.view_is
 
 pub returns : goal.returns
 returns c =
@@ -24,4 +24,4 @@ returns c =
     ap Some c.lease_of.ensures
     ∙ ap (option_map (λ v. lease_row (c.in_ok-lessee.lessee, v))) c.in_ok-kept.ensures.value
     ∙ ap (option_and_then (λ m. option_map (λ v. lease_row (m, v)) (fin.get kept m))) c.in_ok-lessee.ensures.nth
-    ∙ lease_at kept c.args.place ∙ ap (λ (a : LeaseRows). slice_get a.rows c.args.place) c.self.view_is
+    ∙ lease_at kept c.args.position ∙ ap (λ (a : LeaseRows). slice_get a.rows c.args.position) c.self.view_is

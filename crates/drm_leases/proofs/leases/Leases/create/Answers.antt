@@ -4,7 +4,7 @@ use Rattle.std.specs.List.{AllByRecursion}
 use Rattle.drm_masters.specs.declared.faults.LesseeFault.{LesseeFault}
 use Rattle.drm_masters.specs.declared.faults.LesseeFault.TheVariants.{Full, NoMemory as LesseeNoMemory}
 use Rattle.drm_masters.specs.declared.rows.Member.{Member}
-use Rattle.drm_masters.specs.Masters.{MasterSet, member_of, birth_at}
+use Rattle.drm_masters.specs.Masters.{MasterSet, member_of, step_number_at}
 use Rattle.drm_masters.specs.Calls.{MadeLessee}
 use Rattle.drm_leases.specs.declared.faults.LeaseFault.TheVariants.{NoMemory}
 use Rattle.drm_table.specs.Permit.{first_failing}
@@ -18,7 +18,7 @@ use Rattle.drm_leases.specs.Masks.{is_empty, objects_in, lease, grants_of, grant
 use Rattle.drm_leases.specs.Agreed.{IsAgreed, AreAgreed}
 use Rattle.drm_leases.specs.declared.rows.Leased.{Leased}
 use Rattle.drm_leases.proofs.Bits.{few_objects}
-use Rattle.drm_leases.proofs.Keyed.{keyed_birth}
+use Rattle.drm_leases.proofs.Keyed.{keyed_step_number}
 use Rattle.drm_leases.proofs.Denied.{passed, unlent, shaped, lease_filled, some_none, master_there}
 use Rattle.drm_leases.proofs.Sound.{still, lease_are, taken_back}
 use Rattle.drm_leases.proofs.Granting.{all_older, grants_both, lendings_both}
@@ -38,8 +38,8 @@ unreachable-requires-in_default-master c = some_none _ (master_there c.args.mast
 
 pub add-requires-clause-newest : goal.add-requires-clause-newest
 add-requires-clause-newest c =
-    let grants = subst (λ (v : LeaseSet). AllByRecursion (λ (g : Grant). g.master < c.args.birth) v.grants) (sym c.self.view_is) c.requires.new_lessee.grants in
-    all_older c.args.birth c.self.inside.granted.rows c.laws.ensures.full grants
+    let grants = subst (λ (v : LeaseSet). AllByRecursion (λ (g : Grant). g.master < c.args.step_number) v.grants) (sym c.self.view_is) c.requires.new_lessee.grants in
+    all_older c.args.step_number c.self.inside.granted.rows c.laws.ensures.full grants
 
 pub add-requires-clause-some : goal.add-requires-clause-some
 add-requires-clause-some c =
@@ -64,7 +64,7 @@ pub invariant_of-self-2 : goal.invariant_of-self-2
 invariant_of-self-2 c =
     let are : AreLeases c.args.self.now = subst AreLeases c.self.view_is c.self.invariant in
     let token = c.in-Some-next_token.token in
-    let m = c.args.birth in
+    let m = c.args.step_number in
     let lessor = c.in-Some.member.master in
     let all = leased c.args.self.now c.args.masters.now c.args.modes.now lessor c.args.universal c.args.ids.now in
     let objects = listed_objects c.args.modes.now.topology all in
@@ -81,56 +81,56 @@ invariant_of-self-2 c =
     still _ (with_lease token m lessor objects c.args.self.now) now
     (lease_are c.args.self.now are token m lessor objects c.requires.new_lessee next (objects_rise c.args.modes.now.topology all) few)
 
-not_made : (v new : MasterSet) (m birth : ℕ) (why : LesseeFault) → MadeLessee v m birth (Err why) new → new ≡ v
-not_made v new m birth Full h = h.1
-not_made v new m birth LesseeNoMemory h = h.1
+not_made : (v new : MasterSet) (m step_number : ℕ) (why : LesseeFault) → MadeLessee v m step_number (Err why) new → new ≡ v
+not_made v new m step_number Full h = h.1
+not_made v new m step_number LesseeNoMemory h = h.1
 
 pub invariant_of-self-in_default-make_lessee : goal.invariant_of-self-in_default-make_lessee
 invariant_of-self-in_default-make_lessee c =
     let are : AreLeases c.args.self.now = subst AreLeases c.self.view_is c.self.invariant in
-    let grants = subst (λ (v : LeaseSet). AllByRecursion (λ (g : Grant). g.master < c.args.birth) v.grants) (sym c.self.view_is) c.requires.new_lessee.grants in
+    let grants = subst (λ (v : LeaseSet). AllByRecursion (λ (g : Grant). g.master < c.args.step_number) v.grants) (sym c.self.view_is) c.requires.new_lessee.grants in
     let old = c.self.inside.granted.rows in
     let back : c.remove.new.self.rows ≡ old =
-    c.remove.ensures ∙ ap (filter (λ (x : Lease). not (x.lessee == c.args.birth))) c.in_default-add.ensures.ok ∙ taken_back old (lease c.args.birth c.in-Some.member.master c.listed_mask-objects.result) (all_older c.args.birth old c.laws.ensures.full grants) in
+    c.remove.ensures ∙ ap (filter (λ (x : Lease). not (x.lessee == c.args.step_number))) c.in_default-add.ensures.ok ∙ taken_back old (lease c.args.step_number c.in-Some.member.master c.listed_mask-objects.result) (all_older c.args.step_number old c.laws.ensures.full grants) in
     still _ c.args.self.now ((λ i. record (set_of c.self.inside) { tokens = c.reserve.ensures.items i; grants = grants_in (back i); lendings = lendings_in (back i) }) ∙ c.self.view_is) are
 
 pub returns-in_default-make_lessee-clause-created : goal.returns-in_default-make_lessee-clause-created
 returns-in_default-make_lessee-clause-created c =
     let v = c.args.self.now in
-    let grants = subst (λ (v : LeaseSet). AllByRecursion (λ (g : Grant). g.master < c.args.birth) v.grants) (sym c.self.view_is) c.requires.new_lessee.grants in
+    let grants = subst (λ (v : LeaseSet). AllByRecursion (λ (g : Grant). g.master < c.args.step_number) v.grants) (sym c.self.view_is) c.requires.new_lessee.grants in
     let old = c.self.inside.granted.rows in
     let back : c.remove.new.self.rows ≡ old =
-    c.remove.ensures ∙ ap (filter (λ (x : Lease). not (x.lessee == c.args.birth))) c.in_default-add.ensures.ok ∙ taken_back old (lease c.args.birth c.in-Some.member.master c.listed_mask-objects.result) (all_older c.args.birth old c.laws.ensures.full grants) in
+    c.remove.ensures ∙ ap (filter (λ (x : Lease). not (x.lessee == c.args.step_number))) c.in_default-add.ensures.ok ∙ taken_back old (lease c.args.step_number c.in-Some.member.master c.listed_mask-objects.result) (all_older c.args.step_number old c.laws.ensures.full grants) in
     let none : first_failing (lease_checks v c.args.masters.now c.args.modes.now c.in-Some.member.master c.args.universal c.args.ids.now) ≡ None = sym c.denied.ensures ∙ c.in_default-denied.is in
     let look : member_of c.args.masters.now.members c.args.client ≡ Some c.in-Some.member = sym c.member.ensures.member ∙ c.in-Some.is in
     let new : LeaseSet = record (set_of c.self.inside) { tokens = c.reserve.new.self.items; grants = grants_in c.remove.new.self.rows; lendings = lendings_in c.remove.new.self.rows } in
-    subst (λ o. IfSome o (λ (z : Member). Created v c.args.masters.now c.args.modes.now z.master c.args.universal c.args.ids.now c.args.birth (Err NoMemory) new c.make_lessee.new.self)) (sym look)
-    (none, (λ i. record (set_of c.self.inside) { tokens = c.reserve.ensures.items i; grants = grants_in (back i); lendings = lendings_in (back i) }) ∙ c.self.view_is, not_made c.args.masters.now c.make_lessee.new.self _ c.args.birth c.in_default-make_lessee.field-0 c.in_default-make_lessee.ensures.made)
+    subst (λ o. IfSome o (λ (z : Member). Created v c.args.masters.now c.args.modes.now z.master c.args.universal c.args.ids.now c.args.step_number (Err NoMemory) new c.make_lessee.new.self)) (sym look)
+    (none, (λ i. record (set_of c.self.inside) { tokens = c.reserve.ensures.items i; grants = grants_in (back i); lendings = lendings_in (back i) }) ∙ c.self.view_is, not_made c.args.masters.now c.make_lessee.new.self _ c.args.step_number c.in_default-make_lessee.field-0 c.in_default-make_lessee.ensures.made)
 
 pub returns-in_default-make_lessee-clause-err : goal.returns-in_default-make_lessee-clause-err
 returns-in_default-make_lessee-clause-err c =
     let v = c.args.self.now in
-    let grants = subst (λ (v : LeaseSet). AllByRecursion (λ (g : Grant). g.master < c.args.birth) v.grants) (sym c.self.view_is) c.requires.new_lessee.grants in
+    let grants = subst (λ (v : LeaseSet). AllByRecursion (λ (g : Grant). g.master < c.args.step_number) v.grants) (sym c.self.view_is) c.requires.new_lessee.grants in
     let old = c.self.inside.granted.rows in
     let back : c.remove.new.self.rows ≡ old =
-    c.remove.ensures ∙ ap (filter (λ (x : Lease). not (x.lessee == c.args.birth))) c.in_default-add.ensures.ok ∙ taken_back old (lease c.args.birth c.in-Some.member.master c.listed_mask-objects.result) (all_older c.args.birth old c.laws.ensures.full grants) in
+    c.remove.ensures ∙ ap (filter (λ (x : Lease). not (x.lessee == c.args.step_number))) c.in_default-add.ensures.ok ∙ taken_back old (lease c.args.step_number c.in-Some.member.master c.listed_mask-objects.result) (all_older c.args.step_number old c.laws.ensures.full grants) in
     ((λ i. record (set_of c.self.inside) { tokens = c.reserve.ensures.items i; grants = grants_in (back i); lendings = lendings_in (back i) }) ∙ c.self.view_is, c.in_default-make_lessee.ensures.err)
 
 pub returns-in_default-make_lessee-clause-agreed : goal.returns-in_default-make_lessee-clause-agreed
 returns-in_default-make_lessee-clause-agreed c =
     let v = c.args.masters.now in
-    let grants = subst (λ (v : LeaseSet). AllByRecursion (λ (g : Grant). g.master < c.args.birth) v.grants) (sym c.self.view_is) c.requires.new_lessee.grants in
+    let grants = subst (λ (v : LeaseSet). AllByRecursion (λ (g : Grant). g.master < c.args.step_number) v.grants) (sym c.self.view_is) c.requires.new_lessee.grants in
     let old = c.self.inside.granted.rows in
     let back : c.remove.new.self.rows ≡ old =
-    c.remove.ensures ∙ ap (filter (λ (x : Lease). not (x.lessee == c.args.birth))) c.in_default-add.ensures.ok ∙ taken_back old (lease c.args.birth c.in-Some.member.master c.listed_mask-objects.result) (all_older c.args.birth old c.laws.ensures.full grants) in
+    c.remove.ensures ∙ ap (filter (λ (x : Lease). not (x.lessee == c.args.step_number))) c.in_default-add.ensures.ok ∙ taken_back old (lease c.args.step_number c.in-Some.member.master c.listed_mask-objects.result) (all_older c.args.step_number old c.laws.ensures.full grants) in
     let lendings : lendings_in c.remove.new.self.rows ≡ c.args.self.now.lendings = ap lendings_in back ∙ ap (λ (a : LeaseSet). a.lendings) c.self.view_is in
     subst (λ xs. AllByRecursion (IsAgreed c.make_lessee.new.self.members c.make_lessee.new.self.masters) xs) (sym lendings)
-    (subst (λ (w : MasterSet). AreAgreed c.args.self.now w) (sym (not_made v c.make_lessee.new.self _ c.args.birth c.in_default-make_lessee.field-0 c.in_default-make_lessee.ensures.made)) c.requires.agreed)
+    (subst (λ (w : MasterSet). AreAgreed c.args.self.now w) (sym (not_made v c.make_lessee.new.self _ c.args.step_number c.in_default-make_lessee.field-0 c.in_default-make_lessee.ensures.made)) c.requires.agreed)
 
 pub returns-clause-created : goal.returns-clause-created
 returns-clause-created c =
     let token = c.in-Some-next_token.token in
-    let m = c.args.birth in
+    let m = c.args.step_number in
     let lessor = c.in-Some.member.master in
     let l = c.args.self.now in
     let v = c.args.masters.now in
@@ -145,7 +145,7 @@ returns-clause-created c =
     let grants : grants_in c.add.new.self.rows ≡ grants_in old ++ map (grant m) objects = ap grants_in c.in_default-add.ensures.ok ∙ grants_both old (new ∷ []) ∙ ap (λ l. grants_in old ++ l) (append-nil (grants_of new) ∙ ap (map (grant m)) listed) in
     let lendings : lendings_in c.add.new.self.rows ≡ lendings_in old ++ lending m lessor ∷ [] = ap lendings_in c.in_default-add.ensures.ok ∙ lendings_both old (new ∷ []) in
     let now = (λ i. record (set_of c.self.inside) { tokens = tokens i; grants = grants i; lendings = lendings i; last_given = Some token }) ∙ ap (with_lease token m lessor objects) c.self.view_is in
-    let key_is : birth_at v.masters c.in-Some-master.lessor.key ≡ lessor = keyed_birth v.masters lessor c.in-Some-master.lessor.key c.in-Some-master.ensures.keyed in
+    let key_is : step_number_at v.masters c.in-Some-master.lessor.key ≡ lessor = keyed_step_number v.masters lessor c.in-Some-master.lessor.key c.in-Some-master.ensures.keyed in
     let made = subst (λ k. MadeLessee v k m (Ok c.in-Ok.made) c.make_lessee.new.self) key_is c.in-Ok.ensures.made in
     let none : first_failing (lease_checks l v c.args.modes.now lessor c.args.universal c.args.ids.now) ≡ None = sym c.denied.ensures ∙ c.in_default-denied.is in
     let look : member_of v.members c.args.client ≡ Some c.in-Some.member = sym c.member.ensures.member ∙ c.in-Some.is in
@@ -156,14 +156,14 @@ returns-clause-created c =
 
 pub returns-clause-agreed : goal.returns-clause-agreed
 returns-clause-agreed c =
-    let m = c.args.birth in
+    let m = c.args.step_number in
     let lessor = c.in-Some.member.master in
     let v = c.args.masters.now in
     let old = c.self.inside.granted.rows in
     let new = lease m lessor c.listed_mask-objects.result in
     let lendings : lendings_in c.add.new.self.rows ≡ c.args.self.now.lendings ++ lending m lessor ∷ [] = ap lendings_in c.in_default-add.ensures.ok ∙ lendings_both old (new ∷ []) ∙ ap (λ (a : LeaseSet). a.lendings ++ lending m lessor ∷ []) c.self.view_is in
-    let key_is : birth_at v.masters c.in-Some-master.lessor.key ≡ lessor = keyed_birth v.masters lessor c.in-Some-master.lessor.key c.in-Some-master.ensures.keyed in
+    let key_is : step_number_at v.masters c.in-Some-master.lessor.key ≡ lessor = keyed_step_number v.masters lessor c.in-Some-master.lessor.key c.in-Some-master.ensures.keyed in
     let made = subst (λ k. MadeLessee v k m (Ok c.in-Ok.made) c.make_lessee.new.self) key_is c.in-Ok.ensures.made in
     subst (λ xs. AllByRecursion (IsAgreed c.make_lessee.new.self.members c.make_lessee.new.self.masters) xs) (sym lendings)
     (subst (λ (w : MasterSet). AllByRecursion (IsAgreed w.members w.masters) (c.args.self.now.lendings ++ lending m lessor ∷ [])) (sym made.2)
-    (agreed_lent v.members v.masters c.in-Ok.made.0 m lessor c.in-Ok.made.1 c.args.self.now.lendings c.requires.new_birth c.requires.agreed))
+    (agreed_lent v.members v.masters c.in-Ok.made.0 m lessor c.in-Ok.made.1 c.args.self.now.lendings c.requires.new_step_number c.requires.agreed))

@@ -9,11 +9,11 @@ use Rattle.drm_lists.specs.Orders.{InOrder}
 use Rattle.drm_masters.specs.declared.rows.Master.{Master}
 use Rattle.drm_masters.specs.declared.rows.Member.{Member}
 use Rattle.drm_masters.specs.Fields.{set_of}
-use Rattle.drm_masters.specs.Masters.{MasterSet, AreMasters, HasOlderLessor, member_of, is_birth, is_client, is_option, is_key, is_living, is_current, swept}
+use Rattle.drm_masters.specs.Masters.{MasterSet, AreMasters, HasOlderLessor, member_of, is_step_number, is_client, is_option, is_key, is_living, is_current, swept}
 use Rattle.drm_masters.specs.Calls as calls
 use Rattle.drm_masters.specs.Tables.{MemberRows}
 use Rattle.drm_masters.proofs.Upward.{OthersUsed}
-use Rattle.drm_masters.proofs.Pushed.{birth_below, pushed_older, taken_back}
+use Rattle.drm_masters.proofs.Pushed.{step_number_below, pushed_older, taken_back}
 use Rattle.drm_masters.proofs.Living.{Older}
 use Rattle.drm_masters.proofs.Owned.{unnamed_yet}
 use Rattle.drm_masters.proofs.Flagged.{current_in, no_device}
@@ -26,8 +26,8 @@ remake-requires c =
     let are : AreMasters v = subst AreMasters c.self.view_is c.self.invariant.are in
     let x = c.in-Some.old in
     let at : member_of v.members c.args.client ≡ Some x = sym (ap (λ (u : MasterSet). member_of u.members c.args.client) c.self.view_is) ∙ sym c.get.ensures ∙ c.in-Some.is in
-    let b = c.args.birth in
-    let lt = birth_below v.masters (calls.own_master 0 b) c.requires.new_birth x.master (master_there v are c.args.client x at) in
+    let b = c.args.step_number in
+    let lt = step_number_below v.masters (calls.founded_master 0 b) c.requires.new_step_number x.master (master_there v are c.args.client x at) in
     let look : member_of c.self.inside.members.items c.args.client ≡ Some x = ap (λ (u : MasterSet). member_of u.members c.args.client) c.self.view_is ∙ at in
     record {
       moves =
@@ -37,19 +37,19 @@ remake-requires c =
 
 pub remove-requires-clause-older : goal.remove-requires-clause-older
 remove-requires-clause-older c =
-    let z = calls.own_master c.in-Ok.key c.args.birth in
+    let z = calls.founded_master c.in-Ok.key c.args.step_number in
     let ms = c.self.inside.masters.items in
-    let newest = rw (← c.self.view_is) at c.requires.new_birth in
-    let masters : c.insert.new.self.items ≡ ms ++ z ∷ [] = c.in-Ok.ensures.ok ∙ ap (λ (x : Master). ms ++ calls.keyed_as c.in-Ok.key x ∷ []) c.own_master.ensures in
+    let newest = rw (← c.self.view_is) at c.requires.new_step_number in
+    let masters : c.insert.new.self.items ≡ ms ++ z ∷ [] = c.in-Ok.ensures.ok ∙ ap (λ (x : Master). ms ++ calls.keyed_as c.in-Ok.key x ∷ []) c.founded_master.ensures in
     subst Older (sym masters) (pushed_older ms z newest (λ l e. absurd (false≢true (ap is_some e))) c.self.invariant.are.lessors_older)
 
 pub remove-requires-clause-no_lessee : goal.remove-requires-clause-no_lessee
 remove-requires-clause-no_lessee c =
-    let z = calls.own_master c.in-Ok.key c.args.birth in
+    let z = calls.founded_master c.in-Ok.key c.args.step_number in
     let ms = c.self.inside.masters.items in
-    let newest = rw (← c.self.view_is) at c.requires.new_birth in
-    let masters : c.insert.new.self.items ≡ ms ++ z ∷ [] = c.in-Ok.ensures.ok ∙ ap (λ (x : Master). ms ++ calls.keyed_as c.in-Ok.key x ∷ []) c.own_master.ensures in
-    subst (λ l. list_any (λ (y : Master). is_option c.args.birth y.lessor) l ≡ false) (sym masters) (unnamed_yet ms z newest c.self.invariant.are.lessors_older refl)
+    let newest = rw (← c.self.view_is) at c.requires.new_step_number in
+    let masters : c.insert.new.self.items ≡ ms ++ z ∷ [] = c.in-Ok.ensures.ok ∙ ap (λ (x : Master). ms ++ calls.keyed_as c.in-Ok.key x ∷ []) c.founded_master.ensures in
+    subst (λ l. list_any (λ (y : Master). is_option c.args.step_number y.lessor) l ≡ false) (sym masters) (unnamed_yet ms z newest c.self.invariant.are.lessors_older refl)
 
 pub invariant_of-self-in-Err-remake : goal.invariant_of-self-in-Err-remake
 invariant_of-self-in-Err-remake c =
@@ -57,19 +57,19 @@ invariant_of-self-in-Err-remake c =
     let are : AreMasters v = subst AreMasters c.self.view_is c.self.invariant.are in
     let keyed : Keyed v.masters = subst (λ (w : MasterSet). Keyed w.masters) c.self.view_is c.self.invariant.keyed in
     let old : (k : ℕ) → set.contains c.self.inside.members.flags k ≡ is_current v k = λ k. c.self.invariant.flagged k ∙ ap (λ (w : MasterSet). is_current w k) c.self.view_is in
-    let z = calls.own_master c.in-Ok.key c.args.birth in
-    let newest = rw (← c.self.view_is) at c.requires.new_birth in
-    let masters : c.insert.new.self.items ≡ c.self.inside.masters.items ++ z ∷ [] = c.in-Ok.ensures.ok ∙ ap (λ (x : Master). c.self.inside.masters.items ++ calls.keyed_as c.in-Ok.key x ∷ []) c.own_master.ensures in
-    let back : c.remove.new.self.items ≡ c.self.inside.masters.items = c.remove.ensures ∙ ap (filter (λ (x : Master). not (is_birth c.args.birth x))) masters ∙ taken_back c.self.inside.masters.items z newest in
+    let z = calls.founded_master c.in-Ok.key c.args.step_number in
+    let newest = rw (← c.self.view_is) at c.requires.new_step_number in
+    let masters : c.insert.new.self.items ≡ c.self.inside.masters.items ++ z ∷ [] = c.in-Ok.ensures.ok ∙ ap (λ (x : Master). c.self.inside.masters.items ++ calls.keyed_as c.in-Ok.key x ∷ []) c.founded_master.ensures in
+    let back : c.remove.new.self.items ≡ c.self.inside.masters.items = c.remove.ensures ∙ ap (filter (λ (x : Master). not (is_step_number c.args.step_number x))) masters ∙ taken_back c.self.inside.masters.items z newest in
     let path = (λ i. record (set_of c.self.inside) { members = (c.in-Err-remake.ensures.err i).items; masters = back i }) ∙ c.self.view_is in
     sound _ v path are keyed (λ k. ap (λ (m : MemberRows). set.contains m.flags k) c.in-Err-remake.ensures.err ∙ old k)
 
 pub returns-in-Err-remake-clause-err : goal.returns-in-Err-remake-clause-err
 returns-in-Err-remake-clause-err c =
-    let z = calls.own_master c.in-Ok.key c.args.birth in
-    let newest = rw (← c.self.view_is) at c.requires.new_birth in
-    let masters : c.insert.new.self.items ≡ c.self.inside.masters.items ++ z ∷ [] = c.in-Ok.ensures.ok ∙ ap (λ (x : Master). c.self.inside.masters.items ++ calls.keyed_as c.in-Ok.key x ∷ []) c.own_master.ensures in
-    let back : c.remove.new.self.items ≡ c.self.inside.masters.items = c.remove.ensures ∙ ap (filter (λ (x : Master). not (is_birth c.args.birth x))) masters ∙ taken_back c.self.inside.masters.items z newest in
+    let z = calls.founded_master c.in-Ok.key c.args.step_number in
+    let newest = rw (← c.self.view_is) at c.requires.new_step_number in
+    let masters : c.insert.new.self.items ≡ c.self.inside.masters.items ++ z ∷ [] = c.in-Ok.ensures.ok ∙ ap (λ (x : Master). c.self.inside.masters.items ++ calls.keyed_as c.in-Ok.key x ∷ []) c.founded_master.ensures in
+    let back : c.remove.new.self.items ≡ c.self.inside.masters.items = c.remove.ensures ∙ ap (filter (λ (x : Master). not (is_step_number c.args.step_number x))) masters ∙ taken_back c.self.inside.masters.items z newest in
     let path = (λ i. record (set_of c.self.inside) { members = (c.in-Err-remake.ensures.err i).items; masters = back i }) ∙ c.self.view_is in
     path
 
@@ -77,57 +77,45 @@ pub sweep_up-requires-clause-rise : goal.sweep_up-requires-clause-rise
 sweep_up-requires-clause-rise c =
     let v = c.args.self.now in
     let are : AreMasters v = subst AreMasters c.self.view_is c.self.invariant.are in
-    let keyed : Keyed v.masters = subst (λ (w : MasterSet). Keyed w.masters) c.self.view_is c.self.invariant.keyed in
-    let old : (k : ℕ) → set.contains c.self.inside.members.flags k ≡ is_current v k = λ k. c.self.invariant.flagged k ∙ ap (λ (w : MasterSet). is_current w k) c.self.view_is in
     let x = c.in-Some.old in
     let look : member_of v.members c.args.client ≡ Some x = sym (ap (λ (u : MasterSet). member_of u.members c.args.client) c.self.view_is) ∙ sym c.get.ensures ∙ c.in-Some.is in
     let is = client_found v.members c.args.client x look in
-    let b = c.args.birth in
+    let b = c.args.step_number in
     let key = c.in-Ok.key in
     let y = calls.owner c.args.client b in
-    let z = calls.own_master key b in
-    let t = remade_ties v are x y is.1 (sym is.0) z refl refl refl refl c.requires.new_birth in
-    let items : c.remake.new.self.items ≡ map (λ (u : Member). if is_client y.client u then y else u) c.self.inside.members.items = c.in_default-remake.ensures.rows ∙ ap (λ (z : Member). map (λ (u : Member). if is_client z.client u then z else u) c.self.inside.members.items) c.owner.ensures in
-    let masters : c.insert.new.self.items ≡ c.self.inside.masters.items ++ z ∷ [] = c.in-Ok.ensures.ok ∙ ap (λ (u : Master). c.self.inside.masters.items ++ calls.keyed_as key u ∷ []) c.own_master.ensures in
-    let new = calls.with_device (Some b) (calls.changed_member y (calls.with_master z v)) in
-    subst (λ l. InOrder (λ (u v : Master). u.birth < v.birth) l) (sym (masters ∙ ap (λ (u : MasterSet). u.masters ++ z ∷ []) c.self.view_is)) t.masters_rise
+    let z = calls.founded_master key b in
+    let t = remade_ties v are x y is.1 (sym is.0) z refl refl refl refl c.requires.new_step_number in
+    let masters : c.insert.new.self.items ≡ c.self.inside.masters.items ++ z ∷ [] = c.in-Ok.ensures.ok ∙ ap (λ (u : Master). c.self.inside.masters.items ++ calls.keyed_as key u ∷ []) c.founded_master.ensures in
+    subst (λ l. InOrder (λ (u v : Master). u.step_number < v.step_number) l) (sym (masters ∙ ap (λ (u : MasterSet). u.masters ++ z ∷ []) c.self.view_is)) t.masters_rise
 
 pub sweep_up-requires-clause-older : goal.sweep_up-requires-clause-older
 sweep_up-requires-clause-older c =
     let v = c.args.self.now in
     let are : AreMasters v = subst AreMasters c.self.view_is c.self.invariant.are in
-    let keyed : Keyed v.masters = subst (λ (w : MasterSet). Keyed w.masters) c.self.view_is c.self.invariant.keyed in
-    let old : (k : ℕ) → set.contains c.self.inside.members.flags k ≡ is_current v k = λ k. c.self.invariant.flagged k ∙ ap (λ (w : MasterSet). is_current w k) c.self.view_is in
     let x = c.in-Some.old in
     let look : member_of v.members c.args.client ≡ Some x = sym (ap (λ (u : MasterSet). member_of u.members c.args.client) c.self.view_is) ∙ sym c.get.ensures ∙ c.in-Some.is in
     let is = client_found v.members c.args.client x look in
-    let b = c.args.birth in
+    let b = c.args.step_number in
     let key = c.in-Ok.key in
     let y = calls.owner c.args.client b in
-    let z = calls.own_master key b in
-    let t = remade_ties v are x y is.1 (sym is.0) z refl refl refl refl c.requires.new_birth in
-    let items : c.remake.new.self.items ≡ map (λ (u : Member). if is_client y.client u then y else u) c.self.inside.members.items = c.in_default-remake.ensures.rows ∙ ap (λ (z : Member). map (λ (u : Member). if is_client z.client u then z else u) c.self.inside.members.items) c.owner.ensures in
-    let masters : c.insert.new.self.items ≡ c.self.inside.masters.items ++ z ∷ [] = c.in-Ok.ensures.ok ∙ ap (λ (u : Master). c.self.inside.masters.items ++ calls.keyed_as key u ∷ []) c.own_master.ensures in
-    let new = calls.with_device (Some b) (calls.changed_member y (calls.with_master z v)) in
+    let z = calls.founded_master key b in
+    let t = remade_ties v are x y is.1 (sym is.0) z refl refl refl refl c.requires.new_step_number in
+    let masters : c.insert.new.self.items ≡ c.self.inside.masters.items ++ z ∷ [] = c.in-Ok.ensures.ok ∙ ap (λ (u : Master). c.self.inside.masters.items ++ calls.keyed_as key u ∷ []) c.founded_master.ensures in
     subst (λ l. AllByRecursion (HasOlderLessor l) l) (sym (masters ∙ ap (λ (u : MasterSet). u.masters ++ z ∷ []) c.self.view_is)) t.lessors_older
 
 pub sweep_up-requires-clause-others : goal.sweep_up-requires-clause-others
 sweep_up-requires-clause-others c =
     let v = c.args.self.now in
     let are : AreMasters v = subst AreMasters c.self.view_is c.self.invariant.are in
-    let keyed : Keyed v.masters = subst (λ (w : MasterSet). Keyed w.masters) c.self.view_is c.self.invariant.keyed in
-    let old : (k : ℕ) → set.contains c.self.inside.members.flags k ≡ is_current v k = λ k. c.self.invariant.flagged k ∙ ap (λ (w : MasterSet). is_current w k) c.self.view_is in
     let x = c.in-Some.old in
     let look : member_of v.members c.args.client ≡ Some x = sym (ap (λ (u : MasterSet). member_of u.members c.args.client) c.self.view_is) ∙ sym c.get.ensures ∙ c.in-Some.is in
     let is = client_found v.members c.args.client x look in
-    let b = c.args.birth in
+    let b = c.args.step_number in
     let key = c.in-Ok.key in
     let y = calls.owner c.args.client b in
-    let z = calls.own_master key b in
-    let t = remade_ties v are x y is.1 (sym is.0) z refl refl refl refl c.requires.new_birth in
+    let z = calls.founded_master key b in
     let items : c.remake.new.self.items ≡ map (λ (u : Member). if is_client y.client u then y else u) c.self.inside.members.items = c.in_default-remake.ensures.rows ∙ ap (λ (z : Member). map (λ (u : Member). if is_client z.client u then z else u) c.self.inside.members.items) c.owner.ensures in
-    let masters : c.insert.new.self.items ≡ c.self.inside.masters.items ++ z ∷ [] = c.in-Ok.ensures.ok ∙ ap (λ (u : Master). c.self.inside.masters.items ++ calls.keyed_as key u ∷ []) c.own_master.ensures in
-    let new = calls.with_device (Some b) (calls.changed_member y (calls.with_master z v)) in
+    let masters : c.insert.new.self.items ≡ c.self.inside.masters.items ++ z ∷ [] = c.in-Ok.ensures.ok ∙ ap (λ (u : Master). c.self.inside.masters.items ++ calls.keyed_as key u ∷ []) c.founded_master.ensures in
     let Used = λ (m : List Member) (l : List Master). OthersUsed m l x.master in
     let members : c.remake.new.self.items ≡ (calls.changed_member y v).members = items ∙ ap (λ (u : MasterSet). (calls.changed_member y u).members) c.self.view_is in
     let rows : c.insert.new.self.items ≡ v.masters ++ z ∷ [] = masters ∙ ap (λ (u : MasterSet). u.masters ++ z ∷ []) c.self.view_is in
@@ -137,21 +125,19 @@ pub flag_current-requires-clause-older : goal.flag_current-requires-clause-older
 flag_current-requires-clause-older c =
     let v = c.args.self.now in
     let are : AreMasters v = subst AreMasters c.self.view_is c.self.invariant.are in
-    let keyed : Keyed v.masters = subst (λ (w : MasterSet). Keyed w.masters) c.self.view_is c.self.invariant.keyed in
-    let old : (k : ℕ) → set.contains c.self.inside.members.flags k ≡ is_current v k = λ k. c.self.invariant.flagged k ∙ ap (λ (w : MasterSet). is_current w k) c.self.view_is in
     let x = c.in-Some.old in
     let look : member_of v.members c.args.client ≡ Some x = sym (ap (λ (u : MasterSet). member_of u.members c.args.client) c.self.view_is) ∙ sym c.get.ensures ∙ c.in-Some.is in
     let is = client_found v.members c.args.client x look in
-    let b = c.args.birth in
+    let b = c.args.step_number in
     let key = c.in-Ok.key in
     let y = calls.owner c.args.client b in
-    let z = calls.own_master key b in
-    let t = remade_ties v are x y is.1 (sym is.0) z refl refl refl refl c.requires.new_birth in
+    let z = calls.founded_master key b in
+    let t = remade_ties v are x y is.1 (sym is.0) z refl refl refl refl c.requires.new_step_number in
     let items : c.remake.new.self.items ≡ map (λ (u : Member). if is_client y.client u then y else u) c.self.inside.members.items = c.in_default-remake.ensures.rows ∙ ap (λ (z : Member). map (λ (u : Member). if is_client z.client u then z else u) c.self.inside.members.items) c.owner.ensures in
-    let masters : c.insert.new.self.items ≡ c.self.inside.masters.items ++ z ∷ [] = c.in-Ok.ensures.ok ∙ ap (λ (u : Master). c.self.inside.masters.items ++ calls.keyed_as key u ∷ []) c.own_master.ensures in
+    let masters : c.insert.new.self.items ≡ c.self.inside.masters.items ++ z ∷ [] = c.in-Ok.ensures.ok ∙ ap (λ (u : Master). c.self.inside.masters.items ++ calls.keyed_as key u ∷ []) c.founded_master.ensures in
     let new = calls.with_device (Some b) (calls.changed_member y (calls.with_master z v)) in
     let mem = c.remake.new.self.items in
-    let left = λ (l : List Member) (ms : List Master). let r : MasterSet = record { members = l; masters = filter (λ (u : Master). is_living l ms u.birth) ms; device_master = Some b; last_magic = c.self.inside.last_magic; last_lessee = c.self.inside.last_lessee } in r in
+    let left = λ (l : List Member) (ms : List Master). let r : MasterSet = record { members = l; masters = filter (λ (u : Master). is_living l ms u.step_number) ms; device_master = Some b; last_magic = c.self.inside.last_magic; last_lessee = c.self.inside.last_lessee } in r in
     let swept_is : left mem c.insert.new.self.items ≡ swept new = (λ i. left (items i) (masters i)) ∙ ap (λ (u : MasterSet). swept (calls.with_device (Some b) (calls.changed_member y (calls.with_master z u)))) c.self.view_is in
     subst (λ l. AllByRecursion (HasOlderLessor l) l) (sym (c.sweep_up.ensures ∙ ap (λ (u : MasterSet). u.masters) swept_is)) (swept_are new t).lessors_older
 
@@ -159,26 +145,21 @@ pub flag_current-requires-clause-rise : goal.flag_current-requires-clause-rise
 flag_current-requires-clause-rise c =
     let v = c.args.self.now in
     let are : AreMasters v = subst AreMasters c.self.view_is c.self.invariant.are in
-    let keyed : Keyed v.masters = subst (λ (w : MasterSet). Keyed w.masters) c.self.view_is c.self.invariant.keyed in
-    let old : (k : ℕ) → set.contains c.self.inside.members.flags k ≡ is_current v k = λ k. c.self.invariant.flagged k ∙ ap (λ (w : MasterSet). is_current w k) c.self.view_is in
     let x = c.in-Some.old in
     let look : member_of v.members c.args.client ≡ Some x = sym (ap (λ (u : MasterSet). member_of u.members c.args.client) c.self.view_is) ∙ sym c.get.ensures ∙ c.in-Some.is in
     let is = client_found v.members c.args.client x look in
-    let b = c.args.birth in
+    let b = c.args.step_number in
     let key = c.in-Ok.key in
     let y = calls.owner c.args.client b in
-    let z = calls.own_master key b in
-    let t = remade_ties v are x y is.1 (sym is.0) z refl refl refl refl c.requires.new_birth in
+    let z = calls.founded_master key b in
+    let t = remade_ties v are x y is.1 (sym is.0) z refl refl refl refl c.requires.new_step_number in
     let items : c.remake.new.self.items ≡ map (λ (u : Member). if is_client y.client u then y else u) c.self.inside.members.items = c.in_default-remake.ensures.rows ∙ ap (λ (z : Member). map (λ (u : Member). if is_client z.client u then z else u) c.self.inside.members.items) c.owner.ensures in
-    let masters : c.insert.new.self.items ≡ c.self.inside.masters.items ++ z ∷ [] = c.in-Ok.ensures.ok ∙ ap (λ (u : Master). c.self.inside.masters.items ++ calls.keyed_as key u ∷ []) c.own_master.ensures in
     let new = calls.with_device (Some b) (calls.changed_member y (calls.with_master z v)) in
     subst (λ (l : List Member). InOrder (λ (u v : Member). u.client < v.client) l) (sym (items ∙ ap (λ (u : MasterSet). (calls.changed_member y u).members) c.self.view_is)) (swept_are new t).members_rise
 
 pub flag_current-requires-clause-unflagged : goal.flag_current-requires-clause-unflagged
 flag_current-requires-clause-unflagged c = λ k.
     let v = c.args.self.now in
-    let are : AreMasters v = subst AreMasters c.self.view_is c.self.invariant.are in
-    let keyed : Keyed v.masters = subst (λ (w : MasterSet). Keyed w.masters) c.self.view_is c.self.invariant.keyed in
     let old : (k : ℕ) → set.contains c.self.inside.members.flags k ≡ is_current v k = λ k. c.self.invariant.flagged k ∙ ap (λ (w : MasterSet). is_current w k) c.self.view_is in
     ap (λ (s : set.FinSet nat_cmp). set.contains s k) c.remake.ensures.flags ∙ old k ∙ ap (λ d. current_in v.members v.masters d k) c.requires.none ∙ no_device v.members v.masters k
 
@@ -187,24 +168,23 @@ invariant_of-self-2 c =
     let v = c.args.self.now in
     let are : AreMasters v = subst AreMasters c.self.view_is c.self.invariant.are in
     let keyed : Keyed v.masters = subst (λ (w : MasterSet). Keyed w.masters) c.self.view_is c.self.invariant.keyed in
-    let old : (k : ℕ) → set.contains c.self.inside.members.flags k ≡ is_current v k = λ k. c.self.invariant.flagged k ∙ ap (λ (w : MasterSet). is_current w k) c.self.view_is in
     let x = c.in-Some.old in
     let look : member_of v.members c.args.client ≡ Some x = sym (ap (λ (u : MasterSet). member_of u.members c.args.client) c.self.view_is) ∙ sym c.get.ensures ∙ c.in-Some.is in
     let is = client_found v.members c.args.client x look in
-    let b = c.args.birth in
+    let b = c.args.step_number in
     let key = c.in-Ok.key in
     let y = calls.owner c.args.client b in
-    let z = calls.own_master key b in
-    let t = remade_ties v are x y is.1 (sym is.0) z refl refl refl refl c.requires.new_birth in
+    let z = calls.founded_master key b in
+    let t = remade_ties v are x y is.1 (sym is.0) z refl refl refl refl c.requires.new_step_number in
     let items : c.remake.new.self.items ≡ map (λ (u : Member). if is_client y.client u then y else u) c.self.inside.members.items = c.in_default-remake.ensures.rows ∙ ap (λ (z : Member). map (λ (u : Member). if is_client z.client u then z else u) c.self.inside.members.items) c.owner.ensures in
-    let masters : c.insert.new.self.items ≡ c.self.inside.masters.items ++ z ∷ [] = c.in-Ok.ensures.ok ∙ ap (λ (u : Master). c.self.inside.masters.items ++ calls.keyed_as key u ∷ []) c.own_master.ensures in
+    let masters : c.insert.new.self.items ≡ c.self.inside.masters.items ++ z ∷ [] = c.in-Ok.ensures.ok ∙ ap (λ (u : Master). c.self.inside.masters.items ++ calls.keyed_as key u ∷ []) c.founded_master.ensures in
     let new = calls.with_device (Some b) (calls.changed_member y (calls.with_master z v)) in
     let mem = c.remake.new.self.items in
-    let left = λ (l : List Member) (ms : List Master). let r : MasterSet = record { members = l; masters = filter (λ (u : Master). is_living l ms u.birth) ms; device_master = Some b; last_magic = c.self.inside.last_magic; last_lessee = c.self.inside.last_lessee } in r in
+    let left = λ (l : List Member) (ms : List Master). let r : MasterSet = record { members = l; masters = filter (λ (u : Master). is_living l ms u.step_number) ms; device_master = Some b; last_magic = c.self.inside.last_magic; last_lessee = c.self.inside.last_lessee } in r in
     let swept_is : left mem c.insert.new.self.items ≡ swept new = (λ i. left (items i) (masters i)) ∙ ap (λ (u : MasterSet). swept (calls.with_device (Some b) (calls.changed_member y (calls.with_master z u)))) c.self.view_is in
     let path : left mem c.insert.new.self.items ≡ swept new = swept_is in
     sound _ (swept new)
     ((λ i. record (set_of c.self.inside) { members = (c.flag_current.ensures.rows i); masters = c.sweep_up.ensures i; device_master = Some b }) ∙ path)
     (swept_are new t)
-    (keyed_fewer new.masters (λ (u : Master). is_living new.members new.masters u.birth) (keyed_more v.masters z key keyed (ap (λ (w : MasterSet). find (is_key key) w.masters) (sym c.self.view_is) ∙ c.in-Ok.ensures.free) refl))
+    (keyed_fewer new.masters (λ (u : Master). is_living new.members new.masters u.step_number) (keyed_more v.masters z key keyed (ap (λ (w : MasterSet). find (is_key key) w.masters) (sym c.self.view_is) ∙ c.in-Ok.ensures.free) refl))
     (λ k. c.flag_current.ensures.flags k ∙ (λ i. current_in mem (c.sweep_up.ensures i) (Some b) k) ∙ ap (λ (u : MasterSet). is_current u k) path)

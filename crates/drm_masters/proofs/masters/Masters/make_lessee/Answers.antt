@@ -4,20 +4,17 @@ use Rattle.std.specs.Option.{is_some}
 use Rattle.drm_index_array.proofs.Least.{least_some}
 use Rattle.drm_masters.specs.declared.rows.Master.{Master}
 use Rattle.drm_masters.specs.Fields.{set_of}
-use Rattle.drm_masters.specs.Masters.{MasterSet, AreMasters, master_at, birth_at, is_key, is_current, owner_of, is_lessee_of, free_lessee}
+use Rattle.drm_masters.specs.Masters.{MasterSet, AreMasters, master_at, step_number_at, is_key, is_current, owner_of, is_lessee_of, free_lessee}
 use Rattle.drm_masters.specs.Calls as calls
 use Rattle.drm_masters.proofs.Sound.{Keyed, sound, lessee_are, keyed_more, pushed_same, of_key}
 use Rattle.std.specs.FinSet as set
 use Rattle.drm_masters.proofs.masters.Masters.make_lessee.Goals as goal
-
-not_true : (b : Bool) → not b ≡ true → b ≡ false
-not_true true e = sym e
-not_true false e = refl
+use Rattle.std.proofs.lemmas.Bool.{not-true}
 
 pub insert-requires-clause-there : goal.insert-requires-clause-there
 insert-requires-clause-there c =
     let ms = c.self.inside.masters.items in
-    let m = c.in-Some.lessor.birth in
+    let m = c.in-Some.lessor.step_number in
     let there = (of_key ms c.args.master c.in-Some.lessor (sym c.of_key.ensures ∙ c.in-Some.is)).1 in
     subst (λ (u : Master). (l : ℕ) → u.lessor ≡ Some l → is_some (master_at ms l) ≡ true) (sym c.lessee.ensures)
     (λ l e. subst (λ n. is_some (master_at ms n) ≡ true) (let s : Some m ≡ Some l = e in let t : m ≡ l = cc in t) there)
@@ -25,40 +22,38 @@ insert-requires-clause-there c =
 pub insert-requires-clause-other_id : goal.insert-requires-clause-other_id
 insert-requires-clause-other_id c =
     let ms = c.self.inside.masters.items in
-    let m = c.in-Some.lessor.birth in
+    let m = c.in-Some.lessor.step_number in
     let id = c.in-Some-free_lessee.id in
     let free : free_lessee (set_of c.self.inside) m ≡ Some id = ap (λ (w : MasterSet). free_lessee w m) c.self.view_is ∙ sym c.free_lessee.ensures ∙ c.in-Some-free_lessee.is in
     let is = least_some (λ k. not (list_any (is_lessee_of ms (owner_of ms m) k) ms)) 1 c.self.inside.last_lessee id free in
     subst (λ (u : Master). (l : ℕ) → u.lessor ≡ Some l → list_any (is_lessee_of ms (owner_of ms l) u.lessee_id) ms ≡ false) (sym c.lessee.ensures)
-    (λ l e. subst (λ n. list_any (is_lessee_of ms (owner_of ms n) id) ms ≡ false) (let s : Some m ≡ Some l = e in let t : m ≡ l = cc in t) (not_true (list_any (is_lessee_of ms (owner_of ms m) id) ms) is.passes))
+    (λ l e. subst (λ n. list_any (is_lessee_of ms (owner_of ms n) id) ms ≡ false) (let s : Some m ≡ Some l = e in let t : m ≡ l = cc in t) (not-true (list_any (is_lessee_of ms (owner_of ms m) id) ms) is.passes))
 
 pub invariant_of-self-2 : goal.invariant_of-self-2
 invariant_of-self-2 c =
     let are : AreMasters c.args.self.now = subst AreMasters c.self.view_is c.self.invariant.are in
     let keyed : Keyed c.args.self.now.masters = subst (λ (w : MasterSet). Keyed w.masters) c.self.view_is c.self.invariant.keyed in
     let old : (k : ℕ) → set.contains c.self.inside.members.flags k ≡ is_current c.args.self.now k = λ k. c.self.invariant.flagged k ∙ ap (λ (w : MasterSet). is_current w k) c.self.view_is in
-    let m = c.in-Some.lessor.birth in
-    let z = calls.lessee c.in-Ok.key c.args.birth m c.in-Some-free_lessee.id in
+    let m = c.in-Some.lessor.step_number in
+    let z = calls.lessee c.in-Ok.key c.args.step_number m c.in-Some-free_lessee.id in
     let found : find (is_key c.args.master) c.args.self.now.masters ≡ Some c.in-Some.lessor = sym (ap (λ (w : MasterSet). find (is_key c.args.master) w.masters) c.self.view_is) ∙ sym c.of_key.ensures ∙ c.in-Some.is in
     let masters : c.insert.new.self.items ≡ c.self.inside.masters.items ++ z ∷ [] = c.in-Ok.ensures.ok ∙ ap (λ (x : Master). c.self.inside.masters.items ++ calls.keyed_as c.in-Ok.key x ∷ []) c.lessee.ensures in
     let there = (of_key c.args.self.now.masters c.args.master c.in-Some.lessor found).1 in
     sound _ (calls.with_master z c.args.self.now) ((λ i. record (set_of c.self.inside) { masters = masters i }) ∙ ap (calls.with_master z) c.self.view_is)
-    (lessee_are c.args.self.now are z refl (λ l e. subst (λ n. is_some (master_at c.args.self.now.masters n) ≡ true) (let s : Some m ≡ Some l = e in let t : m ≡ l = cc in t) there) c.requires.new_birth)
+    (lessee_are c.args.self.now are z refl (λ l e. subst (λ n. is_some (master_at c.args.self.now.masters n) ≡ true) (let s : Some m ≡ Some l = e in let t : m ≡ l = cc in t) there) c.requires.new_step_number)
     (keyed_more c.args.self.now.masters z c.in-Ok.key keyed (ap (λ (w : MasterSet). find (is_key c.in-Ok.key) w.masters) (sym c.self.view_is) ∙ c.in-Ok.ensures.free) refl)
-    (λ k. old k ∙ sym (pushed_same c.args.self.now are z c.requires.new_birth k))
+    (λ k. old k ∙ sym (pushed_same c.args.self.now are z c.requires.new_step_number k))
 
 pub returns-clause-made : goal.returns-clause-made
 returns-clause-made c =
-    let are : AreMasters c.args.self.now = subst AreMasters c.self.view_is c.self.invariant.are in
-    let keyed : Keyed c.args.self.now.masters = subst (λ (w : MasterSet). Keyed w.masters) c.self.view_is c.self.invariant.keyed in
-    let m = c.in-Some.lessor.birth in
+    let m = c.in-Some.lessor.step_number in
     let id = c.in-Some-free_lessee.id in
     let found : find (is_key c.args.master) c.args.self.now.masters ≡ Some c.in-Some.lessor = sym (ap (λ (w : MasterSet). find (is_key c.args.master) w.masters) c.self.view_is) ∙ sym c.of_key.ensures ∙ c.in-Some.is in
-    let at : birth_at c.args.self.now.masters c.args.master ≡ m = (of_key c.args.self.now.masters c.args.master c.in-Some.lessor found).0 in
-    let z = calls.lessee c.in-Ok.key c.args.birth m id in
+    let at : step_number_at c.args.self.now.masters c.args.master ≡ m = (of_key c.args.self.now.masters c.args.master c.in-Some.lessor found).0 in
+    let z = calls.lessee c.in-Ok.key c.args.step_number m id in
     let masters : c.insert.new.self.items ≡ c.self.inside.masters.items ++ z ∷ [] = c.in-Ok.ensures.ok ∙ ap (λ (x : Master). c.self.inside.masters.items ++ calls.keyed_as c.in-Ok.key x ∷ []) c.lessee.ensures in
     let free : free_lessee c.args.self.now m ≡ Some id = sym c.free_lessee.ensures ∙ c.in-Some-free_lessee.is in (
       ap (λ (w : MasterSet). find (is_key c.in-Ok.key) w.masters) (sym c.self.view_is) ∙ c.in-Ok.ensures.free,
       ap (free_lessee c.args.self.now) at ∙ free,
-      (λ i. record (set_of c.self.inside) { masters = masters i }) ∙ ap (calls.with_master z) c.self.view_is ∙ (λ i. calls.with_master (calls.lessee c.in-Ok.key c.args.birth (sym at i) id) c.args.self.now),
+      (λ i. record (set_of c.self.inside) { masters = masters i }) ∙ ap (calls.with_master z) c.self.view_is ∙ (λ i. calls.with_master (calls.lessee c.in-Ok.key c.args.step_number (sym at i) id) c.args.self.now),
     )

@@ -6,4 +6,4 @@ use Rattle.drm_masters.proofs.masters.Masters.master.Goals as goal
 pub returns-clause-keyed : goal.returns-clause-keyed
 returns-clause-keyed c =
     let keyed : Keyed c.args.self.now.masters = subst (λ (w : MasterSet). Keyed w.masters) c.self.view_is c.self.invariant.keyed in
-    keyed_at c.args.self.now.masters c.args.birth keyed c.at.result (c.at.ensures ∙ ap (λ (w : MasterSet). master_at w.masters c.args.birth) c.self.view_is)
+    keyed_at c.args.self.now.masters c.args.step_number keyed c.at.result (c.at.ensures ∙ ap (λ (w : MasterSet). master_at w.masters c.args.step_number) c.self.view_is)

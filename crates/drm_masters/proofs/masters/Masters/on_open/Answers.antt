@@ -9,13 +9,13 @@ use Rattle.drm_masters.specs.Tables.{MemberRows}
 use Rattle.drm_masters.specs.declared.rows.Master.{Master}
 use Rattle.drm_masters.specs.declared.rows.Member.{Member}
 use Rattle.drm_masters.specs.Fields.{set_of}
-use Rattle.drm_masters.specs.Masters.{MasterSet, AreMasters, HasOlderLessor, is_key, is_birth, is_option, master_at, owner_of, is_lessee_of, is_current}
+use Rattle.drm_masters.specs.Masters.{MasterSet, AreMasters, HasOlderLessor, is_key, is_step_number, is_option, master_at, owner_of, is_lessee_of, is_current}
 use Rattle.drm_masters.specs.Calls as calls
 use Rattle.drm_masters.proofs.Flagged.{current_in, no_device}
 use Rattle.drm_masters.proofs.Living.{Older}
 use Rattle.drm_masters.proofs.Owned.{unnamed_yet}
 use Rattle.drm_masters.proofs.Pushed.{pushed_older, taken_back}
-use Rattle.drm_masters.proofs.Sound.{Keyed, sound, device_there, guest_are, founder_are, keyed_more, guest_same}
+use Rattle.drm_masters.proofs.Sound.{Keyed, sound, device_there, non_master_are, opener_are, keyed_more, non_master_same}
 use Rattle.drm_masters.proofs.masters.Masters.on_open.Goals as goal
 
 pub invariant_of-self-in-Some : goal.invariant_of-self-in-Some
@@ -24,39 +24,39 @@ invariant_of-self-in-Some c =
     let are : AreMasters v = subst AreMasters c.self.view_is c.self.invariant.are in
     let keyed : Keyed v.masters = subst (λ (w : MasterSet). Keyed w.masters) c.self.view_is c.self.invariant.keyed in
     let old : (k : ℕ) → set.contains c.self.inside.members.flags k ≡ is_current v k = λ k. c.self.invariant.flagged k ∙ ap (λ (w : MasterSet). is_current w k) c.self.view_is in
-    let y = calls.guest c.args.client c.in-Some.master in
-    let items : c.add.new.self.items ≡ c.self.inside.members.items ++ y ∷ [] = c.in_default-add.ensures.ok ∙ ap (λ (x : Member). c.self.inside.members.items ++ x ∷ []) c.guest.ensures in
+    let y = calls.non_master c.args.client c.in-Some.master in
+    let items : c.add.new.self.items ≡ c.self.inside.members.items ++ y ∷ [] = c.in_default-add.ensures.ok ∙ ap (λ (x : Member). c.self.inside.members.items ++ x ∷ []) c.non_master.ensures in
     let device : v.device_master ≡ Some c.in-Some.master = sym (ap (λ (w : MasterSet). w.device_master) c.self.view_is) ∙ c.in-Some.is in
     sound _ (calls.with_member y v) ((λ i. record (set_of c.self.inside) { members = items i }) ∙ ap (calls.with_member y) c.self.view_is)
-    (guest_are v are y c.requires.new_client c.requires.room refl (device_there v are c.in-Some.master device) (λ _. are.device_owner c.in-Some.master device)) keyed
-    (λ k. ap (λ (t : set.FinSet nat_cmp). set.contains t k) c.in_default-add.ensures.flags ∙ old k ∙ sym (guest_same v y refl c.requires.new_client k))
+    (non_master_are v are y c.requires.new_client c.requires.room refl (device_there v are c.in-Some.master device) (λ _. are.device_owner c.in-Some.master device)) keyed
+    (λ k. ap (λ (t : set.FinSet nat_cmp). set.contains t k) c.in_default-add.ensures.flags ∙ old k ∙ sym (non_master_same v y refl c.requires.new_client k))
 
 pub insert-requires : goal.insert-requires
 insert-requires c =
-    let newest = rw (← c.self.view_is) at c.requires.new_birth in
+    let newest = rw (← c.self.view_is) at c.requires.new_step_number in
     let ms = c.self.inside.masters.items in
     record {
-      newest = subst (λ (u : Master). AllByRecursion (λ (x : Master). x.birth < u.birth) ms) (sym c.own_master.ensures) newest;
+      newest = subst (λ (u : Master). AllByRecursion (λ (x : Master). x.step_number < u.step_number) ms) (sym c.founded_master.ensures) newest;
       older = c.self.invariant.are.lessors_older;
-      there = subst (λ (u : Master). (l : ℕ) → u.lessor ≡ Some l → is_some (master_at ms l) ≡ true) (sym c.own_master.ensures) (λ l e. absurd (false≢true (ap is_some e)));
-      other_id = subst (λ (u : Master). (l : ℕ) → u.lessor ≡ Some l → list_any (is_lessee_of ms (owner_of ms l) u.lessee_id) ms ≡ false) (sym c.own_master.ensures) (λ l e. absurd (false≢true (ap is_some e)));
+      there = subst (λ (u : Master). (l : ℕ) → u.lessor ≡ Some l → is_some (master_at ms l) ≡ true) (sym c.founded_master.ensures) (λ l e. absurd (false≢true (ap is_some e)));
+      other_id = subst (λ (u : Master). (l : ℕ) → u.lessor ≡ Some l → list_any (is_lessee_of ms (owner_of ms l) u.lessee_id) ms ≡ false) (sym c.founded_master.ensures) (λ l e. absurd (false≢true (ap is_some e)));
     }
 
 pub remove-requires-clause-older : goal.remove-requires-clause-older
 remove-requires-clause-older c =
-    let z = calls.own_master c.in_default-insert.field-0 c.args.birth in
+    let z = calls.founded_master c.in_default-insert.field-0 c.args.step_number in
     let ms = c.self.inside.masters.items in
-    let newest = rw (← c.self.view_is) at c.requires.new_birth in
-    let masters : c.insert.new.self.items ≡ ms ++ z ∷ [] = c.in_default-insert.ensures.ok ∙ ap (λ (x : Master). ms ++ calls.keyed_as c.in_default-insert.field-0 x ∷ []) c.own_master.ensures in
+    let newest = rw (← c.self.view_is) at c.requires.new_step_number in
+    let masters : c.insert.new.self.items ≡ ms ++ z ∷ [] = c.in_default-insert.ensures.ok ∙ ap (λ (x : Master). ms ++ calls.keyed_as c.in_default-insert.field-0 x ∷ []) c.founded_master.ensures in
     subst Older (sym masters) (pushed_older ms z newest (λ l e. absurd (false≢true (ap is_some e))) c.self.invariant.are.lessors_older)
 
 pub remove-requires-clause-no_lessee : goal.remove-requires-clause-no_lessee
 remove-requires-clause-no_lessee c =
-    let z = calls.own_master c.in_default-insert.field-0 c.args.birth in
+    let z = calls.founded_master c.in_default-insert.field-0 c.args.step_number in
     let ms = c.self.inside.masters.items in
-    let newest = rw (← c.self.view_is) at c.requires.new_birth in
-    let masters : c.insert.new.self.items ≡ ms ++ z ∷ [] = c.in_default-insert.ensures.ok ∙ ap (λ (x : Master). ms ++ calls.keyed_as c.in_default-insert.field-0 x ∷ []) c.own_master.ensures in
-    subst (λ l. list_any (λ (y : Master). is_option c.args.birth y.lessor) l ≡ false) (sym masters) (unnamed_yet ms z newest c.self.invariant.are.lessors_older refl)
+    let newest = rw (← c.self.view_is) at c.requires.new_step_number in
+    let masters : c.insert.new.self.items ≡ ms ++ z ∷ [] = c.in_default-insert.ensures.ok ∙ ap (λ (x : Master). ms ++ calls.keyed_as c.in_default-insert.field-0 x ∷ []) c.founded_master.ensures in
+    subst (λ l. list_any (λ (y : Master). is_option c.args.step_number y.lessor) l ≡ false) (sym masters) (unnamed_yet ms z newest c.self.invariant.are.lessors_older refl)
 
 pub add-requires-2 : goal.add-requires-2
 add-requires-2 c =
@@ -69,19 +69,19 @@ invariant_of-self-in-Err-add c =
     let are : AreMasters v = subst AreMasters c.self.view_is c.self.invariant.are in
     let keyed : Keyed v.masters = subst (λ (w : MasterSet). Keyed w.masters) c.self.view_is c.self.invariant.keyed in
     let old : (k : ℕ) → set.contains c.self.inside.members.flags k ≡ is_current v k = λ k. c.self.invariant.flagged k ∙ ap (λ (w : MasterSet). is_current w k) c.self.view_is in
-    let z = calls.own_master c.in_default-insert.field-0 c.args.birth in
-    let newest = rw (← c.self.view_is) at c.requires.new_birth in
-    let masters : c.insert.new.self.items ≡ c.self.inside.masters.items ++ z ∷ [] = c.in_default-insert.ensures.ok ∙ ap (λ (x : Master). c.self.inside.masters.items ++ calls.keyed_as c.in_default-insert.field-0 x ∷ []) c.own_master.ensures in
-    let back : c.remove.new.self.items ≡ c.self.inside.masters.items = c.remove.ensures ∙ ap (filter (λ (x : Master). not (is_birth c.args.birth x))) masters ∙ taken_back c.self.inside.masters.items z newest in
+    let z = calls.founded_master c.in_default-insert.field-0 c.args.step_number in
+    let newest = rw (← c.self.view_is) at c.requires.new_step_number in
+    let masters : c.insert.new.self.items ≡ c.self.inside.masters.items ++ z ∷ [] = c.in_default-insert.ensures.ok ∙ ap (λ (x : Master). c.self.inside.masters.items ++ calls.keyed_as c.in_default-insert.field-0 x ∷ []) c.founded_master.ensures in
+    let back : c.remove.new.self.items ≡ c.self.inside.masters.items = c.remove.ensures ∙ ap (filter (λ (x : Master). not (is_step_number c.args.step_number x))) masters ∙ taken_back c.self.inside.masters.items z newest in
     let path = (λ i. record (set_of c.self.inside) { members = (c.in-Err-add.ensures.err i).items; masters = back i }) ∙ c.self.view_is in
     sound _ v path are keyed (λ k. ap (λ (m : MemberRows). set.contains m.flags k) c.in-Err-add.ensures.err ∙ old k)
 
 pub returns-in-Err-add-clause-err : goal.returns-in-Err-add-clause-err
 returns-in-Err-add-clause-err c =
-    let z = calls.own_master c.in_default-insert.field-0 c.args.birth in
-    let newest = rw (← c.self.view_is) at c.requires.new_birth in
-    let masters : c.insert.new.self.items ≡ c.self.inside.masters.items ++ z ∷ [] = c.in_default-insert.ensures.ok ∙ ap (λ (x : Master). c.self.inside.masters.items ++ calls.keyed_as c.in_default-insert.field-0 x ∷ []) c.own_master.ensures in
-    let back : c.remove.new.self.items ≡ c.self.inside.masters.items = c.remove.ensures ∙ ap (filter (λ (x : Master). not (is_birth c.args.birth x))) masters ∙ taken_back c.self.inside.masters.items z newest in
+    let z = calls.founded_master c.in_default-insert.field-0 c.args.step_number in
+    let newest = rw (← c.self.view_is) at c.requires.new_step_number in
+    let masters : c.insert.new.self.items ≡ c.self.inside.masters.items ++ z ∷ [] = c.in_default-insert.ensures.ok ∙ ap (λ (x : Master). c.self.inside.masters.items ++ calls.keyed_as c.in_default-insert.field-0 x ∷ []) c.founded_master.ensures in
+    let back : c.remove.new.self.items ≡ c.self.inside.masters.items = c.remove.ensures ∙ ap (filter (λ (x : Master). not (is_step_number c.args.step_number x))) masters ∙ taken_back c.self.inside.masters.items z newest in
     let path = (λ i. record (set_of c.self.inside) { members = (c.in-Err-add.ensures.err i).items; masters = back i }) ∙ c.self.view_is in
     path
 
@@ -91,32 +91,30 @@ flag_current-requires-clause-older c =
     let are : AreMasters v = subst AreMasters c.self.view_is c.self.invariant.are in
     let keyed : Keyed v.masters = subst (λ (w : MasterSet). Keyed w.masters) c.self.view_is c.self.invariant.keyed in
     let old : (k : ℕ) → set.contains c.self.inside.members.flags k ≡ is_current v k = λ k. c.self.invariant.flagged k ∙ ap (λ (w : MasterSet). is_current w k) c.self.view_is in
-    let b = c.args.birth in
+    let b = c.args.step_number in
     let key = c.in_default-insert.field-0 in
     let y = calls.owner c.args.client b in
-    let z = calls.own_master key b in
-    let masters : c.insert.new.self.items ≡ c.self.inside.masters.items ++ z ∷ [] = c.in_default-insert.ensures.ok ∙ ap (λ (x : Master). c.self.inside.masters.items ++ calls.keyed_as key x ∷ []) c.own_master.ensures in
-    subst (λ l. AllByRecursion (HasOlderLessor l) l) (sym (masters ∙ ap (λ (u : MasterSet). u.masters ++ z ∷ []) c.self.view_is)) (pushed_older v.masters z c.requires.new_birth (λ l e. absurd (let n : None ≡ Some l = e in cc)) are.lessors_older)
+    let z = calls.founded_master key b in
+    let masters : c.insert.new.self.items ≡ c.self.inside.masters.items ++ z ∷ [] = c.in_default-insert.ensures.ok ∙ ap (λ (x : Master). c.self.inside.masters.items ++ calls.keyed_as key x ∷ []) c.founded_master.ensures in
+    subst (λ l. AllByRecursion (HasOlderLessor l) l) (sym (masters ∙ ap (λ (u : MasterSet). u.masters ++ z ∷ []) c.self.view_is)) (pushed_older v.masters z c.requires.new_step_number (λ l e. absurd (let n : None ≡ Some l = e in cc)) are.lessors_older)
 
 pub flag_current-requires-clause-rise : goal.flag_current-requires-clause-rise
 flag_current-requires-clause-rise c =
     let v = c.args.self.now in
     let are : AreMasters v = subst AreMasters c.self.view_is c.self.invariant.are in
-    let y = calls.owner c.args.client c.args.birth in
+    let y = calls.owner c.args.client c.args.step_number in
     let items : c.add-2.new.self.items ≡ v.members ++ y ∷ [] = c.in_default-add-2.ensures.ok ∙ ap (λ (x : Member). c.self.inside.members.items ++ x ∷ []) c.owner.ensures ∙ ap (λ (w : MasterSet). w.members ++ y ∷ []) c.self.view_is in
     subst (λ (l : List Member). InOrder (λ (a b : Member). a.client < b.client) l) (sym items) (in_order_append (λ (a b : Member). a.client < b.client) v.members y are.members_rise c.requires.new_client)
 
 pub flag_current-requires-clause-unflagged : goal.flag_current-requires-clause-unflagged
 flag_current-requires-clause-unflagged c = λ k.
     let v = c.args.self.now in
-    let are : AreMasters v = subst AreMasters c.self.view_is c.self.invariant.are in
-    let keyed : Keyed v.masters = subst (λ (w : MasterSet). Keyed w.masters) c.self.view_is c.self.invariant.keyed in
     let old : (k : ℕ) → set.contains c.self.inside.members.flags k ≡ is_current v k = λ k. c.self.invariant.flagged k ∙ ap (λ (w : MasterSet). is_current w k) c.self.view_is in
     let none : v.device_master ≡ None = sym (ap (λ (w : MasterSet). w.device_master) c.self.view_is) ∙ c.in_default.is in
     ap (λ (s : set.FinSet nat_cmp). set.contains s k) c.in_default-add-2.ensures.flags ∙ old k ∙ ap (λ d. current_in v.members v.masters d k) none ∙ no_device v.members v.masters k
 
 founded : ℕ → ℕ → ℕ → MasterSet → MasterSet
-founded c key b v = calls.with_device (Some b) (calls.with_member (calls.owner c b) (calls.with_master (calls.own_master key b) v))
+founded c key b v = calls.with_device (Some b) (calls.with_member (calls.owner c b) (calls.with_master (calls.founded_master key b) v))
 
 pub invariant_of-self-2 : goal.invariant_of-self-2
 unfolding founded
@@ -124,16 +122,15 @@ invariant_of-self-2 c =
     let v = c.args.self.now in
     let are : AreMasters v = subst AreMasters c.self.view_is c.self.invariant.are in
     let keyed : Keyed v.masters = subst (λ (w : MasterSet). Keyed w.masters) c.self.view_is c.self.invariant.keyed in
-    let old : (k : ℕ) → set.contains c.self.inside.members.flags k ≡ is_current v k = λ k. c.self.invariant.flagged k ∙ ap (λ (w : MasterSet). is_current w k) c.self.view_is in
-    let b = c.args.birth in
+    let b = c.args.step_number in
     let key = c.in_default-insert.field-0 in
     let y = calls.owner c.args.client b in
-    let z = calls.own_master key b in
-    let masters : c.insert.new.self.items ≡ c.self.inside.masters.items ++ z ∷ [] = c.in_default-insert.ensures.ok ∙ ap (λ (x : Master). c.self.inside.masters.items ++ calls.keyed_as key x ∷ []) c.own_master.ensures in
+    let z = calls.founded_master key b in
+    let masters : c.insert.new.self.items ≡ c.self.inside.masters.items ++ z ∷ [] = c.in_default-insert.ensures.ok ∙ ap (λ (x : Master). c.self.inside.masters.items ++ calls.keyed_as key x ∷ []) c.founded_master.ensures in
     let items : c.add-2.new.self.items ≡ c.self.inside.members.items ++ y ∷ [] = c.in_default-add-2.ensures.ok ∙ ap (λ (x : Member). c.self.inside.members.items ++ x ∷ []) c.owner.ensures in
     let rows : c.flag_current.new.members.items ≡ c.self.inside.members.items ++ y ∷ [] = c.flag_current.ensures.rows ∙ items in
     let path = ap (founded c.args.client key b) c.self.view_is in
     sound _ (founded c.args.client key b v) ((λ i. record (set_of c.self.inside) { members = rows i; masters = masters i; device_master = Some b }) ∙ path)
-    (founder_are v are y c.requires.new_client c.requires.room refl z refl refl refl c.requires.new_birth)
+    (opener_are v are y c.requires.new_client c.requires.room refl z refl refl refl c.requires.new_step_number)
     (keyed_more v.masters z key keyed (ap (λ (w : MasterSet). find (is_key key) w.masters) (sym c.self.view_is) ∙ c.in_default-insert.ensures.free) refl)
     (λ k. c.flag_current.ensures.flags k ∙ (λ i. current_in (items i) (masters i) (Some b) k) ∙ ap (λ (u : MasterSet). is_current u k) path)

@@ -14,25 +14,17 @@ pub flag_if_current-requires-clause-older : goal.flag_if_current-requires-clause
 flag_if_current-requires-clause-older c =
     let v = c.args.self.now in
     let are : AreMasters v = subst AreMasters c.self.view_is c.self.invariant.are in
-    let keyed : Keyed v.masters = subst (λ (w : MasterSet). Keyed w.masters) c.self.view_is c.self.invariant.keyed in
-    let old : (k : ℕ) → set.contains c.self.inside.members.flags k ≡ is_current v k = λ k. c.self.invariant.flagged k ∙ ap (λ (w : MasterSet). is_current w k) c.self.view_is in
-    let m = c.in-Some.redeemed.birth in
-    let y = calls.redeemer c.args.client m in
-    let items : c.add.new.self.items ≡ c.self.inside.members.items ++ y ∷ [] = c.in_default-add.ensures.ok ∙ ap (λ (x : Member). c.self.inside.members.items ++ x ∷ []) c.redeemer-member.ensures in
+    let m = c.in-Some.redeemed.step_number in
     let masters : c.set_kept.new.self.items ≡ (calls.with_kept m false v).masters = c.set_kept.ensures ∙ ap (λ (u : MasterSet). (calls.with_kept m false u).masters) c.self.view_is in
     subst (λ l. AllByRecursion (HasOlderLessor l) l) (sym masters) (kept_older m false v.masters are.lessors_older)
 
-pub flag_if_current-requires-clause-present : goal.flag_if_current-requires-clause-present
-flag_if_current-requires-clause-present c =
+pub flag_if_current-requires-clause-open_client : goal.flag_if_current-requires-clause-open_client
+flag_if_current-requires-clause-open_client c =
     let v = c.args.self.now in
-    let are : AreMasters v = subst AreMasters c.self.view_is c.self.invariant.are in
-    let keyed : Keyed v.masters = subst (λ (w : MasterSet). Keyed w.masters) c.self.view_is c.self.invariant.keyed in
-    let old : (k : ℕ) → set.contains c.self.inside.members.flags k ≡ is_current v k = λ k. c.self.invariant.flagged k ∙ ap (λ (w : MasterSet). is_current w k) c.self.view_is in
-    let m = c.in-Some.redeemed.birth in
-    let y = calls.redeemer c.args.client m in
-    let items : c.add.new.self.items ≡ c.self.inside.members.items ++ y ∷ [] = c.in_default-add.ensures.ok ∙ ap (λ (x : Member). c.self.inside.members.items ++ x ∷ []) c.redeemer-member.ensures in
-    let masters : c.set_kept.new.self.items ≡ (calls.with_kept m false v).masters = c.set_kept.ensures ∙ ap (λ (u : MasterSet). (calls.with_kept m false u).masters) c.self.view_is in
-    ap (λ (x : Member). is_some (member_of c.add.new.self.items x.client)) c.redeemer-member.ensures
+    let m = c.in-Some.redeemed.step_number in
+    let y = calls.lease_client c.args.client m in
+    let items : c.add.new.self.items ≡ c.self.inside.members.items ++ y ∷ [] = c.in_default-add.ensures.ok ∙ ap (λ (x : Member). c.self.inside.members.items ++ x ∷ []) c.lease_client-member.ensures in
+    ap (λ (x : Member). is_some (member_of c.add.new.self.items x.client)) c.lease_client-member.ensures
     ∙ ap (λ l. is_some (member_of l c.args.client)) (items ∙ ap (λ (u : MasterSet). u.members ++ y ∷ []) c.self.view_is)
     ∙ ap is_some (added_there v.members y c.requires.new_client)
 
@@ -42,9 +34,9 @@ invariant_of-self-2 c =
     let are : AreMasters v = subst AreMasters c.self.view_is c.self.invariant.are in
     let keyed : Keyed v.masters = subst (λ (w : MasterSet). Keyed w.masters) c.self.view_is c.self.invariant.keyed in
     let old : (k : ℕ) → set.contains c.self.inside.members.flags k ≡ is_current v k = λ k. c.self.invariant.flagged k ∙ ap (λ (w : MasterSet). is_current w k) c.self.view_is in
-    let m = c.in-Some.redeemed.birth in
-    let y = calls.redeemer c.args.client m in
-    let items : c.add.new.self.items ≡ c.self.inside.members.items ++ y ∷ [] = c.in_default-add.ensures.ok ∙ ap (λ (x : Member). c.self.inside.members.items ++ x ∷ []) c.redeemer-member.ensures in
+    let m = c.in-Some.redeemed.step_number in
+    let y = calls.lease_client c.args.client m in
+    let items : c.add.new.self.items ≡ c.self.inside.members.items ++ y ∷ [] = c.in_default-add.ensures.ok ∙ ap (λ (x : Member). c.self.inside.members.items ++ x ∷ []) c.lease_client-member.ensures in
     let masters : c.set_kept.new.self.items ≡ (calls.with_kept m false v).masters = c.set_kept.ensures ∙ ap (λ (u : MasterSet). (calls.with_kept m false u).masters) c.self.view_is in
     let rows : c.flag_if_current.new.members.items ≡ c.self.inside.members.items ++ y ∷ [] = c.flag_if_current.ensures.rows ∙ items in
     let found : find (is_key c.args.master) v.masters ≡ Some c.in-Some.redeemed = sym (ap (λ (w : MasterSet). find (is_key c.args.master) w.masters) c.self.view_is) ∙ sym c.of_key.ensures ∙ c.in-Some.is in
@@ -56,5 +48,5 @@ invariant_of-self-2 c =
     (λ k.
     let flags : set.contains c.add.new.self.flags k ≡ is_current v k = ap (λ (t : set.FinSet nat_cmp). set.contains t k) c.in_default-add.ensures.flags ∙ old k in
     c.flag_if_current.ensures.flags k
-    ∙ (λ i. ((k == (c.redeemer-member.ensures i).client) && is_current_among (masters i) (device i) (c.redeemer-member.ensures i)) || (flags ∙ sym (kept_same v m false k)) i)
+    ∙ (λ i. ((k == (c.lease_client-member.ensures i).client) && is_current_among (masters i) (device i) (c.lease_client-member.ensures i)) || (flags ∙ sym (kept_same v m false k)) i)
     ∙ sym (one_more v.members y (calls.with_kept m false v).masters v.device_master c.requires.new_client k))

@@ -14,7 +14,7 @@ pub sweep_under-requires-clause-rise : goal.sweep_under-requires-clause-rise
 sweep_under-requires-clause-rise c =
     let v = c.args.self.now in
     let t = freed_ties v (subst AreMasters c.self.view_is c.self.invariant.are) (is_under (lessor_of v.masters) c.args.top) in
-    subst (λ l. InOrder (λ (x y : Master). x.birth < y.birth) l) (sym (c.release_all_under.ensures ∙ ap (λ (u : MasterSet). (calls.released_under c.args.top u).masters) c.self.view_is)) t.masters_rise
+    subst (λ l. InOrder (λ (x y : Master). x.step_number < y.step_number) l) (sym (c.release_all_under.ensures ∙ ap (λ (u : MasterSet). (calls.released_under c.args.top u).masters) c.self.view_is)) t.masters_rise
 
 pub sweep_under-requires-clause-older : goal.sweep_under-requires-clause-older
 sweep_under-requires-clause-older c =
@@ -25,7 +25,7 @@ sweep_under-requires-clause-older c =
 pub sweep_under-requires-clause-others : goal.sweep_under-requires-clause-others
 sweep_under-requires-clause-others c =
     let v = c.args.self.now in
-    let Others = λ (m : List Member) (l : List Master). AllByRecursion (λ (x : Master). is_under (lessor_of l) c.args.top x.birth ≡ false → is_used m l x ≡ true) l in
+    let Others = λ (m : List Member) (l : List Master). AllByRecursion (λ (x : Master). is_under (lessor_of l) c.args.top x.step_number ≡ false → is_used m l x ≡ true) l in
     subst (λ l. Others c.self.inside.members.items l) (sym c.release_all_under.ensures)
     (subst (λ (w : MasterSet). Others w.members (calls.released_under c.args.top w).masters) (sym c.self.view_is) (freed_others v (subst AreMasters c.self.view_is c.self.invariant.are) c.args.top (is_under (lessor_of v.masters) c.args.top) (λ n e. e)))
 
@@ -33,6 +33,6 @@ pub invariant_of-self : goal.invariant_of-self
 invariant_of-self c =
     let v = c.args.self.now in
     let mem = c.self.inside.members.items in
-    let left = λ (l : List Master). let r : MasterSet = record { members = mem; masters = filter (λ (u : Master). is_living mem l u.birth) l; device_master = c.self.inside.device_master; last_magic = c.self.inside.last_magic; last_lessee = c.self.inside.last_lessee } in r in
+    let left = λ (l : List Master). let r : MasterSet = record { members = mem; masters = filter (λ (u : Master). is_living mem l u.step_number) l; device_master = c.self.inside.device_master; last_magic = c.self.inside.last_magic; last_lessee = c.self.inside.last_lessee } in r in
     freed_sound c.self.inside _ v (is_under (lessor_of v.masters) c.args.top) c.self.view_is c.self.invariant (λ k. refl)
     ((λ i. record (set_of c.self.inside) { masters = c.sweep_under.ensures i }) ∙ ap left c.release_all_under.ensures ∙ ap (λ (u : MasterSet). swept (calls.released_under c.args.top u)) c.self.view_is)

@@ -10,10 +10,11 @@ use Rattle.drm_masters.specs.Calls.{set_checks}
 use Rattle.drm_masters.specs.Fields.{set_of}
 use Rattle.drm_masters.specs.Masters.{MasterSet, AreMasters, member_of, is_client, lessor_of, is_current, is_current_member}
 use Rattle.drm_masters.specs.Calls as calls
-use Rattle.drm_masters.proofs.Living.{and_true, not_false, not_true}
+use Rattle.drm_masters.proofs.Living.{not_false}
 use Rattle.drm_masters.proofs.Flagged.{current_in, no_device}
 use Rattle.drm_masters.proofs.Sound.{Keyed, sound, device_are, client_found}
 use Rattle.drm_masters.proofs.masters.Masters.set.Goals as goal
+use Rattle.std.proofs.lemmas.Bool.{not-true, and_from}
 
 none_is : (o : Option ℕ) → is_some o ≡ false → o ≡ None
 none_is None h = refl
@@ -45,7 +46,7 @@ invariant_of-self c =
     let top : lessor_of v.masters x.master ≡ None = none_is (lessor_of v.masters x.master) (ap (λ (w : MasterSet). is_some (lessor_of w.masters x.master)) (sym c.self.view_is) ∙ ap is_some (sym c.lessor_of.ensures) ∙ sym c.is_some-2.ensures ∙ c.if-is_some-2.false) in
     sound _ (calls.with_device (Some x.master) v) ((λ i. record (set_of c.self.inside) { members = (c.flag_current.ensures.rows i); device_master = Some x.master }) ∙ path)
     (device_are v are (Some x.master) (λ m e. any_found (is_client c.args.client) (λ (y : Member). y.is_master && (y.master == m)) x v.members look
-    (and_true x.is_master (x.master == m) (not_false x.is_master c.if-not-member.false) (eq-eqb x.master m (let s : Some x.master ≡ Some m = e in cc))))
+    (and_from x.is_master (x.master == m) (not_false x.is_master c.if-not-member.false) (eq-eqb x.master m (let s : Some x.master ≡ Some m = e in cc))))
     (λ m e. subst (λ n. lessor_of v.masters n ≡ None) (let s : x.master ≡ m = cc in s) top)) keyed
     (λ k. c.flag_current.ensures.flags k ∙ ap (λ (u : MasterSet). is_current u k) path)
 
@@ -56,8 +57,6 @@ verdict v x root may current none own = rw (may, current, none, own) refl
 pub returns-then-not-member-clause-set : goal.returns-then-not-member-clause-set
 returns-then-not-member-clause-set c =
     let v = c.args.self.now in
-    let are : AreMasters v = subst AreMasters c.self.view_is c.self.invariant.are in
-    let keyed : Keyed v.masters = subst (λ (w : MasterSet). Keyed w.masters) c.self.view_is c.self.invariant.keyed in
     let old : (k : ℕ) → set.contains c.self.inside.members.flags k ≡ is_current v k = λ k. c.self.invariant.flagged k ∙ ap (λ (w : MasterSet). is_current w k) c.self.view_is in
     let look : member_of v.members c.args.client ≡ Some c.in-Some.member = sym (ap (λ (w : MasterSet). member_of w.members c.args.client) c.self.view_is) ∙ sym c.get.ensures ∙ c.in-Some.is in
     let x = c.in-Some.member in
@@ -65,8 +64,8 @@ returns-then-not-member-clause-set c =
     let may : (x.once_master || c.args.root) ≡ true = sym c.is_permitted.ensures ∙ c.if-not-is_permitted.false in
     let current : is_current_member v x ≡ false = sym (ap (λ o. option_map_or (is_current_member v) o false) look) ∙ sym (old c.args.client) ∙ sym c.is_flagged.ensures ∙ c.if-is_flagged.false in
     let none : v.device_master ≡ None = sym (ap (λ (w : MasterSet). w.device_master) c.self.view_is) ∙ none_is c.self.inside.device_master (sym c.is_some.ensures ∙ c.if-is_some.false) in
-    let own : x.is_master ≡ false = not_true x.is_master c.if-not-member.true in
+    let own : x.is_master ≡ false = not-true x.is_master c.if-not-member.true in
     let key = c.in_default-found.field-0 in
-    let made = c.in_default-found.ensures.ok ∙ ap (λ n. calls.remade n key c.args.birth v) (sym num) in
-    subst (λ o. IfSome o (λ z. calls.SetOf v z c.args.root c.args.birth (Ok Made) c.found.new.self)) (sym look)
+    let made = c.in_default-found.ensures.ok ∙ ap (λ n. calls.remade n key c.args.step_number v) (sym num) in
+    subst (λ o. IfSome o (λ z. calls.SetOf v z c.args.root c.args.step_number (Ok Made) c.found.new.self)) (sym look)
     (verdict v x c.args.root may current none own, (current, own, (key, c.in_default-found.ensures.free, made)))

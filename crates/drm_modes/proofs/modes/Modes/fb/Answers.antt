@@ -10,7 +10,7 @@ returns-in_err-pixels c =
     let inside = c.self.inside in
     let found = c.from_residual.ensures
     ∙ ap (option_map (λ v. framebuffer_row (c.args.id, v))) c.in_err-pixels.ensures.value
-    ∙ framebuffer_is inside.topology inside.framebuffers inside.screens.items c.args.self.now c.self.view_is c.args.id in
+    ∙ framebuffer_is inside.topology inside.framebuffers inside.scanouts.items c.args.self.now c.self.view_is c.args.id in
     record { found = found; there = ap is_some found ∙ is_some-find (is_framebuffer c.args.id) c.args.self.now.framebuffers }
 
 pub returns : goal.returns
@@ -18,5 +18,5 @@ returns c =
     let inside = c.self.inside in
     let found = ap (λ row. Some row) c.row.ensures
     ∙ ap (option_map (λ v. framebuffer_row (c.args.id, v))) c.in_ok-pixels.ensures.value
-    ∙ framebuffer_is inside.topology inside.framebuffers inside.screens.items c.args.self.now c.self.view_is c.args.id in
+    ∙ framebuffer_is inside.topology inside.framebuffers inside.scanouts.items c.args.self.now c.self.view_is c.args.id in
     record { found = found; there = ap is_some found ∙ is_some-find (is_framebuffer c.args.id) c.args.self.now.framebuffers }

@@ -7,10 +7,10 @@ use Rattle.drm_modes.proofs.modes.Modes.framebuffers_of.Given as goal
 abbrev pub invariant-loop-row : goal.invariant-loop-row
 invariant-loop-row l =
     record {
-      told : l.list ++ map (λ (row : Framebuffer). row.framebuffer) (filter (is_made_by l.client) (drop l.place l.self.framebuffers)) ≡ framebuffers_of l.self l.client;
-      short : length l.list ≤ l.place;
-      within : l.place ≤ length l.self.framebuffers;
+      told : l.list ++ map (λ (row : Framebuffer). row.framebuffer) (filter (is_made_by l.client) (drop l.position l.self.framebuffers)) ≡ framebuffers_of l.self l.client;
+      short : length l.list ≤ l.position;
+      within : l.position ≤ length l.self.framebuffers;
     }
 
 abbrev pub decreases-loop-row : goal.decreases-loop-row
-decreases-loop-row l = length l.self.framebuffers - l.place
+decreases-loop-row l = length l.self.framebuffers - l.position

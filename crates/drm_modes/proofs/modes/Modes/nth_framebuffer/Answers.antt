@@ -13,7 +13,7 @@ returns c =
     let n = c.in_ok-framebuffer.framebuffer in
     c.fb.ensures.found
     ∙ ap (λ (set : ModeSet). find (is_framebuffer n) set.framebuffers) (sym c.self.view_is)
-    ∙ found_is inside.topology inside.framebuffers inside.screens.items n
+    ∙ found_is inside.topology inside.framebuffers inside.scanouts.items n
     ∙ ap (option_and_then (λ k. option_map (λ v. framebuffer_row (k, v)) (fin.get slots k))) c.in_ok-framebuffer.ensures.nth
-    ∙ row_at slots 0 framebuffer_row c.args.place
-    ∙ ap (λ (set : ModeSet). slice_get set.framebuffers c.args.place) c.self.view_is
+    ∙ row_at slots 0 framebuffer_row c.args.position
+    ∙ ap (λ (set : ModeSet). slice_get set.framebuffers c.args.position) c.self.view_is

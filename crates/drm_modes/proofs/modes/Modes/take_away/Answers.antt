@@ -8,15 +8,15 @@ use Rattle.drm_modes.proofs.modes.Modes.take_away.Goals as goal
 pub invariant_of-self : goal.invariant_of-self
 invariant_of-self c =
     let inside = c.self.inside in
-    let screens = inside.screens.items in
-    let dark = refilled_map (dark_of c.args.framebuffer) screens c.as_mut_slice.result.now c.darken.new.screens c.as_mut_slice.ensures.value c.darken.ensures in
-    rw (c.remove-pixels.ensures.after, dark) (has-removed inside.topology inside.framebuffers screens c.self.invariant c.args.framebuffer)
+    let scanouts = inside.scanouts.items in
+    let dark = refilled_map (dark_of c.args.framebuffer) scanouts c.as_mut_slice.result.now c.darken.new.scanouts c.as_mut_slice.ensures.value c.darken.ensures in
+    rw (c.remove-pixels.ensures.after, dark) (has-removed inside.topology inside.framebuffers scanouts c.self.invariant c.args.framebuffer)
 
 pub returns : goal.returns
 returns c =
     let inside = c.self.inside in
-    let screens = inside.screens.items in
-    let dark = refilled_map (dark_of c.args.framebuffer) screens c.as_mut_slice.result.now c.darken.new.screens c.as_mut_slice.ensures.value c.darken.ensures in
+    let scanouts = inside.scanouts.items in
+    let dark = refilled_map (dark_of c.args.framebuffer) scanouts c.as_mut_slice.result.now c.darken.new.scanouts c.as_mut_slice.ensures.value c.darken.ensures in
     (λ i. mode_set inside.topology (c.remove-pixels.ensures.after i) (dark i))
-    ∙ removed inside.topology inside.framebuffers screens c.args.framebuffer
+    ∙ removed inside.topology inside.framebuffers scanouts c.args.framebuffer
     ∙ ap (λ (set : ModeSet). without_framebuffer set c.args.framebuffer) c.self.view_is

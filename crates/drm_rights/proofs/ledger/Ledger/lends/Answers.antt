@@ -3,8 +3,9 @@ use Rattle.std.specs.Option.{is_some}
 use Rattle.drm_authority.specs.Lessees.{lessor_in}
 use Rattle.drm_authority.proofs.Falls.{lessor_falls}
 use Rattle.drm_rights.specs.Leases.{lent_in, lent_by, comes_along, is_ended_before}
-use Rattle.drm_rights.proofs.LendingLemmas.{lends_by, lent_told, all_of, none_of}
+use Rattle.drm_rights.proofs.LendingLemmas.{lends_by, lent_told, none_of}
 use Rattle.drm_rights.proofs.ledger.Ledger.lends.Goals as goal
+use Rattle.drm_rights.proofs.HandleLemmas.{and_true}
 
 pub returns-in_default : goal.returns-in_default
 returns-in_default c =
@@ -70,4 +71,4 @@ lessors-preserved c =
     ∙ sym (lends_by t past c.lessors.master x c.in-Some.lease c.listed-listed.result.now false true (Some lessor)
     (sym c.lease_of.ensures ∙ c.in-Some.is) c.listed-listed.ensures (sym c.if-is_among.false ∙ c.is_among.ensures) (sym c.if-not-comes_along.false ∙ c.comes_along.ensures) (sym c.in-Some-lessor_of.is ∙ c.lessor_of.ensures))
     ∙ (λ i. not (some i) || (lent_in t past lessor x && not (lasts i)))
-    ∙ sym (all_of (lent_in t past lessor x))
+    ∙ sym (and_true (lent_in t past lessor x))

@@ -1,6 +1,6 @@
 use Rattle.std.proofs.Common.{◌≡◌, Some, refl, subst}
 use Rattle.drm_runs.specs.Script.{IsAt}
-use Rattle.drm_runs.specs.Interpreter.{Standing}
+use Rattle.drm_runs.specs.Interpreter.{InterpreterState}
 use Rattle.drm_runs.proofs.InterpreterLemmas.{at_some, at_none, steps_on, step_limits, limits_stay, limits_begin}
 use Rattle.drm_runs.proofs.interpreter.Interpreter.step.Goals as goal
 
@@ -25,7 +25,7 @@ returns-in-Some-clause-some c =
     let before = c.in-Some.device in
     let after = c.step.new.self in
     let steps = steps_on before after c.args.event c.step.result c.step.ensures.step c.step.ensures.ok c.step.ensures.err in
-    (before, after, subst (λ (s : Standing). IsAt s.device before) c.self.view_is (at_some s.device s.planned before c.in-Some.is), steps, refl)
+    (before, after, subst (λ (s : InterpreterState). IsAt s.device before) c.self.view_is (at_some s.device s.planned before c.in-Some.is), steps, refl)
 
 pub returns-in_ok-device-in-None-clause-some : goal.returns-in_ok-device-in-None-clause-some
 returns-in_ok-device-in-None-clause-some c =
@@ -36,4 +36,4 @@ returns-in_ok-device-in-None-clause-some c =
     let planned : s.planned ≡ Some setup = let taken = c.take.ensures.value in let is = c.in_ok-setup-in-None.was in cc in
     let here = at_none s.device s.planned setup before c.in-None.is planned c.in_ok-device-in-None.ensures in
     let steps = steps_on before after c.args.event c.step-outcome.result c.step-outcome.ensures.step c.step-outcome.ensures.ok c.step-outcome.ensures.err in
-    (before, after, subst (λ (s : Standing). IsAt s.device before) c.self.view_is here, steps, refl)
+    (before, after, subst (λ (s : InterpreterState). IsAt s.device before) c.self.view_is here, steps, refl)

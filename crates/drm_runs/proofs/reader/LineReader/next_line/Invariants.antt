@@ -4,10 +4,10 @@ use Rattle.drm_runs.proofs.reader.LineReader.next_line.Given as goal
 
 abbrev pub invariant-pieces : goal.invariant-pieces
 invariant-pieces g l =
-    let account = g.S.Source.account in
+    let trace = g.S.Source.trace in
     record {
-      given : (given : List ℕ) × ReadsSoFar l.fn.self l.self (account l.fn.source) (account l.source) l.fn.turns l.turns given;
-      countable : (account l.source).counts.calls + l.turns ≤ (account l.fn.source).counts.calls + l.fn.turns;
+      given : (given : List ℕ) × ReadsSoFar l.fn.self l.self (trace l.fn.source) (trace l.source) l.fn.turns l.turns given;
+      countable : (trace l.source).counts.calls + l.turns ≤ (trace l.fn.source).counts.calls + l.fn.turns;
     }
 
 abbrev pub decreases-pieces : goal.decreases-pieces

@@ -11,8 +11,8 @@ returns-in_err-name-clause-row c =
     let slots = c.self.inside.objects.slots in
     c.from_residual.ensures
     ∙ ap (option_and_then (λ n. option_map (λ v. name_row (n, v)) (fin.get slots n))) c.in_err-name.ensures.nth
-    ∙ row_at slots 0 name_row c.args.place
-    ∙ ap (λ (l : NameList). slice_get l.names c.args.place) c.self.view_is
+    ∙ row_at slots 0 name_row c.args.position
+    ∙ ap (λ (l : NameList). slice_get l.names c.args.position) c.self.view_is
 
 pub returns-in_err-object-clause-row : goal.returns-in_err-object-clause-row
 returns-in_err-object-clause-row c =
@@ -20,16 +20,16 @@ returns-in_err-object-clause-row c =
     c.from_residual-in_err-object.ensures
     ∙ ap (option_map (shared_name c.in_ok-name.name)) c.in_err-object.ensures.value
     ∙ ap (option_and_then (λ n. option_map (λ v. name_row (n, v)) (fin.get slots n))) c.in_ok-name.ensures.nth
-    ∙ row_at slots 0 name_row c.args.place
-    ∙ ap (λ (l : NameList). slice_get l.names c.args.place) c.self.view_is
+    ∙ row_at slots 0 name_row c.args.position
+    ∙ ap (λ (l : NameList). slice_get l.names c.args.position) c.self.view_is
 
 pub returns-clause-row : goal.returns-clause-row
 returns-clause-row c =
     let slots = c.self.inside.objects.slots in
     ap (option_map (shared_name c.in_ok-name.name)) c.in_ok-object.ensures.value
     ∙ ap (option_and_then (λ n. option_map (λ v. name_row (n, v)) (fin.get slots n))) c.in_ok-name.ensures.nth
-    ∙ row_at slots 0 name_row c.args.place
-    ∙ ap (λ (l : NameList). slice_get l.names c.args.place) c.self.view_is
+    ∙ row_at slots 0 name_row c.args.position
+    ∙ ap (λ (l : NameList). slice_get l.names c.args.position) c.self.view_is
 
 pub returns-in_err-name-clause-names : goal.returns-in_err-name-clause-names
 returns-in_err-name-clause-names c = rw (← c.self.view_is) (names_are c.self.inside.objects c.self.inside.names.items c.self.invariant)

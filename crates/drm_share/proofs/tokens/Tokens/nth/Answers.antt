@@ -11,8 +11,8 @@ returns-in_err-token-clause-row c =
     let slots = c.self.inside.exports.slots in
     c.from_residual.ensures
     ∙ ap (option_and_then (λ n. option_map (λ v. token_row (n, v)) (fin.get slots n))) c.in_err-token.ensures.nth
-    ∙ row_at slots 0 token_row c.args.place
-    ∙ ap (λ (l : TokenList). slice_get l.tokens c.args.place) c.self.view_is
+    ∙ row_at slots 0 token_row c.args.position
+    ∙ ap (λ (l : TokenList). slice_get l.tokens c.args.position) c.self.view_is
 
 pub returns-in_err-export-clause-row : goal.returns-in_err-export-clause-row
 returns-in_err-export-clause-row c =
@@ -20,16 +20,16 @@ returns-in_err-export-clause-row c =
     c.from_residual-in_err-export.ensures
     ∙ ap (option_map (λ v. token_row (c.in_ok-token.token, v))) c.in_err-export.ensures.value
     ∙ ap (option_and_then (λ n. option_map (λ v. token_row (n, v)) (fin.get slots n))) c.in_ok-token.ensures.nth
-    ∙ row_at slots 0 token_row c.args.place
-    ∙ ap (λ (l : TokenList). slice_get l.tokens c.args.place) c.self.view_is
+    ∙ row_at slots 0 token_row c.args.position
+    ∙ ap (λ (l : TokenList). slice_get l.tokens c.args.position) c.self.view_is
 
 pub returns-clause-row : goal.returns-clause-row
 returns-clause-row c =
     let slots = c.self.inside.exports.slots in
     ap (option_map (λ v. token_row (c.in_ok-token.token, v))) c.in_ok-export.ensures.value
     ∙ ap (option_and_then (λ n. option_map (λ v. token_row (n, v)) (fin.get slots n))) c.in_ok-token.ensures.nth
-    ∙ row_at slots 0 token_row c.args.place
-    ∙ ap (λ (l : TokenList). slice_get l.tokens c.args.place) c.self.view_is
+    ∙ row_at slots 0 token_row c.args.position
+    ∙ ap (λ (l : TokenList). slice_get l.tokens c.args.position) c.self.view_is
 
 pub returns-in_err-token-clause-tokens : goal.returns-in_err-token-clause-tokens
 returns-in_err-token-clause-tokens c = rw (← c.self.view_is) (tokens_are c.self.inside.exports c.self.invariant.numbered)

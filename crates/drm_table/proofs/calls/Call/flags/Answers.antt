@@ -1,4 +1,4 @@
-use Rattle.std.proofs.Common.{◌≡◌, Some, sym, ◌∙◌}
+use Rattle.std.proofs.Common.{sym, ◌∙◌}
 use Rattle.drm_table.proofs.TableRows.{flags-by-kind}
 use Rattle.drm_table.proofs.calls.Call.flags.Goals as goal
 

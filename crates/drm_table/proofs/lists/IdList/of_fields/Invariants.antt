@@ -1,6 +1,6 @@
 use Rattle.std.proofs.Common.{◌≡◌, ◌++◌, length, drop}
 use Rattle.std.specs.Option.{option_map}
-use Rattle.drm_table.specs.LeaseCalls.{ids_in}
+use Rattle.drm_table.specs.Fields.{ids_in}
 use Rattle.drm_table.proofs.lists.IdList.of_fields.Given as goal
 
 abbrev pub invariant-loop-field : goal.invariant-loop-field

@@ -1,17 +1,17 @@
 use Rattle.std.proofs.Common.{rules, ◌≡◌, ◌+◌, length, ap, ◌∙◌, subst}
 use Rattle.drm_turns.specs.History.{device_at}
-use Rattle.drm_turns.specs.Seats.{Closes, Standing}
-use Rattle.drm_model.specs.Run.{History}
+use Rattle.drm_turns.specs.Participants.{Closes, ParticipantView}
+use Rattle.drm_model.specs.Run.{DeviceValue}
 use Rattle.drm_turns.proofs.Ends.{closes, closes_counted, comes_home}
 use Rattle.drm_turns.proofs.Held.{events-length}
 use Rattle.drm_turns.proofs.shared.SharedDevice.close.Goals as goal
 use Rattle.drm_turns.proofs.shared.SharedDevice.close.Goals.{in_default-via-in-Some+else-is_quiet, in_default-via-in_default}
 
--- the words are equal and the slot is full, where none is out of the first seat
+-- the words are equal and the slot is full, where none is out of the first participant
 pub returns-in_default-clause-home : goal.returns-in_default-clause-home
-returns-in_default-clause-home c first none_out =
-    let v = c.seat.inside.place.me.0 in
-    let home = comes_home c.seat.inside.place.id v _ _ c.word.result c.word-2.result c.take-slot.result c.seat.invariant.idle (ap (λ (s : Standing). s.number) c.seat.view_is ∙ first) (ap (λ (s : Standing). s.out) c.seat.view_is ∙ none_out) c.close_with-closed.ensures.values.2 c.word.ensures c.word-2.ensures c.take-slot.ensures.value in
+returns-in_default-clause-home c first none_outstanding =
+    let v = c.participant.inside.place.me.0 in
+    let home = comes_home c.participant.inside.place.id v _ _ c.word.result c.word-2.result c.take-slot.result c.participant.invariant.idle (ap (λ (s : ParticipantView). s.number) c.participant.view_is ∙ first) (ap (λ (s : ParticipantView). s.outstanding) c.participant.view_is ∙ none_outstanding) c.close_with-closed.ensures.values.2 c.word.ensures c.word-2.ensures c.take-slot.ensures.value in
     elim c.in_default.branch [
       | in_default-via-in-Some+else-is_quiet w ↦ absurd (w.if-is_quiet.false home.0)
       | in_default-via-in_default w ↦ let there = home.2 in let none = w.in_default.is in absurd (cc)
@@ -19,21 +19,21 @@ returns-in_default-clause-home c first none_out =
 
 pub returns-in-Some-clause-closes : goal.returns-in-Some-clause-closes
 returns-in-Some-clause-closes c =
-    let v = c.seat.inside.place.me.0 in
+    let v = c.participant.inside.place.me.0 in
     let quiet : c.word.result ≡ c.word-2.result = search rules in
-    let found = closes c.seat.inside.place.id v _ _ c.word.result c.word-2.result c.take-slot.result c.seat.invariant.idle c.close_with-closed.ensures.values.2 c.word.ensures c.word-2.ensures quiet c.take-slot.ensures.value in
+    let found = closes c.participant.inside.place.id v _ _ c.word.result c.word-2.result c.take-slot.result c.participant.invariant.idle c.close_with-closed.ensures.values.2 c.word.ensures c.word-2.ensures quiet c.take-slot.ensures.value in
     let there = found.1 in
     let is = c.in-Some.is in
     let device : c.in-Some.device ≡ device_at v.origin found.0 = cc in
-    subst (λ (s : Standing). Closes s c.in-Some.device) c.seat.view_is (found.0, device, found.2.2, found.2.0, found.2.3 c.seat.invariant.numbered)
+    subst (λ (s : ParticipantView). Closes s c.in-Some.device) c.participant.view_is (found.0, device, found.2.2, found.2.0, found.2.3 c.participant.invariant.numbered)
 
 pub returns-in-Some-clause-counted : goal.returns-in-Some-clause-counted
-returns-in-Some-clause-counted c first none_out =
-    let v = c.seat.inside.place.me.0 in
+returns-in-Some-clause-counted c first none_outstanding =
+    let v = c.participant.inside.place.me.0 in
     let quiet : c.word.result ≡ c.word-2.result = search rules in
-    let found = closes_counted c.seat.inside.place.id v _ _ c.word.result c.word-2.result c.take-slot.result c.seat.invariant.idle c.close_with-closed.ensures.values.2 c.word.ensures c.word-2.ensures quiet c.take-slot.ensures.value
-    (ap (λ (s : Standing). s.number) c.seat.view_is ∙ first) (ap (λ (s : Standing). s.out) c.seat.view_is ∙ none_out) in
+    let found = closes_counted c.participant.inside.place.id v _ _ c.word.result c.word-2.result c.take-slot.result c.participant.invariant.idle c.close_with-closed.ensures.values.2 c.word.ensures c.word-2.ensures quiet c.take-slot.ensures.value
+    (ap (λ (s : ParticipantView). s.number) c.participant.view_is ∙ first) (ap (λ (s : ParticipantView). s.outstanding) c.participant.view_is ∙ none_outstanding) in
     let there = found.1 in
     let is = c.in-Some.is in
     let device : c.in-Some.device ≡ device_at v.origin found.0 = cc in
-    ap (λ (d : History). length d.journal) device ∙ (events-length found.0 ∙ (found.2 ∙ ap (λ (s : Standing). length s.origin.journal + s.noted) c.seat.view_is))
+    ap (λ (d : DeviceValue). length d.journal) device ∙ (events-length found.0 ∙ (found.2 ∙ ap (λ (s : ParticipantView). length s.origin.journal + s.journaled) c.participant.view_is))

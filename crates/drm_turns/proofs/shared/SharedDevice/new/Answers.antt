@@ -1,6 +1,6 @@
 use Rattle.std.proofs.Common.{◌≡◌, List, [], ◌∷◌, ◌++◌, length, Some, sym, ◌∙◌, arith, ap, subst}
 use Rattle.atomic_table.specs.Table.{opening}
-use Rattle.drm_model.specs.Run.{History}
+use Rattle.drm_model.specs.Run.{DeviceValue}
 use Rattle.drm_turns.specs.History.{AllDiffer, Has, IsLegal, calls_by}
 use Rattle.drm_turns.specs.Rule.{Orderly, Sat, Slot}
 use Rattle.drm_turns.specs.Views.{opening_view}
@@ -10,12 +10,12 @@ use Rattle.drm_turns.proofs.shared.SharedDevice.new.Goals as goal
 pub new-requires : goal.new-requires
 new-requires c =
     let slots : c.push_reserved.new.self.items ≡ Some c.args.device ∷ [] = c.push_reserved.ensures.items ∙ ap (λ (l : List Slot). l ++ Some c.args.device ∷ []) c.in-Ok.ensures.items in
-    subst (λ (z : List Slot × History). Orderly (opening (length c.journal.result.now ∷ 0 ∷ 0 ∷ []) z.0 (opening_view z.1))) (λ i. (sym slots i, sym c.of-about.ensures i))
+    subst (λ (z : List Slot × DeviceValue). Orderly (opening (length c.journal.result.now ∷ 0 ∷ 0 ∷ []) z.0 (opening_view z.1))) (λ i. (sym slots i, sym c.of-about.ensures i))
     (opens c.args.device (length c.journal.result.now) (ap length c.journal.ensures.events) c.journal.ensures.found_room)
 
 pub invariant_of-result-in-Ok-new : goal.invariant_of-result-in-Ok-new
 invariant_of-result-in-Ok-new c =
-    let e : c.in-Ok-new.place.me ≡ (opening_view c.args.device, []) = c.in-Ok-new.ensures.ok.4 ∙ ap (λ (d : History). (opening_view d, [])) c.of-about.ensures in
+    let e : c.in-Ok-new.place.me ≡ (opening_view c.args.device, []) = c.in-Ok-new.ensures.ok.4 ∙ ap (λ (d : DeviceValue). (opening_view d, [])) c.of-about.ensures in
     let own = opening_own c.args.device c.journal.ensures.found_room in record {
       empty = ap (λ (m : Sat). m.1) e;
       idle = ap (λ (m : Sat). m.0.stage) e;

@@ -1,0 +1,65 @@
+-- Maps by numbers and lists of rows over their entries: what an order of numbers says, what an insertion and a removal leave, and
+-- rows that change together.
+use Rattle.std.proofs.Common.{◌≡◌, ℕ, ◌<◌, ◌==◌, Bool, true, false, cond, T, List, [], ◌∷◌, map, filter, Option, Some, None, refl, sym, ap, ◌∙◌, nat_cmp, is_lt, arith}
+use Rattle.std.specs.Prelude.{nat_lt}
+use Rattle.std.specs.List.{AllByRecursion}
+use Rattle.std.specs.Ordering.{eq_by_cmp}
+use Rattle.std.specs.FinMap as fin
+use Rattle.std.proofs.lemmas.Bool.{false≢true, eqb-true}
+use Rattle.std.proofs.lemmas.Bool.Decides.{nat_tests}
+use Rattle.drm_index_array.proofs.MarkedLemmas.{get-insert, get-remove}
+
+-- ---- numbers
+
+pub less_of : (a b : ℕ) → T (is_lt (nat_cmp a b)) → a < b
+less_of a b h = grind (arith, nat_tests)
+
+pub same_test : (k n : ℕ) → (n == k) ≡ eq_by_cmp nat_cmp k n
+same_test k n = grind (arith, nat_tests)
+
+pub before_test : (a b : ℕ) → nat_lt a b ≡ is_lt (nat_cmp a b)
+before_test a b = grind (arith, nat_tests)
+
+pub same : (a b : ℕ) → a ≡ b → (a == b) ≡ true
+same a b e = grind (arith, nat_tests)
+
+pub differ : (a b : ℕ) → (a ≡ b → ⊥) → (a == b) ≡ false
+differ a b differs =
+    elim (a == b) as (λ t. (a == b) ≡ t → t ≡ false) [ true ↦ λ e. absurd (differs (eqb-true a b e)) | false ↦ λ e. refl ] refl
+
+pub apart : (a b : ℕ) → (a == b) ≡ false → a ≡ b → ⊥
+apart a b differs e = false≢true (sym differs ∙ same a b e)
+
+-- ---- maps
+
+pub insert_same : (m : fin.FinMap nat_cmp ℕ) (n k : ℕ) → fin.get (fin.insert m n k) n ≡ Some k
+insert_same m n k = get-insert m n k n ∙ ap (λ t. cond t (Some k) (fin.get m n)) (same n n refl)
+
+pub insert_other : (m : fin.FinMap nat_cmp ℕ) (n k q : ℕ) → (q ≡ n → ⊥) → fin.get (fin.insert m n k) q ≡ fin.get m q
+insert_other m n k q differs = get-insert m n k q ∙ ap (λ t. cond t (Some k) (fin.get m q)) (differ q n differs)
+
+pub remove_same : (m : fin.FinMap nat_cmp ℕ) (n : ℕ) → fin.get (fin.remove m n) n ≡ None
+remove_same m n = get-remove m n n ∙ ap (λ t. cond t None (fin.get m n)) (same n n refl)
+
+pub remove_other : (m : fin.FinMap nat_cmp ℕ) (n q : ℕ) → (q ≡ n → ⊥) → fin.get (fin.remove m n) q ≡ fin.get m q
+remove_other m n q differs = get-remove m n q ∙ ap (λ t. cond t None (fin.get m q)) (differ q n differs)
+
+-- ---- rows over entries, by one function and by another
+
+module _ {X : Type 0} (f g : ℕ × ℕ → X) where
+  pub rows_over : (h : X → X) → (es : List (ℕ × ℕ)) → AllByRecursion (λ e. g e ≡ h (f e)) es → map g es ≡ map h (map f es)
+  rows_over h [] all = refl
+  rows_over h (e ∷ es) all = λ i. all.0 i ∷ rows_over h es all.1 i
+
+  pub rows_alike : (es : List (ℕ × ℕ)) → AllByRecursion (λ e. g e ≡ f e) es → map g es ≡ map f es
+  rows_alike [] all = refl
+  rows_alike (e ∷ es) all = λ i. all.0 i ∷ rows_alike es all.1 i
+
+  pub rows_without : (p q : X → Bool) → (es : List (ℕ × ℕ)) → AllByRecursion (λ e. (p (g e) ≡ q (f e)) × (q (f e) ≡ true → g e ≡ f e)) es → filter p (map g es) ≡ filter q (map f es)
+  rows_without p q [] all = refl
+  rows_without p q (e ∷ es) all =
+      ap (λ b. cond b (g e ∷ filter p (map g es)) (filter p (map g es))) all.0.0
+      ∙ elim (q (f e)) as (λ b. (b ≡ true → g e ≡ f e) → cond b (g e ∷ filter p (map g es)) (filter p (map g es)) ≡ cond b (f e ∷ filter q (map f es)) (filter q (map f es))) [
+        | true ↦ λ alike. λ i. alike refl i ∷ rows_without p q es all.1 i
+        | false ↦ λ alike. rows_without p q es all.1
+      ] all.0.1

@@ -1,0 +1,58 @@
+-- The rules of CREATE_LEASE, and what a client sees, over what is known of the lessor and of the ids (drm-uapi, leases; the order,
+-- how deep lessees may lease, the rule of ids that stand twice, what an empty list comes to, and what comes along with a CRTC are
+-- own). The leases and the model both read them here.
+use Rattle.std.specs.Prelude.{ℕ, ◌==◌, nat_lt, Bool, not, ◌&&◌, ◌||◌, if◌then◌else◌, List, [], ◌∷◌, filter}
+use Rattle.std.specs.List.{list_any, list_all}
+use Rattle.std.specs.Option.{is_some}
+use Rattle.drm_lists.specs.Numbers.{count}
+use Rattle.drm_table.specs.declared.rules.Rule.TheVariants.{SubLease, NoModeObject, NotLeasable, Repeated, LeaseShape, LeasedOut, Full}
+use Rattle.drm_table.specs.Permit.{Check, check}
+use Rattle.drm_modes.specs.Topology.{Topology, kind_of, is_crtc, is_plane, is_encoder, is_connector, is_primary_or_cursor, planes_of}
+
+-- the depth at which a lessee makes no lease any more (own)
+abbrev pub last_depth : ℕ
+last_depth = 8
+
+-- whether a master of this depth may lease: an owner, or a lessee that isn't so deep
+abbrev pub may_lease : ℕ → Bool
+may_lease depth = nat_lt depth last_depth
+
+-- primary and cursor planes are shown with universal planes on alone
+abbrev pub is_shown : Topology → Bool → ℕ → Bool
+is_shown t universal x = not (is_primary_or_cursor t x) || universal
+
+-- whether a fixed mode object is seen: all see an encoder, and of the rest each client what it controls and is shown
+abbrev pub sees : Topology → Bool → Bool → ℕ → Bool
+sees t controlled universal x = is_encoder t x || (controlled && is_shown t universal x)
+
+-- a fixed object that is seen, or any framebuffer
+abbrev pub is_seen : Topology → Bool → Bool → ℕ → Bool
+is_seen t seen framebuffer x = (is_some (kind_of t x) && seen) || framebuffer
+
+abbrev pub is_leasable : Topology → Bool → ℕ → Bool
+is_leasable t framebuffer x = not (is_encoder t x || framebuffer)
+
+abbrev pub stands_once : List ℕ → ℕ → Bool
+stands_once ids x = count ids x == 1
+
+-- a CRTC and a connector at least, and with universal planes on a plane
+abbrev pub is_lease : Topology → Bool → List ℕ → Bool
+is_lease t universal ids = list_any (is_crtc t) ids && list_any (is_connector t) ids && (not universal || list_any (is_plane t) ids)
+
+-- what comes along: with universal planes off, of each listed CRTC the primary and the cursor plane that is controlled
+abbrev pub brought_along : Topology → Bool → (ℕ → Bool) → List ℕ → List ℕ
+brought_along t universal controls ids = if universal then [] else filter controls (planes_of t ids)
+
+-- what is asked, in order, each rule over all ids, once the flags of the call's row have passed. `seen` is `sees` of each id and
+-- `framebuffer` whether it is a framebuffer's; `leased_out`: a direct lessee of the lessor has one of the ids, or of what comes along;
+-- `has_room`: a lessee id and a lease token are free
+abbrev pub lease_checks : Topology → ℕ → (ℕ → Bool) → (ℕ → Bool) → Bool → Bool → Bool → List ℕ → List Check
+lease_checks t depth seen framebuffer universal leased_out has_room ids =
+    check SubLease (may_lease depth)
+    ∷ check NoModeObject (list_all (λ x. is_seen t (seen x) (framebuffer x) x) ids)
+    ∷ check NotLeasable (list_all (λ x. is_leasable t (framebuffer x) x) ids)
+    ∷ check Repeated (list_all (stands_once ids) ids)
+    ∷ check LeaseShape (is_lease t universal ids)
+    ∷ check LeasedOut (not leased_out)
+    ∷ check Full has_room
+    ∷ []

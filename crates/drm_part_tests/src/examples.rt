@@ -1,0 +1,10 @@
+//! The examples of doc comments, made by `tools/doc_examples`.
+
+mod files;
+mod gem;
+mod id_alloc;
+mod index_array;
+mod leases;
+mod masters;
+mod modes;
+mod share;

@@ -1,0 +1,118 @@
+//! The examples of `drm_files`, made by `tools/doc_examples` of its doc comments.
+
+use drm_files::{FileClient, FileFault, FileFlags, FileHandle, Files};
+use drm_gem::ObjectKey;
+
+#[test]
+fn values(rt: HostRuntime) {
+    let alloc = rt.alloc();
+    let mut files = Files::new(alloc, 0, 100);
+    assert!(rt; files.open(1, false, false, true) == Err(FileFault::Full));
+    let mut files = Files::new(alloc, 4, 100);
+    let Ok(()) = files.open(1, false, true, true) else {
+        return
+    };
+    let flags = FileFlags {
+        render: false,
+        root: true,
+        authenticated: true,
+        universal: true,
+    };
+    assert!(rt; files.flags_of(1) == Some(flags));
+    assert!(rt; files.nth_client(0) == Some(FileClient { client: 1, flags }));
+    let object = ObjectKey::from_number(7);
+    let Ok(handle) = files.add_handle(1, object, Some(3)) else {
+        return
+    };
+    let hold = FileHandle {
+        client: 1,
+        handle,
+        object,
+        export_order: Some(3),
+    };
+    assert!(rt; files.nth_handle(0) == Some(hold));
+}
+
+#[test]
+fn files(rt: HostRuntime) {
+    let alloc = rt.alloc();
+    let mut files = Files::new(alloc, 4, 100);
+    let Ok(()) = files.open(1, false, false, true) else {
+        return
+    };
+    assert!(rt; Files::new(alloc, 4, 100).len() == 0);
+    assert!(rt; files.flags_of(1).is_some() && files.flags_of(2).is_none());
+    let Ok(()) = files.open(2, true, false, false) else {
+        return
+    };
+    let mut rest = files.close(2);
+    assert!(rt; rest.take_next().is_none() && files.len() == 1);
+    assert!(rt; files.len() == 1);
+    assert!(rt; !files.is_full());
+    assert!(rt; files.has_room(1));
+    let object = ObjectKey::from_number(7);
+    let Ok(handle) = files.add_handle(1, object, None) else {
+        return
+    };
+    assert!(rt; handle == 1);
+    assert!(rt; files.object_of(1, handle) == Some(object));
+    assert!(rt; files.drop_handle(1, handle) == Some(object));
+    assert!(rt; files.object_of(1, handle).is_none());
+    assert!(rt;
+        files
+            .flags_of(1)
+            .is_some_and(|flags| flags.universal && !flags.render)
+    );
+    files.set_authenticated(1);
+    assert!(rt; files.flags_of(1).is_some_and(|flags| flags.authenticated));
+    files.set_universal(1, false);
+    assert!(rt; files.flags_of(1).is_some_and(|flags| !flags.universal));
+}
+
+#[test]
+fn files_lists(rt: HostRuntime) {
+    let alloc = rt.alloc();
+    let mut files = Files::new(alloc, 4, 100);
+    let Ok(()) = files.open(1, false, false, true) else {
+        return
+    };
+    let object = ObjectKey::from_number(7);
+    let Ok(handle) = files.add_handle(1, object, None) else {
+        return
+    };
+    assert!(rt; files.handles_of(1, 0).ids() == [handle].as_slice());
+    assert!(rt; files.nth_client(0).is_some_and(|row| row.client == 1));
+    assert!(rt; files.nth_handle(0).is_some_and(|row| row.handle == handle));
+}
+
+#[test]
+fn files_primes(rt: HostRuntime) {
+    let alloc = rt.alloc();
+    let mut files = Files::new(alloc, 4, 100);
+    let Ok(()) = files.open(1, false, false, true) else {
+        return
+    };
+    let object = ObjectKey::from_number(7);
+    assert!(rt; files.prime_handle(1, object).is_none());
+    let Ok(handle) = files.add_handle(1, object, None) else {
+        return
+    };
+    files.set_prime(1, handle, 5);
+    assert!(rt; files.prime_handle(1, object) == Some(handle));
+}
+
+#[test]
+fn file_rest_rest(rt: HostRuntime) {
+    let alloc = rt.alloc();
+    let mut files = Files::new(alloc, 4, 100);
+    let Ok(()) = files.open(1, false, false, true) else {
+        return
+    };
+    let object = ObjectKey::from_number(7);
+    let Ok(handle) = files.add_handle(1, object, None) else {
+        return
+    };
+    let mut rest = files.close(1);
+    assert!(rt; rest.take_next() == Some((handle, object)));
+    assert!(rt; rest.take_next().is_none());
+}

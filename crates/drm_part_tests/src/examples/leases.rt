@@ -1,0 +1,80 @@
+//! The examples of `drm_leases`, made by `tools/doc_examples` of its doc comments.
+
+use drm_leases::{Grant, LeaseFault, LeaseToken, Leased, Leases};
+use drm_masters::Masters;
+use drm_modes::{Modes, Topology};
+use drm_table::Rule;
+
+#[test]
+fn values(rt: HostRuntime) {
+    let alloc = rt.alloc();
+    let Some(topology) = Topology::new(2, &[1, 2], &[3, 2], &[5, 6]) else {
+        return
+    };
+    let modes = Modes::new(alloc, topology, 4);
+    let mut masters = Masters::new(alloc, 4, 4);
+    let Ok(_first) = masters.on_open(1, 1) else {
+        return
+    };
+    let shape = Leases::new(alloc, 8).create(&mut masters, &modes, 1, true, &[1], 2);
+    assert!(rt; shape == Err(LeaseFault::Denied(Rule::LeaseShape)));
+    let Some(topology) = Topology::new(2, &[1, 2], &[3, 2], &[5, 6]) else {
+        return
+    };
+    let modes = Modes::new(alloc, topology, 4);
+    let mut masters = Masters::new(alloc, 4, 4);
+    let Ok(_first) = masters.on_open(1, 1) else {
+        return
+    };
+    let mut leases = Leases::new(alloc, 8);
+    let Ok(leased) = leases.create(&mut masters, &modes, 1, true, &[1, 3, 7], 2) else {
+        return
+    };
+    assert!(rt;
+        leases.nth_grant(0)
+            == Some(Grant {
+                master: 2,
+                mode_object: 1
+            })
+    );
+    let token = LeaseToken {
+        token: 1,
+        master: 2,
+    };
+    assert!(rt; leases.token_of(token.master) == Some(token.token));
+    let Leased { master, id, token } = leased;
+    assert!(rt; id == 1 && token == 1 && masters.master(2).is_some_and(|row| row.key == master));
+}
+
+#[test]
+fn leases(rt: HostRuntime) {
+    let alloc = rt.alloc();
+    let Some(topology) = Topology::new(2, &[1, 2], &[3, 2], &[5, 6]) else {
+        return
+    };
+    let modes = Modes::new(alloc, topology, 4);
+    let mut masters = Masters::new(alloc, 4, 4);
+    let Ok(_first) = masters.on_open(1, 1) else {
+        return
+    };
+    let mut leases = Leases::new(alloc, 8);
+    let Ok(leased) = leases.create(&mut masters, &modes, 1, true, &[1, 3, 7], 2) else {
+        return
+    };
+    assert!(rt; Leases::new(alloc, 8).last_given().is_none());
+    assert!(rt; leased.id == 1 && leased.token == 1);
+    assert!(rt; leases.holds(2, 1) && !leases.holds(2, 2));
+    assert!(rt; leases.leased_out(&masters, 1, 3));
+    assert!(rt; leases.list(&masters, 1).ids() == [1].as_slice());
+    assert!(rt; leases.objects_of(2).ids() == [1, 3, 7].as_slice());
+    assert!(rt; leases.token_master(leased.token) == Some(2));
+    assert!(rt; leases.token_of(2) == Some(leased.token));
+    assert!(rt; leases.redeem(leased.token) == Some(2));
+    assert!(rt; leases.token_of(2).is_none());
+    leases.revoke(&mut masters, 2);
+    assert!(rt; leases.objects_of(2).ids().is_empty());
+    leases.revoke_below(&mut masters, 1);
+    assert!(rt; leases.list(&masters, 1).ids().is_empty());
+    assert!(rt; leases.last_given() == Some(leased.token));
+    assert!(rt; leases.nth_grant(0).is_none());
+}

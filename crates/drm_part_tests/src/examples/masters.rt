@@ -1,0 +1,149 @@
+//! The examples of `drm_masters`, made by `tools/doc_examples` of its doc comments.
+
+use drm_masters::{LesseeFault, Magic, Master, Masters, Member, NoMemory, SetDone, SetFault};
+use drm_table::Rule;
+
+#[test]
+fn values(rt: HostRuntime) {
+    let alloc = rt.alloc();
+    let mut masters = Masters::new(alloc, 4, 0);
+    let Ok(_first) = masters.on_open(1, 1) else {
+        return
+    };
+    assert!(rt; masters.member(1).is_none() || masters.magic(1) != Err(NoMemory));
+    assert!(rt; masters.member(1).is_none() || masters.set(1, false, 2) == Ok(SetDone::Already));
+    let Ok(_second) = masters.on_open(2, 2) else {
+        return
+    };
+    let denied = Err(SetFault::Denied(Rule::MasterPerm));
+    assert!(rt; masters.member(2).is_none() || masters.set(2, false, 3) == denied);
+    let Some(owner) = masters.master(1) else {
+        return
+    };
+    assert!(rt; masters.make_lessee(owner.key, 4) == Err(LesseeFault::Full));
+    let mut masters = Masters::new(alloc, 4, 4);
+    let Ok(_first) = masters.on_open(1, 1) else {
+        return
+    };
+    let Some(key) = masters.master_of(1) else {
+        return
+    };
+    assert!(rt; masters.master(1).is_some_and(|row| row.key == key));
+    if masters.member(1).is_some() {
+        assert!(rt; masters.magic(1) == Ok(1));
+    }
+    let magic = Some(Magic {
+        number: 1,
+        spent: false,
+    });
+    assert!(rt; masters.member(1).is_some_and(|row| row.magic == magic));
+    let member = Member {
+        client: 1,
+        once_master: true,
+        is_master: true,
+        master: 1,
+        magic,
+    };
+    assert!(rt; masters.nth_member(0) == Some(member));
+    let master = Master {
+        key,
+        step_number: 1,
+        lessor: None,
+        lessee_id: 0,
+        kept: false,
+    };
+    assert!(rt; masters.nth_master(0) == Some(master));
+}
+
+#[test]
+fn masters(rt: HostRuntime) {
+    let alloc = rt.alloc();
+    let mut masters = Masters::new(alloc, 4, 4);
+    let Ok(is_first) = masters.on_open(1, 1) else {
+        return
+    };
+    assert!(rt; Masters::new(alloc, 4, 4).device_master().is_none());
+    assert!(rt;
+        masters
+            .member(1)
+            .is_some_and(|row| row.is_master && row.master == 1)
+    );
+    assert!(rt; masters.master_of(1).is_some() && masters.master_of(2).is_none());
+    assert!(rt;
+        masters
+            .master(1)
+            .is_some_and(|row| row.lessor.is_none() && !row.kept)
+    );
+    assert!(rt; masters.is_under(1, 1));
+    assert!(rt; masters.depth(1) == 0);
+    let Some(row) = masters.master(1) else { return };
+    assert!(rt; masters.lessor_of(row.key).is_none());
+    assert!(rt; masters.nth_lessee(1, 0).is_none());
+    assert!(rt; !masters.is_lessee(1));
+    assert!(rt; masters.device_master() == Some(1));
+    assert!(rt; masters.is_current(1) && !masters.is_current(2));
+    assert!(rt; is_first);
+    let mut masters = Masters::new(alloc, 4, 4);
+    let Ok(_first) = masters.on_open(1, 1) else {
+        return
+    };
+    let Some(owner) = masters.master(1) else {
+        return
+    };
+    let Ok((lessee, _id)) = masters.make_lessee(owner.key, 2) else {
+        return
+    };
+    let Ok(()) = masters.on_redeem(3, lessee) else {
+        return
+    };
+    assert!(rt; masters.is_lessee(3));
+    if masters.member(1).is_some() {
+        assert!(rt; masters.set(1, false, 9) == Ok(SetDone::Already));
+    }
+    if masters.member(1).is_some() {
+        assert!(rt; masters.drop_master(1, false) == Ok(()));
+    }
+    if masters.member(1).is_some() {
+        assert!(rt; masters.magic(1) == Ok(1));
+    }
+    if masters.member(1).is_some() {
+        assert!(rt; masters.auth(1, 7) == Err(Rule::NoMagic));
+    }
+    assert!(rt; masters.on_close(1).is_some());
+    assert!(rt; masters.member(1).is_none());
+    let mut masters = Masters::new(alloc, 4, 4);
+    let Ok(_first) = masters.on_open(1, 1) else {
+        return
+    };
+    let Some(owner) = masters.master(1) else {
+        return
+    };
+    let Ok((lessee, id)) = masters.make_lessee(owner.key, 2) else {
+        return
+    };
+    assert!(rt; id == 1);
+    let Some(owner) = masters.master(1) else {
+        return
+    };
+    assert!(rt;
+        masters
+            .lessee(owner.key, id)
+            .is_some_and(|row| row.key == lessee)
+    );
+    assert!(rt; masters.last_lessee() == 4);
+    assert!(rt; masters.free_lessee(1) == Some(2));
+    if let Some(row) = masters.master(2) {
+        masters.release(row.key);
+    }
+    assert!(rt; masters.master(2).is_none());
+    masters.release_under(1);
+    assert!(rt; masters.master(1).is_some());
+    masters.release_below(1);
+    assert!(rt; masters.master(1).is_some());
+    assert!(rt; masters.nth_member(0).is_some_and(|row| row.client == 1));
+    assert!(rt;
+        masters
+            .nth_master(0)
+            .is_some_and(|row| row.step_number == 1)
+    );
+}

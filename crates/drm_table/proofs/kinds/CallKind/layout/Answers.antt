@@ -1,5 +1,0 @@
-use Rattle.drm_table.proofs.TableRows.{short}
-use Rattle.drm_table.proofs.kinds.CallKind.layout.Goals as goal
-
-pub returns-clause-short : goal.returns-clause-short
-returns-clause-short c = short c.args.self _ c.row.ensures.layout

@@ -1,0 +1,58 @@
+//! The examples of `drm_device`, made by `tools/doc_examples` of its doc comments.
+
+use drm_device::{Device, Limits, NewFault, ReplayFault, Topology, replay};
+use drm_table::{Answer, AuditKind, Call, Event, Opening};
+
+#[test]
+fn values(rt: HostRuntime) {
+    let alloc = rt.alloc();
+    let Some(topology) = Topology::new(2, &[1, 2], &[3, 2], &[5, 6]) else {
+        return
+    };
+    let limits = Limits {
+        clients: 0,
+        ..Limits::PROGRAM
+    };
+    let Err(fault) = Device::new(alloc, topology, limits) else {
+        return
+    };
+    assert!(rt; fault == NewFault::BadLimits);
+    let Some(topology) = Topology::new(2, &[1, 2], &[3, 2], &[5, 6]) else {
+        return
+    };
+    let Err(fault) = replay(alloc, topology, limits, &[]) else {
+        return
+    };
+    assert!(rt; fault == ReplayFault::New(NewFault::BadLimits));
+    let Some(topology) = Topology::new(2, &[1, 2], &[3, 2], &[5, 6]) else {
+        return
+    };
+    let events = [Event::Open(Opening::Render)];
+    let Ok(device) = replay(alloc, topology, Limits::PROGRAM, &events) else {
+        return
+    };
+    assert!(rt; device.journal() == events.as_slice());
+}
+
+#[test]
+fn device(rt: HostRuntime) {
+    let alloc = rt.alloc();
+    let Some(topology) = Topology::new(2, &[1, 2], &[3, 2], &[5, 6]) else {
+        return
+    };
+    let Ok(mut device) = Device::new(alloc, topology, Limits::PROGRAM) else {
+        return
+    };
+    assert!(rt; device.journal().is_empty());
+    let opening = Opening::Primary {
+        root: false,
+        universal: true,
+    };
+    assert!(rt; device.step(Event::Open(opening)) == Ok(Answer::Opened { client: 1 }));
+    assert!(rt; device.step(Event::Ask(1, Call::SetMaster)) == Ok(Answer::Done));
+    assert!(rt;
+        device.journal() == [Event::Open(opening), Event::Ask(1, Call::SetMaster)].as_slice()
+    );
+    assert!(rt; device.audit(AuditKind::Client, 0).rows().len() == 1);
+    assert!(rt; device.journal_left() < Limits::PROGRAM.journal);
+}
