@@ -19,7 +19,7 @@ use Rattle.drm_model.proofs.Changes.{client_stays, client_after, new_client_row,
 
 -- ---- clients
 
--- what is owed of a new client
+-- what is asked of a new client
 abbrev pub ForClient : (ClientRow → Type 0) → Rows → Event → Type 0
 ForClient R w event = IfSome (new_client_row w event) R
 
@@ -36,7 +36,7 @@ clients_after w R event Q stays new h = changed-all w R event (all_weaker Q (λ 
 
 -- ---- masters
 
--- what is owed of a new master
+-- what is asked of a new master
 abbrev pub ForMaster : (MasterRow → Type 0) → Rows → Event → Type 0
 ForMaster R w (Open (Primary root universal)) = R (new_master (step_number w))
 ForMaster R w (Ask c SetMaster) = R (new_master (step_number w))
@@ -70,7 +70,7 @@ module _ (w : Rows) (Q R : MasterRow → Type 0) (stays : (row : MasterRow) → 
 
 -- ---- magics
 
--- what is owed of a new magic
+-- what is asked of a new magic
 abbrev pub ForMagic : (MagicRow → Type 0) → Rows → Event → Type 0
 ForMagic R w (Ask c GetMagic) = magic_of w c ≡ None → R (new_magic w c)
 ForMagic R w _ = Unit {0}

@@ -266,7 +266,7 @@ held_carried past w event r v p h =
     let made = changed-made w event r.made in
     held_swept (changed w event) (falling (step_number w) (changed w event).masters made.1) (lessor_told (step_number w) (changed w event).masters step_numbers.1) (held_changed past w event r v p h)
 
--- with the history's standing, and with masters that are there
+-- with the history's master state, and with masters that are there
 abbrev pub Rooted : List AnsweredEvent → Rows → Type 0
 Rooted past w = Ranked past w × Held w
 

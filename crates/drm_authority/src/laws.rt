@@ -51,7 +51,7 @@ pub fn grants_follow_from_history()
     ensures { (h : DeviceValue) → GrantsFollow h.topology (rows_of h) (history_of h) }
 {}
 
-/// A lessee that was ended is barren: no later call of a client of it that is carried out names a CRTC, a connector or a plane,
+/// A lessee that was ended sees nothing: no later call of a client of it that is carried out names a CRTC, a connector or a plane,
 /// its lists have none, and its masks are 0.
 pub fn ended_lessees_see_nothing()
     ensures { (h : DeviceValue) → EndedLesseesSeeNothing (history_of h) }

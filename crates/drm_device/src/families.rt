@@ -2,6 +2,7 @@
 
 ghost use Rattle.std.specs.Prelude.{◌≡◌, Some, true};
 ghost use Rattle.drm_files.specs.Files.{is_open_client};
+ghost use Rattle.drm_state.specs.Callers.{IsCaller};
 ghost use Rattle.drm_state.specs.Invariants.{MeetsInvariants, StepPrecondition};
 ghost use Rattle.drm_state.specs.Refinement.{RefinesCall};
 ghost use Rattle.drm_table.specs.Table.{family_of};
@@ -21,7 +22,7 @@ use drm_mode_calls::{
 };
 use drm_modes::Shape;
 use drm_share_calls::{gem_flink, gem_open, prime_export, prime_import, token_close};
-use drm_state::State;
+use drm_state::{Caller, State};
 use drm_table::{Answer, Call};
 use std::alloc::AllocError;
 
@@ -53,20 +54,20 @@ pub fn device_call(
 pub fn master_call(
     state: &mut State,
     step_number: u32,
-    client: u32,
+    caller: Caller,
     call: &Call,
 ) -> Result<Answer, AllocError>
     requires master_call { family_of call.now ≡ Some Masters }
     requires precondition { StepPrecondition state.old step_number }
-    requires open_client { is_open_client state.old.files client ≡ true }
-    ensures refines { RefinesCall state.old step_number client call.now result state.new }
+    requires caller { IsCaller state.old caller }
+    ensures refines { RefinesCall state.old step_number caller.client call.now result state.new }
     ensures invariants { MeetsInvariants state.new }
 {
     match call {
-        Call::GetMagic => Ok(get_magic(state, client)),
-        Call::AuthMagic { magic } => Ok(auth_magic(state, client, *magic)),
-        Call::SetMaster => set_master(state, step_number, client),
-        Call::DropMaster => Ok(drop_master(state, client)),
+        Call::GetMagic => Ok(get_magic(state, caller)),
+        Call::AuthMagic { magic } => Ok(auth_magic(state, caller, *magic)),
+        Call::SetMaster => set_master(state, step_number, caller),
+        Call::DropMaster => Ok(drop_master(state, caller)),
         _ => unreachable!(),
     }
 }
@@ -133,32 +134,32 @@ pub fn share_call(
 pub fn mode_call(
     state: &mut State,
     step_number: u32,
-    client: u32,
+    caller: Caller,
     call: &Call,
 ) -> Result<Answer, AllocError>
     requires mode_call { family_of call.now ≡ Some Modes }
     requires precondition { StepPrecondition state.old step_number }
-    requires open_client { is_open_client state.old.files client ≡ true }
-    ensures refines { RefinesCall state.old step_number client call.now result state.new }
+    requires caller { IsCaller state.old caller }
+    ensures refines { RefinesCall state.old step_number caller.client call.now result state.new }
     ensures invariants { MeetsInvariants state.new }
 {
     match *call {
-        Call::GetResources => Ok(get_resources(state, client)),
-        Call::GetPlaneResources => Ok(get_plane_resources(state, client)),
-        Call::GetCrtc { crtc } => Ok(get_crtc(state, client, crtc)),
-        Call::GetEncoder { encoder } => Ok(get_encoder(state, client, encoder)),
-        Call::GetConnector { connector } => Ok(get_connector(state, client, connector)),
-        Call::GetPlane { plane } => Ok(get_plane(state, client, plane)),
+        Call::GetResources => Ok(get_resources(state, caller)),
+        Call::GetPlaneResources => Ok(get_plane_resources(state, caller)),
+        Call::GetCrtc { crtc } => Ok(get_crtc(state, caller, crtc)),
+        Call::GetEncoder { encoder } => Ok(get_encoder(state, caller, encoder)),
+        Call::GetConnector { connector } => Ok(get_connector(state, caller, connector)),
+        Call::GetPlane { plane } => Ok(get_plane(state, caller, plane)),
         Call::SetCrtc {
             crtc,
             framebuffer,
             connector,
-        } => Ok(set_crtc(state, client, crtc, framebuffer, connector)),
+        } => Ok(set_crtc(state, caller, crtc, framebuffer, connector)),
         Call::SetPlane {
             plane,
             crtc,
             framebuffer,
-        } => Ok(set_plane(state, client, plane, crtc, framebuffer)),
+        } => Ok(set_plane(state, caller, plane, crtc, framebuffer)),
         _ => unreachable!(),
     }
 }
@@ -168,17 +169,17 @@ pub fn mode_call(
 pub fn framebuffer_call(
     state: &mut State,
     step_number: u32,
-    client: u32,
+    caller: Caller,
     call: &Call,
 ) -> Result<Answer, AllocError>
     requires framebuffer_call { family_of call.now ≡ Some Framebuffers }
     requires precondition { StepPrecondition state.old step_number }
-    requires open_client { is_open_client state.old.files client ≡ true }
-    ensures refines { RefinesCall state.old step_number client call.now result state.new }
+    requires caller { IsCaller state.old caller }
+    ensures refines { RefinesCall state.old step_number caller.client call.now result state.new }
     ensures invariants { MeetsInvariants state.new }
 {
     match *call {
-        Call::GetFb { framebuffer } => get_fb(state, step_number, client, framebuffer),
+        Call::GetFb { framebuffer } => get_fb(state, step_number, caller, framebuffer),
         Call::AddFb {
             width,
             height,
@@ -192,9 +193,9 @@ pub fn framebuffer_call(
                 pitch,
                 bpp,
             };
-            add_fb(state, step_number, client, shape, handle)
+            add_fb(state, step_number, caller.client, shape, handle)
         }
-        Call::RmFb { framebuffer } => Ok(rm_fb(state, client, framebuffer)),
+        Call::RmFb { framebuffer } => Ok(rm_fb(state, caller.client, framebuffer)),
         _ => unreachable!(),
     }
 }
@@ -204,20 +205,20 @@ pub fn framebuffer_call(
 pub fn lease_call(
     state: &mut State,
     step_number: u32,
-    client: u32,
+    caller: Caller,
     call: &Call,
 ) -> Result<Answer, AllocError>
     requires lease_call { family_of call.now ≡ Some Leases }
     requires precondition { StepPrecondition state.old step_number }
-    requires open_client { is_open_client state.old.files client ≡ true }
-    ensures refines { RefinesCall state.old step_number client call.now result state.new }
+    requires caller { IsCaller state.old caller }
+    ensures refines { RefinesCall state.old step_number caller.client call.now result state.new }
     ensures invariants { MeetsInvariants state.new }
 {
     match call {
-        Call::CreateLease { ids } => create_lease(state, step_number, client, ids),
-        Call::ListLessees => Ok(list_lessees(state, client)),
-        Call::GetLease => Ok(get_lease(state, client)),
-        Call::RevokeLease { lessee } => Ok(revoke_lease(state, client, *lessee)),
+        Call::CreateLease { ids } => create_lease(state, step_number, caller, ids),
+        Call::ListLessees => Ok(list_lessees(state, caller)),
+        Call::GetLease => Ok(get_lease(state, caller)),
+        Call::RevokeLease { lessee } => Ok(revoke_lease(state, caller, *lessee)),
         _ => unreachable!(),
     }
 }

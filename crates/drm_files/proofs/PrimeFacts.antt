@@ -1,4 +1,4 @@
--- The least PRIME place of one client's handles, and how a walk over those for an object finds it.
+-- The least export order of one client's handles, and how a walk over those for an object finds it.
 use Rattle.std.proofs.Common.{◌≡◌, ℕ, ◌≤◌, ◌&&◌, ◌||◌, ◌==◌, Bool, true, false, cond, if◌then◌else◌, List, [], ◌∷◌, ◌++◌, map, filter, IfSome, Option, Some, None, option_map, option_and_then, refl, sym, ap, subst, ◌∙◌, arith, eq-eqb, nat_cmp}
 use Rattle.std.specs.List.{filter_map, cons_option, list_any, AllByRecursion}
 use Rattle.std.specs.Option.{option_map_or}

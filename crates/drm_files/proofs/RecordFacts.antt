@@ -29,7 +29,7 @@ some_of f None = refl
 some_of f (Some x) = refl
 
 module _ (limit last : ℕ) (m : fin.FinMap nat_cmp FileRecord) where
-  -- a client is present where it has a record
+  -- a client is open where it has a record
   pub open_client_is : (c : ℕ) → is_open_client (lists_of limit last m) c ≡ is_some (fin.get m c)
   open_client_is c = ap is_some (find_client m c) ∙ some_of (λ r. client c r.flags) (fin.get m c)
 

@@ -99,26 +99,26 @@ with_universal files c on = with_change (universal on) files c
 abbrev pub is_handle_of : ℕ → ℕ → FileHandle → Bool
 is_handle_of c object row = (row.client == c) && (row.object == object)
 
--- the PRIME places of the client's handles for the object
+-- the export orders of the client's handles for the object
 abbrev pub export_orders_of : FileLists → ℕ → ℕ → List ℕ
 export_orders_of files c object = filter_map (λ row. row.export_order) (filter (is_handle_of c object) files.holds)
 
 abbrev pub has_export_order : ℕ → FileHandle → Bool
 has_export_order export_order row = option_map_or (λ p. p == export_order) row.export_order false
 
--- the client's handles for the object that have this PRIME place
+-- the client's handles for the object that have this export order
 abbrev pub handles_at : FileLists → ℕ → ℕ → ℕ → List ℕ
 handles_at files c object export_order = map (λ row. row.handle) (filter (has_export_order export_order) (filter (is_handle_of c object) files.holds))
 
--- the client's handle for the object with the least PRIME place, and at a tie the least handle
+-- the client's handle for the object with the least export order, and at a tie the least handle
 abbrev pub prime_handle : FileLists → ℕ → ℕ → Option ℕ
 prime_handle files c object = option_and_then (λ export_order. least_of (handles_at files c object export_order)) (least_of (export_orders_of files c object))
 
--- a place that a handle has stays
+-- an export order that a handle has stays
 abbrev pub given_export_order : ℕ → FileHandle → FileHandle
 given_export_order export_order row = record row { export_order = option_or row.export_order (Some export_order) }
 
--- the lists where the client's handle has this PRIME place, unless it had one already
+-- the lists where the client's handle has this export order, unless it had one already
 abbrev pub with_export_order : FileLists → ℕ → ℕ → ℕ → FileLists
 with_export_order files c h export_order = record files { holds = map (λ row. if is_handle c h row then given_export_order export_order row else row) files.holds }
 

@@ -11,39 +11,39 @@ use Rattle.drm_files.specs.declared.primes.Prime.{Prime}
 abbrev pub is_for : ℕ → ℕ × Held → Bool
 is_for object entry = entry.1.object == object
 
--- the places of the handles for an object
+-- the export orders of the handles for an object
 abbrev pub export_orders_in : ℕ → List (ℕ × Held) → List ℕ
 export_orders_in object entries = filter_map (λ entry. entry.1.export_order) (filter (is_for object) entries)
 
 abbrev pub is_at : ℕ → ℕ × Held → Bool
 is_at export_order entry = option_map_or (λ p. p == export_order) entry.1.export_order false
 
--- the handles for an object that have a place
+-- the handles for an object that have an export order
 abbrev pub handles_in : ℕ → ℕ → List (ℕ × Held) → List ℕ
 handles_in object export_order entries = list_map (λ entry. entry.0) (filter (is_at export_order) (filter (is_for object) entries))
 
--- the least place of the handles for an object, with the least handle that has it
+-- the least export order of the handles for an object, with the least handle that has it
 abbrev pub least_prime : ℕ → List (ℕ × Held) → Option Prime
 least_prime object entries = option_and_then (λ export_order. option_map (λ handle. record { export_order = export_order; handle = handle }) (least_of (handles_in object export_order entries))) (least_of (export_orders_in object entries))
 
--- the handle and its place, if it is for the object and has one
+-- the handle and its export order, if it is for the object and has one
 abbrev pub prime_of : ℕ → ℕ × Held → Option Prime
 prime_of object entry = if is_for object entry then option_map (λ export_order. record { export_order = export_order; handle = entry.0 }) entry.1.export_order else None
 
--- a handle and its place, if it is for the object and has one
+-- a handle and its export order, if it is for the object and has one
 abbrev pub prime_at : map.FinMap nat_cmp Held → ℕ → ℕ → Option Prime
 prime_at slots object h = option_and_then (λ held. prime_of object (h, held)) (map.get slots h)
 
 abbrev pub is_before : Prime → Prime → Bool
 is_before y x = nat_lt y.export_order x.export_order || ((y.export_order == x.export_order) && nat_lt y.handle x.handle)
 
--- the one with the lesser place, and at a tie that with the lesser handle
+-- the one with the lesser export order, and at a tie that with the lesser handle
 abbrev pub lesser_prime : Option Prime → Option Prime → Option Prime
 lesser_prime None second = second
 lesser_prime (Some x) None = Some x
 lesser_prime (Some x) (Some y) = if is_before y x then Some y else Some x
 
--- no place is lesser, nor a handle at that place
+-- no export order is lesser, nor a handle at that order
 abbrev pub IsFirst : Prime → Prime → Type 0
 IsFirst x y = (x.export_order ≤ y.export_order) × (x.export_order ≡ y.export_order → x.handle ≤ y.handle)
 

@@ -1,4 +1,4 @@
-//! PRIME handles: those that an export or an import gave a place (drm-mm, PRIME; the places are this crate's own).
+//! PRIME handles: those that an export or an import gave an export order (drm-mm, PRIME; the order is this crate's own).
 
 ghost use Rattle.std.specs.Prelude.{◌≡◌, true, is_some, find};
 ghost use Rattle.drm_id_alloc.specs.Groups.{numbers_of};
@@ -9,7 +9,7 @@ use crate::files::{Files, Held};
 use drm_gem::ObjectKey;
 use drm_id_alloc::{Groups, IdTable};
 
-// A handle that has a PRIME place.
+// A handle that has an export order.
 #[derive(Clone, Copy)]
 struct Prime {
     export_order: u32,
@@ -17,9 +17,9 @@ struct Prime {
 }
 
 impl Files {
-    /// The handle of an open client for an object with the least PRIME place, and at a tie the least handle (drm-mm,
+    /// The handle of an open client for an object with the least export order, and at a tie the least handle (drm-mm,
     /// PRIME): the one that a further import of the object gives. There is none where no handle of the client for
-    /// the object has a place. It passes over no handle for another object, and takes no memory.
+    /// the object has an export order. It passes over no handle for another object, and takes no memory.
     ///
     /// ```rust
     /// let object = ObjectKey::from_number(7);
@@ -37,7 +37,7 @@ impl Files {
         Some(least.handle)
     }
 
-    /// Gives a handle of an open client a PRIME place (drm-mm, PRIME), unless it has one already: that one stays, and
+    /// Gives a handle of an open client an export order (drm-mm, PRIME), unless it has one already: that one stays, and
     /// then nothing changes. It takes no memory.
     ///
     /// ```rust
@@ -66,7 +66,7 @@ impl Files {
     }
 }
 
-// Of the handles for an object the one with the least place, and at a tie the least handle.
+// Of the handles for an object the one with the least export order, and at a tie the least handle.
 fn least_prime(table: &IdTable<Held>, by_object: &Groups, object: ObjectKey) -> Option<Prime>
     ensures { IsLeastIn table.now.slots object (numbers_of by_object.now object) result }
 {
@@ -81,7 +81,7 @@ fn least_prime(table: &IdTable<Held>, by_object: &Groups, object: ObjectKey) -> 
     least
 }
 
-// The handle and its place, if it is for the object and has one.
+// The handle and its export order, if it is for the object and has one.
 fn prime_at(table: &IdTable<Held>, handle: u32, object: ObjectKey) -> Option<Prime>
     ensures { result ≡ prime_at table.now.slots object handle }
 {
@@ -89,7 +89,7 @@ fn prime_at(table: &IdTable<Held>, handle: u32, object: ObjectKey) -> Option<Pri
     prime_of(handle, *held, object)
 }
 
-// The handle and its place, if it is for the object and has one.
+// The handle and its export order, if it is for the object and has one.
 fn prime_of(handle: u32, held: Held, object: ObjectKey) -> Option<Prime>
     ensures { result ≡ prime_of object (handle, held) }
 {
@@ -103,7 +103,7 @@ fn prime_of(handle: u32, held: Held, object: ObjectKey) -> Option<Prime>
     })
 }
 
-// The one with the lesser place, and at a tie that with the lesser handle.
+// The one with the lesser export order, and at a tie that with the lesser handle.
 fn lesser_prime(first: Option<Prime>, second: Option<Prime>) -> Option<Prime>
     ensures { result ≡ lesser_prime first second }
 {

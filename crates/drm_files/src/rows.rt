@@ -52,6 +52,6 @@ pub struct FileHandle {
     pub handle: u32,
     /// The object behind it.
     pub object: ObjectKey,
-    /// The PRIME place: which export or import the handle is known by, if it is by one (drm-mm, PRIME).
+    /// The export order: which export or import the handle is known by, if it is by one (drm-mm, PRIME).
     pub export_order: Option<u32>,
 }

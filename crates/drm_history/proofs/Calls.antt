@@ -31,7 +31,7 @@ use Rattle.drm_lists.proofs.Numbers.{same_either}
 abbrev pub asked_step : Rows → ℕ → Call → AnsweredEvent
 asked_step w c call = record { event = Ask c call; answer = (meaning w c call).answer }
 
--- what a call owes where its own rules hold
+-- what a call refines where its own rules hold
 abbrev pub Refines : Rows → List AnsweredEvent → ℕ → Call → Type 0
 Refines w past c call = w.steps ≡ length past → AllByRecursion (λ (x : Check). x.holds ≡ true) (meaning w c call).checks → FactsOf past w → FactsOf (asked_step w c call ∷ past) (meaning w c call).rows
 
@@ -151,7 +151,7 @@ module _ (w : Rows) (past : List AnsweredEvent) (c : ℕ) where
       let both = and_parts (row.client == c) (row.object == o) of_both in
       ap (λ d. object_at w.holds d handle) (sym (eqb-true row.client c both.0)) ∙ ap (object_at w.holds row.client) (sym (eqb-true row.handle handle e)) ∙ at ∙ ap (λ n. Some n) (eqb-true row.object o both.1)
 
-  -- the handle with the least place is the client's, and of the object
+  -- the handle with the least export order is the client's, and of the object
   prime_held_at : (o handle export_order : ℕ) → is_among (handles_at w c o export_order) handle ≡ true → FactsOf past w → object_at w.holds c handle ≡ Some o
   prime_held_at o handle export_order among f =
       let chosen = filter (is_handle_of c o) w.holds in

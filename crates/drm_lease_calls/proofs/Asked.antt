@@ -1,5 +1,5 @@
 -- What CREATE_LEASE asks of a caller, and the numbers of a new lessee, by rows and by what the device keeps.
-use Rattle.std.proofs.Common.{◌≡◌, ℕ, ◌+◌, ◌==◌, true, false, not, ◌&&◌, ◌||◌, List, [], ◌∷◌, ◌++◌, filter, find, Option, None, Some, refl, sym, ap, ◌∙◌}
+use Rattle.std.proofs.Common.{◌≡◌, ℕ, ◌+◌, ◌==◌, true, false, not, ◌&&◌, ◌||◌, List, [], ◌++◌, filter, find, Option, None, Some, refl, sym, ap, ◌∙◌}
 use Rattle.std.specs.Prelude.{nat_lt, unwrap_or, if◌then◌else◌}
 use Rattle.std.specs.Cmp.{both_ways}
 use Rattle.std.specs.List.{list_any, list_all, AllByRecursion}
@@ -10,18 +10,16 @@ use Rattle.drm_lists.specs.Chains.{top_of, depth_of}
 use Rattle.drm_lists.proofs.Lists.{all_each, all_both, list_any-map, list_any_gives, some_passing}
 use Rattle.drm_lists.proofs.Orders.{same-any}
 use Rattle.drm_lists.proofs.Rising.{found, any_found, all_found}
-use Rattle.drm_files.specs.Files.{is_open_client}
 use Rattle.drm_table.specs.declared.calls.Call.TheVariants.{CreateLease}
 use Rattle.drm_table.specs.declared.events.Event.TheVariants.{Ask}
-use Rattle.drm_table.specs.declared.rules.Rule.TheVariants.{SubLease, NoModeObject, NotLeasable, Repeated, LeaseShape, LeasedOut, Full}
-use Rattle.drm_table.specs.Permit.{check, first_failing}
-use Rattle.drm_modes.specs.LeaseRules.{last_depth}
+use Rattle.drm_table.specs.Permit.{first_failing}
+use Rattle.drm_modes.specs.LeaseRules.{last_depth, rules_in_order}
 use Rattle.drm_modes.specs.Topology.{is_encoder, kind_of, planes_of}
 use Rattle.drm_modes.specs.Modes.{has_framebuffer}
 use Rattle.drm_masters.specs.declared.rows.Master.{Master}
 use Rattle.drm_masters.specs.declared.rows.Member.{Member}
 use Rattle.drm_masters.specs.Masters as masters
-use Rattle.drm_masters.specs.Masters.{is_step_number, member_of, is_option}
+use Rattle.drm_masters.specs.Masters.{is_step_number, is_option}
 use Rattle.drm_leases.specs.declared.rows.Grant.{Grant}
 use Rattle.drm_leases.specs.declared.rows.LeaseToken.{LeaseToken}
 use Rattle.drm_leases.specs.Leases as leases
@@ -36,10 +34,11 @@ use Rattle.drm_model.specs.Sees.{controls}
 use Rattle.drm_model.specs.Calls.{meaning}
 use Rattle.drm_model.specs.Verdict.{admission_checks, verdict}
 use Rattle.drm_state.specs.declared.state.State.{State}
+use Rattle.drm_state.specs.declared.caller.Caller.{Caller}
+use Rattle.drm_state.specs.Callers.{IsCaller}
 use Rattle.drm_state.specs.Parts.{master_row_of, masters_of, grant_row_of, grants_of}
 use Rattle.drm_state.specs.Invariants.{MeetsInvariants, AreOfLessees}
 use Rattle.drm_state.specs.Refinement.{Represents}
-use Rattle.drm_state.specs.Seeing.{has_universal}
 use Rattle.drm_state.proofs.Represented.{bounds_are, masters_are, grants_are, last_lease_token_is, leases_so, tokens_of_lessees}
 use Rattle.drm_state.proofs.Living.{above_is}
 use Rattle.drm_state.proofs.Framing.{framebuffer_is}
@@ -114,18 +113,18 @@ module _ (s : State) (w : Rows) (t : MeetsInvariants s) (h : Represents s w) whe
 
   -- ---- the ids
 
-  module _ (c : ℕ) (x : Member) (open_client : is_open_client s.files c ≡ true) (look : member_of s.masters.members c ≡ Some x) where
-    seen_here : (k : ℕ) → model.is_seen w c k ≡ rules.is_seen s.leases.grants ms s.modes x.master (has_universal s c) k
+  module _ (caller : Caller) (x : Member) (is : IsCaller s caller) (look : caller.member ≡ Some x) where
+    seen_here : (k : ℕ) → model.is_seen w caller.client k ≡ rules.is_seen s.leases.grants ms s.modes x.master caller.flags.universal k
     seen_here k =
-        (λ i. (is_some (kind_of (topology_is s w h i) k) && seen_is s w c open_client h k i) || framebuffer_is s w t h k i)
-        ∙ ap (λ o. (is_some (kind_of s.modes.topology k) && (is_encoder s.modes.topology k || (option_map_or (λ (y : Member). leases.controls s.leases.grants ms y.master k) o false && rules.is_shown s.modes.topology (has_universal s c) k))) || has_framebuffer s.modes k) look
+        (λ i. (is_some (kind_of (topology_is s w h i) k) && seen_is s w caller is h k i) || framebuffer_is s w t h k i)
+        ∙ ap (λ o. (is_some (kind_of s.modes.topology k) && (is_encoder s.modes.topology k || (option_map_or (λ (y : Member). leases.controls s.leases.grants ms y.master k) o false && rules.is_shown s.modes.topology caller.flags.universal k))) || has_framebuffer s.modes k) look
 
-    controlled_here : (k : ℕ) → controls w c k ≡ leases.controls s.leases.grants ms x.master k
-    controlled_here k = controls_is s w c open_client h k ∙ ap (λ o. option_map_or (λ (y : Member). leases.controls s.leases.grants ms y.master k) o false) look
+    controlled_here : (k : ℕ) → controls w caller.client k ≡ leases.controls s.leases.grants ms x.master k
+    controlled_here k = controls_is s w caller is h k ∙ ap (λ o. option_map_or (λ (y : Member). leases.controls s.leases.grants ms y.master k) o false) look
 
     -- what is listed, and what comes along
-    pub leased_is : (ids : List ℕ) → model.leased w c ids ≡ rules.leased s.leases s.masters s.modes x.master (has_universal s c) ids
-    leased_is ids = λ i. ids ++ (if universal_is s w c open_client h i then [] else filter (λ k. controlled_here k i) (planes_of (topology_is s w h i) ids))
+    pub leased_is : (ids : List ℕ) → model.leased w caller.client ids ≡ rules.leased s.leases s.masters s.modes x.master caller.flags.universal ids
+    leased_is ids = λ i. ids ++ (if universal_is s w caller is h i then [] else filter (λ k. controlled_here k i) (planes_of (topology_is s w h i) ids))
 
     leasable_is : (k : ℕ) → model.is_leasable w k ≡ rules.is_leasable s.modes k
     leasable_is k = λ i. not (is_encoder (topology_is s w h i) k || framebuffer_is s w t h k i)
@@ -138,18 +137,18 @@ module _ (s : State) (w : Rows) (t : MeetsInvariants s) (h : Represents s w) whe
         ∙ (λ i. list_any (λ (g : Grant). (g.mode_object == k) && is_option m (above_is s.leases.tokens ms i g.master)) s.leases.grants)
 
     -- what is asked of the caller and of the ids
-    pub create_verdict : (ids : List ℕ) → caller_master w c ≡ x.master → first_failing (admission_checks w c (CreateLease ids)) ≡ None →
-        verdict w (Ask c (CreateLease ids)) ≡ first_failing (lease_checks s.leases s.masters s.modes x.master (has_universal s c) ids)
+    pub create_verdict : (ids : List ℕ) → caller_master w caller.client ≡ x.master → first_failing (admission_checks w caller.client (CreateLease ids)) ≡ None →
+        verdict w (Ask caller.client (CreateLease ids)) ≡ first_failing (lease_checks s.leases s.masters s.modes x.master caller.flags.universal ids)
     unfolding meaning lease_checks
     create_verdict ids own admitted =
-        call_verdict w c (CreateLease ids) admitted
-        ∙ (λ i. first_failing (model.create_lease_of w c (own i) ids).checks)
+        call_verdict w caller.client (CreateLease ids) admitted
+        ∙ (λ i. first_failing (model.create_lease_of w caller.client (own i) ids).checks)
         ∙ (λ i. first_failing (
-        check SubLease (may_lease_is x.master i)
-        ∷ check NoModeObject (list_all (λ k. seen_here k i) ids)
-        ∷ check NotLeasable (list_all (λ k. leasable_is k i) ids)
-        ∷ check Repeated (list_all (rules.stands_once ids) ids)
-        ∷ check LeaseShape (rules.is_lease (topology_is s w h i) (universal_is s w c open_client h i) ids)
-        ∷ check LeasedOut (not (list_any (λ k. leased_out_is x.master k i) (leased_is ids i)))
-        ∷ check Full (is_some (free_lessee_is x.master i) && is_some (next_is i))
-        ∷ []))
+        rules_in_order
+        (may_lease_is x.master i)
+        (list_all (λ k. seen_here k i) ids)
+        (list_all (λ k. leasable_is k i) ids)
+        (list_all (rules.stands_once ids) ids)
+        (rules.is_lease (topology_is s w h i) (universal_is s w caller is h i) ids)
+        (not (list_any (λ k. leased_out_is x.master k i) (leased_is ids i)))
+        (is_some (free_lessee_is x.master i) && is_some (next_is i))))

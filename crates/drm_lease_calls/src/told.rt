@@ -1,24 +1,26 @@
 //! What leases there are.
 
 ghost use Rattle.std.specs.Prelude.{◌≡◌, ◌≤◌, ◌+◌, ◌++◌, true, length};
-ghost use Rattle.drm_files.specs.Files.{is_open_client};
+ghost use Rattle.drm_masters.specs.Masters as sets;
 ghost use Rattle.drm_table.specs.declared.calls.Call.TheVariants.{ListLessees, GetLease};
 ghost use Rattle.drm_model.specs.Leases.{leasable_ids};
+ghost use Rattle.drm_state.specs.Callers.{IsCaller};
 ghost use Rattle.drm_state.specs.Invariants.{MeetsInvariants};
 ghost use Rattle.drm_state.specs.Refinement.{RefinesReply};
 
+use drm_masters::Masters;
 use drm_modes::{Kind, Modes};
-use drm_state::State;
+use drm_state::{Caller, State};
 use drm_table::{Answer, Rule, ShownList};
 
 /// MODE_LIST_LESSEES (drm-uapi, leases; that they rise is own): the ids of the direct lessees of the caller's master whose
 /// lease isn't empty. It takes no memory.
-pub fn list_lessees(state: &State, client: u32) -> Answer
+pub fn list_lessees(state: &State, caller: Caller) -> Answer
     requires invariants { MeetsInvariants state.now }
-    requires open_client { is_open_client state.now.files client ≡ true }
-    ensures { RefinesReply state.now client ListLessees result state.now }
+    requires caller { IsCaller state.now caller }
+    ensures { RefinesReply state.now caller.client ListLessees result state.now }
 {
-    let Some(member) = state.masters.member(client) else {
+    let Some(member) = caller.member else {
         // a render client, whose call is not admitted
         return Answer::Denied(Rule::RenderAllow);
     };
@@ -29,21 +31,31 @@ pub fn list_lessees(state: &State, client: u32) -> Answer
 
 /// MODE_GET_LEASE (drm-uapi, leases; that an owner has a lease of all is own): the mode objects in the lease of the caller's
 /// master, rising; all CRTCs, planes and connectors where it is no lessee. It takes no memory.
-pub fn get_lease(state: &State, client: u32) -> Answer
+pub fn get_lease(state: &State, caller: Caller) -> Answer
     requires invariants { MeetsInvariants state.now }
-    requires open_client { is_open_client state.now.files client ≡ true }
-    ensures { RefinesReply state.now client GetLease result state.now }
+    requires caller { IsCaller state.now caller }
+    ensures { RefinesReply state.now caller.client GetLease result state.now }
 {
-    let Some(member) = state.masters.member(client) else {
+    let Some(member) = caller.member else {
         // a render client, whose call is not admitted
         return Answer::Denied(Rule::RenderAllow);
     };
-    let list = if state.masters.is_lessee(client) {
+    let list = if is_lessee(&state.masters, member.master) {
         state.leases.objects_of(member.master)
     } else {
         leasable(&state.modes)
     };
     Answer::List { list }
+}
+
+/// Whether a master is a lessee. It takes no memory.
+fn is_lessee(masters: &Masters, master: u32) -> bool
+    ensures { result ≡ sets.is_lessee masters.now.masters master }
+{
+    match masters.master(master) {
+        Some(row) => row.lessor.is_some(),
+        None => false,
+    }
 }
 
 /// The CRTCs, planes and connectors, in this order. It takes no memory.

@@ -1,10 +1,9 @@
--- The rules of CREATE_LEASE, in order, by what leases, masters and modes have (drm-uapi, leases; what each rule asks, `LeaseRules`
--- of drm_modes tells).
-use Rattle.std.specs.Prelude.{ℕ, Bool, not, ◌&&◌, List, [], ◌∷◌, ◌++◌}
+-- The rules of CREATE_LEASE by what leases, masters and modes have (drm-uapi, leases; what each rule asks, and their order,
+-- `LeaseRules` of drm_modes tells).
+use Rattle.std.specs.Prelude.{ℕ, Bool, not, ◌&&◌, List, ◌++◌}
 use Rattle.std.specs.List.{list_any, list_all}
 use Rattle.std.specs.Option.{is_some}
-use Rattle.drm_table.specs.declared.rules.Rule.TheVariants.{SubLease, NoModeObject, NotLeasable, Repeated, LeaseShape, LeasedOut, Full}
-use Rattle.drm_table.specs.Permit.{Check, check}
+use Rattle.drm_table.specs.Permit.{Check}
 use Rattle.drm_modes.specs.LeaseRules as rules
 use Rattle.drm_modes.specs.Topology.{Topology}
 use Rattle.drm_modes.specs.Modes.{ModeSet, has_framebuffer}
@@ -45,11 +44,11 @@ leased l v s m universal ids = ids ++ brought_along l.grants v.masters s.topolog
 -- what is asked of a master that leases these for a client with universal planes on or off, each rule over all ids
 unfoldable pub lease_checks : LeaseSet → MasterSet → ModeSet → ℕ → Bool → List ℕ → List Check
 lease_checks l v s m universal ids =
-    check SubLease (may_lease v.masters m)
-    ∷ check NoModeObject (list_all (is_seen l.grants v.masters s m universal) ids)
-    ∷ check NotLeasable (list_all (is_leasable s) ids)
-    ∷ check Repeated (list_all (stands_once ids) ids)
-    ∷ check LeaseShape (is_lease s.topology universal ids)
-    ∷ check LeasedOut (not (list_any (is_leased_out l.grants v.masters m) (leased l v s m universal ids)))
-    ∷ check Full (is_some (free_lessee v m) && is_some (next_token l))
-    ∷ []
+    rules.rules_in_order
+    (may_lease v.masters m)
+    (list_all (is_seen l.grants v.masters s m universal) ids)
+    (list_all (is_leasable s) ids)
+    (list_all (stands_once ids) ids)
+    (is_lease s.topology universal ids)
+    (not (list_any (is_leased_out l.grants v.masters m) (leased l v s m universal ids)))
+    (is_some (free_lessee v m) && is_some (next_token l))

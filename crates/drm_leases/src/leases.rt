@@ -16,7 +16,8 @@ use crate::granted::Granted;
 use crate::rows::{Grant, LeaseToken, Leased};
 use crate::rules::{are_leasable, are_seen, is_lease, may_lease, planes_along, stand_once};
 use crate::searches::{
-    any_leased_out, find_token, find_token_of, has_lease, is_leased_out, next_token, nth_grant,
+    any_leased_out, controls, find_token, find_token_of, has_lease, is_leased_out, next_token,
+    nth_grant,
 };
 use crate::writes::{listed_mask, remove_token, remove_tokens_below, remove_tokens_under};
 use drm_masters::{Masters, NoMemory};
@@ -165,6 +166,18 @@ impl Leases {
         ensures { result ≡ sets.is_granted self.now.grants master mode_object }
     {
         self.granted.has(master, mode_object)
+    }
+
+    /// Whether a master controls a mode object (drm-uapi, leases): one without a lessor all, a lessee what its lease has. It takes no
+    /// memory.
+    ///
+    /// ```rust
+    /// assert!(leases.controls(&masters, 1, 2) && !leases.controls(&masters, 2, 2));
+    /// ```
+    pub fn controls(&self, masters: &Masters, master: u32, mode_object: u32) -> bool
+        ensures { result ≡ sets.controls self.now.grants masters.now.masters master mode_object }
+    {
+        controls(&self.granted, masters, master, mode_object)
     }
 
     /// Whether the lease of a direct lessee of the master has a mode object. It takes no memory.

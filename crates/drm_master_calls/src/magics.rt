@@ -1,26 +1,26 @@
 //! Magics: a client's number under its master, and what it is used for.
 
 ghost use Rattle.std.specs.Prelude.{◌≡◌, true};
-ghost use Rattle.drm_files.specs.Files.{is_open_client};
 ghost use Rattle.drm_table.specs.declared.calls.Call.TheVariants.{AuthMagic, GetMagic};
+ghost use Rattle.drm_state.specs.Callers.{IsCaller};
 ghost use Rattle.drm_state.specs.Invariants.{MeetsInvariants};
 ghost use Rattle.drm_state.specs.Refinement.{RefinesReply};
 
-use drm_state::State;
+use drm_state::{Caller, State};
 use drm_table::{Answer, Rule};
 
 /// GET_MAGIC: the caller's number under its master, and where it has none the least free one. It takes no memory.
-pub fn get_magic(state: &mut State, client: u32) -> Answer
+pub fn get_magic(state: &mut State, caller: Caller) -> Answer
     requires invariants { MeetsInvariants state.old }
-    requires open_client { is_open_client state.old.files client ≡ true }
-    ensures refines { RefinesReply state.old client GetMagic result state.new }
+    requires caller { IsCaller state.old caller }
+    ensures refines { RefinesReply state.old caller.client GetMagic result state.new }
     ensures invariants { MeetsInvariants state.new }
 {
-    let Some(_member) = state.masters.member(client) else {
+    let Some(_member) = caller.member else {
         // a render client, whose call is not admitted
         return Answer::Denied(Rule::RenderAllow);
     };
-    let Ok(number) = state.masters.magic(client) else {
+    let Ok(number) = state.masters.magic(caller.client) else {
         unreachable!()
     };
     state.masters.laws();
@@ -31,17 +31,17 @@ pub fn get_magic(state: &mut State, client: u32) -> Answer
 
 /// AUTH_MAGIC: the client that has this number under the caller's master is authenticated, and the number is spent. It takes
 /// no memory.
-pub fn auth_magic(state: &mut State, client: u32, number: u32) -> Answer
+pub fn auth_magic(state: &mut State, caller: Caller, number: u32) -> Answer
     requires invariants { MeetsInvariants state.old }
-    requires open_client { is_open_client state.old.files client ≡ true }
-    ensures refines { RefinesReply state.old client (AuthMagic number) result state.new }
+    requires caller { IsCaller state.old caller }
+    ensures refines { RefinesReply state.old caller.client (AuthMagic number) result state.new }
     ensures invariants { MeetsInvariants state.new }
 {
-    let Some(_member) = state.masters.member(client) else {
+    let Some(_member) = caller.member else {
         // a render client, whose call is not admitted
         return Answer::Denied(Rule::RenderAllow);
     };
-    match state.masters.auth(client, number) {
+    match state.masters.auth(caller.client, number) {
         Ok(authenticated) => {
             state.files.set_authenticated(authenticated);
             state.masters.laws();

@@ -90,7 +90,7 @@ with_magic n spent x = record x { magic = Some (record { number = n; spent = spe
 
 -- openings
 
--- without a device's master the client founds one, else it is a client that is no master of the device's
+-- without a device's master the client founds one, else it stands to the device's and is no master
 abbrev pub Opened : MasterSet → ℕ → ℕ → Option ℕ → MasterSet → Type 0
 Opened v c step_number None new = (key : ℕ) × IsFreeKey v key × (new ≡ with_device (Some step_number) (with_member (owner c step_number) (with_master (founded_master key step_number) v)))
 Opened v c step_number (Some m) new = new ≡ with_member (non_master c m) v

@@ -217,7 +217,7 @@ impl Masters {
     }
 
     /// Adds a client that opened the primary node. While the device has no master the client gets a new one, made by the
-    /// step of this number, which becomes the device's: true. Else it is a client that is no master of the device's: false. Without memory
+    /// step of this number, which becomes the device's: true. Else it stands to the device's master, and is none itself: false. Without memory
     /// nothing changes.
     ///
     /// ```rust
@@ -445,7 +445,7 @@ impl Masters {
         master: MasterKey,
         step_number: u32,
     ) -> Result<(MasterKey, u32), LesseeFault>
-        requires open_client { sets.is_there self.old.masters master ≡ true }
+        requires there { sets.is_there self.old.masters master ≡ true }
         requires new_step_number { calls.IsNewStepNumber self.old step_number }
         ensures made { calls.MadeLessee self.old (sets.step_number_at self.old.masters master) step_number result self.new }
         ensures err { OnErr result (self.new ≡ self.old) }

@@ -5,7 +5,6 @@ use Rattle.drm_table.specs.declared.calls.Call.TheVariants.{SetCrtc, SetPlane}
 use Rattle.drm_table.specs.declared.events.Event.TheVariants.{Ask}
 use Rattle.drm_table.specs.declared.rules.Rule.TheVariants.{NoModeObject}
 use Rattle.drm_table.specs.Permit.{first_failing}
-use Rattle.drm_files.specs.Files.{is_open_client}
 use Rattle.drm_modes.specs.Topology.{is_crtc, is_plane, reaches, drives}
 use Rattle.drm_modes.specs.Modes.{can_show}
 use Rattle.drm_modes.proofs.Fixed.{within}
@@ -13,6 +12,8 @@ use Rattle.drm_model.specs.Rows.{Rows}
 use Rattle.drm_model.specs.Calls.{meaning}
 use Rattle.drm_model.specs.Verdict.{verdict, admission_checks}
 use Rattle.drm_state.specs.declared.state.State.{State}
+use Rattle.drm_state.specs.declared.caller.Caller.{Caller}
+use Rattle.drm_state.specs.Callers.{IsCaller}
 use Rattle.drm_state.specs.Invariants.{MeetsInvariants}
 use Rattle.drm_state.specs.Refinement.{Represents}
 use Rattle.drm_state.proofs.Represented.{modes_so}
@@ -23,20 +24,20 @@ use Rattle.drm_mode_calls.specs.Scanout.{refusal, sees_route, is_route, sees_pla
 
 -- ---- the first rule that fails
 
-module _ (s : State) (w : Rows) (c : ℕ) (open_client : is_open_client s.files c ≡ true) (h : Represents s w) where
-  pub crtc_verdict : (crtc f connector : ℕ) → first_failing (admission_checks w c (SetCrtc crtc f connector)) ≡ None →
-      verdict w (Ask c (SetCrtc crtc f connector)) ≡ refusal (sees_route s c crtc connector) (can_show s.modes f) (is_route s crtc f connector)
+module _ (s : State) (w : Rows) (k : Caller) (is : IsCaller s k) (h : Represents s w) where
+  pub crtc_verdict : (crtc f connector : ℕ) → first_failing (admission_checks w k.client (SetCrtc crtc f connector)) ≡ None →
+      verdict w (Ask k.client (SetCrtc crtc f connector)) ≡ refusal (sees_route s k crtc connector) (can_show s.modes f) (is_route s crtc f connector)
   unfolding meaning
   crtc_verdict crtc f connector admitted =
-      call_verdict w c (SetCrtc crtc f connector) admitted
-      ∙ (λ i. refusal (crtc_seen s w c open_client h crtc i && ((connector == 0) || connector_seen s w c open_client h connector i)) (may_show s w h f i) (if connector == 0 then f == 0 else not (f == 0) && reaches (topology_is s w h i) connector crtc))
+      call_verdict w k.client (SetCrtc crtc f connector) admitted
+      ∙ (λ i. refusal (crtc_seen s w k is h crtc i && ((connector == 0) || connector_seen s w k is h connector i)) (may_show s w h f i) (if connector == 0 then f == 0 else not (f == 0) && reaches (topology_is s w h i) connector crtc))
 
-  pub plane_verdict : (plane crtc f : ℕ) → first_failing (admission_checks w c (SetPlane plane crtc f)) ≡ None →
-      verdict w (Ask c (SetPlane plane crtc f)) ≡ refusal (sees_plane_route s c plane crtc f) (can_show s.modes f) (is_plane_route s plane crtc f)
+  pub plane_verdict : (plane crtc f : ℕ) → first_failing (admission_checks w k.client (SetPlane plane crtc f)) ≡ None →
+      verdict w (Ask k.client (SetPlane plane crtc f)) ≡ refusal (sees_plane_route s k plane crtc f) (can_show s.modes f) (is_plane_route s plane crtc f)
   unfolding meaning
   plane_verdict plane crtc f admitted =
-      call_verdict w c (SetPlane plane crtc f) admitted
-      ∙ (λ i. refusal (plane_seen s w c open_client h plane i && ((f == 0) || crtc_seen s w c open_client h crtc i)) (may_show s w h f i) ((f == 0) || drives (topology_is s w h i) plane crtc))
+      call_verdict w k.client (SetPlane plane crtc f) admitted
+      ∙ (λ i. refusal (plane_seen s w k is h plane i && ((f == 0) || crtc_seen s w k is h crtc i)) (may_show s w h f i) ((f == 0) || drives (topology_is s w h i) plane crtc))
 
 -- where no rule fails the objects are seen
 pub seen_by : (seen there shows : Bool) → refusal seen there shows ≡ None → seen ≡ true

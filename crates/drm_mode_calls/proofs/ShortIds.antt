@@ -1,5 +1,5 @@
 -- The ids of mode objects and framebuffers are short enough for resources.
-use Rattle.std.proofs.Common.{◌≡◌, ℕ, zero, suc, ◌+◌, ◌≤◌, Bool, List, [], ◌∷◌, length, map, filter, arith}
+use Rattle.std.proofs.Common.{ℕ, zero, suc, ◌+◌, ◌≤◌, Bool, List, [], ◌∷◌, filter, arith}
 use Rattle.std.specs.List.{AllByRecursion}
 use Rattle.drm_lists.proofs.Lists.{all_filter, all_mapped}
 use Rattle.drm_table.specs.ResourceIds.{IsShortId}

@@ -1,17 +1,17 @@
 //! Framebuffers: what they are, and how they come and go.
 
-ghost use Rattle.std.specs.Prelude.{◌≡◌, ◌≤◌, ◌&&◌, true};
+ghost use Rattle.std.specs.Prelude.{◌≡◌, ◌≤◌, ◌&&◌, ◌||◌, true};
 ghost use Rattle.drm_files.specs.Files.{is_open_client};
 ghost use Rattle.drm_table.specs.declared.answers.Answer.TheVariants.{Framebuffer as FramebufferIs};
 ghost use Rattle.drm_table.specs.declared.calls.Call.TheVariants.{AddFb, GetFb, RmFb};
 ghost use Rattle.drm_model.specs.Buffers as buffers;
 ghost use Rattle.drm_model.specs.Modes as model;
-ghost use Rattle.drm_model.specs.Rows.{Rows};
+ghost use Rattle.drm_state.specs.Callers.{IsCaller};
 ghost use Rattle.drm_state.specs.Invariants.{MeetsInvariants, StepPrecondition};
-ghost use Rattle.drm_state.specs.Refinement.{RefinesCall, RefinesReply, Represents};
+ghost use Rattle.drm_state.specs.Refinement.{RefinesCall, RefinesReply};
 
 use drm_modes::{AddFbFault, Shape};
-use drm_state::{State, bytes_per_pixel, is_dumb_shape, new_handle};
+use drm_state::{Caller, State, bytes_per_pixel, is_dumb_shape, new_handle};
 use drm_table::{Answer, Rule};
 use std::alloc::AllocError;
 
@@ -21,21 +21,21 @@ use std::alloc::AllocError;
 pub fn get_fb(
     state: &mut State,
     step_number: u32,
-    client: u32,
+    caller: Caller,
     framebuffer: u32,
 ) -> Result<Answer, AllocError>
     requires precondition { StepPrecondition state.old step_number }
-    requires open_client { is_open_client state.old.files client ≡ true }
-    ensures refines { RefinesCall state.old step_number client (GetFb framebuffer) result state.new }
+    requires caller { IsCaller state.old caller }
+    ensures refines { RefinesCall state.old step_number caller.client (GetFb framebuffer) result state.new }
     ensures invariants { MeetsInvariants state.new }
 {
     let Some(row) = state.modes.fb(framebuffer) else {
         return Ok(Answer::Denied(Rule::NoFb));
     };
-    if !gives_handle(state, client) {
+    if !gives_handle(caller) {
         return Ok(framebuffer_answer(row.shape, 0));
     }
-    let Some(handle) = new_handle(state, step_number, client, row.object, None)? else {
+    let Some(handle) = new_handle(state, step_number, caller.client, row.object, None)? else {
         return Ok(Answer::Denied(Rule::Full));
     };
     Ok(framebuffer_answer(row.shape, handle))
@@ -90,14 +90,11 @@ pub fn rm_fb(state: &mut State, client: u32, framebuffer: u32) -> Answer
     Answer::Done
 }
 
-/// Whether the client is told of a framebuffer with a handle, as a current one and a root one are (drm-uapi, mode setting).
-fn gives_handle(state: &State, client: u32) -> bool
-    ensures { (w : Rows) → Represents state.now w → result ≡ model.gives_handle w client }
+/// Whether the caller is told of a framebuffer with a handle, as a current one and a root one are (drm-uapi, mode setting).
+fn gives_handle(caller: Caller) -> bool
+    ensures { result ≡ (caller.current || caller.flags.root) }
 {
-    match state.files.flags_of(client) {
-        Some(flags) => state.masters.is_current(client) || flags.root,
-        None => false,
-    }
+    caller.current || caller.flags.root
 }
 
 /// What is told of a framebuffer of this shape, with a handle of its object, or 0 for none.

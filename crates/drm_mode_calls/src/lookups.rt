@@ -1,24 +1,24 @@
 //! What a mode object is and shows.
 
 ghost use Rattle.std.specs.Prelude.{◌≡◌, true};
-ghost use Rattle.drm_files.specs.Files.{is_open_client};
 ghost use Rattle.drm_table.specs.declared.calls.Call.TheVariants.{GetCrtc, GetEncoder, GetConnector, GetPlane};
+ghost use Rattle.drm_state.specs.Callers.{IsCaller};
 ghost use Rattle.drm_state.specs.Invariants.{MeetsInvariants};
 ghost use Rattle.drm_state.specs.Refinement.{RefinesReply};
 
 use crate::seeing::{sees_object, visible_mask};
 use drm_modes::Kind;
-use drm_state::State;
+use drm_state::{Caller, State};
 use drm_table::{Answer, Rule};
 
 /// MODE_GETCRTC (drm-uapi, mode setting): the framebuffer that a CRTC shows, 0 where it is dark. It is denied where the
 /// caller sees no such CRTC, and takes no memory.
-pub fn get_crtc(state: &State, client: u32, crtc: u32) -> Answer
+pub fn get_crtc(state: &State, caller: Caller, crtc: u32) -> Answer
     requires invariants { MeetsInvariants state.now }
-    requires open_client { is_open_client state.now.files client ≡ true }
-    ensures { RefinesReply state.now client (GetCrtc crtc) result state.now }
+    requires caller { IsCaller state.now caller }
+    ensures { RefinesReply state.now caller.client (GetCrtc crtc) result state.now }
 {
-    if !sees_object(state, client, Kind::Crtc, crtc) {
+    if !sees_object(state, caller, Kind::Crtc, crtc) {
         return Answer::Denied(Rule::NoModeObject);
     }
     Answer::Number {
@@ -28,27 +28,27 @@ pub fn get_crtc(state: &State, client: u32, crtc: u32) -> Answer
 
 /// MODE_GETENCODER (drm-uapi, mode setting): the possible CRTCs of an encoder, as a mask over those that the caller sees. It
 /// is denied where there is no such encoder, and takes no memory.
-pub fn get_encoder(state: &State, client: u32, encoder: u32) -> Answer
+pub fn get_encoder(state: &State, caller: Caller, encoder: u32) -> Answer
     requires invariants { MeetsInvariants state.now }
-    requires open_client { is_open_client state.now.files client ≡ true }
-    ensures { RefinesReply state.now client (GetEncoder encoder) result state.now }
+    requires caller { IsCaller state.now caller }
+    ensures { RefinesReply state.now caller.client (GetEncoder encoder) result state.now }
 {
-    if !sees_object(state, client, Kind::Encoder, encoder) {
+    if !sees_object(state, caller, Kind::Encoder, encoder) {
         return Answer::Denied(Rule::NoModeObject);
     }
     Answer::Number {
-        value: visible_mask(state, client, encoder) as u64,
+        value: visible_mask(state, caller, encoder) as u64,
     }
 }
 
 /// MODE_GETCONNECTOR (drm-uapi, mode setting; that a connector has one encoder is own): the encoder of a connector. It is
 /// denied where the caller sees no such connector, and takes no memory.
-pub fn get_connector(state: &State, client: u32, connector: u32) -> Answer
+pub fn get_connector(state: &State, caller: Caller, connector: u32) -> Answer
     requires invariants { MeetsInvariants state.now }
-    requires open_client { is_open_client state.now.files client ≡ true }
-    ensures { RefinesReply state.now client (GetConnector connector) result state.now }
+    requires caller { IsCaller state.now caller }
+    ensures { RefinesReply state.now caller.client (GetConnector connector) result state.now }
 {
-    if !sees_object(state, client, Kind::Connector, connector) {
+    if !sees_object(state, caller, Kind::Connector, connector) {
         return Answer::Denied(Rule::NoModeObject);
     }
     Answer::Number {
@@ -58,16 +58,16 @@ pub fn get_connector(state: &State, client: u32, connector: u32) -> Answer
 
 /// MODE_GETPLANE (drm-uapi, mode setting): the framebuffer that a plane shows, 0 where it is dark, and its possible CRTCs, as
 /// a mask over those that the caller sees. It is denied where the caller sees no such plane, and takes no memory.
-pub fn get_plane(state: &State, client: u32, plane: u32) -> Answer
+pub fn get_plane(state: &State, caller: Caller, plane: u32) -> Answer
     requires invariants { MeetsInvariants state.now }
-    requires open_client { is_open_client state.now.files client ≡ true }
-    ensures { RefinesReply state.now client (GetPlane plane) result state.now }
+    requires caller { IsCaller state.now caller }
+    ensures { RefinesReply state.now caller.client (GetPlane plane) result state.now }
 {
-    if !sees_object(state, client, Kind::Plane, plane) {
+    if !sees_object(state, caller, Kind::Plane, plane) {
         return Answer::Denied(Rule::NoModeObject);
     }
     Answer::Plane {
         framebuffer: state.modes.shown(plane),
-        mask: visible_mask(state, client, plane),
+        mask: visible_mask(state, caller, plane),
     }
 }

@@ -1,16 +1,16 @@
 //! What CRTCs and planes show.
 
 ghost use Rattle.std.specs.Prelude.{◌≡◌, true};
-ghost use Rattle.drm_files.specs.Files.{is_open_client};
 ghost use Rattle.drm_table.specs.declared.calls.Call.TheVariants.{SetCrtc, SetPlane};
 ghost use Rattle.drm_modes.specs.Modes as shown;
+ghost use Rattle.drm_state.specs.Callers.{IsCaller};
 ghost use Rattle.drm_state.specs.Invariants.{MeetsInvariants};
 ghost use Rattle.drm_state.specs.Refinement.{RefinesReply};
 ghost use Rattle.drm_mode_calls.specs.Scanout as scanned;
 
 use crate::seeing::sees_object;
 use drm_modes::Kind;
-use drm_state::State;
+use drm_state::{Caller, State};
 use drm_table::{Answer, Rule};
 
 /// MODE_SETCRTC (drm-uapi, mode setting; that one connector is named at most is own): a CRTC shows a framebuffer of any
@@ -19,17 +19,17 @@ use drm_table::{Answer, Rule};
 /// connector that the CRTC reaches, or a connector without a framebuffer. Then nothing changes. It takes no memory.
 pub fn set_crtc(
     state: &mut State,
-    client: u32,
+    caller: Caller,
     crtc: u32,
     framebuffer: u32,
     connector: u32,
 ) -> Answer
     requires invariants { MeetsInvariants state.old }
-    requires open_client { is_open_client state.old.files client ≡ true }
-    ensures refines { RefinesReply state.old client (SetCrtc crtc framebuffer connector) result state.new }
+    requires caller { IsCaller state.old caller }
+    ensures refines { RefinesReply state.old caller.client (SetCrtc crtc framebuffer connector) result state.new }
     ensures invariants { MeetsInvariants state.new }
 {
-    if let Some(rule) = crtc_refusal(state, client, crtc, framebuffer, connector) {
+    if let Some(rule) = crtc_refusal(state, caller, crtc, framebuffer, connector) {
         return Answer::Denied(rule);
     }
     state.modes.setcrtc(crtc, framebuffer);
@@ -40,13 +40,19 @@ pub fn set_crtc(
 /// MODE_SETPLANE (drm-uapi, mode setting): a plane shows a framebuffer of any client on a CRTC, or goes dark where that is 0,
 /// whichever CRTC is named then. It is denied where the caller doesn't see the plane, or the CRTC that is to show it, where
 /// there is no such framebuffer, and where the plane can't be shown on the CRTC. Then nothing changes. It takes no memory.
-pub fn set_plane(state: &mut State, client: u32, plane: u32, crtc: u32, framebuffer: u32) -> Answer
+pub fn set_plane(
+    state: &mut State,
+    caller: Caller,
+    plane: u32,
+    crtc: u32,
+    framebuffer: u32,
+) -> Answer
     requires invariants { MeetsInvariants state.old }
-    requires open_client { is_open_client state.old.files client ≡ true }
-    ensures refines { RefinesReply state.old client (SetPlane plane crtc framebuffer) result state.new }
+    requires caller { IsCaller state.old caller }
+    ensures refines { RefinesReply state.old caller.client (SetPlane plane crtc framebuffer) result state.new }
     ensures invariants { MeetsInvariants state.new }
 {
-    if let Some(rule) = plane_refusal(state, client, plane, crtc, framebuffer) {
+    if let Some(rule) = plane_refusal(state, caller, plane, crtc, framebuffer) {
         return Answer::Denied(rule);
     }
     state.modes.setplane(plane, framebuffer);
@@ -57,14 +63,14 @@ pub fn set_plane(state: &mut State, client: u32, plane: u32, crtc: u32, framebuf
 /// The first rule of MODE_SETCRTC that fails; what comes after it isn't looked up.
 fn crtc_refusal(
     state: &State,
-    client: u32,
+    caller: Caller,
     crtc: u32,
     framebuffer: u32,
     connector: u32,
 ) -> Option<Rule>
-    ensures { result ≡ scanned.crtc_refusal state.now client crtc framebuffer connector }
+    ensures { result ≡ scanned.crtc_refusal state.now caller crtc framebuffer connector }
 {
-    if !sees_route(state, client, crtc, connector) {
+    if !sees_route(state, caller, crtc, connector) {
         return Some(Rule::NoModeObject);
     }
     if !can_show(state, framebuffer) {
@@ -79,14 +85,14 @@ fn crtc_refusal(
 /// The first rule of MODE_SETPLANE that fails; what comes after it isn't looked up.
 fn plane_refusal(
     state: &State,
-    client: u32,
+    caller: Caller,
     plane: u32,
     crtc: u32,
     framebuffer: u32,
 ) -> Option<Rule>
-    ensures { result ≡ scanned.plane_refusal state.now client plane crtc framebuffer }
+    ensures { result ≡ scanned.plane_refusal state.now caller plane crtc framebuffer }
 {
-    if !sees_plane_route(state, client, plane, crtc, framebuffer) {
+    if !sees_plane_route(state, caller, plane, crtc, framebuffer) {
         return Some(Rule::NoModeObject);
     }
     if !can_show(state, framebuffer) {
@@ -99,11 +105,11 @@ fn plane_refusal(
 }
 
 /// Whether the client sees a CRTC, and a connector unless that is 0.
-fn sees_route(state: &State, client: u32, crtc: u32, connector: u32) -> bool
-    ensures { result ≡ scanned.sees_route state.now client crtc connector }
+fn sees_route(state: &State, caller: Caller, crtc: u32, connector: u32) -> bool
+    ensures { result ≡ scanned.sees_route state.now caller crtc connector }
 {
-    sees_object(state, client, Kind::Crtc, crtc)
-        && (connector == 0 || sees_object(state, client, Kind::Connector, connector))
+    sees_object(state, caller, Kind::Crtc, crtc)
+        && (connector == 0 || sees_object(state, caller, Kind::Connector, connector))
 }
 
 /// Whether a framebuffer comes with a connector that a CRTC reaches, or neither is named.
@@ -117,11 +123,11 @@ fn is_route(state: &State, crtc: u32, framebuffer: u32, connector: u32) -> bool
 }
 
 /// Whether the client sees a plane, and a CRTC unless the plane goes dark.
-fn sees_plane_route(state: &State, client: u32, plane: u32, crtc: u32, framebuffer: u32) -> bool
-    ensures { result ≡ scanned.sees_plane_route state.now client plane crtc framebuffer }
+fn sees_plane_route(state: &State, caller: Caller, plane: u32, crtc: u32, framebuffer: u32) -> bool
+    ensures { result ≡ scanned.sees_plane_route state.now caller plane crtc framebuffer }
 {
-    sees_object(state, client, Kind::Plane, plane)
-        && (framebuffer == 0 || sees_object(state, client, Kind::Crtc, crtc))
+    sees_object(state, caller, Kind::Plane, plane)
+        && (framebuffer == 0 || sees_object(state, caller, Kind::Crtc, crtc))
 }
 
 /// Whether a plane can be shown on a CRTC, or goes dark.

@@ -9,6 +9,7 @@ use Rattle.drm_table.specs.declared.answers.Answer.{Answer}
 use Rattle.drm_table.specs.declared.answers.Answer.TheVariants.{Done, Number, Resources, List as ListIs, Plane, Framebuffer}
 use Rattle.drm_table.specs.declared.rules.Rule.TheVariants.{NoHandle, NoModeObject, NoFb, BadSize, BadRoute, Full}
 use Rattle.drm_table.specs.Permit.{check}
+use Rattle.drm_modes.specs.declared.rows.Shape.{Shape}
 use Rattle.drm_modes.specs.Topology.{encoder_ids, is_encoder, object_count, is_route, is_plane_route, encoder_of}
 use Rattle.drm_modes.specs.Modes.{first_framebuffer}
 use Rattle.drm_model.specs.Rows.{Rows, FramebufferRow, ShownRow, without, has_handle, object_of, free_handle, with_handle_row, framebuffer_row, is_framebuffer}
@@ -133,23 +134,29 @@ free_framebuffer w = least (is_free_framebuffer w) (first_framebuffer w.topology
 abbrev pub new_framebuffer : Rows → ℕ
 new_framebuffer w = unwrap_or (free_framebuffer w) 0
 
--- what it means where the caller holds a handle of the object, or not
-abbrev pub add_fb_of : Rows → ℕ → Bool → ℕ → ℕ → ℕ → ℕ → ℕ → Meaning
-add_fb_of w c holds o width height pitch bpp = record {
-  checks =
-      check NoHandle holds
-      ∷ check BadSize (is_dumb_shape width height bpp && fits_object width height pitch bpp (size_of w o))
-      ∷ check Full (is_some (free_framebuffer w))
-      ∷ [];
-  rows = record w {
-    framebuffers = w.framebuffers ++ record { framebuffer = new_framebuffer w; client = c; object = o; width = width; height = height; pitch = pitch; bpp = bpp } ∷ [];
-  };
-  answer = Number (new_framebuffer w);
+-- the framebuffer of this shape that a client makes over an object
+abbrev pub framebuffer_over : Rows → ℕ → ℕ → Shape → FramebufferRow
+framebuffer_over w c o shape = record {
+  framebuffer = new_framebuffer w;
+  client = c;
+  object = o;
+  width = shape.width;
+  height = shape.height;
+  pitch = shape.pitch;
+  bpp = shape.bpp;
 }
 
 -- MODE_ADDFB: a framebuffer of the caller, over the object of its handle
-abbrev pub add_fb : Rows → ℕ → ℕ → ℕ → ℕ → ℕ → ℕ → Meaning
-add_fb w c width height pitch bpp handle = add_fb_of w c (has_handle w c handle) (object_of w c handle) width height pitch bpp
+abbrev pub add_fb : Rows → ℕ → Shape → ℕ → Meaning
+add_fb w c shape handle = record {
+  checks =
+      check NoHandle (has_handle w c handle)
+      ∷ check BadSize (is_dumb_shape shape.width shape.height shape.bpp && fits_object shape.width shape.height shape.pitch shape.bpp (size_of w (object_of w c handle)))
+      ∷ check Full (is_some (free_framebuffer w))
+      ∷ [];
+  rows = record w { framebuffers = w.framebuffers ++ framebuffer_over w c (object_of w c handle) shape ∷ [] };
+  answer = Number (new_framebuffer w);
+}
 
 -- a framebuffer of the client
 abbrev pub is_framebuffer_of : ℕ → ℕ → FramebufferRow → Bool

@@ -32,7 +32,7 @@ pub record MagicRow : Type 0 where
   pub client : ℕ
   pub spent : Bool
 
--- a client's handle of an object (drm-gem(7)); the PRIME place is the step that exported or imported it (own)
+-- a client's handle of an object (drm-gem(7)); the export order is the step that exported or imported it (own)
 pub record HandleRow : Type 0 where
   pub client : ℕ
   pub handle : ℕ
@@ -182,7 +182,7 @@ free_handle w c = least (λ h. not (is_among (handles_of w c) h)) 1 w.limits.han
 abbrev pub has_object_room : Rows → Bool
 has_object_room w = nat_lt (length w.objects) w.limits.objects
 
--- a fresh handle of the object, with or without a PRIME place
+-- a fresh handle of the object, with or without an export order
 abbrev pub with_handle_row : Rows → ℕ → ℕ → Option ℕ → List HandleRow
 with_handle_row w c o export_order = w.holds ++ record { client = c; handle = unwrap_or (free_handle w c) 0; object = o; export_order = export_order } ∷ []
 

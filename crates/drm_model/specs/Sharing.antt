@@ -1,5 +1,6 @@
 -- GEM_FLINK and GEM_OPEN (drm-gem(7), drm-mm), PRIME_HANDLE_TO_FD and PRIME_FD_TO_HANDLE (drm-mm, PRIME), and TOKEN_CLOSE. Tokens,
--- which stand for file descriptors, their order, and PRIME places are this project's own.
+-- which stand for file descriptors, and the export order of handles, which says which of several an import gives, are this
+-- project's own.
 use Rattle.std.specs.Prelude.{ℕ, ◌==◌, Bool, not, ◌&&◌, List, [], ◌∷◌, ◌++◌, Option, None, Some, unwrap_or, find, map, filter, if◌then◌else◌}
 use Rattle.std.specs.List.{filter_map}
 use Rattle.std.specs.Option.{is_some, option_map, option_and_then, option_or}
@@ -40,29 +41,25 @@ abbrev pub named : Rows → ℕ → Option ℕ → List NameRow
 named w o (Some name) = w.names
 named w o None = w.names ++ record { name = unwrap_or (free_name w) 0; object = o } ∷ []
 
--- what it means where the caller holds a handle of the object, or not
-abbrev pub flink_of : Rows → Bool → ℕ → Meaning
-flink_of w holds o = record {
-  checks = check NoHandle holds ∷ check Full (is_some (flink_name w o)) ∷ [];
-  rows = record w { names = named w o (name_of w o) };
-  answer = Number (unwrap_or (flink_name w o) 0);
-}
-
--- GEM_FLINK: the name that the object has, or else the lowest free one
+-- GEM_FLINK: the name that the object of the handle has, or else the lowest free one
 abbrev pub gem_flink : Rows → ℕ → ℕ → Meaning
-gem_flink w c handle = flink_of w (has_handle w c handle) (object_of w c handle)
-
--- what it means where the name is an object's, or none's
-abbrev pub open_of : Rows → ℕ → Option ℕ → ℕ → Meaning
-open_of w c named o = record {
-  checks = check NoName (is_some named) ∷ check Full (is_some (free_handle w c)) ∷ [];
-  rows = record w { holds = with_handle_row w c o None };
-  answer = Buffer (new_handle w c) (size_of w o);
+gem_flink w c handle = record {
+  checks = check NoHandle (has_handle w c handle) ∷ check Full (is_some (flink_name w (object_of w c handle))) ∷ [];
+  rows = record w { names = named w (object_of w c handle) (name_of w (object_of w c handle)) };
+  answer = Number (unwrap_or (flink_name w (object_of w c handle)) 0);
 }
+
+-- the object that has a name, which the rule says is there; 0 where none has it
+abbrev pub object_named : Rows → ℕ → ℕ
+object_named w name = unwrap_or (named_object w name) 0
 
 -- GEM_OPEN: a fresh handle each time
 abbrev pub gem_open : Rows → ℕ → ℕ → Meaning
-gem_open w c name = open_of w c (named_object w name) (unwrap_or (named_object w name) 0)
+gem_open w c name = record {
+  checks = check NoName (is_some (named_object w name)) ∷ check Full (is_some (free_handle w c)) ∷ [];
+  rows = record w { holds = with_handle_row w c (object_named w name) None };
+  answer = Buffer (new_handle w c) (size_of w (object_named w name));
+}
 
 -- ---- tokens
 
@@ -78,11 +75,11 @@ next_token w = next_in_turn (is_free_token w) w.last_token w.limits.tokens
 abbrev pub new_token : Rows → ℕ
 new_token w = unwrap_or (next_token w) 0
 
--- the handles, of which the client's has this PRIME place, unless it has one already
+-- the handles, of which the client's has this export order, unless it has one already
 unfoldable pub with_export_order : ℕ → ℕ → ℕ → List HandleRow → List HandleRow
 with_export_order c handle export_order holds = map (λ (row : HandleRow). if is_handle c handle row then record row { export_order = Some (unwrap_or row.export_order export_order) } else row) holds
 
--- PRIME_HANDLE_TO_FD: a new token, and a PRIME place for the handle
+-- PRIME_HANDLE_TO_FD: a new token, and an export order for the handle
 abbrev pub prime_export : Rows → ℕ → ℕ → Meaning
 prime_export w c handle = record {
   checks = check NoHandle (has_handle w c handle) ∷ check Full (is_some (next_token w)) ∷ [];
@@ -102,19 +99,19 @@ exported_object w token = option_map (λ (row : TokenRow). row.object) (find (λ
 abbrev pub is_handle_of : ℕ → ℕ → HandleRow → Bool
 is_handle_of c o row = (row.client == c) && (row.object == o)
 
--- the PRIME places of the client's handles of the object
+-- the export orders of the client's handles of the object
 abbrev pub export_orders_of : Rows → ℕ → ℕ → List ℕ
 export_orders_of w c o = filter_map (λ (row : HandleRow). row.export_order) (filter (is_handle_of c o) w.holds)
 
--- the client's handles of the object that have this place
+-- the client's handles of the object that have this export order
 abbrev pub handles_at : Rows → ℕ → ℕ → ℕ → List ℕ
 handles_at w c o export_order = map (λ (row : HandleRow). row.handle) (filter (λ row. is_option export_order row.export_order) (filter (is_handle_of c o) w.holds))
 
--- the client's handle of the object with the least PRIME place, at a tie the least handle
+-- the client's handle of the object with the least export order, at a tie the least handle
 unfoldable pub prime_handle : Rows → ℕ → ℕ → Option ℕ
 prime_handle w c o = option_and_then (λ export_order. least_of (handles_at w c o export_order)) (least_of (export_orders_of w c o))
 
--- the handles, with one of the client for the object if it had none with a PRIME place
+-- the handles, with one of the client for the object if it had none with an export order
 abbrev pub imported : Rows → ℕ → ℕ → Option ℕ → List HandleRow
 imported w c o (Some handle) = w.holds
 imported w c o None = with_handle_row w c o (Some (step_number w))
@@ -123,17 +120,17 @@ imported w c o None = with_handle_row w c o (Some (step_number w))
 abbrev pub import_handle : Rows → ℕ → ℕ → Option ℕ
 import_handle w c o = option_or (prime_handle w c o) (free_handle w c)
 
--- what it means where the token is an object's, or none's
-abbrev pub import_of : Rows → ℕ → Option ℕ → ℕ → Meaning
-import_of w c exported o = record {
-  checks = check NoToken (is_some exported) ∷ check Full (is_some (import_handle w c o)) ∷ [];
-  rows = record w { holds = imported w c o (prime_handle w c o) };
-  answer = Buffer (unwrap_or (import_handle w c o) 0) (size_of w o);
-}
+-- the object of an open token, which the rule says is there; 0 where no token has the number
+abbrev pub object_exported : Rows → ℕ → ℕ
+object_exported w token = unwrap_or (exported_object w token) 0
 
--- PRIME_FD_TO_HANDLE: the client's handle of the object with the least PRIME place, or else a fresh one
+-- PRIME_FD_TO_HANDLE: the client's handle of the object with the least export order, or else a fresh one
 abbrev pub prime_import : Rows → ℕ → ℕ → Meaning
-prime_import w c token = import_of w c (exported_object w token) (unwrap_or (exported_object w token) 0)
+prime_import w c token = record {
+  checks = check NoToken (is_some (exported_object w token)) ∷ check Full (is_some (import_handle w c (object_exported w token))) ∷ [];
+  rows = record w { holds = imported w c (object_exported w token) (prime_handle w c (object_exported w token)) };
+  answer = Buffer (unwrap_or (import_handle w c (object_exported w token)) 0) (size_of w (object_exported w token));
+}
 
 -- an open token of the client
 abbrev pub is_token_of : ℕ → ℕ → TokenRow → Bool

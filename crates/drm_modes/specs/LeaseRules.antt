@@ -43,16 +43,28 @@ is_lease t universal ids = list_any (is_crtc t) ids && list_any (is_connector t)
 abbrev pub brought_along : Topology → Bool → (ℕ → Bool) → List ℕ → List ℕ
 brought_along t universal controls ids = if universal then [] else filter controls (planes_of t ids)
 
--- what is asked, in order, each rule over all ids, once the flags of the call's row have passed. `seen` is `sees` of each id and
+-- the rules in order (own), and whether each holds
+abbrev pub rules_in_order : (may_lease seen leasable once shaped free room : Bool) → List Check
+rules_in_order may_lease seen leasable once shaped free room =
+    check SubLease may_lease
+    ∷ check NoModeObject seen
+    ∷ check NotLeasable leasable
+    ∷ check Repeated once
+    ∷ check LeaseShape shaped
+    ∷ check LeasedOut free
+    ∷ check Full room
+    ∷ []
+
+-- what is asked, each rule over all ids, once the flags of the call's row have passed. `seen` is `sees` of each id and
 -- `framebuffer` whether it is a framebuffer's; `leased_out`: a direct lessee of the lessor has one of the ids, or of what comes along;
 -- `has_room`: a lessee id and a lease token are free
 abbrev pub lease_checks : Topology → ℕ → (ℕ → Bool) → (ℕ → Bool) → Bool → Bool → Bool → List ℕ → List Check
 lease_checks t depth seen framebuffer universal leased_out has_room ids =
-    check SubLease (may_lease depth)
-    ∷ check NoModeObject (list_all (λ x. is_seen t (seen x) (framebuffer x) x) ids)
-    ∷ check NotLeasable (list_all (λ x. is_leasable t (framebuffer x) x) ids)
-    ∷ check Repeated (list_all (stands_once ids) ids)
-    ∷ check LeaseShape (is_lease t universal ids)
-    ∷ check LeasedOut (not leased_out)
-    ∷ check Full has_room
-    ∷ []
+    rules_in_order
+    (may_lease depth)
+    (list_all (λ x. is_seen t (seen x) (framebuffer x) x) ids)
+    (list_all (λ x. is_leasable t (framebuffer x) x) ids)
+    (list_all (stands_once ids) ids)
+    (is_lease t universal ids)
+    (not leased_out)
+    has_room

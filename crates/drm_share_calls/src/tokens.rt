@@ -11,7 +11,7 @@ use drm_state::{State, new_handle};
 use drm_table::{Answer, Rule};
 use std::alloc::AllocError;
 
-/// PRIME_HANDLE_TO_FD: a new token for the object of a handle, and a PRIME place for the handle if it has none. Where memory
+/// PRIME_HANDLE_TO_FD: a new token for the object of a handle, and an export order for the handle if it has none. Where memory
 /// is refused nothing changes.
 pub fn prime_export(
     state: &mut State,
@@ -39,8 +39,8 @@ pub fn prime_export(
     })
 }
 
-/// PRIME_FD_TO_HANDLE: the caller's handle of a token's object, which is the one with the least PRIME place, or else a fresh
-/// one with a place. Where memory is refused nothing changes.
+/// PRIME_FD_TO_HANDLE: the caller's handle of a token's object, which is the one with the least export order, or else a fresh
+/// one with an order. Where memory is refused nothing changes.
 pub fn prime_import(
     state: &mut State,
     step_number: u32,

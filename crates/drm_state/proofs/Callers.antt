@@ -1,7 +1,7 @@
 -- The caller of a call: its file, its row and its master, which it has where the call isn't for render clients.
 use Rattle.std.proofs.Common.{◌≡◌, ℕ, Bool, true, false, not, ◌||◌, List, find, Option, None, Some, refl, sym, ap, ◌∙◌}
 use Rattle.std.specs.Prelude.{unwrap_or}
-use Rattle.std.specs.Option.{is_some, option_map, option_and_then}
+use Rattle.std.specs.Option.{is_some, option_map, option_map_or, option_and_then}
 use Rattle.std.proofs.lemmas.Bool.{eqb-true}
 use Rattle.drm_lists.proofs.Lists.{all_each}
 use Rattle.drm_lists.proofs.Rising.{found}
@@ -19,7 +19,9 @@ use Rattle.drm_model.specs.Masters.{credentials_of, credentials_in, master_of, l
 use Rattle.drm_model.specs.Magics.{caller_master}
 use Rattle.drm_model.specs.Verdict.{admission_checks}
 use Rattle.drm_state.specs.declared.state.State.{State}
-use Rattle.drm_state.specs.Parts.{client_row_by}
+use Rattle.drm_state.specs.declared.caller.Caller.{Caller}
+use Rattle.drm_state.specs.Callers.{IsCaller}
+use Rattle.drm_state.specs.Parts.{client_row_by, root_of}
 use Rattle.drm_state.specs.Invariants.{MeetsInvariants, HasMaster}
 use Rattle.drm_state.specs.Refinement.{Represents}
 use Rattle.drm_state.proofs.Represented.{clients_have, masters_are}
@@ -65,6 +67,25 @@ pub same_client : (xs : List Member) (c : ℕ) (x : Member) → member_of xs c �
 same_client xs c x e =
     let num : x.client ≡ c = eqb-true x.client c (found (masters.is_client c) (λ _. Unit {0}) x xs (all_each (λ _. Unit {0}) (λ _. tt) xs) e).0 in
     (num, ap (member_of xs) num ∙ e)
+
+-- ---- a caller
+
+module _ (s : State) (k : Caller) (is : IsCaller s k) where
+  pub caller_open : files.is_open_client s.files k.client ≡ true
+  caller_open = by_file (find (files.is_client k.client) s.files.clients) is.flags
+    where
+      by_file : (o : Option FileClient) → Some k.flags ≡ option_map (λ (f : FileClient). f.flags) o → is_some o ≡ true
+      by_file None e = absurd (let n : Some k.flags ≡ None = e in cc)
+      by_file (Some f) e = refl
+
+  pub caller_file : find (files.is_client k.client) s.files.clients ≡ Some (record { client = k.client; flags = k.flags })
+  caller_file =
+      let file = file_of s k.client caller_open in
+      let flags : k.flags ≡ file.0 = ap (λ o. option_map_or (λ (f : FileFlags). f) o k.flags) (is.flags ∙ ap (option_map (λ (f : FileClient). f.flags)) file.1) in
+      file.1 ∙ (λ i. Some (record { client = k.client; flags = sym flags i }))
+
+  pub caller_root : k.flags.root ≡ root_of s k.client
+  caller_root = sym (ap (λ o. option_map_or (λ (f : FileClient). f.flags.root) o false) caller_file)
 
 -- ---- a caller that stands to a master
 

@@ -73,7 +73,7 @@ none_ended l =
       lendings = filter_all (λ (x : Lending). true) l.lendings (all_each (λ (x : Lending). true ≡ true) (λ _. refl) l.lendings) i;
     }
 
--- ---- what invariants masters and leases
+-- ---- the invariants of masters and leases
 
 pub kept_ended : (below : ℕ → Bool) (tokens : List LeaseToken) (ms : List Master) → AreKeptBy tokens ms → AreKeptBy (filter (λ (row : LeaseToken). not (below row.master)) tokens) (released below ms)
 kept_ended below tokens ms h =

@@ -13,7 +13,7 @@ use Rattle.drm_gem.specs.declared.object.Object.{Object}
 use Rattle.drm_modes.specs.declared.rows.Framebuffer.{Framebuffer}
 use Rattle.drm_modes.specs.declared.rows.Shown.{Shown}
 use Rattle.drm_modes.specs.Modes as modes
-use Rattle.drm_modes.specs.Modes.{ModeSet, AreModes, shown, is_lit, lit_rows, shown_rows, can_show, has_framebuffer}
+use Rattle.drm_modes.specs.Modes.{ModeSet, AreModes, shown, lit_rows, shown_rows, has_framebuffer}
 use Rattle.drm_model.specs.Rows.{Rows, FramebufferRow, ShownRow, is_framebuffer}
 use Rattle.drm_state.specs.declared.state.State.{State}
 use Rattle.drm_state.specs.Parts.{framebuffer_row_of, shown_row_of, shown_of, framebuffer_keys}

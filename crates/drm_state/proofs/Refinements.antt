@@ -1,4 +1,4 @@
--- The cases of an outcome.
+-- The cases of a refinement.
 use Rattle.std.proofs.Common.{◌≡◌, ℕ, List, [], ◌∷◌, ◌++◌, Option, None, Some, Ok, Err, refl, sym, ◌∙◌, ap, subst, cond, true, false, not, ◌<◌, ◌≤◌, length, inl, inr, arith, length-append}
 use Rattle.std.specs.Prelude.{nat_le, nat_lt}
 use Rattle.std.specs.declared.alloc.AllocError.{AllocError}

@@ -1,34 +1,31 @@
 -- What a client sees of the mode objects, by rows and by what the device keeps.
-use Rattle.std.proofs.Common.{◌≡◌, ℕ, ◌==◌, nat_lt, Bool, true, false, not, ◌&&◌, ◌||◌, List, [], ◌∷◌, map, filter, find, length, Option, None, Some, refl, sym, ap, ◌∙◌, arith}
+use Rattle.std.proofs.Common.{◌≡◌, ℕ, ◌==◌, nat_lt, Bool, true, false, not, ◌&&◌, ◌||◌, List, [], ◌∷◌, map, filter, length, Option, None, Some, refl, sym, ap, ◌∙◌, arith}
 use Rattle.std.specs.Prelude.{nat_le}
 use Rattle.std.specs.Option.{is_some, option_map, option_map_or, option_and_then}
-use Rattle.std.proofs.lemmas.Bool.{eqb-true}
 use Rattle.std.proofs.lemmas.Bool.Decides.{nat_tests}
 use Rattle.drm_index_array.specs.Rows as arrays
 use Rattle.drm_lists.specs.Orders.{InOrder}
-use Rattle.drm_lists.proofs.Lists.{all_each, all_weaker, filter-map, list_any-map, map-map}
+use Rattle.drm_lists.proofs.Lists.{all_weaker, filter-map, list_any-map, map-map}
 use Rattle.drm_lists.proofs.Orders.{RisesTo, in_order_filter, in_order_map, same-any, same-filter, same-map, sorted-same, order_of_numbers}
-use Rattle.drm_lists.proofs.Rising.{found}
-use Rattle.drm_files.specs.declared.rows.FileClient.{FileClient}
-use Rattle.drm_files.specs.Files as files
 use Rattle.drm_masters.specs.declared.rows.Member.{Member}
-use Rattle.drm_masters.specs.Masters.{member_of}
 use Rattle.drm_leases.specs.Leases as leases
 use Rattle.drm_modes.specs.declared.rows.Framebuffer.{Framebuffer}
 use Rattle.drm_modes.specs.declared.kinds.Kind.TheVariants.{Crtc, Plane, Connector}
 use Rattle.drm_modes.specs.Topology.{is_crtc, is_plane, is_connector, is_encoder, is_primary_or_cursor, crtc_ids, plane_ids, connector_ids, encoder_ids, mask_over}
 use Rattle.drm_modes.specs.Modes as modes
 use Rattle.drm_modes.specs.Modes.{framebuffer_before, is_made_by}
-use Rattle.drm_model.specs.Rows.{Rows, ClientRow, GrantRow, FramebufferRow}
+use Rattle.drm_model.specs.Rows.{Rows, ClientRow, GrantRow, FramebufferRow, client_row}
 use Rattle.drm_model.specs.Masters.{master_of, lessor_of}
 use Rattle.drm_model.specs.Sees as model
 use Rattle.drm_state.specs.declared.state.State.{State}
-use Rattle.drm_state.specs.Parts.{client_row_of, grant_row_of, grants_of, framebuffer_row_of, framebuffers_of}
+use Rattle.drm_state.specs.declared.caller.Caller.{Caller}
+use Rattle.drm_state.specs.Callers.{IsCaller}
+use Rattle.drm_state.specs.Parts.{client_row_by, grant_row_of, grants_of, framebuffer_row_of, framebuffers_of}
 use Rattle.drm_state.specs.Invariants.{MeetsInvariants}
 use Rattle.drm_state.specs.Refinement.{Represents}
-use Rattle.drm_state.specs.Seeing.{controls, has_universal, sees, sees_object, visible}
+use Rattle.drm_state.specs.Seeing.{controls, sees, sees_object, visible}
 use Rattle.drm_state.proofs.Represented.{bounds_are, masters_are, grants_are, framebuffers_are, modes_so}
-use Rattle.drm_state.proofs.Lookups.{client_found}
+use Rattle.drm_state.proofs.Lookups.{client_row_is}
 use Rattle.drm_state.proofs.Living.{lessors_are}
 
 pub topology_is : (s : State) (w : Rows) → Represents s w → w.topology ≡ s.modes.topology
@@ -36,15 +33,12 @@ topology_is s w h = sym (bounds_are s w h).7
 
 -- ---- what a client sees
 
-module _ (s : State) (w : Rows) (c : ℕ) (open_client : files.is_open_client s.files c ≡ true) (h : Represents s w) where
-  master_is : master_of w c ≡ option_map (λ (y : Member). y.master) (member_of s.masters.members c)
-  master_is = ap (option_and_then (λ (row : ClientRow). row.master)) (client_found s w h c) ∙ by_file (find (files.is_client c) s.files.clients) refl open_client
-    where
-      by_file : (o : Option FileClient) → find (files.is_client c) s.files.clients ≡ o → is_some o ≡ true → option_and_then (λ (row : ClientRow). row.master) (option_map (client_row_of s.masters.members) o) ≡ option_map (λ (y : Member). y.master) (member_of s.masters.members c)
-      by_file None e k = absurd (let n : false ≡ true = k in cc)
-      by_file (Some f) e k =
-          let is : f.client ≡ c = eqb-true f.client c (found (files.is_client c) (λ _. Unit {0}) f s.files.clients (all_each (λ _. Unit {0}) (λ _. tt) s.files.clients) e).0 in
-          ap (λ n. option_map (λ (y : Member). y.master) (member_of s.masters.members n)) is
+module _ (s : State) (w : Rows) (k : Caller) (is : IsCaller s k) (h : Represents s w) where
+  row_here : client_row w k.client ≡ Some (client_row_by (record { client = k.client; flags = k.flags }) k.member)
+  row_here = client_row_is s w h k.client k.flags is.flags ∙ ap (λ o. Some (client_row_by (record { client = k.client; flags = k.flags }) o)) (sym is.member)
+
+  master_is : master_of w k.client ≡ option_map (λ (y : Member). y.master) k.member
+  master_is = ap (option_and_then (λ (row : ClientRow). row.master)) row_here
 
   -- whether the lease of a master has the mode object
   pub granted_is : (m x : ℕ) → model.is_granted w m x ≡ leases.is_granted s.leases.grants m x
@@ -52,9 +46,9 @@ module _ (s : State) (w : Rows) (c : ℕ) (open_client : files.is_open_client s.
       let has = λ (row : GrantRow). (row.master == m) && (row.mode_object == x) in
       same-any has w.grants (grants_of s) (grants_are s w h) ∙ list_any-map has grant_row_of s.leases.grants
 
-  pub controls_is : (x : ℕ) → model.controls w c x ≡ controls s c x
+  pub controls_is : (x : ℕ) → model.controls w k.client x ≡ controls s k x
   unfolding model.controls
-  controls_is x = ap (λ m. model.master_controls w m x) master_is ∙ by_member (member_of s.masters.members c)
+  controls_is x = ap (λ m. model.master_controls w m x) master_is ∙ by_member k.member
     where
       by_member : (o : Option Member) → model.master_controls w (option_map (λ (y : Member). y.master) o) x ≡ option_map_or (λ (y : Member). leases.controls s.leases.grants s.masters.masters y.master x) o false
       by_member None = refl
@@ -62,41 +56,37 @@ module _ (s : State) (w : Rows) (c : ℕ) (open_client : files.is_open_client s.
           (λ i. not (is_some (lessor_of (masters_are s w h i) y.master)) || granted_is y.master x i)
           ∙ ap (λ o. not (is_some o) || leases.is_granted s.leases.grants y.master x) (lessors_are s.leases.tokens s.masters.masters y.master)
 
-  pub universal_is : model.has_universal w c ≡ has_universal s c
-  universal_is = ap (λ o. option_map_or (λ (row : ClientRow). row.universal) o false) (client_found s w h c) ∙ by_file (find (files.is_client c) s.files.clients)
-    where
-      by_file : (o : Option FileClient) → option_map_or (λ (row : ClientRow). row.universal) (option_map (client_row_of s.masters.members) o) false ≡ option_map_or (λ (f : FileClient). f.flags.universal) o false
-      by_file None = refl
-      by_file (Some f) = refl
+  pub universal_is : model.has_universal w k.client ≡ k.flags.universal
+  universal_is = ap (λ o. option_map_or (λ (row : ClientRow). row.universal) o false) row_here
 
-  pub seen_is : (x : ℕ) → model.sees w c x ≡ sees s c x
+  pub seen_is : (x : ℕ) → model.sees w k.client x ≡ sees s k x
   unfolding model.sees
   seen_is x = λ i. is_encoder (topology_is s w h i) x || (controls_is x i && (not (is_primary_or_cursor (topology_is s w h i) x) || universal_is i))
 
-  pub crtc_seen : (x : ℕ) → model.sees_crtc w c x ≡ sees_object s c Crtc x
+  pub crtc_seen : (x : ℕ) → model.sees_crtc w k.client x ≡ sees_object s k Crtc x
   crtc_seen x = λ i. is_crtc (topology_is s w h i) x && seen_is x i
 
-  pub plane_seen : (x : ℕ) → model.sees_plane w c x ≡ sees_object s c Plane x
+  pub plane_seen : (x : ℕ) → model.sees_plane w k.client x ≡ sees_object s k Plane x
   plane_seen x = λ i. is_plane (topology_is s w h i) x && seen_is x i
 
-  pub connector_seen : (x : ℕ) → model.sees_connector w c x ≡ sees_object s c Connector x
+  pub connector_seen : (x : ℕ) → model.sees_connector w k.client x ≡ sees_object s k Connector x
   connector_seen x = λ i. is_connector (topology_is s w h i) x && seen_is x i
 
-  pub crtcs_visible : model.visible_crtcs w c ≡ visible s c Crtc
+  pub crtcs_visible : model.visible_crtcs w k.client ≡ visible s k Crtc
   crtcs_visible = λ i. filter (λ x. seen_is x i) (crtc_ids (topology_is s w h i))
 
-  pub planes_visible : model.visible_planes w c ≡ visible s c Plane
+  pub planes_visible : model.visible_planes w k.client ≡ visible s k Plane
   planes_visible = λ i. filter (λ x. seen_is x i) (plane_ids (topology_is s w h i))
 
-  pub connectors_visible : model.visible_connectors w c ≡ visible s c Connector
+  pub connectors_visible : model.visible_connectors w k.client ≡ visible s k Connector
   connectors_visible = λ i. filter (λ x. seen_is x i) (connector_ids (topology_is s w h i))
 
-  pub mask_visible : (x : ℕ) → model.visible_mask w c x ≡ mask_over s.modes.topology x (visible s c Crtc)
+  pub mask_visible : (x : ℕ) → model.visible_mask w k.client x ≡ mask_over s.modes.topology x (visible s k Crtc)
   mask_visible x = λ i. mask_over (topology_is s w h i) x (crtcs_visible i)
 
 -- an encoder is seen by all
-pub encoder_seen : (s : State) (w : Rows) (c : ℕ) → Represents s w → (x : ℕ) → is_encoder w.topology x ≡ (is_encoder s.modes.topology x && sees s c x)
-encoder_seen s w c h x = ap (λ t. is_encoder t x) (topology_is s w h) ∙ itself (is_encoder s.modes.topology x) _
+pub encoder_seen : (s : State) (w : Rows) (k : Caller) → Represents s w → (x : ℕ) → is_encoder w.topology x ≡ (is_encoder s.modes.topology x && sees s k x)
+encoder_seen s w k h x = ap (λ t. is_encoder t x) (topology_is s w h) ∙ itself (is_encoder s.modes.topology x) _
   where
     itself : (encoder other : Bool) → encoder ≡ (encoder && (encoder || other))
     itself true other = refl

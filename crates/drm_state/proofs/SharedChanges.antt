@@ -170,7 +170,7 @@ export_order_is : (o : Option ℕ) (m n : ℕ) → m ≡ n → Some (unwrap_or o
 export_order_is None m n e = ap Some e
 export_order_is (Some p) m n e = refl
 
--- a handle with a PRIME place, or as it was
+-- a handle with an export order, or as it was
 abbrev placed_at : ℕ → ℕ → ℕ → FileHandle → FileHandle
 placed_at c h export_order x = if files.is_handle c h x then given_export_order export_order x else x
 

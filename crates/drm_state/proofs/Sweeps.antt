@@ -202,7 +202,7 @@ all_moved s w holds tokens last framebuffers names hs ts given ms ns left set t 
 all_moved s w holds tokens last framebuffers names hs ts given ms ns left set t h m l fixed most e LastToken = e
 all_moved s w holds tokens last framebuffers names hs ts given ms ns left set t h m l fixed most e part = h part
 
--- and its parts are tied
+-- and it meets the invariants
 pub all_moved_invariants : (s : State) (hs : List FileHandle) (ts : List SharedToken) (given : Option ℕ) (ms : ModeSet) (left : List SharedName) (set : ObjectSet) → MeetsInvariants s → InOrder (λ (x y : FileHandle). files.handle_before x y ≡ true) hs → AreModes ms →
     AreCounted (keys_of hs) (referring ts ms.framebuffers) set.objects → AreNamed (keys_of hs) left → (invariant : Invariant) → meets_invariant invariant (all_moved_to s hs ts given ms left set)
 unfolding meets_invariant
@@ -242,7 +242,7 @@ nothing_moves s v t h = record {
   those = all_named (keys_of s.files.holds) (referring_keys s) s.objects.objects (objects_counted s t);
 }
 
--- a sweep takes nothing of rows that a state stands for whose parts are tied
+-- a sweep takes nothing of rows that a state stands for that meets the invariants
 pub unswept : (s : State) (v : Rows) → MeetsInvariants s → Represents s v → (part : Part) → represents_part part s (swept v)
 unfolding represents_part swept
 unswept s v t h Masters = masters_left v s t (clients_are s v h) (masters_are s v h)

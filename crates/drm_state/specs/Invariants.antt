@@ -72,7 +72,7 @@ AreOfLessees tokens ms = AllByRecursion (λ (row : LeaseToken). is_lessee ms row
 abbrev pub AreKeptBy : List LeaseToken → List Master → Type 0
 AreKeptBy tokens ms = AllByRecursion (λ (x : Master). x.kept ≡ is_some (token_of tokens x.step_number)) ms
 
--- what invariants the parts: who stands to masters is open, and of the clients all but those of render nodes do; what is so of masters
+-- the invariants of the parts: who stands to masters is open, and of the clients all but those of render nodes do; what is so of masters
 -- at all times, and there are as many magics as clients may be, and 64 ids of lessees at most; what is so of leases at all times,
 -- whose open tokens are of lessees, and of masters those are kept that have one; leases agree with masters; what is so of mode objects at all times; handles stand in the order of their clients and numbers; objects are those that handles, tokens and framebuffers name, which they
 -- count; names are of objects that handles name

@@ -1,4 +1,5 @@
 pub mod Parts
 pub mod Invariants
 pub mod Refinement
+pub mod Callers
 pub mod Seeing

@@ -1,4 +1,4 @@
--- Which rows the state of the device stands for, and what the function of each event owes.
+-- Which rows the state of the device stands for, and how the function of each event refines the definitions.
 use Rattle.std.specs.Prelude.{◌≡◌, ℕ, ◌+◌, false, true, Option, None, Some, Result, Ok, Err}
 use Rattle.std.specs.declared.alloc.AllocError.{AllocError}
 use Rattle.drm_lists.specs.Orders.{SameRows}
@@ -69,7 +69,7 @@ abbrev pub IsRefined : Rows → Event → Result Answer AllocError → State →
 IsRefined w event (Ok answer) s = (answer ≡ reply w event) × Represents s (after w event)
 IsRefined w event (Err e) s = Growing w event × Represents s w
 
--- what the function of an event owes, whichever rows the state stands for
+-- how the function of an event refines them, whichever rows the state stands for
 unfoldable pub Refines : State → ℕ → Event → Result Answer AllocError → State → Type 0
 Refines old step_number event result new = (w : Rows) → RepresentsAt old step_number w → IsRefined w event result new
 

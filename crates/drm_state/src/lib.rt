@@ -1,13 +1,13 @@
 //! What the device keeps: its parts, how they fit together, and the rows that they stand for.
 #![tactic(auto)]
 
-mod capabilities;
+mod caller;
 mod handles;
 mod releases;
 mod shapes;
 mod state;
 
-pub use capabilities::has_universal;
+pub use caller::Caller;
 pub use handles::new_handle;
 pub use releases::release;
 pub use shapes::{bytes_per_pixel, is_dumb_shape};

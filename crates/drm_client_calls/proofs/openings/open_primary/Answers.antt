@@ -75,7 +75,7 @@ returns-in-Err-clause-refines c = λ w s.
     (back (λ t. Represents t w) c.args.state.now c.close-rest.new.self c.on_open.new.self
     (c.close-rest.ensures.closed ∙ ap (λ l. without_client l c.args.step_number) c.in_ok-open_file.ensures.ok ∙ closed_again c.args.state.now.files c.args.step_number (flags c.args.root c.args.universal c.is_none-opener.result) c.is_full.ensures.lists c.requires.later.clients) c.in-Err.ensures.err s.rows)
 
--- what an opening leaves of masters is tied
+-- what an opening leaves of masters meets the invariants
 invariants_by : (s : State) (b : ℕ) (g : FileFlags) (new : MasterSet) (d : Option ℕ) → MeetsInvariants s → IsNewLessee s.leases b → AreMasters new → masters.Opened s.masters b b d new → MeetsInvariants (joined s b g new s.leases)
 invariants_by s b g new None t newest are h =
     joined_invariants s g (masters.owner b b) new s.leases t (ap (λ (v : MasterSet). v.members) h.2) are (leases_so s t)

@@ -1,4 +1,4 @@
-use Rattle.std.proofs.Common.{◌≡◌, ℕ, ◌≤◌, Bool, List, [], ◌∷◌, Option, Some, Result, Err, sym, ap, subst, ◌∙◌, inl, inr, arith, length-append}
+use Rattle.std.proofs.Common.{◌≡◌, ℕ, ◌≤◌, Bool, List, [], ◌∷◌, Option, Some, Result, Err, refl, sym, ap, subst, ◌∙◌, inl, inr, arith, length-append}
 use Rattle.std.specs.Prelude.{IfSome, unwrap_or}
 use Rattle.drm_table.specs.declared.answers.Answer.TheVariants.{Lease}
 use Rattle.drm_table.specs.declared.calls.Call.TheVariants.{CreateLease}
@@ -22,11 +22,10 @@ use Rattle.drm_model.proofs.Leased.{leased_within, leased_once}
 use Rattle.drm_state.specs.declared.state.State.{State}
 use Rattle.drm_state.specs.Invariants.{MeetsInvariants}
 use Rattle.drm_state.specs.Refinement.{RefinesCall, Represents}
-use Rattle.drm_state.specs.Seeing.{has_universal}
 use Rattle.drm_state.proofs.Represented.{leases_agree}
 use Rattle.drm_state.proofs.Refinements.{denied, refused, carried_on}
 use Rattle.drm_state.proofs.Seeing.{topology_is}
-use Rattle.drm_state.proofs.Callers.{file_of, never_admitted, own_master_is}
+use Rattle.drm_state.proofs.Callers.{caller_file, caller_open, never_admitted, own_master_is}
 use Rattle.drm_lease_calls.proofs.Flags.{create_lease_flags}
 use Rattle.drm_lease_calls.proofs.Asked.{create_verdict, free_lessee_is, leased_is, next_is}
 use Rattle.drm_lease_calls.proofs.Listed.{same_listed}
@@ -45,7 +44,7 @@ came {r = r} {result = result} {given = given} {ids = ids} {on = on} s x step l 
 pub returns-in_default-clause-refines : goal.returns-in_default-clause-refines
 unfolding RefinesCall
 returns-in_default-clause-refines c = λ w r admitted.
-    absurd (never_admitted c.args.state.now w c.args.client (CreateLease c.args.ids.now) c.requires.precondition.invariants c.requires.open_client r.rows (create_lease_flags c.args.ids.now) (sym c.member.ensures.member ∙ c.in_default.is) admitted)
+    absurd (never_admitted c.args.state.now w c.args.caller.client (CreateLease c.args.ids.now) c.requires.precondition.invariants (caller_open c.args.state.now c.args.caller c.requires.caller) r.rows (create_lease_flags c.args.ids.now) (sym c.requires.caller.member ∙ c.in_default.is) admitted)
 
 pub create-requires-clause-agreed : goal.create-requires-clause-agreed
 create-requires-clause-agreed c = leases_agree c.args.state.now c.requires.precondition.invariants
@@ -57,8 +56,8 @@ returns-in-Ok-clause-invariants c =
     let step = c.args.step_number in
     let x = c.in-Some._member in
     let made = c.in-Ok.made in
-    let objects = listed_objects s.modes.topology (leased s.leases s.masters s.modes x.master (has_universal s c.args.client) ids) in
-    let by = came s x step c.create.new.self c.create.new.masters (sym c.member.ensures.member ∙ c.in-Some.is) c.in-Ok.is c.ids.ensures.ids c.has_universal-universal.ensures c.create.ensures.created in
+    let objects = listed_objects s.modes.topology (leased s.leases s.masters s.modes x.master c.args.caller.flags.universal ids) in
+    let by = came s x step c.create.new.self c.create.new.masters (sym c.requires.caller.member ∙ c.in-Some.is) c.in-Ok.is c.ids.ensures.ids refl c.create.ensures.created in
     subst (λ (l : LeaseSet). MeetsInvariants (record s { masters = c.create.new.masters; leases = l })) (sym by.3)
     (subst (λ (v : MasterSet). MeetsInvariants (record s { masters = v; leases = with_lease made.token step x.master objects s.leases })) (sym by.4.2)
     (leased_invariants s by.4.0 step x.master made.id made.token objects c.requires.precondition.later.masters c.requires.precondition.later.leases c.requires.precondition.invariants (subst AreMasters by.4.2 c.laws.ensures) (subst AreLeases by.3 c.laws-in-Ok.ensures)))
@@ -70,20 +69,20 @@ returns-in-Ok-clause-refines c = λ w r admitted.
     let t = c.requires.precondition.invariants in
     let h = r.rows in
     let ids = c.args.ids.now in
-    let client = c.args.client in
+    let client = c.args.caller.client in
     let step = c.args.step_number in
     let x = c.in-Some._member in
     let made = c.in-Ok.made in
-    let look = sym c.member.ensures.member ∙ c.in-Some.is in
-    let objects = listed_objects s.modes.topology (leased s.leases s.masters s.modes x.master (has_universal s c.args.client) ids) in
-    let by = came s x step c.create.new.self c.create.new.masters look c.in-Ok.is c.ids.ensures.ids c.has_universal-universal.ensures c.create.ensures.created in
-    let file = file_of s client c.requires.open_client in
-    let own = own_master_is s w client file.0 x h file.1 look in
-    let none = create_verdict s w t h client x c.requires.open_client look ids own admitted ∙ by.0 in
+    let look = sym c.requires.caller.member ∙ c.in-Some.is in
+    let objects = listed_objects s.modes.topology (leased s.leases s.masters s.modes x.master c.args.caller.flags.universal ids) in
+    let by = came s x step c.create.new.self c.create.new.masters look c.in-Ok.is c.ids.ensures.ids refl c.create.ensures.created in
+    let file = caller_file s c.args.caller c.requires.caller in
+    let own = own_master_is s w client c.args.caller.flags x h file look in
+    let none = create_verdict s w t h c.args.caller x c.requires.caller c.in-Some.is ids own admitted ∙ by.0 in
     let id_is : new_lessee_id w (caller_master w client) ≡ made.id = ap (new_lessee_id w) own ∙ ap (λ o. unwrap_or o 0) (free_lessee_is s w t h x.master ∙ by.1) in
     let token_is : new_lease_token w ≡ made.token = ap (λ o. unwrap_or o 0) (next_is s w t h ∙ by.2) in
     let all = model.leased w client ids in
-    let same = subst (λ l. SameRows all (listed_objects s.modes.topology l)) (leased_is s w t h client x c.requires.open_client look ids) (same_listed s.modes.topology all (leased_once w client ids none) (λ k e. subst (λ topology. (1 ≤ k) × (k ≤ object_count topology)) (topology_is s w h) (leased_within w client ids none k e))) in
+    let same = subst (λ l. SameRows all (listed_objects s.modes.topology l)) (leased_is s w t h c.args.caller x c.requires.caller c.in-Some.is ids) (same_listed s.modes.topology all (leased_once w client ids none) (λ k e. subst (λ topology. (1 ≤ k) × (k ≤ object_count topology)) (topology_is s w h) (leased_within w client ids none k e))) in
     let new = record s { masters = c.create.new.masters; leases = c.create.new.self } in
     carried_on new w (Ask client (CreateLease ids)) (Lease made.id made.token) (returns-in-Ok-clause-invariants c) none (λ i. Lease (sym id_is i) (sym token_is i))
     (subst (Represents new) (sym (λ i. leased_rows w (own i) (r.step_number_is i) (id_is i) (token_is i) all))
@@ -96,14 +95,14 @@ unfolding RefinesCall
 returns-in-Err-Denied-clause-refines c = λ w r admitted.
     let s = c.args.state.now in
     let ids = c.args.ids.now in
-    let client = c.args.client in
+    let client = c.args.caller.client in
     let x = c.in-Some._member in
-    let look = sym c.member.ensures.member ∙ c.in-Some.is in
-    let by = came s x c.args.step_number c.create.new.self c.create.new.masters look (c.in-Err-Denied.is ∙ ap Err c.in-Err-Denied.field-0-is) c.ids.ensures.ids c.has_universal-universal.ensures c.create.ensures.created in
-    let file = file_of s client c.requires.open_client in
-    let own = own_master_is s w client file.0 x r.rows file.1 look in
+    let look = sym c.requires.caller.member ∙ c.in-Some.is in
+    let by = came s x c.args.step_number c.create.new.self c.create.new.masters look (c.in-Err-Denied.is ∙ ap Err c.in-Err-Denied.field-0-is) c.ids.ensures.ids refl c.create.ensures.created in
+    let file = caller_file s c.args.caller c.requires.caller in
+    let own = own_master_is s w client c.args.caller.flags x r.rows file look in
     denied (record s { masters = c.create.new.masters; leases = c.create.new.self }) w (Ask client (CreateLease ids)) c.in-Err-Denied.rule
-    (create_verdict s w c.requires.precondition.invariants r.rows client x c.requires.open_client look ids own admitted ∙ by.0)
+    (create_verdict s w c.requires.precondition.invariants r.rows c.args.caller x c.requires.caller c.in-Some.is ids own admitted ∙ by.0)
     (subst (λ (l : LeaseSet). Represents (record s { masters = c.create.new.masters; leases = l }) w) (sym by.1) (subst (λ (v : MasterSet). Represents (record s { masters = v }) w) (sym by.2) r.rows))
 
 pub returns-in-Err-NoMemory-clause-refines : goal.returns-in-Err-NoMemory-clause-refines
@@ -111,13 +110,13 @@ unfolding RefinesCall meaning changed
 returns-in-Err-NoMemory-clause-refines c = λ w r admitted.
     let s = c.args.state.now in
     let ids = c.args.ids.now in
-    let client = c.args.client in
+    let client = c.args.caller.client in
     let x = c.in-Some._member in
-    let look = sym c.member.ensures.member ∙ c.in-Some.is in
-    let by = came s x c.args.step_number c.create.new.self c.create.new.masters look (c.in-Err-NoMemory.is ∙ ap Err c.in-Err-NoMemory.field-0-is) c.ids.ensures.ids c.has_universal-universal.ensures c.create.ensures.created in
-    let file = file_of s client c.requires.open_client in
-    let own = own_master_is s w client file.0 x r.rows file.1 look in
+    let look = sym c.requires.caller.member ∙ c.in-Some.is in
+    let by = came s x c.args.step_number c.create.new.self c.create.new.masters look (c.in-Err-NoMemory.is ∙ ap Err c.in-Err-NoMemory.field-0-is) c.ids.ensures.ids refl c.create.ensures.created in
+    let file = caller_file s c.args.caller c.requires.caller in
+    let own = own_master_is s w client c.args.caller.flags x r.rows file look in
     refused (record s { masters = c.create.new.masters; leases = c.create.new.self }) w (Ask client (CreateLease ids)) _
-    (create_verdict s w c.requires.precondition.invariants r.rows client x c.requires.open_client look ids own admitted ∙ by.0)
+    (create_verdict s w c.requires.precondition.invariants r.rows c.args.caller x c.requires.caller c.in-Some.is ids own admitted ∙ by.0)
     (inr (inl (omega (arith, length-append w.masters (new_lessee w (caller_master w client) ∷ [])))))
     (subst (λ (l : LeaseSet). Represents (record s { masters = c.create.new.masters; leases = l }) w) (sym by.1) (subst (λ (v : MasterSet). Represents (record s { masters = v }) w) (sym by.2) r.rows))

@@ -19,9 +19,9 @@ use Rattle.drm_model.specs.Change.{changed, swept}
 use Rattle.drm_model.specs.Reply.{answer_of}
 use Rattle.drm_state.specs.Invariants.{MeetsInvariants}
 use Rattle.drm_state.specs.Refinement.{RefinesReply, Represents}
-use Rattle.drm_state.proofs.Represented.{leases_agree}
+use Rattle.drm_state.proofs.Represented.{masters_so, leases_agree}
 use Rattle.drm_state.proofs.Refinements.{denied, carried}
-use Rattle.drm_state.proofs.Callers.{file_of, never_admitted, own_master_is}
+use Rattle.drm_state.proofs.Callers.{caller_file, caller_open, never_admitted, own_master_is}
 use Rattle.drm_lease_calls.proofs.Flags.{revoke_lease_flags}
 use Rattle.drm_lease_calls.proofs.Lessees.{lessee_step_number, revoke_verdict}
 use Rattle.drm_lease_calls.proofs.Revoked.{revoked_invariants, revoked_represents}
@@ -29,12 +29,12 @@ use Rattle.drm_lease_calls.proofs.leases.revoke_lease.Goals as goal
 
 pub returns-in_default-clause-refines : goal.returns-in_default-clause-refines
 unfolding RefinesReply
-returns-in_default-clause-refines c = λ w h admitted. absurd (never_admitted c.args.state.now w c.args.client (RevokeLease c.args.lessee) c.requires.invariants c.requires.open_client h (revoke_lease_flags c.args.lessee) (sym c.member.ensures.member ∙ c.in_default.is) admitted)
+returns-in_default-clause-refines c = λ w h admitted. absurd (never_admitted c.args.state.now w c.args.caller.client (RevokeLease c.args.lessee) c.requires.invariants (caller_open c.args.state.now c.args.caller c.requires.caller) h (revoke_lease_flags c.args.lessee) (sym c.requires.caller.member ∙ c.in_default.is) admitted)
 
 pub unreachable-requires : goal.unreachable-requires
 unreachable-requires c =
     let v = c.args.state.now.masters in
-    let there = (found (masters.is_client c.args.client) (λ (y : Member). is_some (masters.master_at v.masters y.master) ≡ true) c.in-Some.member v.members c.member.ensures.are.masters_there (sym c.member.ensures.member ∙ c.in-Some.is)).1 in
+    let there = (found (masters.is_client c.args.caller.client) (λ (y : Member). is_some (masters.master_at v.masters y.master) ≡ true) c.in-Some.member v.members (masters_so c.args.state.now c.requires.invariants).masters_there (sym c.requires.caller.member ∙ c.in-Some.is)).1 in
     let none : false ≡ true = sym (ap is_some (sym c.master.ensures.master ∙ c.in_default-master.is)) ∙ there in
     cc
 
@@ -46,10 +46,10 @@ pub returns-in_default-lessee-clause-refines : goal.returns-in_default-lessee-cl
 unfolding RefinesReply
 returns-in_default-lessee-clause-refines c = λ w h admitted.
     let s = c.args.state.now in
-    let client = c.args.client in
+    let client = c.args.caller.client in
     let x = c.in-Some.member in
-    let file = file_of s client c.requires.open_client in
-    let own = own_master_is s w client file.0 x h file.1 (sym c.member.ensures.member ∙ c.in-Some.is) in
+    let file = caller_file s c.args.caller c.requires.caller in
+    let own = own_master_is s w client c.args.caller.flags x h file (sym c.requires.caller.member ∙ c.in-Some.is) in
     let none = looked s.masters x.master c.in-Some-master.master.key c.args.lessee c.lessee.result None c.in-Some-master.ensures.keyed c.lessee.ensures.lessee c.in_default-lessee.is in
     denied s w (Ask client (RevokeLease c.args.lessee)) NoLessee (revoke_verdict s w h client x.master c.args.lessee None own admitted none) h
 
@@ -57,11 +57,11 @@ pub returns-then-not-is_lent_by-clause-refines : goal.returns-then-not-is_lent_b
 unfolding RefinesReply
 returns-then-not-is_lent_by-clause-refines c = λ w h admitted.
     let s = c.args.state.now in
-    let client = c.args.client in
+    let client = c.args.caller.client in
     let x = c.in-Some.member in
     let lessee = c.in-Some-lessee.found in
-    let file = file_of s client c.requires.open_client in
-    let own = own_master_is s w client file.0 x h file.1 (sym c.member.ensures.member ∙ c.in-Some.is) in
+    let file = caller_file s c.args.caller c.requires.caller in
+    let own = own_master_is s w client c.args.caller.flags x h file (sym c.requires.caller.member ∙ c.in-Some.is) in
     let one = looked s.masters x.master c.in-Some-master.master.key c.args.lessee c.lessee.result (Some lessee) c.in-Some-master.ensures.keyed c.lessee.ensures.lessee c.in-Some-lessee.is in
     denied s w (Ask client (RevokeLease c.args.lessee)) NotYourLessee
     (revoke_verdict s w h client x.master c.args.lessee (Some lessee) own admitted one ∙ ap (λ b. first_failing (check NotYourLessee b ∷ [])) (sym c.is_lent_by.ensures ∙ c.if-not-is_lent_by.true)) h
@@ -81,11 +81,11 @@ pub returns-clause-refines : goal.returns-clause-refines
 unfolding RefinesReply meaning changed answer_of
 returns-clause-refines c = λ w h admitted.
     let s = c.args.state.now in
-    let client = c.args.client in
+    let client = c.args.caller.client in
     let x = c.in-Some.member in
     let lessee = c.in-Some-lessee.found in
-    let file = file_of s client c.requires.open_client in
-    let own = own_master_is s w client file.0 x h file.1 (sym c.member.ensures.member ∙ c.in-Some.is) in
+    let file = caller_file s c.args.caller c.requires.caller in
+    let own = own_master_is s w client c.args.caller.flags x h file (sym c.requires.caller.member ∙ c.in-Some.is) in
     let one = looked s.masters x.master c.in-Some-master.master.key c.args.lessee c.lessee.result (Some lessee) c.in-Some-master.ensures.keyed c.lessee.ensures.lessee c.in-Some-lessee.is in
     let new = record s { masters = c.revoke.new.masters; leases = c.revoke.new.self } in
     carried new w (Ask client (RevokeLease c.args.lessee)) Done

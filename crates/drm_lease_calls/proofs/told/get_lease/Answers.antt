@@ -1,11 +1,8 @@
-use Rattle.std.proofs.Common.{◌≡◌, ℕ, Bool, false, List, sym, ap, ◌∙◌}
+use Rattle.std.proofs.Common.{◌≡◌, ℕ, Bool, List, sym, ap, ◌∙◌}
 use Rattle.std.specs.Prelude.{if◌then◌else◌}
-use Rattle.std.specs.Option.{option_map_or}
 use Rattle.drm_table.specs.declared.answers.Answer.TheVariants.{List as ListIs}
 use Rattle.drm_table.specs.declared.calls.Call.TheVariants.{GetLease}
 use Rattle.drm_table.specs.declared.events.Event.TheVariants.{Ask}
-use Rattle.drm_masters.specs.declared.rows.Member.{Member}
-use Rattle.drm_masters.specs.Masters as masters
 use Rattle.drm_model.specs.Numbers.{rising}
 use Rattle.drm_model.specs.Magics.{caller_master}
 use Rattle.drm_model.specs.Masters.{is_lessee}
@@ -15,7 +12,7 @@ use Rattle.drm_model.specs.Change.{changed}
 use Rattle.drm_model.specs.Reply.{answer_of}
 use Rattle.drm_state.specs.Refinement.{RefinesReply}
 use Rattle.drm_state.proofs.Refinements.{carried_on, call_verdict}
-use Rattle.drm_state.proofs.Callers.{file_of, never_admitted, lessee_is, own_master_is}
+use Rattle.drm_state.proofs.Callers.{caller_file, caller_open, never_admitted, lessee_is, own_master_is}
 use Rattle.drm_state.proofs.Seeing.{topology_is}
 use Rattle.drm_lease_calls.proofs.Flags.{get_lease_flags}
 use Rattle.drm_lease_calls.proofs.Lessees.{lease_listed}
@@ -24,18 +21,18 @@ use Rattle.drm_lease_calls.proofs.told.get_lease.Goals.{then-is_lessee, else-is_
 
 pub returns-in_default : goal.returns-in_default
 unfolding RefinesReply
-returns-in_default c = λ w h admitted. absurd (never_admitted c.args.state.now w c.args.client GetLease c.requires.invariants c.requires.open_client h get_lease_flags (sym c.member.ensures.member ∙ c.in_default.is) admitted)
+returns-in_default c = λ w h admitted. absurd (never_admitted c.args.state.now w c.args.caller.client GetLease c.requires.invariants (caller_open c.args.state.now c.args.caller c.requires.caller) h get_lease_flags (sym c.requires.caller.member ∙ c.in_default.is) admitted)
 
 pub returns : goal.returns
 unfolding RefinesReply meaning changed answer_of
 returns c = λ w h admitted.
     let s = c.args.state.now in
-    let client = c.args.client in
+    let client = c.args.caller.client in
     let x = c.in-Some.member in
-    let file = file_of s client c.requires.open_client in
-    let look = sym c.member.ensures.member ∙ c.in-Some.is in
-    let own = own_master_is s w client file.0 x h file.1 look in
-    let is : is_lessee w client ≡ c.is_lessee.result = lessee_is s w client file.0 x h file.1 look ∙ sym (c.is_lessee.ensures ∙ ap (λ o. option_map_or (λ (y : Member). masters.is_lessee s.masters.masters y.master) o false) look) in
+    let file = caller_file s c.args.caller c.requires.caller in
+    let look = sym c.requires.caller.member ∙ c.in-Some.is in
+    let own = own_master_is s w client c.args.caller.flags x h file look in
+    let is : is_lessee w client ≡ c.is_lessee.result = lessee_is s w client c.args.caller.flags x h file look ∙ sym c.is_lessee.ensures in
     let told = λ (b : Bool). let l : List ℕ = if b then rising (granted_of w (caller_master w client)) else leasable_ids w.topology in l in
     let list : c.if-is_lessee.list ≡ told (is_lessee w client) = elim c.if-is_lessee.branch [
       | then-is_lessee b ↦ b.list-is ∙ b.objects_of-list.ensures ∙ sym (ap told (is ∙ b.if-is_lessee.true) ∙ ap (λ m. rising (granted_of w m)) own ∙ lease_listed s w h c.requires.invariants x.master)

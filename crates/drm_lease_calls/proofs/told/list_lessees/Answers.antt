@@ -10,14 +10,14 @@ use Rattle.drm_model.specs.Reply.{answer_of}
 use Rattle.drm_state.specs.Refinement.{RefinesReply}
 use Rattle.drm_state.proofs.Represented.{lessees_few}
 use Rattle.drm_state.proofs.Refinements.{carried_on, call_verdict}
-use Rattle.drm_state.proofs.Callers.{file_of, never_admitted, own_master_is}
+use Rattle.drm_state.proofs.Callers.{caller_file, caller_open, never_admitted, own_master_is}
 use Rattle.drm_lease_calls.proofs.Flags.{list_lessees_flags}
 use Rattle.drm_lease_calls.proofs.Lessees.{lessees_listed}
 use Rattle.drm_lease_calls.proofs.told.list_lessees.Goals as goal
 
 pub returns-in_default : goal.returns-in_default
 unfolding RefinesReply
-returns-in_default c = λ w h admitted. absurd (never_admitted c.args.state.now w c.args.client ListLessees c.requires.invariants c.requires.open_client h list_lessees_flags (sym c.member.ensures.member ∙ c.in_default.is) admitted)
+returns-in_default c = λ w h admitted. absurd (never_admitted c.args.state.now w c.args.caller.client ListLessees c.requires.invariants (caller_open c.args.state.now c.args.caller c.requires.caller) h list_lessees_flags (sym c.requires.caller.member ∙ c.in_default.is) admitted)
 
 pub list-requires : goal.list-requires
 list-requires c = lessees_few c.args.state.now c.requires.invariants
@@ -26,9 +26,9 @@ pub returns : goal.returns
 unfolding RefinesReply meaning changed answer_of
 returns c = λ w h admitted.
     let s = c.args.state.now in
-    let client = c.args.client in
+    let client = c.args.caller.client in
     let x = c.in-Some.member in
-    let file = file_of s client c.requires.open_client in
-    let own = own_master_is s w client file.0 x h file.1 (sym c.member.ensures.member ∙ c.in-Some.is) in
+    let file = caller_file s c.args.caller c.requires.caller in
+    let own = own_master_is s w client c.args.caller.flags x h file (sym c.requires.caller.member ∙ c.in-Some.is) in
     carried_on s w (Ask client ListLessees) (ListIs c.list.result) c.requires.invariants (call_verdict w client ListLessees admitted)
     (ap ListIs (c.list.ensures ∙ sym ((λ i. filter (model.has_lessee w (own i)) (numbers_from 1 w.limits.lessees)) ∙ lessees_listed s w h x.master))) h

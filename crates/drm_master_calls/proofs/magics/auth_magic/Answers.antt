@@ -19,7 +19,7 @@ use Rattle.drm_state.proofs.Represented.{members_open, leases_agree}
 use Rattle.drm_files.specs.Files.{is_open_client}
 use Rattle.drm_lists.proofs.Rising.{found, all_found}
 use Rattle.drm_masters.specs.declared.rows.Member.{Member}
-use Rattle.drm_state.proofs.Callers.{file_of, never_admitted, its_master}
+use Rattle.drm_state.proofs.Callers.{caller_file, caller_open, never_admitted, its_master}
 use Rattle.drm_master_calls.proofs.Callers.{opens}
 use Rattle.drm_master_calls.proofs.Flags.{auth_magic_flags}
 use Rattle.drm_master_calls.proofs.Authenticated.{changed_invariants, authenticated_invariants}
@@ -35,14 +35,14 @@ use Rattle.drm_master_calls.proofs.magics.auth_magic.Goals as goal
 
 pub returns-in_default-clause-refines : goal.returns-in_default-clause-refines
 unfolding RefinesReply
-returns-in_default-clause-refines c = λ w h admitted. absurd (never_admitted c.args.state.now w c.args.client (AuthMagic c.args.number) c.requires.invariants c.requires.open_client h (auth_magic_flags c.args.number) (sym c.member.ensures.member ∙ c.in_default.is) admitted)
+returns-in_default-clause-refines c = λ w h admitted. absurd (never_admitted c.args.state.now w c.args.caller.client (AuthMagic c.args.number) c.requires.invariants (caller_open c.args.state.now c.args.caller c.requires.caller) h (auth_magic_flags c.args.number) (sym c.requires.caller.member ∙ c.in_default.is) admitted)
 
 -- who is authenticated is a member, and so open
 pub set_authenticated-requires : goal.set_authenticated-requires
 set_authenticated-requires c =
     let s = c.args.state.now in
     let x = c.in-Some._member in
-    let look = sym c.member.ensures.member ∙ c.in-Some.is in
+    let look = sym c.requires.caller.member ∙ c.in-Some.is in
     let done = subst (λ o. IfSome o (λ y. AuthenticatedBy s.masters y.master c.args.number c.auth.result c.auth.new.self)) look c.auth.ensures.authenticated in
     let by = subst (λ r. AuthenticatedBy s.masters x.master c.args.number r c.auth.new.self) c.in-Ok.is done in
     record { open_client = ap (is_open_client s.files) by.2 ∙ (found (has_open_magic x.master c.args.number) (λ (z : Member). is_open_client s.files z.client ≡ true) by.0 s.masters.members (members_open s c.requires.invariants) by.1).1 }
@@ -51,7 +51,7 @@ pub returns-in-Err-clause-invariants : goal.returns-in-Err-clause-invariants
 returns-in-Err-clause-invariants c =
     let s = c.args.state.now in
     let x = c.in-Some._member in
-    let look = sym c.member.ensures.member ∙ c.in-Some.is in
+    let look = sym c.requires.caller.member ∙ c.in-Some.is in
     let done = subst (λ o. IfSome o (λ y. AuthenticatedBy s.masters y.master c.args.number c.auth.result c.auth.new.self)) look c.auth.ensures.authenticated in
     let by = subst (λ r. AuthenticatedBy s.masters x.master c.args.number r c.auth.new.self) c.in-Err.is done in
     subst (λ v. MeetsInvariants (record s { masters = v })) (sym by.2) c.requires.invariants
@@ -61,21 +61,21 @@ unfolding RefinesReply meaning
 returns-in-Err-clause-refines c = λ w h admitted.
     let s = c.args.state.now in
     let x = c.in-Some._member in
-    let look = sym c.member.ensures.member ∙ c.in-Some.is in
-    let file = file_of s c.args.client c.requires.open_client in
-    let own : model.caller_master w c.args.client ≡ x.master = ap (λ o. unwrap_or o 0) (its_master s w c.args.client file.0 x h file.1 look) in
+    let look = sym c.requires.caller.member ∙ c.in-Some.is in
+    let file = caller_file s c.args.caller c.requires.caller in
+    let own : model.caller_master w c.args.caller.client ≡ x.master = ap (λ o. unwrap_or o 0) (its_master s w c.args.caller.client c.args.caller.flags x h file look) in
     let done = subst (λ o. IfSome o (λ y. AuthenticatedBy s.masters y.master c.args.number c.auth.result c.auth.new.self)) look c.auth.ensures.authenticated in
     let by = subst (λ r. AuthenticatedBy s.masters x.master c.args.number r c.auth.new.self) c.in-Err.is done in
-    let none : is_some (model.magic_client w (model.caller_master w c.args.client) c.args.number) ≡ false = ap (λ m. is_some (model.magic_client w m c.args.number)) own ∙ opens s w h x.master c.args.number ∙ ap is_some by.0 in
-    denied (record s { masters = c.auth.new.self }) w (Ask c.args.client (AuthMagic c.args.number)) c.in-Err.rule
-    (call_verdict w c.args.client (AuthMagic c.args.number) admitted ∙ ap (λ b. first_failing (check NoMagic b ∷ [])) none ∙ ap Some (sym by.1))
+    let none : is_some (model.magic_client w (model.caller_master w c.args.caller.client) c.args.number) ≡ false = ap (λ m. is_some (model.magic_client w m c.args.number)) own ∙ opens s w h x.master c.args.number ∙ ap is_some by.0 in
+    denied (record s { masters = c.auth.new.self }) w (Ask c.args.caller.client (AuthMagic c.args.number)) c.in-Err.rule
+    (call_verdict w c.args.caller.client (AuthMagic c.args.number) admitted ∙ ap (λ b. first_failing (check NoMagic b ∷ [])) none ∙ ap Some (sym by.1))
     (subst (λ v. Represents (record s { masters = v }) w) (sym by.2) h)
 
 pub returns-in-Ok-clause-invariants : goal.returns-in-Ok-clause-invariants
 returns-in-Ok-clause-invariants c =
     let s = c.args.state.now in
     let x = c.in-Some._member in
-    let look = sym c.member.ensures.member ∙ c.in-Some.is in
+    let look = sym c.requires.caller.member ∙ c.in-Some.is in
     let done = subst (λ o. IfSome o (λ y. AuthenticatedBy s.masters y.master c.args.number c.auth.result c.auth.new.self)) look c.auth.ensures.authenticated in
     let by = subst (λ r. AuthenticatedBy s.masters x.master c.args.number r c.auth.new.self) c.in-Ok.is done in
     let rise = (masters_so s c.requires.invariants).members_rise in
@@ -93,15 +93,15 @@ returns-in-Ok-clause-refines c = λ w h admitted.
     let s = c.args.state.now in
     let x = c.in-Some._member in
     let n = c.args.number in
-    let look = sym c.member.ensures.member ∙ c.in-Some.is in
-    let file = file_of s c.args.client c.requires.open_client in
-    let own : model.caller_master w c.args.client ≡ x.master = ap (λ o. unwrap_or o 0) (its_master s w c.args.client file.0 x h file.1 look) in
+    let look = sym c.requires.caller.member ∙ c.in-Some.is in
+    let file = caller_file s c.args.caller c.requires.caller in
+    let own : model.caller_master w c.args.caller.client ≡ x.master = ap (λ o. unwrap_or o 0) (its_master s w c.args.caller.client c.args.caller.flags x h file look) in
     let done = subst (λ o. IfSome o (λ y. AuthenticatedBy s.masters y.master n c.auth.result c.auth.new.self)) look c.auth.ensures.authenticated in
     let by = subst (λ r. AuthenticatedBy s.masters x.master n r c.auth.new.self) c.in-Ok.is done in
     let it : model.magic_client w x.master n ≡ Some by.0.client = client_is x.master n by.0 s.masters (masters_so s c.requires.invariants) by.1 w (magics_are s w h) in
     let new = record s { files = c.set_authenticated.new.self; masters = c.auth.new.self } in
-    carried_on new w (Ask c.args.client (AuthMagic n)) Done (returns-in-Ok-clause-invariants c)
-    (call_verdict w c.args.client (AuthMagic n) admitted ∙ ap (λ m. first_failing (check NoMagic (is_some (model.magic_client w m n)) ∷ [])) own ∙ ap (λ o. first_failing (check NoMagic (is_some o) ∷ [])) it) refl
+    carried_on new w (Ask c.args.caller.client (AuthMagic n)) Done (returns-in-Ok-clause-invariants c)
+    (call_verdict w c.args.caller.client (AuthMagic n) admitted ∙ ap (λ m. first_failing (check NoMagic (is_some (model.magic_client w m n)) ∷ [])) own ∙ ap (λ o. first_failing (check NoMagic (is_some o) ∷ [])) it) refl
     (subst (λ m. Represents new (record w { clients = model.with_authenticated (model.magic_client w m n) w.clients; magics = model.with_spent m n w.magics })) (sym own)
     (subst (λ o. Represents new (record w { clients = model.with_authenticated o w.clients; magics = model.with_spent x.master n w.magics })) (sym it)
     (subst (λ fs. Represents (record s { files = fs; masters = c.auth.new.self }) (record w { clients = model.with_authenticated (Some by.0.client) w.clients; magics = model.with_spent x.master n w.magics })) (sym (c.set_authenticated.ensures ∙ ap (with_authenticated s.files) by.2))

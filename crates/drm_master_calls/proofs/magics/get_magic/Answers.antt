@@ -21,7 +21,7 @@ use Rattle.drm_state.specs.Refinement.{RefinesReply, Represents}
 use Rattle.drm_state.proofs.Represented.{masters_so}
 use Rattle.drm_state.proofs.Magics.{magic_is}
 use Rattle.drm_state.proofs.Refinements.{carried_on, call_verdict}
-use Rattle.drm_state.proofs.Callers.{file_of, never_admitted, its_master, same_client}
+use Rattle.drm_state.proofs.Callers.{caller_file, caller_open, never_admitted, its_master, same_client}
 use Rattle.drm_master_calls.proofs.Callers.{free_is}
 use Rattle.drm_master_calls.proofs.Changed.{magic_invariants, given_represents}
 use Rattle.drm_master_calls.proofs.Flags.{get_magic_flags}
@@ -29,7 +29,7 @@ use Rattle.drm_master_calls.proofs.magics.get_magic.Goals as goal
 
 pub returns-in_default-clause-refines : goal.returns-in_default-clause-refines
 unfolding RefinesReply
-returns-in_default-clause-refines c = λ w h admitted. absurd (never_admitted c.args.state.now w c.args.client GetMagic c.requires.invariants c.requires.open_client h get_magic_flags (sym c.member.ensures.member ∙ c.in_default.is) admitted)
+returns-in_default-clause-refines c = λ w h admitted. absurd (never_admitted c.args.state.now w c.args.caller.client GetMagic c.requires.invariants (caller_open c.args.state.now c.args.caller c.requires.caller) h get_magic_flags (sym c.requires.caller.member ∙ c.in_default.is) admitted)
 
 invariants_by : (s : State) (c n : ℕ) (x : Member) (new : MasterSet) (g : Option Magic) → member_of s.masters.members c ≡ Some x → MeetsInvariants s → AreMasters new → GaveMagic s.masters x g n new → MeetsInvariants (record s { masters = new })
 invariants_by s c n x new (Some g) look t are h = subst (λ v. MeetsInvariants (record s { masters = v })) (sym h.1) t
@@ -40,9 +40,9 @@ pub returns-clause-invariants : goal.returns-clause-invariants
 returns-clause-invariants c =
     let s = c.args.state.now in
     let x = c.in-Some._member in
-    let look = sym c.member.ensures.member ∙ c.in-Some.is in
+    let look = sym c.requires.caller.member ∙ c.in-Some.is in
     let gave = subst (λ o. IfSome o (λ y. GaveMagic s.masters y y.magic c.in-Ok.number c.magic.new.self)) look c.in-Ok.ensures.given in
-    invariants_by s c.args.client c.in-Ok.number x c.magic.new.self x.magic look c.requires.invariants c.laws.ensures gave
+    invariants_by s c.args.caller.client c.in-Ok.number x c.magic.new.self x.magic look c.requires.invariants c.laws.ensures gave
 
 -- the rows and the answer, by the magic that the caller had
 module _ (s : State) (w : Rows) (c n : ℕ) (x : Member) (new : MasterSet) (look : member_of s.masters.members c ≡ Some x) (t : MeetsInvariants s) (h : Represents s w) (own : model.caller_master w c ≡ x.master) where
@@ -75,10 +75,10 @@ unfolding RefinesReply meaning changed answer_of
 returns-clause-refines c = λ w h admitted.
     let s = c.args.state.now in
     let x = c.in-Some._member in
-    let look = sym c.member.ensures.member ∙ c.in-Some.is in
-    let file = file_of s c.args.client c.requires.open_client in
-    let own = ap (λ o. unwrap_or o 0) (its_master s w c.args.client file.0 x h file.1 look) in
+    let look = sym c.requires.caller.member ∙ c.in-Some.is in
+    let file = caller_file s c.args.caller c.requires.caller in
+    let own = ap (λ o. unwrap_or o 0) (its_master s w c.args.caller.client c.args.caller.flags x h file look) in
     let gave = subst (λ o. IfSome o (λ y. GaveMagic s.masters y y.magic c.in-Ok.number c.magic.new.self)) look c.in-Ok.ensures.given in
-    carried_on (record s { masters = c.magic.new.self }) w (Ask c.args.client GetMagic) (Number c.in-Ok.number) (returns-clause-invariants c) (call_verdict w c.args.client GetMagic admitted)
-    (ap Number (answer_by s w c.args.client c.in-Ok.number x c.magic.new.self look c.requires.invariants h own x.magic refl gave))
-    (rows_by s w c.args.client c.in-Ok.number x c.magic.new.self look c.requires.invariants h own x.magic refl gave)
+    carried_on (record s { masters = c.magic.new.self }) w (Ask c.args.caller.client GetMagic) (Number c.in-Ok.number) (returns-clause-invariants c) (call_verdict w c.args.caller.client GetMagic admitted)
+    (ap Number (answer_by s w c.args.caller.client c.in-Ok.number x c.magic.new.self look c.requires.invariants h own x.magic refl gave))
+    (rows_by s w c.args.caller.client c.in-Ok.number x c.magic.new.self look c.requires.invariants h own x.magic refl gave)

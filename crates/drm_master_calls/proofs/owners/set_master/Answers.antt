@@ -19,7 +19,7 @@ use Rattle.drm_model.specs.Reply.{answer_of}
 use Rattle.drm_state.specs.Invariants.{MeetsInvariants}
 use Rattle.drm_state.specs.Refinement.{RefinesCall, Represents}
 use Rattle.drm_state.proofs.Refinements.{denied, refused, carried, carried_on}
-use Rattle.drm_state.proofs.Callers.{file_of, same_client, never_admitted, its_master}
+use Rattle.drm_state.proofs.Callers.{caller_root, caller_file, caller_open, same_client, never_admitted, its_master}
 use Rattle.drm_master_calls.proofs.Callers.{set_verdict, current_is, master_is}
 use Rattle.drm_master_calls.proofs.Changed.{device_invariants, device_represents}
 use Rattle.drm_master_calls.proofs.Flags.{set_master_flags}
@@ -33,61 +33,61 @@ came {r = r} s x root step new look is h = subst (λ v. SetOf s.masters x root s
 
 pub returns-in_default-clause-refines : goal.returns-in_default-clause-refines
 unfolding RefinesCall
-returns-in_default-clause-refines c = λ w r admitted. absurd (never_admitted c.args.state.now w c.args.client SetMaster c.requires.precondition.invariants c.requires.open_client r.rows set_master_flags (sym c.member.ensures.member ∙ c.in_default.is) admitted)
+returns-in_default-clause-refines c = λ w r admitted. absurd (never_admitted c.args.state.now w c.args.caller.client SetMaster c.requires.precondition.invariants (caller_open c.args.state.now c.args.caller c.requires.caller) r.rows set_master_flags (sym c.requires.caller.member ∙ c.in_default.is) admitted)
 
 pub returns-in-Ok-Already-clause-invariants : goal.returns-in-Ok-Already-clause-invariants
 returns-in-Ok-Already-clause-invariants c =
     let s = c.args.state.now in
-    let look = sym c.member.ensures.member ∙ c.in-Some.is in
+    let look = sym c.requires.caller.member ∙ c.in-Some.is in
     let x = c.in-Some._member in
-    let by = came s x c.is_root-root.result c.args.step_number c.set.new.self look (c.in-Ok-Already.is ∙ ap Ok c.in-Ok-Already.field-0-is) c.set.ensures.set in
+    let by = came s x c.args.caller.flags.root c.args.step_number c.set.new.self look (c.in-Ok-Already.is ∙ ap Ok c.in-Ok-Already.field-0-is) c.set.ensures.set in
     subst (λ v. MeetsInvariants (record s { masters = v })) (sym by.1.1) c.requires.precondition.invariants
 
 pub returns-in-Ok-Already-clause-refines : goal.returns-in-Ok-Already-clause-refines
 unfolding RefinesCall meaning changed answer_of
 returns-in-Ok-Already-clause-refines c = λ w r admitted.
     let s = c.args.state.now in
-    let look = sym c.member.ensures.member ∙ c.in-Some.is in
+    let look = sym c.requires.caller.member ∙ c.in-Some.is in
     let x = c.in-Some._member in
-    let by = came s x c.is_root-root.result c.args.step_number c.set.new.self look (c.in-Ok-Already.is ∙ ap Ok c.in-Ok-Already.field-0-is) c.set.ensures.set in
-    let file = file_of s c.args.client c.requires.open_client in
-    let checks = set_verdict s w c.args.client file.0 x r.rows file.1 look c.is_root-root.result c.is_root-root.ensures admitted ∙ by.0 in
-    let current : is_current w c.args.client ≡ true = current_is s w c.args.client file.0 x r.rows file.1 look ∙ by.1.0 in
-    carried_on (record s { masters = c.set.new.self }) w (Ask c.args.client SetMaster) Done (returns-in-Ok-Already-clause-invariants c) checks refl
-    (subst (λ b. Represents (record s { masters = c.set.new.self }) (mastered w c.args.client b (is_master w c.args.client))) (sym current) (subst (λ v. Represents (record s { masters = v }) w) (sym by.1.1) r.rows))
+    let by = came s x c.args.caller.flags.root c.args.step_number c.set.new.self look (c.in-Ok-Already.is ∙ ap Ok c.in-Ok-Already.field-0-is) c.set.ensures.set in
+    let file = caller_file s c.args.caller c.requires.caller in
+    let checks = set_verdict s w c.args.caller.client c.args.caller.flags x r.rows file look c.args.caller.flags.root (caller_root s c.args.caller c.requires.caller) admitted ∙ by.0 in
+    let current : is_current w c.args.caller.client ≡ true = current_is s w c.args.caller.client c.args.caller.flags x r.rows file look ∙ by.1.0 in
+    carried_on (record s { masters = c.set.new.self }) w (Ask c.args.caller.client SetMaster) Done (returns-in-Ok-Already-clause-invariants c) checks refl
+    (subst (λ b. Represents (record s { masters = c.set.new.self }) (mastered w c.args.caller.client b (is_master w c.args.caller.client))) (sym current) (subst (λ v. Represents (record s { masters = v }) w) (sym by.1.1) r.rows))
 
 pub returns-in-Ok-Again-clause-invariants : goal.returns-in-Ok-Again-clause-invariants
 returns-in-Ok-Again-clause-invariants c =
     let s = c.args.state.now in
-    let look = sym c.member.ensures.member ∙ c.in-Some.is in
+    let look = sym c.requires.caller.member ∙ c.in-Some.is in
     let x = c.in-Some._member in
-    let by = came s x c.is_root-root.result c.args.step_number c.set.new.self look (c.in-Ok-Again.is ∙ ap Ok c.in-Ok-Again.field-0-is) c.set.ensures.set in
+    let by = came s x c.args.caller.flags.root c.args.step_number c.set.new.self look (c.in-Ok-Again.is ∙ ap Ok c.in-Ok-Again.field-0-is) c.set.ensures.set in
     subst (λ v. MeetsInvariants (record s { masters = v })) (sym by.1.2) (device_invariants s (Some x.master) c.requires.precondition.invariants (subst AreMasters by.1.2 c.laws-in-Ok-Again.ensures))
 
 pub returns-in-Ok-Again-clause-refines : goal.returns-in-Ok-Again-clause-refines
 unfolding RefinesCall meaning changed answer_of
 returns-in-Ok-Again-clause-refines c = λ w r admitted.
     let s = c.args.state.now in
-    let look = sym c.member.ensures.member ∙ c.in-Some.is in
+    let look = sym c.requires.caller.member ∙ c.in-Some.is in
     let x = c.in-Some._member in
-    let by = came s x c.is_root-root.result c.args.step_number c.set.new.self look (c.in-Ok-Again.is ∙ ap Ok c.in-Ok-Again.field-0-is) c.set.ensures.set in
-    let file = file_of s c.args.client c.requires.open_client in
-    let checks = set_verdict s w c.args.client file.0 x r.rows file.1 look c.is_root-root.result c.is_root-root.ensures admitted ∙ by.0 in
-    let current : is_current w c.args.client ≡ false = current_is s w c.args.client file.0 x r.rows file.1 look ∙ by.1.0 in
-    let own : is_master w c.args.client ≡ true = master_is s w c.args.client file.0 x r.rows file.1 look ∙ by.1.1 in
-    carried_on (record s { masters = c.set.new.self }) w (Ask c.args.client SetMaster) Done (returns-in-Ok-Again-clause-invariants c) checks refl
-    (subst (λ b. Represents (record s { masters = c.set.new.self }) (mastered w c.args.client b (is_master w c.args.client))) (sym current)
-    (subst (λ b. Represents (record s { masters = c.set.new.self }) (mastered w c.args.client false b)) (sym own)
-    (subst (λ d. Represents (record s { masters = c.set.new.self }) (record w { device_master = d })) (sym (its_master s w c.args.client file.0 x r.rows file.1 look))
+    let by = came s x c.args.caller.flags.root c.args.step_number c.set.new.self look (c.in-Ok-Again.is ∙ ap Ok c.in-Ok-Again.field-0-is) c.set.ensures.set in
+    let file = caller_file s c.args.caller c.requires.caller in
+    let checks = set_verdict s w c.args.caller.client c.args.caller.flags x r.rows file look c.args.caller.flags.root (caller_root s c.args.caller c.requires.caller) admitted ∙ by.0 in
+    let current : is_current w c.args.caller.client ≡ false = current_is s w c.args.caller.client c.args.caller.flags x r.rows file look ∙ by.1.0 in
+    let own : is_master w c.args.caller.client ≡ true = master_is s w c.args.caller.client c.args.caller.flags x r.rows file look ∙ by.1.1 in
+    carried_on (record s { masters = c.set.new.self }) w (Ask c.args.caller.client SetMaster) Done (returns-in-Ok-Again-clause-invariants c) checks refl
+    (subst (λ b. Represents (record s { masters = c.set.new.self }) (mastered w c.args.caller.client b (is_master w c.args.caller.client))) (sym current)
+    (subst (λ b. Represents (record s { masters = c.set.new.self }) (mastered w c.args.caller.client false b)) (sym own)
+    (subst (λ d. Represents (record s { masters = c.set.new.self }) (record w { device_master = d })) (sym (its_master s w c.args.caller.client c.args.caller.flags x r.rows file look))
     (subst (λ v. Represents (record s { masters = v }) (record w { device_master = Some x.master })) (sym by.1.2) (device_represents s w (Some x.master) r.rows)))))
 
 pub returns-in-Ok-Made-clause-invariants : goal.returns-in-Ok-Made-clause-invariants
 returns-in-Ok-Made-clause-invariants c =
     let s = c.args.state.now in
-    let look = sym c.member.ensures.member ∙ c.in-Some.is in
+    let look = sym c.requires.caller.member ∙ c.in-Some.is in
     let x = c.in-Some._member in
-    let by = came s x c.is_root-root.result c.args.step_number c.set.new.self look (c.in-Ok-Made.is ∙ ap Ok c.in-Ok-Made.field-0-is) c.set.ensures.set in
-    let same = same_client s.masters.members c.args.client x look in
+    let by = came s x c.args.caller.flags.root c.args.step_number c.set.new.self look (c.in-Ok-Made.is ∙ ap Ok c.in-Ok-Made.field-0-is) c.set.ensures.set in
+    let same = same_client s.masters.members c.args.caller.client x look in
     subst (λ fs. MeetsInvariants (record s { files = fs; masters = c.set.new.self })) (sym (c.set_authenticated.ensures ∙ ap (with_authenticated s.files) (sym same.0)))
     (subst (λ v. MeetsInvariants (record s { files = with_authenticated s.files x.client; masters = v })) (sym by.1.2.2)
     (remade_invariants s x by.1.2.0 c.args.step_number c.requires.precondition.invariants c.requires.precondition.later.leases.tokens (subst AreMasters by.1.2.2 c.laws.ensures) same.1 by.1.1))
@@ -96,20 +96,20 @@ pub returns-in-Ok-Made-clause-refines : goal.returns-in-Ok-Made-clause-refines
 unfolding RefinesCall meaning changed answer_of
 returns-in-Ok-Made-clause-refines c = λ w r admitted.
     let s = c.args.state.now in
-    let look = sym c.member.ensures.member ∙ c.in-Some.is in
+    let look = sym c.requires.caller.member ∙ c.in-Some.is in
     let x = c.in-Some._member in
-    let by = came s x c.is_root-root.result c.args.step_number c.set.new.self look (c.in-Ok-Made.is ∙ ap Ok c.in-Ok-Made.field-0-is) c.set.ensures.set in
-    let file = file_of s c.args.client c.requires.open_client in
-    let checks = set_verdict s w c.args.client file.0 x r.rows file.1 look c.is_root-root.result c.is_root-root.ensures admitted ∙ by.0 in
-    let current : is_current w c.args.client ≡ false = current_is s w c.args.client file.0 x r.rows file.1 look ∙ by.1.0 in
-    let own : is_master w c.args.client ≡ false = master_is s w c.args.client file.0 x r.rows file.1 look ∙ by.1.1 in
-    let same = same_client s.masters.members c.args.client x look in
+    let by = came s x c.args.caller.flags.root c.args.step_number c.set.new.self look (c.in-Ok-Made.is ∙ ap Ok c.in-Ok-Made.field-0-is) c.set.ensures.set in
+    let file = caller_file s c.args.caller c.requires.caller in
+    let checks = set_verdict s w c.args.caller.client c.args.caller.flags x r.rows file look c.args.caller.flags.root (caller_root s c.args.caller c.requires.caller) admitted ∙ by.0 in
+    let current : is_current w c.args.caller.client ≡ false = current_is s w c.args.caller.client c.args.caller.flags x r.rows file look ∙ by.1.0 in
+    let own : is_master w c.args.caller.client ≡ false = master_is s w c.args.caller.client c.args.caller.flags x r.rows file look ∙ by.1.1 in
+    let same = same_client s.masters.members c.args.caller.client x look in
     let new = record s { files = c.set_authenticated.new.self; masters = c.set.new.self } in
-    carried new w (Ask c.args.client SetMaster) Done checks refl
-    (subst (λ b. Represents new (swept (mastered w c.args.client b (is_master w c.args.client)))) (sym current)
-    (subst (λ b. Represents new (swept (mastered w c.args.client false b))) (sym own)
-    (subst (λ n. Represents new (swept (own_rows w c.args.client n))) (sym r.step_number_is)
-    (subst (λ fs. Represents (record s { files = fs; masters = c.set.new.self }) (swept (own_rows w c.args.client c.args.step_number))) (sym c.set_authenticated.ensures)
+    carried new w (Ask c.args.caller.client SetMaster) Done checks refl
+    (subst (λ b. Represents new (swept (mastered w c.args.caller.client b (is_master w c.args.caller.client)))) (sym current)
+    (subst (λ b. Represents new (swept (mastered w c.args.caller.client false b))) (sym own)
+    (subst (λ n. Represents new (swept (own_rows w c.args.caller.client n))) (sym r.step_number_is)
+    (subst (λ fs. Represents (record s { files = fs; masters = c.set.new.self }) (swept (own_rows w c.args.caller.client c.args.step_number))) (sym c.set_authenticated.ensures)
     (subst (λ n. Represents (record s { files = with_authenticated s.files n; masters = c.set.new.self }) (swept (own_rows w n c.args.step_number))) same.0
     (subst (λ v. Represents (record s { files = with_authenticated s.files x.client; masters = v }) (swept (own_rows w x.client c.args.step_number))) (sym by.1.2.2)
     (remade_represents s x by.1.2.0 c.args.step_number c.requires.precondition.invariants c.requires.precondition.later.leases.tokens (subst AreMasters by.1.2.2 c.laws.ensures) same.1 by.1.1 w r.rows)))))))
@@ -117,41 +117,41 @@ returns-in-Ok-Made-clause-refines c = λ w r admitted.
 pub returns-in-Err-Denied-clause-invariants : goal.returns-in-Err-Denied-clause-invariants
 returns-in-Err-Denied-clause-invariants c =
     let s = c.args.state.now in
-    let look = sym c.member.ensures.member ∙ c.in-Some.is in
+    let look = sym c.requires.caller.member ∙ c.in-Some.is in
     let x = c.in-Some._member in
-    let by = came s x c.is_root-root.result c.args.step_number c.set.new.self look (c.in-Err-Denied.is ∙ ap Err c.in-Err-Denied.field-0-is) c.set.ensures.set in
+    let by = came s x c.args.caller.flags.root c.args.step_number c.set.new.self look (c.in-Err-Denied.is ∙ ap Err c.in-Err-Denied.field-0-is) c.set.ensures.set in
     subst (λ v. MeetsInvariants (record s { masters = v })) (sym by.1) c.requires.precondition.invariants
 
 pub returns-in-Err-Denied-clause-refines : goal.returns-in-Err-Denied-clause-refines
 unfolding RefinesCall meaning
-returns-in-Err-Denied-clause-refines c = λ w r admitted.
+returns-in-Err-Denied-clause-refines c = rw c.in-Err-Denied.field-0-is λ w r admitted.
     let s = c.args.state.now in
-    let look = sym c.member.ensures.member ∙ c.in-Some.is in
+    let look = sym c.requires.caller.member ∙ c.in-Some.is in
     let x = c.in-Some._member in
-    let by = came s x c.is_root-root.result c.args.step_number c.set.new.self look (c.in-Err-Denied.is ∙ ap Err c.in-Err-Denied.field-0-is) c.set.ensures.set in
-    let file = file_of s c.args.client c.requires.open_client in
-    let checks = set_verdict s w c.args.client file.0 x r.rows file.1 look c.is_root-root.result c.is_root-root.ensures admitted ∙ by.0 in
-    denied (record s { masters = c.set.new.self }) w (Ask c.args.client SetMaster) c.in-Err-Denied.rule checks (subst (λ v. Represents (record s { masters = v }) w) (sym by.1) r.rows)
+    let by = came s x c.args.caller.flags.root c.args.step_number c.set.new.self look (c.in-Err-Denied.is ∙ ap Err c.in-Err-Denied.field-0-is) c.set.ensures.set in
+    let file = caller_file s c.args.caller c.requires.caller in
+    let checks = set_verdict s w c.args.caller.client c.args.caller.flags x r.rows file look c.args.caller.flags.root (caller_root s c.args.caller c.requires.caller) admitted ∙ by.0 in
+    denied (record s { masters = c.set.new.self }) w (Ask c.args.caller.client SetMaster) c.in-Err-Denied.rule checks (subst (λ v. Represents (record s { masters = v }) w) (sym by.1) r.rows)
 
 pub returns-in-Err-NoMemory-clause-invariants : goal.returns-in-Err-NoMemory-clause-invariants
 returns-in-Err-NoMemory-clause-invariants c =
     let s = c.args.state.now in
-    let look = sym c.member.ensures.member ∙ c.in-Some.is in
+    let look = sym c.requires.caller.member ∙ c.in-Some.is in
     let x = c.in-Some._member in
-    let by = came s x c.is_root-root.result c.args.step_number c.set.new.self look (c.in-Err-NoMemory.is ∙ ap Err c.in-Err-NoMemory.field-0-is) c.set.ensures.set in
+    let by = came s x c.args.caller.flags.root c.args.step_number c.set.new.self look (c.in-Err-NoMemory.is ∙ ap Err c.in-Err-NoMemory.field-0-is) c.set.ensures.set in
     subst (λ v. MeetsInvariants (record s { masters = v })) (sym by.3) c.requires.precondition.invariants
 
 pub returns-in-Err-NoMemory-clause-refines : goal.returns-in-Err-NoMemory-clause-refines
 unfolding RefinesCall meaning changed
 returns-in-Err-NoMemory-clause-refines c = λ w r admitted.
     let s = c.args.state.now in
-    let look = sym c.member.ensures.member ∙ c.in-Some.is in
+    let look = sym c.requires.caller.member ∙ c.in-Some.is in
     let x = c.in-Some._member in
-    let by = came s x c.is_root-root.result c.args.step_number c.set.new.self look (c.in-Err-NoMemory.is ∙ ap Err c.in-Err-NoMemory.field-0-is) c.set.ensures.set in
-    let file = file_of s c.args.client c.requires.open_client in
-    let checks = set_verdict s w c.args.client file.0 x r.rows file.1 look c.is_root-root.result c.is_root-root.ensures admitted ∙ by.0 in
-    let current : is_current w c.args.client ≡ false = current_is s w c.args.client file.0 x r.rows file.1 look ∙ by.1 in
-    let own : is_master w c.args.client ≡ false = master_is s w c.args.client file.0 x r.rows file.1 look ∙ by.2 in
-    refused (record s { masters = c.set.new.self }) w (Ask c.args.client SetMaster) _ checks
-    (subst (λ b. IsLonger w (mastered w c.args.client b (is_master w c.args.client))) (sym current) (subst (λ b. IsLonger w (mastered w c.args.client false b)) (sym own) (inr (inl (omega (arith, length-append w.masters (new_master (step_number w) ∷ [])))))))
+    let by = came s x c.args.caller.flags.root c.args.step_number c.set.new.self look (c.in-Err-NoMemory.is ∙ ap Err c.in-Err-NoMemory.field-0-is) c.set.ensures.set in
+    let file = caller_file s c.args.caller c.requires.caller in
+    let checks = set_verdict s w c.args.caller.client c.args.caller.flags x r.rows file look c.args.caller.flags.root (caller_root s c.args.caller c.requires.caller) admitted ∙ by.0 in
+    let current : is_current w c.args.caller.client ≡ false = current_is s w c.args.caller.client c.args.caller.flags x r.rows file look ∙ by.1 in
+    let own : is_master w c.args.caller.client ≡ false = master_is s w c.args.caller.client c.args.caller.flags x r.rows file look ∙ by.2 in
+    refused (record s { masters = c.set.new.self }) w (Ask c.args.caller.client SetMaster) _ checks
+    (subst (λ b. IsLonger w (mastered w c.args.caller.client b (is_master w c.args.caller.client))) (sym current) (subst (λ b. IsLonger w (mastered w c.args.caller.client false b)) (sym own) (inr (inl (omega (arith, length-append w.masters (new_master (step_number w) ∷ [])))))))
     (subst (λ v. Represents (record s { masters = v }) w) (sym by.3) r.rows)

@@ -7,7 +7,7 @@ use Rattle.drm_table.specs.declared.rules.Rule.TheVariants.{NoFb}
 use Rattle.drm_lists.proofs.Found.{is_some-map}
 use Rattle.drm_modes.specs.declared.rows.Framebuffer.{Framebuffer}
 use Rattle.drm_modes.specs.Modes as modes
-use Rattle.drm_modes.specs.Modes.{AreModes, without_framebuffer}
+use Rattle.drm_modes.specs.Modes.{AreModes}
 use Rattle.drm_model.specs.Rows.{Rows, without}
 use Rattle.drm_model.specs.Modes as model
 use Rattle.drm_model.specs.Calls.{meaning}

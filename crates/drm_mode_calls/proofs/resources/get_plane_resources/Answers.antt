@@ -14,7 +14,7 @@ pub returns : goal.returns
 unfolding RefinesReply meaning changed answer_of
 returns c = λ w h a.
     let s = c.args.state.now in
-    let client = c.args.client in
-    let open_client = c.requires.open_client in
+    let client = c.args.caller.client in
+    let caller = c.args.caller in
     carried_on s w (Ask client GetPlaneResources) (ListIs c.visible.result) c.requires.invariants (call_verdict w client GetPlaneResources a)
-    (ap ListIs (c.visible.ensures ∙ sym (planes_visible s w client open_client h))) h
+    (ap ListIs (c.visible.ensures ∙ sym (planes_visible s w caller c.requires.caller h))) h

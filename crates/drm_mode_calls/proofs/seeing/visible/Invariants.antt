@@ -6,6 +6,6 @@ use Rattle.drm_mode_calls.proofs.seeing.visible.Given as goal
 abbrev pub invariant-loop-id : goal.invariant-loop-id
 invariant-loop-id l =
     record {
-      told : l.seen ++ filter (sees l.state l.client) (drop l.id-index l.id-items) ≡ filter (sees l.state l.client) l.id-items;
+      told : l.seen ++ filter (sees l.state l.caller) (drop l.id-index l.id-items) ≡ filter (sees l.state l.caller) l.id-items;
       short : length l.seen ≤ l.id-index;
     }

@@ -1,0 +1,51 @@
+//! Who asks.
+
+ghost use Rattle.std.specs.Prelude.{◌≡◌, false, IfSome, IfNone};
+ghost use Rattle.drm_files.specs.Files.{is_open_client};
+ghost use Rattle.drm_state.specs.Callers.{IsCaller};
+
+use crate::state::State;
+use drm_files::FileFlags;
+use drm_masters::Member;
+use drm_table::Credentials;
+
+/// An open client that makes a call, as the device keeps it: looked up once, when the call is admitted.
+#[derive(Clone, Copy)]
+pub struct Caller {
+    pub client: u32,
+    /// What its file says of it.
+    pub flags: FileFlags,
+    /// How it stands to masters; a render client stands to none.
+    pub member: Option<Member>,
+    /// Whether it is current (`drm_is_current_master`).
+    pub current: bool,
+}
+
+impl Caller {
+    /// The client of this number, if it is open. It takes no memory.
+    pub fn of(state: &State, client: u32) -> Option<Caller>
+        ensures client { IfSome result (λ caller. caller.client ≡ client) }
+        ensures caller { IfSome result (λ caller. IsCaller state.now caller) }
+        ensures none { IfNone result (is_open_client state.now.files client ≡ false) }
+    {
+        let flags = state.files.flags_of(client)?;
+        Some(Caller {
+            client,
+            flags,
+            member: state.masters.member(client),
+            current: state.masters.is_current(client),
+        })
+    }
+
+    /// What the flags of a call's row are tested against (`drm_ioctl_permit`).
+    pub fn credentials(self) -> Credentials
+        ensures { result ≡ record { root = self.flags.root; render = self.flags.render; authenticated = self.flags.authenticated; current = self.current } }
+    {
+        Credentials {
+            root: self.flags.root,
+            render: self.flags.render,
+            authenticated: self.flags.authenticated,
+            current: self.current,
+        }
+    }
+}
