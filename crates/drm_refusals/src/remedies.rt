@@ -12,7 +12,7 @@ pub(crate) fn remedy(rule: Rule) -> &'static str {
         Rule::Auth => {
             "who asks had opened by root, were a master, or a current client of its master had named its magic (auth_magic)"
         }
-        Rule::Master => {
+        Rule::Master | Rule::NotCurrent => {
             "who asks were current: a master whose owner is the device's master (set_master, while the device has none)"
         }
         Rule::RenderAllow => "a client that opened the card or the root node asked",
@@ -24,9 +24,6 @@ pub(crate) fn remedy(rule: Rule) -> &'static str {
         Rule::MasterPerm => "who asks were root, or had founded a master before",
         Rule::MasterBusy =>
             "the device had no master: after drop_master, or the closing of the client whose master it is",
-        Rule::NotCurrent => {
-            "who asks were current: a master whose owner is the device's master (set_master, while the device has none)"
-        }
         Rule::IsLessee => "the master of who asks were no lessee",
         Rule::NoModeObject => "each id were that of such a mode object, and who asks saw it",
         Rule::NotLeasable => "each id were that of a CRTC, a plane or a connector",
