@@ -19,15 +19,15 @@ const MANY_TURNS: u64 = 1_000_000;
 /// A frame, and its answer's.
 #[derive(Clone, Copy)]
 pub(crate) struct Exchange {
-    request: &'static [u8],
-    answer: &'static [u8],
+    pub(crate) request: &'static [u8],
+    pub(crate) answer: &'static [u8],
 }
 
-impl Exchange {
-    pub(crate) const fn new(request: &'static [u8], answer: &'static [u8]) -> Self {
-        Exchange { request, answer }
-    }
-}
+/// A hello for a node, which opens client 1.
+pub(crate) const HELLO: Exchange = Exchange {
+    request: b"\x0e\0\0\0\0\x01\x01\0\0\0\0\0\0\0\0\0\0\0",
+    answer: b"\x06\0\0\0\x01\x10\x01\0\0\0",
+};
 
 /// Counts the requests of a client.
 #[derive(Drop)]

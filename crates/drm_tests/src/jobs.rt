@@ -83,7 +83,7 @@ pub(crate) fn job<'a, G>(
 }
 
 /// How a session ended, and how many steps it made.
-pub(crate) fn ended<S, K>(finished: Option<&Finished<S, K>>) -> Option<(SessionEnd, u64)> {
+fn ended<S, K>(finished: Option<&Finished<S, K>>) -> Option<(SessionEnd, u64)> {
     match finished {
         Some(finished) => Some((finished.session.end, finished.session.steps)),
         None => None,
@@ -110,8 +110,23 @@ impl Trial for Journal {
     }
 }
 
-/// The ends of two jobs whose gates wait for each other.
+/// How many sessions were served, and the ends of the first two.
 pub(crate) type Ends = (usize, Option<(SessionEnd, u64)>, Option<(SessionEnd, u64)>);
+
+pub(crate) fn ends<S, K>(sessions: &[Finished<S, K>]) -> Ends {
+    (
+        sessions.len(),
+        ended(sessions.first()),
+        ended(sessions.get(1)),
+    )
+}
+
+/// The first asks for VERSION once, the second twice.
+const EXPECTED: Ends = (
+    2,
+    Some((SessionEnd::Ended, 3)),
+    Some((SessionEnd::Ended, 4)),
+);
 
 #[test]
 fn jobs_wait_for_each_other(rt: HostRuntime) -> Result<(), Fail> {
@@ -134,19 +149,10 @@ fn jobs_wait_for_each_other(rt: HostRuntime) -> Result<(), Fail> {
         Ok((shared, mut participant)) => {
             let served = serve_many(&rt, alloc, &shared, &mut participant, jobs);
             let told: Ends = match served {
-                Ok(sessions) => (
-                    sessions.len(),
-                    ended(sessions.first()),
-                    ended(sessions.get(1)),
-                ),
+                Ok(sessions) => ends(&sessions),
                 Err(_fault) => (0, None, None),
             };
-            let expected = (
-                2,
-                Some((SessionEnd::Ended, 3)),
-                Some((SessionEnd::Ended, 4)),
-            );
-            same(&rt, &told, &expected, "sessions");
+            same(&rt, &told, &EXPECTED, "sessions");
             (shared.close(participant), Ok(()))
         }
         Err(device) => (Ok(device), Err(AllocError)),

@@ -4,7 +4,7 @@ ghost use Rattle.std.specs.Prelude.{◌≡◌};
 
 use crate::comparing::same;
 use crate::devices::{Trial, new_device};
-use crate::jobs::{Ends, HELLO_VERSION_TWICE, ended, job};
+use crate::jobs::{Ends, HELLO_VERSION_TWICE, ends, job};
 use crate::turns::{lend_back, shared};
 use drm_device::Device;
 use drm_sessions::{NoGate, SessionEnd, serve_many};
@@ -37,11 +37,7 @@ fn serve_two<R: Wait + Threads + Sync>(
     jobs.push(job(alloc, NoGate, &HELLO_VERSION_TWICE))?;
     jobs.push(job(alloc, NoGate, &HELLO_VERSION_TWICE))?;
     Ok(match serve_many(rt, alloc, shared, participant, jobs) {
-        Ok(sessions) => (
-            sessions.len(),
-            ended(sessions.first()),
-            ended(sessions.get(1)),
-        ),
+        Ok(sessions) => ends(&sessions),
         Err(_fault) => (0, None, None),
     })
 }

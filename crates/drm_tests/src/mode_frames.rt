@@ -1,84 +1,111 @@
 //! A session of frames with each call of mode setting, byte for byte, and read back.
 
-use crate::exchanges::Exchange;
+use crate::exchanges::{Exchange, HELLO};
 use crate::lists::{resource_ids, shown};
 use drm_table::{Answer, Rule};
+
+/// MODE_CREATE_DUMB 64 64 32.
+const CREATE_DUMB: Exchange = Exchange {
+    request: b"\x0e\0\0\0\xb2\0\x40\0\0\0\x40\0\0\0\x20\0\0\0",
+    answer: b"\x12\0\0\0\x04\x10\x01\0\0\0\0\x01\0\0\0\x40\0\0\0\0\0\0",
+};
+
+/// MODE_ADDFB 64 64 256 32 1.
+const ADDFB: Exchange = Exchange {
+    request: b"\x16\0\0\0\xae\0\x40\0\0\0\x40\0\0\0\0\x01\0\0\x20\0\0\0\x01\0\0\0",
+    answer: b"\x0a\0\0\0\x03\x10\x09\0\0\0\0\0\0\0",
+};
+
+/// MODE_GETRESOURCES.
+const GETRESOURCES: Exchange = Exchange {
+    request: b"\x02\0\0\0\xa0\0",
+    answer: b"\x2e\0\0\0\x06\x10\x02\0\0\0\x01\0\0\0\x02\0\0\0\x02\0\0\0\x07\0\0\0\x08\0\0\0\x02\0\0\0\x05\0\0\0\x06\0\0\0\x01\0\0\0\x09\0\0\0",
+};
+
+/// MODE_GETPLANERESOURCES.
+const GETPLANERESOURCES: Exchange = Exchange {
+    request: b"\x02\0\0\0\xb5\0",
+    answer: b"\x0e\0\0\0\x07\x10\x02\0\0\0\x03\0\0\0\x04\0\0\0",
+};
+
+/// MODE_GETENCODER 6.
+const GETENCODER: Exchange = Exchange {
+    request: b"\x06\0\0\0\xa6\0\x06\0\0\0",
+    answer: b"\x0a\0\0\0\x03\x10\x02\0\0\0\0\0\0\0",
+};
+
+/// MODE_GETCONNECTOR 7.
+const GETCONNECTOR: Exchange = Exchange {
+    request: b"\x06\0\0\0\xa7\0\x07\0\0\0",
+    answer: b"\x0a\0\0\0\x03\x10\x05\0\0\0\0\0\0\0",
+};
+
+/// MODE_SETCRTC 1 9 7.
+const SETCRTC: Exchange = Exchange {
+    request: b"\x0e\0\0\0\xa2\0\x01\0\0\0\x09\0\0\0\x07\0\0\0",
+    answer: b"\x02\0\0\0\0\x10",
+};
+
+/// MODE_GETCRTC 1.
+const GETCRTC: Exchange = Exchange {
+    request: b"\x06\0\0\0\xa1\0\x01\0\0\0",
+    answer: b"\x0a\0\0\0\x03\x10\x09\0\0\0\0\0\0\0",
+};
+
+/// MODE_SETPLANE 3 1 9.
+const SETPLANE: Exchange = Exchange {
+    request: b"\x0e\0\0\0\xb7\0\x03\0\0\0\x01\0\0\0\x09\0\0\0",
+    answer: b"\x02\0\0\0\0\x10",
+};
+
+/// MODE_GETPLANE 3.
+const GETPLANE: Exchange = Exchange {
+    request: b"\x06\0\0\0\xb6\0\x03\0\0\0",
+    answer: b"\x0a\0\0\0\x08\x10\x09\0\0\0\x01\0\0\0",
+};
+
+/// MODE_GETFB 9.
+const GETFB: Exchange = Exchange {
+    request: b"\x06\0\0\0\xad\0\x09\0\0\0",
+    answer: b"\x16\0\0\0\x09\x10\x40\0\0\0\x40\0\0\0\0\x01\0\0\x20\0\0\0\x02\0\0\0",
+};
+
+/// MODE_RMFB 9.
+const RMFB: Exchange = Exchange {
+    request: b"\x06\0\0\0\xaf\0\x09\0\0\0",
+    answer: b"\x02\0\0\0\0\x10",
+};
+
+/// MODE_GETCRTC 1, which shows nothing since.
+const GETCRTC_WITHOUT: Exchange = Exchange {
+    request: b"\x06\0\0\0\xa1\0\x01\0\0\0",
+    answer: b"\x0a\0\0\0\x03\x10\0\0\0\0\0\0\0\0",
+};
+
+/// MODE_SETCRTC 1 9 7, whose framebuffer is gone.
+const SETCRTC_REFUSED: Exchange = Exchange {
+    request: b"\x0e\0\0\0\xa2\0\x01\0\0\0\x09\0\0\0\x07\0\0\0",
+    answer: b"\x0a\0\0\0\0\x20\x26\0\0\0\x02\0\0\0",
+};
 
 /// The frames of a session, each with its answer's: the hello, and requests.
 pub(crate) fn frames() -> [Exchange; 15] {
     [
-        // a hello for a node
-        Exchange::new(
-            b"\x0e\0\0\0\0\x01\x01\0\0\0\0\0\0\0\0\0\0\0",
-            b"\x06\0\0\0\x01\x10\x01\0\0\0",
-        ),
-        // MODE_CREATE_DUMB 64 64 32
-        Exchange::new(
-            b"\x0e\0\0\0\xb2\0\x40\0\0\0\x40\0\0\0\x20\0\0\0",
-            b"\x12\0\0\0\x04\x10\x01\0\0\0\0\x01\0\0\0\x40\0\0\0\0\0\0",
-        ),
-        // MODE_ADDFB 64 64 256 32 1
-        Exchange::new(
-            b"\x16\0\0\0\xae\0\x40\0\0\0\x40\0\0\0\0\x01\0\0\x20\0\0\0\x01\0\0\0",
-            b"\x0a\0\0\0\x03\x10\x09\0\0\0\0\0\0\0",
-        ),
-        // MODE_GETRESOURCES
-        Exchange::new(
-            b"\x02\0\0\0\xa0\0",
-            b"\x2e\0\0\0\x06\x10\x02\0\0\0\x01\0\0\0\x02\0\0\0\x02\0\0\0\x07\0\0\0\x08\0\0\0\x02\0\0\0\x05\0\0\0\x06\0\0\0\x01\0\0\0\x09\0\0\0",
-        ),
-        // MODE_GETPLANERESOURCES
-        Exchange::new(
-            b"\x02\0\0\0\xb5\0",
-            b"\x0e\0\0\0\x07\x10\x02\0\0\0\x03\0\0\0\x04\0\0\0",
-        ),
-        // MODE_GETENCODER 6
-        Exchange::new(
-            b"\x06\0\0\0\xa6\0\x06\0\0\0",
-            b"\x0a\0\0\0\x03\x10\x02\0\0\0\0\0\0\0",
-        ),
-        // MODE_GETCONNECTOR 7
-        Exchange::new(
-            b"\x06\0\0\0\xa7\0\x07\0\0\0",
-            b"\x0a\0\0\0\x03\x10\x05\0\0\0\0\0\0\0",
-        ),
-        // MODE_SETCRTC 1 9 7
-        Exchange::new(
-            b"\x0e\0\0\0\xa2\0\x01\0\0\0\x09\0\0\0\x07\0\0\0",
-            b"\x02\0\0\0\0\x10",
-        ),
-        // MODE_GETCRTC 1
-        Exchange::new(
-            b"\x06\0\0\0\xa1\0\x01\0\0\0",
-            b"\x0a\0\0\0\x03\x10\x09\0\0\0\0\0\0\0",
-        ),
-        // MODE_SETPLANE 3 1 9
-        Exchange::new(
-            b"\x0e\0\0\0\xb7\0\x03\0\0\0\x01\0\0\0\x09\0\0\0",
-            b"\x02\0\0\0\0\x10",
-        ),
-        // MODE_GETPLANE 3
-        Exchange::new(
-            b"\x06\0\0\0\xb6\0\x03\0\0\0",
-            b"\x0a\0\0\0\x08\x10\x09\0\0\0\x01\0\0\0",
-        ),
-        // MODE_GETFB 9
-        Exchange::new(
-            b"\x06\0\0\0\xad\0\x09\0\0\0",
-            b"\x16\0\0\0\x09\x10\x40\0\0\0\x40\0\0\0\0\x01\0\0\x20\0\0\0\x02\0\0\0",
-        ),
-        // MODE_RMFB 9
-        Exchange::new(b"\x06\0\0\0\xaf\0\x09\0\0\0", b"\x02\0\0\0\0\x10"),
-        // MODE_GETCRTC 1
-        Exchange::new(
-            b"\x06\0\0\0\xa1\0\x01\0\0\0",
-            b"\x0a\0\0\0\x03\x10\0\0\0\0\0\0\0\0",
-        ),
-        // MODE_SETCRTC 1 9 7
-        Exchange::new(
-            b"\x0e\0\0\0\xa2\0\x01\0\0\0\x09\0\0\0\x07\0\0\0",
-            b"\x0a\0\0\0\0\x20\x26\0\0\0\x02\0\0\0",
-        ),
+        HELLO,
+        CREATE_DUMB,
+        ADDFB,
+        GETRESOURCES,
+        GETPLANERESOURCES,
+        GETENCODER,
+        GETCONNECTOR,
+        SETCRTC,
+        GETCRTC,
+        SETPLANE,
+        GETPLANE,
+        GETFB,
+        RMFB,
+        GETCRTC_WITHOUT,
+        SETCRTC_REFUSED,
     ]
 }
 
