@@ -45,6 +45,21 @@ fn values(rt: HostRuntime) {
         magic,
     };
     assert!(rt; masters.nth_member(0) == Some(member));
+}
+
+#[test]
+fn values_from_master(rt: HostRuntime) {
+    let alloc = rt.alloc();
+    let mut masters = Masters::new(alloc, 4, 4);
+    let Ok(_first) = masters.on_open(1, 1) else {
+        return
+    };
+    let Some(key) = masters.master_of(1) else {
+        return
+    };
+    if masters.member(1).is_some() {
+        assert!(rt; masters.magic(1) == Ok(1));
+    }
     let master = Master {
         key,
         step_number: 1,
@@ -97,6 +112,24 @@ fn masters(rt: HostRuntime) {
         return
     };
     assert!(rt; masters.is_lessee(3));
+}
+
+#[test]
+fn masters_from_set(rt: HostRuntime) {
+    let alloc = rt.alloc();
+    let mut masters = Masters::new(alloc, 4, 4);
+    let Ok(_first) = masters.on_open(1, 1) else {
+        return
+    };
+    let Some(owner) = masters.master(1) else {
+        return
+    };
+    let Ok((lessee, _id)) = masters.make_lessee(owner.key, 2) else {
+        return
+    };
+    let Ok(()) = masters.on_redeem(3, lessee) else {
+        return
+    };
     if masters.member(1).is_some() {
         assert!(rt; masters.set(1, false, 9) == Ok(SetDone::Already));
     }
@@ -122,6 +155,21 @@ fn masters(rt: HostRuntime) {
         return
     };
     assert!(rt; id == 1);
+}
+
+#[test]
+fn masters_from_lessee(rt: HostRuntime) {
+    let alloc = rt.alloc();
+    let mut masters = Masters::new(alloc, 4, 4);
+    let Ok(_first) = masters.on_open(1, 1) else {
+        return
+    };
+    let Some(owner) = masters.master(1) else {
+        return
+    };
+    let Ok((lessee, id)) = masters.make_lessee(owner.key, 2) else {
+        return
+    };
     let Some(owner) = masters.master(1) else {
         return
     };

@@ -32,6 +32,17 @@ fn values(rt: HostRuntime) {
         pitch: 2560,
         bpp: 32,
     };
+}
+
+#[test]
+fn values_from_framebuffer(rt: HostRuntime) {
+    let alloc = rt.alloc();
+    let shape = Shape {
+        width: 640,
+        height: 480,
+        pitch: 2560,
+        bpp: 32,
+    };
     let Some(topology) = Topology::new(2, &[1, 2], &[3, 2], &[5, 6]) else {
         return
     };
@@ -108,6 +119,27 @@ fn modes(rt: HostRuntime) {
     assert!(rt; modes.framebuffers_of(1).ids() == [framebuffer].as_slice());
     assert!(rt; modes.rmfb(2, framebuffer).is_none());
     assert!(rt; modes.rmfb(1, framebuffer) == Some(object));
+}
+
+#[test]
+fn modes_from_take_first_fb_of(rt: HostRuntime) {
+    let alloc = rt.alloc();
+    let Some(topology) = Topology::new(2, &[1, 2], &[3, 2], &[5, 6]) else {
+        return
+    };
+    let mut modes = Modes::new(alloc, topology, 4);
+    let shape = Shape {
+        width: 640,
+        height: 480,
+        pitch: 2560,
+        bpp: 32,
+    };
+    let object = ObjectKey::from_number(7);
+    let Ok(framebuffer) = modes.addfb(1, shape, object) else {
+        return
+    };
+    assert!(rt; modes.rmfb(2, framebuffer).is_none());
+    assert!(rt; modes.rmfb(1, framebuffer) == Some(object));
     let Ok(framebuffer) = modes.addfb(1, shape, object) else {
         return
     };
@@ -127,6 +159,40 @@ fn modes(rt: HostRuntime) {
             .nth_framebuffer(0)
             .is_some_and(|row| row.framebuffer == framebuffer)
     );
+}
+
+#[test]
+fn modes_from_nth_shown(rt: HostRuntime) {
+    let alloc = rt.alloc();
+    let Some(topology) = Topology::new(2, &[1, 2], &[3, 2], &[5, 6]) else {
+        return
+    };
+    let mut modes = Modes::new(alloc, topology, 4);
+    let shape = Shape {
+        width: 640,
+        height: 480,
+        pitch: 2560,
+        bpp: 32,
+    };
+    let object = ObjectKey::from_number(7);
+    let Ok(framebuffer) = modes.addfb(1, shape, object) else {
+        return
+    };
+    assert!(rt; modes.rmfb(2, framebuffer).is_none());
+    assert!(rt; modes.rmfb(1, framebuffer) == Some(object));
+    let Ok(framebuffer) = modes.addfb(1, shape, object) else {
+        return
+    };
+    assert!(rt; modes.take_first_fb_of(1) == Some((framebuffer, object)));
+    let Ok(framebuffer) = modes.addfb(1, shape, object) else {
+        return
+    };
+    if modes.is_of_kind(Kind::Crtc, 1) && modes.fb(framebuffer).is_some() {
+        modes.setcrtc(1, framebuffer);
+    }
+    if modes.is_of_kind(Kind::Plane, 3) && modes.fb(framebuffer).is_some() {
+        modes.setplane(3, framebuffer);
+    }
     assert!(rt;
         modes
             .nth_shown(1)

@@ -51,11 +51,54 @@ fn values(rt: HostRuntime) {
     let root = Class::Root;
     let session = serve_alone(&mut device, &mut gate, root, &mut source, &mut sink, 1000);
     assert!(rt; session.end == SessionEnd::Ended);
+}
+
+#[test]
+fn values_from_session_end(rt: HostRuntime) {
+    let alloc = rt.alloc();
+    let Some(topology) = Topology::new(2, &[1, 2], &[3, 2], &[5, 6]) else {
+        return
+    };
+    let Ok(mut device) = Device::new(alloc, topology, Limits::PROGRAM) else {
+        return
+    };
+    let mut gate = NoGate;
+    gate.before(1);
+    let hello = [14, 0, 0, 0, 0, 1, 1, 0, 0, 0, 0, 0, 0, 0, 0, 0, 0, 0];
+    let mut sink = ToWrite::new(Vec::new(alloc));
+    let card = Class::Card;
     let mut source = FromRead::new(&hello[..4]);
     let session = serve_alone(&mut device, &mut gate, card, &mut source, &mut sink, 1000);
     assert!(rt; session.end == SessionEnd::Truncated);
     let Session { client, steps, .. } = session;
     assert!(rt; client == 0 && steps == 0);
+    let Some(topology) = Topology::new(2, &[1, 2], &[3, 2], &[5, 6]) else {
+        return
+    };
+    let Ok(fresh) = Device::new(alloc, topology, Limits::PROGRAM) else {
+        return
+    };
+    let Ok((shared, mut participant)) = SharedDevice::new(alloc, fresh) else {
+        return
+    };
+    let (from, into) = (
+        FromRead::new(hello.as_slice()),
+        ToWrite::new(Vec::new(alloc)),
+    );
+    let job = Job {
+        gate: NoGate,
+        class: card,
+        source: from,
+        sink: into,
+        turns: 1000,
+    };
+}
+
+#[test]
+fn values_from_finished(rt: HostRuntime) {
+    let alloc = rt.alloc();
+    let hello = [14, 0, 0, 0, 0, 1, 1, 0, 0, 0, 0, 0, 0, 0, 0, 0, 0, 0];
+    let card = Class::Card;
     let Some(topology) = Topology::new(2, &[1, 2], &[3, 2], &[5, 6]) else {
         return
     };
@@ -92,12 +135,45 @@ fn values(rt: HostRuntime) {
     }
     let jobs: Vec<Job<NoGate, FromRead<&[u8]>, ToWrite<Vec<u8>>>> = Vec::new(alloc);
     assert!(rt; serve_many(&rt, alloc, &shared, &mut participant, jobs).is_ok());
+}
+
+#[test]
+fn values_from_serve(rt: HostRuntime) {
+    let alloc = rt.alloc();
+    let Some(topology) = Topology::new(2, &[1, 2], &[3, 2], &[5, 6]) else {
+        return
+    };
+    let Ok(mut device) = Device::new(alloc, topology, Limits::PROGRAM) else {
+        return
+    };
+    let mut gate = NoGate;
+    gate.before(1);
+    let hello = [14, 0, 0, 0, 0, 1, 1, 0, 0, 0, 0, 0, 0, 0, 0, 0, 0, 0];
+    let mut sink = ToWrite::new(Vec::new(alloc));
+    let card = Class::Card;
     let mut source = FromRead::new(hello.as_slice());
     let mut alone = Alone {
         device: &mut device,
     };
     let session = serve(&mut alone, &mut gate, card, &mut source, &mut sink, 1000);
     assert!(rt; session.end == SessionEnd::Ended);
+}
+
+#[test]
+fn values_from_served(rt: HostRuntime) {
+    let alloc = rt.alloc();
+    let hello = [14, 0, 0, 0, 0, 1, 1, 0, 0, 0, 0, 0, 0, 0, 0, 0, 0, 0];
+    let mut sink = ToWrite::new(Vec::new(alloc));
+    let card = Class::Card;
+    let Some(topology) = Topology::new(2, &[1, 2], &[3, 2], &[5, 6]) else {
+        return
+    };
+    let Ok(fresh) = Device::new(alloc, topology, Limits::PROGRAM) else {
+        return
+    };
+    let Ok((shared, mut participant)) = SharedDevice::new(alloc, fresh) else {
+        return
+    };
     let mut source = FromRead::new(hello.as_slice());
     let mut gate = NoGate;
     let Served {
@@ -114,6 +190,38 @@ fn values(rt: HostRuntime) {
         1000,
     );
     assert!(rt; session.steps == 2);
+}
+
+#[test]
+fn values_from_serve_through(rt: HostRuntime) {
+    let alloc = rt.alloc();
+    let hello = [14, 0, 0, 0, 0, 1, 1, 0, 0, 0, 0, 0, 0, 0, 0, 0, 0, 0];
+    let mut sink = ToWrite::new(Vec::new(alloc));
+    let card = Class::Card;
+    let Some(topology) = Topology::new(2, &[1, 2], &[3, 2], &[5, 6]) else {
+        return
+    };
+    let Ok(fresh) = Device::new(alloc, topology, Limits::PROGRAM) else {
+        return
+    };
+    let Ok((shared, mut participant)) = SharedDevice::new(alloc, fresh) else {
+        return
+    };
+    let mut source = FromRead::new(hello.as_slice());
+    let mut gate = NoGate;
+    let Served {
+        session,
+        participant,
+    } = serve_through(
+        &rt,
+        &shared,
+        participant,
+        &mut gate,
+        card,
+        &mut source,
+        &mut sink,
+        1000,
+    );
     let mut source = FromRead::new(hello.as_slice());
     let served = serve_through(
         &rt,
