@@ -1,5 +1,5 @@
 -- The answers: the number of each, its word in the lines of a script, and its fields (own).
-use Rattle.std.specs.Prelude.{◌≡◌, ℕ, ◌==◌, Option, Some, None, List, [], ◌∷◌, find, map, codes}
+use Rattle.std.specs.Prelude.{◌≡◌, ℕ, Bool, true, false, ◌==◌, Option, Some, None, List, [], ◌∷◌, find, map, codes}
 use Rattle.std.specs.Option.{option_or}
 use Rattle.drm_table.specs.declared.answer_kinds.AnswerKind.{AnswerKind}
 use Rattle.drm_table.specs.declared.answer_kinds.AnswerKind.TheVariants as kinds
@@ -65,6 +65,14 @@ told (answers.List ids) = list ids
 told (answers.Audit rows) = page rows
 told answers.Closed = row kinds.Closed []
 told (answers.Denied rule) = denial rule
+
+-- whether an answer is one of those that only the calls of mode setting and of leases have
+abbrev pub is_mode_answer : Answer → Bool
+is_mode_answer (answers.Resources crtcs connectors encoders framebuffers) = true
+is_mode_answer (answers.Plane framebuffer mask) = true
+is_mode_answer (answers.Framebuffer width height pitch bpp handle) = true
+is_mode_answer (answers.Lease id token) = true
+is_mode_answer _ = false
 
 -- an answer of the calls of mode setting and of leases
 abbrev pub mode_answer : AnswerKind → List Field → Option Answer

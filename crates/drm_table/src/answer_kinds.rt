@@ -1,8 +1,8 @@
 //! The table of answers.
 
-ghost use Rattle.std.specs.Prelude.{◌≡◌, ◌≤◌, length};
+ghost use Rattle.std.specs.Prelude.{◌≡◌, ◌≤◌, length, true};
 ghost use Rattle.drm_table.specs.Answers.Told.{row as ToldFields};
-ghost use Rattle.drm_table.specs.Answers.{answer_kind_of, answer_number, answer_widths, answer_with, answer_word, answer_kind_row, mode_answer, plain_answer, told, told_of};
+ghost use Rattle.drm_table.specs.Answers.{answer_kind_of, answer_number, answer_widths, answer_with, answer_word, answer_kind_row, is_mode_answer, mode_answer, plain_answer, told, told_of};
 
 use crate::answers::Answer;
 use crate::audits::AuditPage;
@@ -209,32 +209,13 @@ fn row_told(kind: AnswerKind, fields: &[Field]) -> Told<'static>
 }
 
 impl Answer {
-    /// What the answer tells, its fields in order.
+    // What an answer of the calls of mode setting and of leases tells.
     #[tactic(auto, unfolding(crate::specs::Answers::told))]
-    pub fn told(&self) -> Told<'_>
+    fn mode_told(&self) -> Told<'_>
+        requires { is_mode_answer self.now ≡ true }
         ensures { told_of result ≡ told self.now }
     {
         match self {
-            Answer::Done => row_told(AnswerKind::Done, &[]),
-            Answer::Opened { client } => row_told(AnswerKind::Opened, &[U32(*client)]),
-            Answer::Version {
-                major,
-                minor,
-                patch,
-            } => row_told(
-                AnswerKind::Version,
-                &[U32(*major), U32(*minor), U32(*patch)],
-            ),
-            Answer::Number { value } => row_told(AnswerKind::Number, &[U64(*value)]),
-            Answer::Dumb {
-                handle,
-                pitch,
-                size,
-            } => row_told(AnswerKind::Dumb, &[U32(*handle), U32(*pitch), U64(*size)]),
-            Answer::Buffer { handle, size } => row_told(
-                AnswerKind::Buffer,
-                &[U32(*handle), U64(*size)],
-            ),
             Answer::Resources {
                 crtcs,
                 connectors,
@@ -267,10 +248,41 @@ impl Answer {
                 ],
             ),
             Answer::Lease { id, token } => row_told(AnswerKind::Lease, &[U32(*id), U32(*token)]),
+            _ => unreachable!(),
+        }
+    }
+
+    /// What the answer tells, its fields in order.
+    #[tactic(auto, unfolding(crate::specs::Answers::told))]
+    pub fn told(&self) -> Told<'_>
+        ensures { told_of result ≡ told self.now }
+    {
+        match self {
+            Answer::Done => row_told(AnswerKind::Done, &[]),
+            Answer::Opened { client } => row_told(AnswerKind::Opened, &[U32(*client)]),
+            Answer::Version {
+                major,
+                minor,
+                patch,
+            } => row_told(
+                AnswerKind::Version,
+                &[U32(*major), U32(*minor), U32(*patch)],
+            ),
+            Answer::Number { value } => row_told(AnswerKind::Number, &[U64(*value)]),
+            Answer::Dumb {
+                handle,
+                pitch,
+                size,
+            } => row_told(AnswerKind::Dumb, &[U32(*handle), U32(*pitch), U64(*size)]),
+            Answer::Buffer { handle, size } => row_told(
+                AnswerKind::Buffer,
+                &[U32(*handle), U64(*size)],
+            ),
             Answer::List { list } => Told::List(list),
             Answer::Audit { page } => Told::Page(page),
             Answer::Closed => row_told(AnswerKind::Closed, &[]),
             Answer::Denied(rule) => Told::Denial(*rule),
+            _ => self.mode_told(),
         }
     }
 }
