@@ -79,7 +79,7 @@ class Client:
     master: Optional[int] = None
     magic: Optional[int] = None
     spent: bool = False
-    # each handle's object and PRIME place
+    # each handle's object and export order
     handles: Dict[int, Tuple[int, Optional[int]]] = dataclasses.field(default_factory=dict)
 
 

@@ -100,7 +100,7 @@ fn reserve_each(alloc: Global, counts: Counts) -> Result<ByClass<Vec<Session>>, 
     })
 }
 
-// Serves the listeners through participants that are split off and joined again. Room for all sessions, and for those of each listener, is
+// Serves the listeners through participants that are split off and merged again. Room for all sessions, and for those of each listener, is
 // reserved before: where memory for it is wanting no participant was split off, so that no thread was started.
 fn serve_shared<R: Wait + Threads + Log + Sync>(
     rt: &R,

@@ -9,7 +9,7 @@ use drm_gem::ObjectKey;
 use std::alloc::Global;
 use std::process::Abort;
 
-/// What a client asks, or what is asked of it: with the flags of an opening, a handle or an object, and a PRIME place. An object is
+/// What a client asks, or what is asked of it: with the flags of an opening, a handle or an object, and an export order. An object is
 /// named by the number of its key.
 #[derive(Clone, Copy)]
 enum Ask {
@@ -32,7 +32,7 @@ enum Ask {
     HasFlags(FileFlags),
     /// Whether the client of a place is this one, with these flags.
     IsNth(usize, FileFlags),
-    /// Whether the handle of a place among all is this one of the client, with its object and its PRIME place.
+    /// Whether the handle of a place among all is this one of the client, with its object and its export order.
     IsNthHold(usize, u32, u32, Option<u32>),
     HasNth(usize),
     HasNthHold(usize),
@@ -265,7 +265,7 @@ const TWO_CLIENTS: [Case; 19] = [
     ((3, Ask::HasFlags(OF_ROOT)), Told::Unasked),
 ];
 
-/// The handle of an object with the least place, and at a tie the least handle. Handles of other objects and of other clients
+/// The handle of an object with the least export order, and at a tie the least handle. Handles of other objects and of other clients
 /// count for those alone.
 const PRIME_HANDLES: [Case; 18] = [
     ((1, CARD), Told::Done),

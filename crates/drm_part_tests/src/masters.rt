@@ -50,7 +50,7 @@ const CURRENT: Told = Told::Client(Member {
     magic: None,
 });
 
-/// Client 1 is current, and clients 2 and 3 are guests of its master. A number is kept until its client closes, and then given
+/// Client 1 is current, and clients 2 and 3 stand to its master. A number is kept until its client closes, and then given
 /// again.
 const MAGICS: [Case; 22] = [
     (Ask::Open(1), Told::Whether(true)),

@@ -11,7 +11,7 @@ use std::alloc::AllocError;
 use std::process::Abort;
 use std::test::Fail;
 
-/// For each set of flags (1 ROOT_ONLY, 2 AUTH, 4 MASTER, 8 RENDER_ALLOW) and each standing (1 root, 2 render,
+/// For each set of flags (1 ROOT_ONLY, 2 AUTH, 4 MASTER, 8 RENDER_ALLOW) and all credentials (1 root, 2 render,
 /// 4 authenticated, 8 current): the number of the rule that refuses, or 0.
 const REFUSALS: [[u32; 16]; 16] = [
     [0, 0, 14, 14, 0, 0, 14, 14, 0, 0, 14, 14, 0, 0, 14, 14],
@@ -83,7 +83,7 @@ fn refusal(flags: u8, bits: u8) -> u32 {
     }
 }
 
-/// What is refused to each standing by a set of flags.
+/// What is refused by a set of flags to all credentials.
 fn refusals(flags: u8) -> [u32; 16] {
     let mut numbers = [0; 16];
     for bits in 0..16u8 {

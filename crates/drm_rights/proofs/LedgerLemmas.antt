@@ -21,7 +21,7 @@ use Rattle.drm_rights.specs.declared.notes.Authentication.{Authentication}
 use Rattle.drm_rights.specs.declared.notes.Capability.{Capability}
 use Rattle.drm_rights.proofs.NoteLemmas.{find-newest, any-newest, append-none}
 
--- ---- standings
+-- ---- master states
 
 map_or-if : (b : Bool) (note : MasterState) (older : Option MasterState) → option_map_or (λ (s : MasterState). s.is_master) (cond b (Some note) older) false ≡ cond b note.is_master (option_map_or (λ (s : MasterState). s.is_master) older false)
 map_or-if true note older = refl
@@ -40,7 +40,7 @@ master-put : (notes : List MasterState) (note : MasterState) (d : ℕ) → maste
 master-put notes note d =
     ap (λ o. option_and_then (λ (s : MasterState). s.master) o) (find-newest (λ (s : MasterState). d == s.client) notes note) ∙ then-if (d == note.client) note (master_state_of notes d)
 
--- the notes tell what a standing tells of clients
+-- the notes tell what a master state tells of clients
 pub record Stands (notes : List MasterState) (is_master : ℕ → Bool) (master : ℕ → Option ℕ) : Type 0 where
   pub are_masters : (c : ℕ) → is_master_noted notes c ≡ is_master c
   pub masters : (c : ℕ) → master_noted notes c ≡ master c

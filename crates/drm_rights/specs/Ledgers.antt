@@ -55,7 +55,7 @@ abbrev pub opened : ℕ → Option ℕ → MasterState
 opened number None = noted number number true (Some number)
 opened number (Some owner) = noted number number false (Some owner)
 
--- what a step of this number notes of the client whose standing it changes
+-- what a step of this number notes of the client whose master state it changes
 abbrev pub new_master_state : told.Effect → ℕ → (ℕ → Option ℕ) → standings.MasterState → Option MasterState
 new_master_state (told.OpensPrimary root universal) number lease s = Some (opened number s.owner)
 new_master_state told.OpensRender number lease s = Some (noted number number false None)
@@ -119,7 +119,7 @@ unfoldable pub owner_since_in : List AnsweredEvent → ℕ
 owner_since_in [] = 0
 owner_since_in (step ∷ past) = if is_same_master (owner_in past) (owner_in (step ∷ past)) then owner_since_in past else next_number past
 
--- whether a standing is that of a client that opened by the token of this lessee
+-- whether a master state is that of a client that opened by the token of this lessee
 abbrev pub is_redemption : ℕ → MasterState → Bool
 is_redemption lessee s = (s.step == s.client) && (s.is_master && (is_option lessee s.master && not (s.client == lessee)))
 

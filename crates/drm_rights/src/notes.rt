@@ -104,7 +104,7 @@ pub(crate) fn last_master_state(standings: &[MasterState], client: u64) -> Optio
         .find(|master_state| client == master_state.client)
 }
 
-/// Whether a standing is that of a client that opened by the token of a lessee, and not of one that founded a master.
+/// Whether a master state is that of a client that opened by the token of a lessee, and not of one that founded a master.
 fn is_redemption(master_state: MasterState, lessee: u64) -> bool
     ensures { result ≡ ledgers.is_redemption lessee master_state }
 {
@@ -118,7 +118,7 @@ fn is_redemption(master_state: MasterState, lessee: u64) -> bool
         && master_state.client != lessee
 }
 
-/// The first standing of a client that opened by the token of a lessee.
+/// The first master state of a client that opened by the token of a lessee.
 pub(crate) fn first_redemption(standings: &[MasterState], lessee: u64) -> Option<MasterState>
     ensures { result ≡ find (ledgers.is_redemption lessee) standings.now }
 {

@@ -8,7 +8,7 @@ pub data ReadChunk : Type 0 where
   Chunk : List ℕ → ReadChunk
   Used : FrameValue → ReadChunk
 
--- From the bytes that waited, these intakes lead to those that wait after. Bytes are taken only where less than a frame
+-- From the bytes that waited, these chunks and frames lead to those that wait after. Bytes are taken only where less than a frame
 -- waits: no whole frame, and no length that no frame has.
 abbrev pub InTurn : List ℕ → List ReadChunk → List ℕ → Type 0
 InTurn waited [] waits = waits ≡ waited
@@ -31,13 +31,13 @@ last_chunk [] gave = gave
 last_chunk (Chunk bytes ∷ more) gave = last_chunk more (length bytes)
 last_chunk (Used frame ∷ more) gave = last_chunk more gave
 
--- whether bytes were taken behind the last frame that was used; where there is no intake, as it was before
+-- whether bytes were taken behind the last frame that was used; where there is neither, as it was before
 abbrev pub ends_in_chunk : List ReadChunk → Bool → Bool
 ends_in_chunk [] was = was
 ends_in_chunk (Chunk bytes ∷ more) was = ends_in_chunk more true
 ends_in_chunk (Used frame ∷ more) was = ends_in_chunk more false
 
--- The intakes by which these bytes were read and these frames used. The source's trace tells the last chunk, so that
+-- The chunks by which these bytes were read, and the frames used between them. The source's trace tells the last chunk, so that
 -- no two chunks can be told as one.
 pub record Takes (from to : SourceTrace) (waited waits : List ℕ) (chunks : List ReadChunk) (read : List ℕ) (frames : List FrameValue) : Type 0 where
   pub in_turn : InTurn waited chunks waits

@@ -151,7 +151,7 @@ fn serve_in_scope<
 
 /// Serves each job in a thread of its own, and gives their sessions in the order of the jobs. It may wait.
 ///
-/// Each job is served as `serve_through` says, through a participant that is split off and joined again: what that participant had seen is
+/// Each job is served as `serve_through` says, through a participant that is split off and merged again: what that participant had seen is
 /// told, and the entries of its number there are those of its session. The numbers of the jobs' participants differ, and stand
 /// behind the number of one that took them in. On a fault the threads that were started are waited for, and their steps of
 /// the device stand. What the lent participant made itself is as it was, and without a fault no more are out of it. Where memory was

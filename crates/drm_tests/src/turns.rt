@@ -1,4 +1,4 @@
-//! One device, several seats.
+//! One device, several participants.
 
 ghost use Rattle.std.specs.Prelude.{◌≡◌, IfOk};
 
@@ -14,7 +14,7 @@ use std::test::Fail;
 use std::thread;
 use std::thread::Threads;
 
-/// Shares a device, and gives the first seat. Where memory is refused the device comes back, and is shared once more.
+/// Shares a device, and gives the first participant. Where memory is refused the device comes back, and is shared once more.
 pub(crate) fn shared(alloc: Global, device: Device) -> Result<(SharedDevice, Seat), Device>
     ensures { IfOk result (λ made. made.1.table ≡ made.0) }
 {
@@ -28,7 +28,7 @@ pub(crate) fn shared(alloc: Global, device: Device) -> Result<(SharedDevice, Sea
     }
 }
 
-/// A device that comes back from its seats, and how it was with these.
+/// A device that comes back from its participants, and how it was with these.
 pub(crate) type Played = (Result<Device, TurnOut>, Result<(), AllocError>);
 
 /// Lends the device that came back.
@@ -54,7 +54,7 @@ const CARD: Event = Event::Open(Opening::Primary {
 
 const OPENED: Result<Answer, Apart> = Ok(Answer::Opened { client: 1 });
 
-/// Whether it is the other seat that calls, the event, and the answer.
+/// Whether it is the other participant that calls, the event, and the answer.
 type Turn = (bool, Event, Result<Answer, Apart>);
 
 const OPENING: Turn = (false, CARD, OPENED);
@@ -96,15 +96,15 @@ const VERSION: Turn = (
     }),
 );
 
-/// A buffer that one seat makes and writes, and the other reads.
+/// A buffer that one participant makes and writes, and the other reads.
 const BUFFER: [Turn; 4] = [OPENING, MAKING, WRITING, READING];
 
-/// A buffer that is written before the other seat is split off.
+/// A buffer that is written before the other participant is split off.
 const WRITTEN: [Turn; 3] = [OPENING, MAKING, WRITING];
 
 const READ: [Turn; 1] = [READING];
 
-/// A buffer that the other seat closes.
+/// A buffer that the other participant closes.
 const CLOSED_BUFFER: [Turn; 4] = [
     OPENING,
     (
@@ -142,7 +142,7 @@ const OPENED_ONCE: [Turn; 1] = [OPENING];
 
 const ONE_VERSION: [Turn; 1] = [VERSION];
 
-/// Compares what a seat is answered, and the count, which is the length of the history. What is refused memory isn't counted, and is
+/// Compares what a participant is answered, and the count, which is the length of the history. What is refused memory isn't counted, and is
 /// asked once more.
 fn call_by(
     rt: &(impl Wait + Abort),
@@ -166,7 +166,7 @@ fn call_by(
     Ok(())
 }
 
-/// The turns of one seat.
+/// The turns of one participant.
 fn call_alone(
     rt: &(impl Wait + Abort),
     shared: &SharedDevice,
@@ -183,7 +183,7 @@ fn call_alone(
     Ok(())
 }
 
-/// The turns of two seats.
+/// The turns of two participants.
 fn call_in_turn(
     rt: &(impl Wait + Abort),
     shared: &SharedDevice,
@@ -207,7 +207,7 @@ fn call_in_turn(
     Ok(())
 }
 
-/// What one seat calls alone, and what two seats call in turn.
+/// What one participant calls alone, and what two call in turn.
 fn call_all(
     rt: &(impl Wait + Abort),
     shared: &SharedDevice,
@@ -257,7 +257,7 @@ struct Meeting<'a> {
 }
 
 impl<'a> Meeting<'a> {
-    /// What one seat calls alone, what two then call in turn, and what they call once the device is shared again.
+    /// What one participant calls alone, what two then call in turn, and what they call once the device is shared again.
     fn new(alone: &'a [Turn], in_turn: &'a [Turn], again: &'a [Turn]) -> Self {
         Meeting {
             limits: Limits::PROGRAM,
@@ -316,7 +316,7 @@ fn check_meeting(
     lend_back(rt, alloc, played, meeting)
 }
 
-/// A seat that is split off behind a write reads it, and a device that is shared again goes on with its count.
+/// A participant that is split off behind a write reads it, and a device that is shared again goes on with its count.
 #[test]
 fn seats_share_one_device(rt: HostRuntime) -> Result<(), Fail> {
     let limits = Limits {

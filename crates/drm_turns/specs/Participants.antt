@@ -12,8 +12,8 @@ use Rattle.drm_turns.specs.History.{AllDiffer, IsLegal, StartsWith, calls_by, de
 
 -- A participant: the shared device that it is of and its own number; the number of the participant that it was split off, 0 for the first
 -- participant; how many participants and notes that were split off it are not given back to it; the device as it was shared; the history
--- that it has seen, and of it the entries that it made; the numbers that were joined into it; how many tickets it drew and
--- how many entries it made, each with those of the participants that were joined into it; and the number that it last found in
+-- that it has seen, and of it the entries that it made; the numbers that were merged into it; how many tickets it drew and
+-- how many entries it made, each with those of the participants that were merged into it; and the number that it last found in
 -- TICKET.
 pub record ParticipantView : Type 0 where
   pub table : TableId

@@ -79,7 +79,7 @@ TicketsDiffer views = (i j : ℕ) (v w : View) → get_elem? views i ≡ some v 
 abbrev pub Unborn : List Entry → List View → Type 0
 Unborn log views = (id : ℕ) → length views ≤ id → calls_by (suc id) log ≡ []
 
--- the participant with this number was joined into another
+-- the participant with this number was merged into another
 abbrev pub IsSpent : List View → ℕ → Type 0
 IsSpent views k = (j : ℕ) × (u : View) × (k ≡ suc j) × (get_elem? views j ≡ some u) × (u.stage ≡ Spent)
 

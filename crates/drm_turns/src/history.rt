@@ -23,7 +23,7 @@ pub enum Stage {
     Waiting,
     /// Its ticket is served, and it has the device.
     Serving,
-    /// It was joined into another.
+    /// It was merged into another.
     Spent,
 }
 
@@ -41,9 +41,9 @@ pub struct View {
     pub seen: LinkedList<Entry>,
     /// The entries that it made.
     pub mine: LinkedList<Entry>,
-    /// What a joined participant or a note had seen.
+    /// What a merged participant or a note had seen.
     pub told: LinkedList<Entry>,
-    /// The numbers that were joined into it, with those that the joined participants kept.
+    /// The numbers that were merged into it, with those that the merged participants kept.
     pub kept: LinkedList<u64>,
     /// How many tickets it and those that it kept the numbers of drew.
     pub drawn: u64,

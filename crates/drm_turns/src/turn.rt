@@ -98,7 +98,7 @@ impl Split<View> for Another {
     ghost right = { child };
 }
 
-/// A participant is joined: what it had seen is told, its number is kept, and it is counted as given back.
+/// A participant is merged: what it had seen is told, its number is kept, and it is counted as given back.
 pub(crate) struct Told;
 
 impl Join<View> for Told {

@@ -9,7 +9,7 @@ use Rattle.drm_turns.proofs.Crossing.{closure_send, participant_send}
 use Rattle.drm_turns.specs.contracts.seat.Seat as participant
 use Rattle.drm_tests.proofs.turns.two_hundred_events.Goals as goal
 
--- what each thread takes along: the runtime and the device by `&`, and its seat
+-- what each thread takes along: the runtime and the device by `&`, and its participant
 pub join-requires-send-F : goal.join-requires-send-F
 join-requires-send-F g c κs within =
     let rt : RattleType = (shr_ref_field record { mir = named 6; lft = κs.1.1.1.1.1.1.0 } (param 0 g.row.R) tt).row in
