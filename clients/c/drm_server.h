@@ -136,7 +136,7 @@ enum zirkoshe_audit_kind {
     ZIRKOSHE_AUDIT_OBJECT = 3,      /* Objects: object, size in bytes, handles, tokens and framebuffers. */
     ZIRKOSHE_AUDIT_NAME = 4,        /* Flink names: name, object. */
     ZIRKOSHE_AUDIT_TOKEN = 5,       /* PRIME tokens: token, exporter, object. */
-    ZIRKOSHE_AUDIT_HOLD = 6,        /* Handles: client, handle, object, PRIME place. */
+    ZIRKOSHE_AUDIT_HOLD = 6,        /* Handles: client, handle, object, export order. */
     ZIRKOSHE_AUDIT_GRANT = 7,       /* What leases hold: master, mode object. */
     ZIRKOSHE_AUDIT_FRAMEBUFFER = 8, /* Framebuffers: id, client, object. */
     ZIRKOSHE_AUDIT_SHOWN = 9,       /* What is shown: CRTC or plane, framebuffer. */

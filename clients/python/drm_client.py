@@ -109,7 +109,7 @@ class AuditKind(enum.IntEnum):
     OBJECT = 3  # Objects: object, size in bytes, handles, tokens and framebuffers.
     NAME = 4  # Flink names: name, object.
     TOKEN = 5  # PRIME tokens: token, exporter, object.
-    HOLD = 6  # Handles: client, handle, object, PRIME place.
+    HOLD = 6  # Handles: client, handle, object, export order.
     GRANT = 7  # What leases hold: master, mode object.
     FRAMEBUFFER = 8  # Framebuffers: id, client, object.
     SHOWN = 9  # What is shown: CRTC or plane, framebuffer.

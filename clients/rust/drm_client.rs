@@ -127,7 +127,7 @@ pub mod audit_kind {
     pub const OBJECT: u32 = 3; // Objects: object, size in bytes, handles, tokens and framebuffers.
     pub const NAME: u32 = 4; // Flink names: name, object.
     pub const TOKEN: u32 = 5; // PRIME tokens: token, exporter, object.
-    pub const HOLD: u32 = 6; // Handles: client, handle, object, PRIME place.
+    pub const HOLD: u32 = 6; // Handles: client, handle, object, export order.
     pub const GRANT: u32 = 7; // What leases hold: master, mode object.
     pub const FRAMEBUFFER: u32 = 8; // Framebuffers: id, client, object.
     pub const SHOWN: u32 = 9; // What is shown: CRTC or plane, framebuffer.

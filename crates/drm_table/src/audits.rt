@@ -18,7 +18,7 @@ pub enum AuditKind {
     Name,
     /// PRIME tokens: token, exporter, object.
     Token,
-    /// Handles: client, handle, object, PRIME place.
+    /// Handles: client, handle, object, export order.
     Hold,
     /// What leases hold: master, mode object.
     Grant,
