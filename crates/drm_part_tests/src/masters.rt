@@ -120,7 +120,7 @@ fn magics_of_a_master(rt: HostRuntime) {
     check_new(&rt, rt.alloc(), &NEW_MASTER);
 }
 
-/// Client 1 is current, and client 2 a client that is no master.
+/// Client 1 is current, and client 2 is no master.
 const DROPS: [Case; 10] = [
     (Ask::Open(1), Told::Whether(true)),
     (Ask::Open(2), Told::Whether(false)),
@@ -321,7 +321,7 @@ fn masters_are_released(rt: HostRuntime) {
     check_new(&rt, rt.alloc(), &ALL_BELOW);
 }
 
-/// A client that is no master that was authenticated.
+/// An authenticated client that is no master.
 const AUTHENTICATED: Told = Told::Client(Member {
     client: 2,
     once_master: false,
