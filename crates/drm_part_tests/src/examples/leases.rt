@@ -64,6 +64,7 @@ fn leases(rt: HostRuntime) {
     assert!(rt; Leases::new(alloc, 8).last_given().is_none());
     assert!(rt; leased.id == 1 && leased.token == 1);
     assert!(rt; leases.holds(2, 1) && !leases.holds(2, 2));
+    assert!(rt; leases.controls(&masters, 1, 2) && !leases.controls(&masters, 2, 2));
     assert!(rt; leases.leased_out(&masters, 1, 3));
     assert!(rt; leases.list(&masters, 1).ids() == [1].as_slice());
     assert!(rt; leases.objects_of(2).ids() == [1, 3, 7].as_slice());
