@@ -12,6 +12,7 @@ use drm_table::Credentials;
 /// An open client that makes a call, as the device keeps it: looked up once, when the call is admitted.
 #[derive(Clone, Copy)]
 pub struct Caller {
+    /// Its number, which is that of the step that opened it.
     pub client: u32,
     /// What its file says of it.
     pub flags: FileFlags,
@@ -22,7 +23,7 @@ pub struct Caller {
 }
 
 impl Caller {
-    /// The client of this number, if it is open. It takes no memory.
+    /// The client of this number, as it is kept now; none where it isn't open. It takes no memory.
     pub fn of(state: &State, client: u32) -> Option<Caller>
         ensures client { IfSome result (λ caller. caller.client ≡ client) }
         ensures caller { IfSome result (λ caller. IsCaller state.now caller) }
@@ -37,7 +38,7 @@ impl Caller {
         })
     }
 
-    /// What the flags of a call's row are tested against (`drm_ioctl_permit`).
+    /// What the flags of a call's row are tested against (`drm_ioctl_permit`). It takes no memory.
     pub fn credentials(self) -> Credentials
         ensures { result ≡ record { root = self.flags.root; render = self.flags.render; authenticated = self.flags.authenticated; current = self.current } }
     {
