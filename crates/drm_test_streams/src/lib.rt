@@ -2,9 +2,11 @@
 //! interrupted where a test wants it.
 #![tactic(auto)]
 
+mod cuts;
 mod interruptions;
 mod sink;
 mod source;
 
+pub use cuts::{Cut, sink_of, source_of};
 pub use sink::CutSink;
 pub use source::CutSource;

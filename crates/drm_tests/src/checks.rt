@@ -1,11 +1,10 @@
 //! Files with right and wrong expectations, whole and cut.
 
 use crate::comparing::same;
-use crate::cuts::{Cut, sink_of, source_of};
 use drm_checks::{Report, Totals, check_script, write_malformed, write_totals};
 use drm_runs::ScriptEnd;
 use drm_streams::Written;
-use drm_test_streams::CutSink;
+use drm_test_streams::{Cut, CutSink, sink_of, source_of};
 use std::alloc::Global;
 use std::process::Abort;
 

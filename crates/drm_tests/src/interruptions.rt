@@ -2,10 +2,9 @@
 ghost use Rattle.std.specs.Prelude.{◌+◌, ◌<◌, ◌^◌};
 
 use crate::comparing::same;
-use crate::cuts::{Cut, sink_of, source_of};
 use arrayvec::ArrayVec;
 use drm_streams::{Refill, Sink, Written, put_all, take_some};
-use drm_test_streams::CutSource;
+use drm_test_streams::{Cut, CutSource, sink_of, source_of};
 use std::process::Abort;
 
 const TEXT: &[u8] = b"one frame and one more";

@@ -7,15 +7,11 @@ mod checks;
 #[cfg(test)]
 mod comparing;
 #[cfg(test)]
-mod cuts;
-#[cfg(test)]
 mod devices;
 #[cfg(test)]
 mod examples;
 #[cfg(test)]
 mod exchanges;
-#[cfg(test)]
-mod faults;
 #[cfg(test)]
 mod interruptions;
 #[cfg(test)]
@@ -24,8 +20,6 @@ mod jobs;
 mod journals;
 #[cfg(test)]
 mod lease_frames;
-#[cfg(test)]
-mod listings;
 #[cfg(test)]
 mod lists;
 #[cfg(test)]
@@ -42,8 +36,6 @@ mod rows;
 mod runs;
 #[cfg(test)]
 mod sessions;
-#[cfg(test)]
-mod sockets;
 #[cfg(test)]
 mod steps;
 #[cfg(test)]

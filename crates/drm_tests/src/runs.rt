@@ -1,9 +1,9 @@
 //! Runs of scripts over sources and sinks that cut and fail, and why a line can't be used.
 
 use crate::comparing::same;
-use crate::cuts::{Cut, sink_of, source_of};
 use drm_runs::{ScriptEnd, run_script, run_with_cause};
 use drm_script::{Malformation, Wanted};
+use drm_test_streams::{Cut, sink_of, source_of};
 use std::alloc::Global;
 use std::process::Abort;
 

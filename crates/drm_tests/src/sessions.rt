@@ -1,12 +1,12 @@
 //! Whole sessions, byte for byte, over sources and sinks that end, fail and interrupt.
 
 use crate::comparing::same;
-use crate::cuts::{Cut, sink_of, source_of};
 use crate::devices::{Trial, try_on_new};
 use drm_device::Device;
 use drm_sessions::{Access, Class, Gate, NoGate, Session, SessionEnd, serve, serve_alone};
 use drm_streams::{FromRead, Source, ToWrite};
 use drm_table::{Answer, Apart, Event, Limits, Rule};
+use drm_test_streams::{Cut, sink_of, source_of};
 use std::alloc::{AllocError, Global};
 use std::cell::Cell;
 use std::io::{self, Read, Write};

@@ -1,12 +1,11 @@
 //! Listings of a small device, whole and cut.
 
 use crate::comparing::same;
-use crate::cuts::{Cut, sink_of};
-use crate::devices::{Trial, try_on_new};
 use drm_device::Device;
+use drm_runs::test_topology;
 use drm_server::{ListEnd, list_audit};
 use drm_table::{Call, Event, Limits, Opening};
-use std::alloc::Global;
+use drm_test_streams::{Cut, sink_of};
 use std::process::Abort;
 use std::test::Fail;
 
@@ -59,25 +58,22 @@ fn check_cuts(rt: &impl Abort, device: &Device, piece: usize) {
     }
 }
 
-/// Listings of a device after these events.
-struct Listed;
-
-impl Trial for Listed {
-    fn run(&self, rt: &impl Abort, alloc: Global, device: &mut Device) -> Result<(), Fail> {
-        for event in EVENTS {
-            same(rt, &device.step(event).is_ok(), &true, "step");
-        }
-        for listing in LISTINGS {
-            check_listing(rt, device, 512, listing);
-        }
-        for piece in [1, 2, 3, 7] {
-            check_cuts(rt, device, piece);
-        }
-        Ok(())
+/// Listings of the device after these events.
+fn check_listings(rt: &impl Abort, device: &mut Device) {
+    for event in EVENTS {
+        same(rt, &device.step(event).is_ok(), &true, "step");
+    }
+    for listing in LISTINGS {
+        check_listing(rt, device, 512, listing);
+    }
+    for piece in [1, 2, 3, 7] {
+        check_cuts(rt, device, piece);
     }
 }
 
 #[test]
 fn listings(rt: HostRuntime) -> Result<(), Fail> {
-    try_on_new(&rt, rt.alloc(), Limits::PROGRAM, &Listed)
+    let mut device = Device::new(rt.alloc(), test_topology(), Limits::PROGRAM)?;
+    check_listings(&rt, &mut device);
+    Ok(())
 }

@@ -3,11 +3,12 @@
 ghost use Rattle.std.specs.Prelude.{◌≡◌};
 ghost use Rattle.drm_streams.specs.Streams.{no_calls};
 
-use drm_test_streams::{CutSink, CutSource};
+use crate::sink::CutSink;
+use crate::source::CutSource;
 
 /// Where a source or a sink fails, ends or is interrupted. Places are counted in bytes from the beginning.
 #[derive(Clone, Copy)]
-pub(crate) enum Cut {
+pub enum Cut {
     /// Nowhere.
     Never,
     /// A source ends there, and a sink takes nothing more.
@@ -20,9 +21,9 @@ pub(crate) enum Cut {
     Interruptions(u64),
 }
 
-/// A source of these bytes, in pieces of so many.
-pub(crate) fn source_of(bytes: &[u8], piece: usize, cut: Cut) -> CutSource<'_>
-    ensures { result.counts ≡ no_calls }
+/// A source of these bytes, in pieces of so many, one at least.
+pub fn source_of(bytes: &[u8], piece: usize, cut: Cut) -> CutSource<'_>
+    ensures counts { result.counts ≡ no_calls }
 {
     let source = CutSource::new(bytes, if piece == 0 { 1 } else { piece });
     match cut {
@@ -34,9 +35,9 @@ pub(crate) fn source_of(bytes: &[u8], piece: usize, cut: Cut) -> CutSource<'_>
     }
 }
 
-/// A sink that takes pieces of so many bytes.
-pub(crate) fn sink_of(piece: usize, cut: Cut) -> CutSink<512>
-    ensures { result.counts ≡ no_calls }
+/// A sink that takes pieces of so many bytes, one at least.
+pub fn sink_of(piece: usize, cut: Cut) -> CutSink<512>
+    ensures counts { result.counts ≡ no_calls }
 {
     let sink = CutSink::new(if piece == 0 { 1 } else { piece });
     match cut {
