@@ -261,7 +261,7 @@ impl Files {
     /// What a client may do, if it is open.
     ///
     /// ```rust
-    /// assert!(files.flags_of(1).is_some_and(|flags| flags.universal && !flags.render));
+    /// assert!(matches!(files.flags_of(1), Some(flags) if flags.universal && !flags.render));
     /// ```
     pub fn flags_of(&self, client: u32) -> Option<FileFlags>
         ensures flags { result ≡ option_map (λ row. row.flags) (find (is_client client) self.now.clients) }
@@ -275,7 +275,7 @@ impl Files {
     ///
     /// ```rust
     /// files.set_authenticated(1);
-    /// assert!(files.flags_of(1).is_some_and(|flags| flags.authenticated));
+    /// assert!(matches!(files.flags_of(1), Some(flags) if flags.authenticated));
     /// ```
     pub fn set_authenticated(&mut self, client: u32)
         requires open_client { is_open_client self.old client ≡ true }
@@ -292,7 +292,7 @@ impl Files {
     ///
     /// ```rust
     /// files.set_universal(1, false);
-    /// assert!(files.flags_of(1).is_some_and(|flags| !flags.universal));
+    /// assert!(matches!(files.flags_of(1), Some(flags) if !flags.universal));
     /// ```
     pub fn set_universal(&mut self, client: u32, on: bool)
         requires open_client { is_open_client self.old client ≡ true }

@@ -33,7 +33,7 @@ impl Files {
     /// The client at a place of the list of clients, where 0 is the first. It takes no memory.
     ///
     /// ```rust
-    /// assert!(files.nth_client(0).is_some_and(|row| row.client == 1));
+    /// assert!(matches!(files.nth_client(0), Some(row) if row.client == 1));
     /// ```
     pub fn nth_client(&self, position: usize) -> Option<FileClient>
         ensures { result ≡ slice_get self.now.clients position }
@@ -49,7 +49,7 @@ impl Files {
     /// The hold at a place of the list of holds, where 0 is the first. It passes over whole clients, and takes no memory.
     ///
     /// ```rust
-    /// assert!(files.nth_handle(0).is_some_and(|row| row.handle == handle));
+    /// assert!(matches!(files.nth_handle(0), Some(row) if row.handle == handle));
     /// ```
     pub fn nth_handle(&self, position: usize) -> Option<FileHandle>
         ensures { result ≡ slice_get self.now.holds position }

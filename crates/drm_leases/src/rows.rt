@@ -54,7 +54,7 @@ pub struct LeaseRecord {
 ///
 /// ```rust
 /// let Leased { master, id, token } = leased;
-/// assert!(id == 1 && token == 1 && masters.master(2).is_some_and(|row| row.key == master));
+/// assert!(id == 1 && token == 1 && matches!(masters.master(2), Some(row) if row.key == master));
 /// ```
 #[derive(Clone, Copy, PartialEq, Eq, Debug)]
 pub struct Leased {

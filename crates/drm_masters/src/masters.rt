@@ -93,7 +93,7 @@ impl Masters {
     /// How a client stands to masters, if it does. It takes no memory.
     ///
     /// ```rust
-    /// assert!(masters.member(1).is_some_and(|row| row.is_master && row.master == 1));
+    /// assert!(matches!(masters.member(1), Some(row) if row.is_master && row.master == 1));
     /// ```
     pub fn member(&self, client: u32) -> Option<Member>
         ensures member { result ≡ sets.member_of self.now.members client }
@@ -118,7 +118,7 @@ impl Masters {
     /// The master of a step number, if it is there. It takes no memory.
     ///
     /// ```rust
-    /// assert!(masters.master(1).is_some_and(|row| row.lessor.is_none() && !row.kept));
+    /// assert!(matches!(masters.master(1), Some(row) if row.lessor.is_none() && !row.kept));
     /// ```
     pub fn master(&self, step_number: u32) -> Option<Master>
         ensures master { result ≡ sets.master_at self.now.masters step_number }
@@ -470,7 +470,7 @@ impl Masters {
     ///
     /// ```rust
     /// let Some(owner) = masters.master(1) else { return };
-    /// assert!(masters.lessee(owner.key, id).is_some_and(|row| row.key == lessee));
+    /// assert!(matches!(masters.lessee(owner.key, id), Some(row) if row.key == lessee));
     /// ```
     pub fn lessee(&self, master: MasterKey, id: u32) -> Option<Master>
         requires { sets.is_there self.now.masters master ≡ true }
@@ -556,7 +556,7 @@ impl Masters {
     /// takes no memory.
     ///
     /// ```rust
-    /// assert!(masters.nth_member(0).is_some_and(|row| row.client == 1));
+    /// assert!(matches!(masters.nth_member(0), Some(row) if row.client == 1));
     /// ```
     pub fn nth_member(&self, position: usize) -> Option<Member>
         ensures { result ≡ slice_get self.now.members position }
@@ -567,7 +567,7 @@ impl Masters {
     /// The master at a place, from 0, in the order of step numbers; none past the last. It takes no memory.
     ///
     /// ```rust
-    /// assert!(masters.nth_master(0).is_some_and(|row| row.step_number == 1));
+    /// assert!(matches!(masters.nth_master(0), Some(row) if row.step_number == 1));
     /// ```
     pub fn nth_master(&self, position: usize) -> Option<Master>
         ensures { result ≡ slice_get self.now.masters position }

@@ -11,7 +11,7 @@ use std::marker::Model;
 /// let mut masters = Masters::new(alloc, 4, 4);
 /// let Ok(_first) = masters.on_open(1, 1) else { return };
 /// let Some(key) = masters.master_of(1) else { return };
-/// assert!(masters.master(1).is_some_and(|row| row.key == key));
+/// assert!(matches!(masters.master(1), Some(row) if row.key == key));
 /// ```
 #[derive(Clone, Copy, PartialEq, Eq, Debug)]
 pub struct MasterKey {
@@ -49,7 +49,7 @@ impl MasterKey {
 ///     assert!(masters.magic(1) == Ok(1));
 /// }
 /// let magic = Some(Magic { number: 1, spent: false });
-/// assert!(masters.member(1).is_some_and(|row| row.magic == magic));
+/// assert!(matches!(masters.member(1), Some(row) if row.magic == magic));
 /// ```
 #[derive(Clone, Copy, PartialEq, Eq, Debug)]
 pub struct Magic {

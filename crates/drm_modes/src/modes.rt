@@ -272,7 +272,7 @@ impl Modes {
     /// The framebuffer of an id, if there is one. It takes no memory.
     ///
     /// ```rust
-    /// assert!(modes.fb(framebuffer).is_some_and(|row| row.object == object));
+    /// assert!(matches!(modes.fb(framebuffer), Some(row) if row.object == object));
     /// ```
     pub fn fb(&self, id: u32) -> Option<Framebuffer>
         ensures found { result ≡ find (is_framebuffer id) self.now.framebuffers }
@@ -404,7 +404,7 @@ impl Modes {
     /// The framebuffer at a place of the list of framebuffers, where 0 is the first. It takes no memory.
     ///
     /// ```rust
-    /// assert!(modes.nth_framebuffer(0).is_some_and(|row| row.framebuffer == framebuffer));
+    /// assert!(matches!(modes.nth_framebuffer(0), Some(row) if row.framebuffer == framebuffer));
     /// ```
     pub fn nth_framebuffer(&self, position: usize) -> Option<Framebuffer>
         ensures { result ≡ slice_get self.now.framebuffers position }
@@ -417,7 +417,7 @@ impl Modes {
     /// memory, and goes through the CRTCs and planes.
     ///
     /// ```rust
-    /// assert!(modes.nth_shown(1).is_some_and(|row| row.engine == 3 && row.framebuffer == framebuffer));
+    /// assert!(matches!(modes.nth_shown(1), Some(row) if row.engine == 3 && row.framebuffer == framebuffer));
     /// ```
     pub fn nth_shown(&self, position: usize) -> Option<Shown>
         ensures { result ≡ slice_get (shown_rows self.now) position }

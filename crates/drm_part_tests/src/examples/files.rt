@@ -10,7 +10,7 @@ fn values(rt: HostRuntime) {
     assert!(rt; files.open(1, false, false, true) == Err(FileFault::Full));
     let mut files = Files::new(alloc, 4, 100);
     let Ok(()) = files.open(1, false, true, true) else {
-        return
+        panic!(rt; "refused")
     };
     let flags = FileFlags {
         render: false,
@@ -22,7 +22,7 @@ fn values(rt: HostRuntime) {
     assert!(rt; files.nth_client(0) == Some(FileClient { client: 1, flags }));
     let object = ObjectKey::from_number(7);
     let Ok(handle) = files.add_handle(1, object, Some(3)) else {
-        return
+        panic!(rt; "refused")
     };
     let hold = FileHandle {
         client: 1,
@@ -38,12 +38,12 @@ fn files(rt: HostRuntime) {
     let alloc = rt.alloc();
     let mut files = Files::new(alloc, 4, 100);
     let Ok(()) = files.open(1, false, false, true) else {
-        return
+        panic!(rt; "refused")
     };
     assert!(rt; Files::new(alloc, 4, 100).len() == 0);
     assert!(rt; files.flags_of(1).is_some() && files.flags_of(2).is_none());
     let Ok(()) = files.open(2, true, false, false) else {
-        return
+        panic!(rt; "refused")
     };
     let mut rest = files.close(2);
     assert!(rt; rest.take_next().is_none() && files.len() == 1);
@@ -52,21 +52,17 @@ fn files(rt: HostRuntime) {
     assert!(rt; files.has_room(1));
     let object = ObjectKey::from_number(7);
     let Ok(handle) = files.add_handle(1, object, None) else {
-        return
+        panic!(rt; "refused")
     };
     assert!(rt; handle == 1);
     assert!(rt; files.object_of(1, handle) == Some(object));
     assert!(rt; files.drop_handle(1, handle) == Some(object));
     assert!(rt; files.object_of(1, handle).is_none());
-    assert!(rt;
-        files
-            .flags_of(1)
-            .is_some_and(|flags| flags.universal && !flags.render)
-    );
+    assert!(rt; matches!(files.flags_of(1), Some(flags) if flags.universal && !flags.render));
     files.set_authenticated(1);
-    assert!(rt; files.flags_of(1).is_some_and(|flags| flags.authenticated));
+    assert!(rt; matches!(files.flags_of(1), Some(flags) if flags.authenticated));
     files.set_universal(1, false);
-    assert!(rt; files.flags_of(1).is_some_and(|flags| !flags.universal));
+    assert!(rt; matches!(files.flags_of(1), Some(flags) if !flags.universal));
 }
 
 #[test]
@@ -74,15 +70,15 @@ fn files_lists(rt: HostRuntime) {
     let alloc = rt.alloc();
     let mut files = Files::new(alloc, 4, 100);
     let Ok(()) = files.open(1, false, false, true) else {
-        return
+        panic!(rt; "refused")
     };
     let object = ObjectKey::from_number(7);
     let Ok(handle) = files.add_handle(1, object, None) else {
-        return
+        panic!(rt; "refused")
     };
     assert!(rt; files.handles_of(1, 0).ids() == [handle].as_slice());
-    assert!(rt; files.nth_client(0).is_some_and(|row| row.client == 1));
-    assert!(rt; files.nth_handle(0).is_some_and(|row| row.handle == handle));
+    assert!(rt; matches!(files.nth_client(0), Some(row) if row.client == 1));
+    assert!(rt; matches!(files.nth_handle(0), Some(row) if row.handle == handle));
 }
 
 #[test]
@@ -90,12 +86,12 @@ fn files_primes(rt: HostRuntime) {
     let alloc = rt.alloc();
     let mut files = Files::new(alloc, 4, 100);
     let Ok(()) = files.open(1, false, false, true) else {
-        return
+        panic!(rt; "refused")
     };
     let object = ObjectKey::from_number(7);
     assert!(rt; files.prime_handle(1, object).is_none());
     let Ok(handle) = files.add_handle(1, object, None) else {
-        return
+        panic!(rt; "refused")
     };
     files.set_prime(1, handle, 5);
     assert!(rt; files.prime_handle(1, object) == Some(handle));
@@ -106,11 +102,11 @@ fn file_rest_rest(rt: HostRuntime) {
     let alloc = rt.alloc();
     let mut files = Files::new(alloc, 4, 100);
     let Ok(()) = files.open(1, false, false, true) else {
-        return
+        panic!(rt; "refused")
     };
     let object = ObjectKey::from_number(7);
     let Ok(handle) = files.add_handle(1, object, None) else {
-        return
+        panic!(rt; "refused")
     };
     let mut rest = files.close(1);
     assert!(rt; rest.take_next() == Some((handle, object)));

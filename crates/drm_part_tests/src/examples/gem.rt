@@ -7,15 +7,15 @@ fn values(rt: HostRuntime) {
     let alloc = rt.alloc();
     let mut objects = Objects::new(alloc, 1);
     let Ok(key) = objects.create(3, 4096) else {
-        return
+        panic!(rt; "refused")
     };
     let Some(object) = objects.get(key) else {
-        return
+        panic!(rt; "refused")
     };
     assert!(rt; object.step_number == 3 && object.size == 4096 && object.holds == 1);
     let mut objects = Objects::new(alloc, 1);
     let Ok(key) = objects.create(3, 4096) else {
-        return
+        panic!(rt; "refused")
     };
     let gone = Dead {
         step_number: 3,
@@ -38,11 +38,11 @@ fn objects(rt: HostRuntime) {
     let alloc = rt.alloc();
     let mut objects = Objects::new(alloc, 2);
     let Ok(key) = objects.create(1, 4096) else {
-        return
+        panic!(rt; "refused")
     };
     assert!(rt; Objects::new(alloc, 2).nth(0).is_none());
     let Ok(other) = objects.create(2, 8192) else {
-        return
+        panic!(rt; "refused")
     };
     assert!(rt; other != key);
     assert!(rt; objects.get(key).is_some());

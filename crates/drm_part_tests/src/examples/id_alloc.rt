@@ -6,10 +6,14 @@ use drm_id_alloc::{AddFault, Groups, IdTable, NoMemory};
 fn values(rt: HostRuntime) {
     let alloc = rt.alloc();
     let mut groups = Groups::new(alloc);
-    let Ok(()) = groups.note(3, 500) else { return };
+    let Ok(()) = groups.note(3, 500) else {
+        panic!(rt; "refused")
+    };
     assert!(rt; groups.note(3, 500) != Err(NoMemory));
     let mut table: IdTable<u8> = IdTable::new(alloc, 1, 1);
-    let Ok(_id) = table.add(7) else { return };
+    let Ok(_id) = table.add(7) else {
+        panic!(rt; "refused")
+    };
     assert!(rt; table.add(8) == Err(AddFault::Full(8)));
 }
 
@@ -17,9 +21,13 @@ fn values(rt: HostRuntime) {
 fn groups(rt: HostRuntime) {
     let alloc = rt.alloc();
     let mut groups = Groups::new(alloc);
-    let Ok(()) = groups.note(3, 500) else { return };
+    let Ok(()) = groups.note(3, 500) else {
+        panic!(rt; "refused")
+    };
     assert!(rt; !Groups::new(alloc).has(3, 500));
-    let Ok(()) = groups.note(3, 7) else { return };
+    let Ok(()) = groups.note(3, 7) else {
+        panic!(rt; "refused")
+    };
     groups.forget(3, 500);
     assert!(rt; !groups.has(3, 500));
     assert!(rt; groups.next(3, 0) == Some(7));
@@ -32,12 +40,14 @@ fn groups(rt: HostRuntime) {
 fn id_table_table(rt: HostRuntime) {
     let alloc = rt.alloc();
     let mut table: IdTable<u8> = IdTable::new(alloc, 1, 2);
-    let Ok(id) = table.add(7) else { return };
+    let Ok(id) = table.add(7) else {
+        panic!(rt; "refused")
+    };
     let empty: IdTable<u8> = IdTable::new(alloc, 1, 9);
     assert!(rt; empty.len() == 0 && empty.last_given().is_none());
     assert!(rt; id == 1);
     let Ok(other) = table.add_cyclic(8) else {
-        return
+        panic!(rt; "refused")
     };
     assert!(rt; other == 2 || other == 1);
     assert!(rt; table.add(9) == Err(AddFault::Full(9)));

@@ -6,7 +6,9 @@ use drm_index_array::{IndexArray, InsertFault, Mark};
 fn values(rt: HostRuntime) {
     let alloc = rt.alloc();
     let mut array: IndexArray<u8> = IndexArray::new(alloc);
-    let Ok(()) = array.insert(5, 1) else { return };
+    let Ok(()) = array.insert(5, 1) else {
+        panic!(rt; "refused")
+    };
     assert!(rt; array.set_mark(5, Mark::M1) && !array.marked(5, Mark::M2));
 }
 
@@ -14,7 +16,9 @@ fn values(rt: HostRuntime) {
 fn index_array_array(rt: HostRuntime) {
     let alloc = rt.alloc();
     let mut array: IndexArray<u8> = IndexArray::new(alloc);
-    let Ok(()) = array.insert(300, 7) else { return };
+    let Ok(()) = array.insert(300, 7) else {
+        panic!(rt; "refused")
+    };
     let empty: IndexArray<u8> = IndexArray::new(alloc);
     assert!(rt; empty.len() == 0);
     assert!(rt; array.len() == 1);
@@ -26,7 +30,9 @@ fn index_array_array(rt: HostRuntime) {
     assert!(rt; array.get(300) == Some(&9));
     assert!(rt; array.remove(300) == Some(9));
     assert!(rt; array.get(300).is_none());
-    let Ok(()) = array.insert(40, 1) else { return };
+    let Ok(()) = array.insert(40, 1) else {
+        panic!(rt; "refused")
+    };
     assert!(rt; array.set_mark(40, Mark::M0));
     assert!(rt; array.clear_mark(40, Mark::M0));
     assert!(rt; !array.marked(40, Mark::M0));

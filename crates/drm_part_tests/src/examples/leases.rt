@@ -9,26 +9,26 @@ use drm_table::Rule;
 fn values(rt: HostRuntime) {
     let alloc = rt.alloc();
     let Some(topology) = Topology::new(2, &[1, 2], &[3, 2], &[5, 6]) else {
-        return
+        panic!(rt; "refused")
     };
     let modes = Modes::new(alloc, topology, 4);
     let mut masters = Masters::new(alloc, 4, 4);
     let Ok(_first) = masters.on_open(1, 1) else {
-        return
+        panic!(rt; "refused")
     };
     let shape = Leases::new(alloc, 8).create(&mut masters, &modes, 1, true, &[1], 2);
     assert!(rt; shape == Err(LeaseFault::Denied(Rule::LeaseShape)));
     let Some(topology) = Topology::new(2, &[1, 2], &[3, 2], &[5, 6]) else {
-        return
+        panic!(rt; "refused")
     };
     let modes = Modes::new(alloc, topology, 4);
     let mut masters = Masters::new(alloc, 4, 4);
     let Ok(_first) = masters.on_open(1, 1) else {
-        return
+        panic!(rt; "refused")
     };
     let mut leases = Leases::new(alloc, 8);
     let Ok(leased) = leases.create(&mut masters, &modes, 1, true, &[1, 3, 7], 2) else {
-        return
+        panic!(rt; "refused")
     };
     assert!(rt;
         leases.nth_grant(0)
@@ -43,23 +43,25 @@ fn values(rt: HostRuntime) {
     };
     assert!(rt; leases.token_of(token.master) == Some(token.token));
     let Leased { master, id, token } = leased;
-    assert!(rt; id == 1 && token == 1 && masters.master(2).is_some_and(|row| row.key == master));
+    assert!(rt;
+        id == 1 && token == 1 && matches!(masters.master(2), Some(row) if row.key == master)
+    );
 }
 
 #[test]
 fn leases(rt: HostRuntime) {
     let alloc = rt.alloc();
     let Some(topology) = Topology::new(2, &[1, 2], &[3, 2], &[5, 6]) else {
-        return
+        panic!(rt; "refused")
     };
     let modes = Modes::new(alloc, topology, 4);
     let mut masters = Masters::new(alloc, 4, 4);
     let Ok(_first) = masters.on_open(1, 1) else {
-        return
+        panic!(rt; "refused")
     };
     let mut leases = Leases::new(alloc, 8);
     let Ok(leased) = leases.create(&mut masters, &modes, 1, true, &[1, 3, 7], 2) else {
-        return
+        panic!(rt; "refused")
     };
     assert!(rt; Leases::new(alloc, 8).last_given().is_none());
     assert!(rt; leased.id == 1 && leased.token == 1);

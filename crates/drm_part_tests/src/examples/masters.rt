@@ -8,27 +8,27 @@ fn values(rt: HostRuntime) {
     let alloc = rt.alloc();
     let mut masters = Masters::new(alloc, 4, 0);
     let Ok(_first) = masters.on_open(1, 1) else {
-        return
+        panic!(rt; "refused")
     };
     assert!(rt; masters.member(1).is_none() || masters.magic(1) != Err(NoMemory));
     assert!(rt; masters.member(1).is_none() || masters.set(1, false, 2) == Ok(SetDone::Already));
     let Ok(_second) = masters.on_open(2, 2) else {
-        return
+        panic!(rt; "refused")
     };
     let denied = Err(SetFault::Denied(Rule::MasterPerm));
     assert!(rt; masters.member(2).is_none() || masters.set(2, false, 3) == denied);
     let Some(owner) = masters.master(1) else {
-        return
+        panic!(rt; "refused")
     };
     assert!(rt; masters.make_lessee(owner.key, 4) == Err(LesseeFault::Full));
     let mut masters = Masters::new(alloc, 4, 4);
     let Ok(_first) = masters.on_open(1, 1) else {
-        return
+        panic!(rt; "refused")
     };
     let Some(key) = masters.master_of(1) else {
-        return
+        panic!(rt; "refused")
     };
-    assert!(rt; masters.master(1).is_some_and(|row| row.key == key));
+    assert!(rt; matches!(masters.master(1), Some(row) if row.key == key));
     if masters.member(1).is_some() {
         assert!(rt; masters.magic(1) == Ok(1));
     }
@@ -36,7 +36,7 @@ fn values(rt: HostRuntime) {
         number: 1,
         spent: false,
     });
-    assert!(rt; masters.member(1).is_some_and(|row| row.magic == magic));
+    assert!(rt; matches!(masters.member(1), Some(row) if row.magic == magic));
     let member = Member {
         client: 1,
         once_master: true,
@@ -52,10 +52,10 @@ fn values_from_master(rt: HostRuntime) {
     let alloc = rt.alloc();
     let mut masters = Masters::new(alloc, 4, 4);
     let Ok(_first) = masters.on_open(1, 1) else {
-        return
+        panic!(rt; "refused")
     };
     let Some(key) = masters.master_of(1) else {
-        return
+        panic!(rt; "refused")
     };
     if masters.member(1).is_some() {
         assert!(rt; masters.magic(1) == Ok(1));
@@ -75,23 +75,17 @@ fn masters(rt: HostRuntime) {
     let alloc = rt.alloc();
     let mut masters = Masters::new(alloc, 4, 4);
     let Ok(is_first) = masters.on_open(1, 1) else {
-        return
+        panic!(rt; "refused")
     };
     assert!(rt; Masters::new(alloc, 4, 4).device_master().is_none());
-    assert!(rt;
-        masters
-            .member(1)
-            .is_some_and(|row| row.is_master && row.master == 1)
-    );
+    assert!(rt; matches!(masters.member(1), Some(row) if row.is_master && row.master == 1));
     assert!(rt; masters.master_of(1).is_some() && masters.master_of(2).is_none());
-    assert!(rt;
-        masters
-            .master(1)
-            .is_some_and(|row| row.lessor.is_none() && !row.kept)
-    );
+    assert!(rt; matches!(masters.master(1), Some(row) if row.lessor.is_none() && !row.kept));
     assert!(rt; masters.is_under(1, 1));
     assert!(rt; masters.depth(1) == 0);
-    let Some(row) = masters.master(1) else { return };
+    let Some(row) = masters.master(1) else {
+        panic!(rt; "refused")
+    };
     assert!(rt; masters.lessor_of(row.key).is_none());
     assert!(rt; masters.nth_lessee(1, 0).is_none());
     assert!(rt; !masters.is_lessee(1));
@@ -100,35 +94,41 @@ fn masters(rt: HostRuntime) {
     assert!(rt; is_first);
     let mut masters = Masters::new(alloc, 4, 4);
     let Ok(_first) = masters.on_open(1, 1) else {
-        return
+        panic!(rt; "refused")
     };
     let Some(owner) = masters.master(1) else {
-        return
+        panic!(rt; "refused")
     };
     let Ok((lessee, _id)) = masters.make_lessee(owner.key, 2) else {
-        return
+        panic!(rt; "refused")
     };
     let Ok(()) = masters.on_redeem(3, lessee) else {
-        return
+        panic!(rt; "refused")
     };
     assert!(rt; masters.is_lessee(3));
+    if masters.member(1).is_some() {
+        assert!(rt; masters.set(1, false, 9) == Ok(SetDone::Already));
+    }
+    if masters.member(1).is_some() {
+        assert!(rt; masters.drop_master(1, false) == Ok(()));
+    }
 }
 
 #[test]
-fn masters_from_set(rt: HostRuntime) {
+fn masters_from_magic(rt: HostRuntime) {
     let alloc = rt.alloc();
     let mut masters = Masters::new(alloc, 4, 4);
     let Ok(_first) = masters.on_open(1, 1) else {
-        return
+        panic!(rt; "refused")
     };
     let Some(owner) = masters.master(1) else {
-        return
+        panic!(rt; "refused")
     };
     let Ok((lessee, _id)) = masters.make_lessee(owner.key, 2) else {
-        return
+        panic!(rt; "refused")
     };
     let Ok(()) = masters.on_redeem(3, lessee) else {
-        return
+        panic!(rt; "refused")
     };
     if masters.member(1).is_some() {
         assert!(rt; masters.set(1, false, 9) == Ok(SetDone::Already));
@@ -146,13 +146,13 @@ fn masters_from_set(rt: HostRuntime) {
     assert!(rt; masters.member(1).is_none());
     let mut masters = Masters::new(alloc, 4, 4);
     let Ok(_first) = masters.on_open(1, 1) else {
-        return
+        panic!(rt; "refused")
     };
     let Some(owner) = masters.master(1) else {
-        return
+        panic!(rt; "refused")
     };
     let Ok((lessee, id)) = masters.make_lessee(owner.key, 2) else {
-        return
+        panic!(rt; "refused")
     };
     assert!(rt; id == 1);
 }
@@ -162,22 +162,18 @@ fn masters_from_lessee(rt: HostRuntime) {
     let alloc = rt.alloc();
     let mut masters = Masters::new(alloc, 4, 4);
     let Ok(_first) = masters.on_open(1, 1) else {
-        return
+        panic!(rt; "refused")
     };
     let Some(owner) = masters.master(1) else {
-        return
+        panic!(rt; "refused")
     };
     let Ok((lessee, id)) = masters.make_lessee(owner.key, 2) else {
-        return
+        panic!(rt; "refused")
     };
     let Some(owner) = masters.master(1) else {
-        return
+        panic!(rt; "refused")
     };
-    assert!(rt;
-        masters
-            .lessee(owner.key, id)
-            .is_some_and(|row| row.key == lessee)
-    );
+    assert!(rt; matches!(masters.lessee(owner.key, id), Some(row) if row.key == lessee));
     assert!(rt; masters.last_lessee() == 4);
     assert!(rt; masters.free_lessee(1) == Some(2));
     if let Some(row) = masters.master(2) {
@@ -188,10 +184,6 @@ fn masters_from_lessee(rt: HostRuntime) {
     assert!(rt; masters.master(1).is_some());
     masters.release_below(1);
     assert!(rt; masters.master(1).is_some());
-    assert!(rt; masters.nth_member(0).is_some_and(|row| row.client == 1));
-    assert!(rt;
-        masters
-            .nth_master(0)
-            .is_some_and(|row| row.step_number == 1)
-    );
+    assert!(rt; matches!(masters.nth_member(0), Some(row) if row.client == 1));
+    assert!(rt; matches!(masters.nth_master(0), Some(row) if row.step_number == 1));
 }

@@ -8,7 +8,7 @@ use drm_table::ShownList;
 fn values(rt: HostRuntime) {
     let alloc = rt.alloc();
     let Some(topology) = Topology::new(2, &[1, 2], &[3, 2], &[5, 6]) else {
-        return
+        panic!(rt; "refused")
     };
     let mut modes = Modes::new(alloc, topology, 1);
     let shape = Shape {
@@ -18,12 +18,12 @@ fn values(rt: HostRuntime) {
         bpp: 32,
     };
     let Ok(_first) = modes.addfb(1, shape, ObjectKey::from_number(7)) else {
-        return
+        panic!(rt; "refused")
     };
     let second = modes.addfb(1, shape, ObjectKey::from_number(7));
     assert!(rt; second == Err(AddFbFault::Full));
     let Some(topology) = Topology::new(2, &[1, 2], &[3, 2], &[5, 6]) else {
-        return
+        panic!(rt; "refused")
     };
     assert!(rt; topology.kind(1) == Some(Kind::Crtc) && topology.kind(8) == Some(Kind::Connector));
     let shape = Shape {
@@ -44,12 +44,12 @@ fn values_from_framebuffer(rt: HostRuntime) {
         bpp: 32,
     };
     let Some(topology) = Topology::new(2, &[1, 2], &[3, 2], &[5, 6]) else {
-        return
+        panic!(rt; "refused")
     };
     let mut modes = Modes::new(alloc, topology, 4);
     let object = ObjectKey::from_number(7);
     let Ok(framebuffer) = modes.addfb(1, shape, object) else {
-        return
+        panic!(rt; "refused")
     };
     assert!(rt;
         modes.fb(framebuffer)
@@ -82,7 +82,7 @@ fn plane_kind_kinds(rt: HostRuntime) {
 fn modes(rt: HostRuntime) {
     let alloc = rt.alloc();
     let Some(topology) = Topology::new(2, &[1, 2], &[3, 2], &[5, 6]) else {
-        return
+        panic!(rt; "refused")
     };
     let mut modes = Modes::new(alloc, topology, 4);
     let shape = Shape {
@@ -93,7 +93,7 @@ fn modes(rt: HostRuntime) {
     };
     let object = ObjectKey::from_number(7);
     let Ok(framebuffer) = modes.addfb(1, shape, object) else {
-        return
+        panic!(rt; "refused")
     };
     assert!(rt; modes.object_count() == 8);
     assert!(rt; modes.kind(3) == Some(Kind::Plane));
@@ -111,21 +111,21 @@ fn modes(rt: HostRuntime) {
     assert!(rt; modes.mask(4, &none_seen) == 0);
     assert!(rt; framebuffer == 9);
     assert!(rt; !modes.is_full());
-    assert!(rt;
-        modes
-            .fb(framebuffer)
-            .is_some_and(|row| row.object == object)
-    );
+    assert!(rt; matches!(modes.fb(framebuffer), Some(row) if row.object == object));
     assert!(rt; modes.framebuffers_of(1).ids() == [framebuffer].as_slice());
     assert!(rt; modes.rmfb(2, framebuffer).is_none());
     assert!(rt; modes.rmfb(1, framebuffer) == Some(object));
+    let Ok(framebuffer) = modes.addfb(1, shape, object) else {
+        panic!(rt; "refused")
+    };
+    assert!(rt; modes.take_first_fb_of(1) == Some((framebuffer, object)));
 }
 
 #[test]
-fn modes_from_take_first_fb_of(rt: HostRuntime) {
+fn modes_from_setcrtc(rt: HostRuntime) {
     let alloc = rt.alloc();
     let Some(topology) = Topology::new(2, &[1, 2], &[3, 2], &[5, 6]) else {
-        return
+        panic!(rt; "refused")
     };
     let mut modes = Modes::new(alloc, topology, 4);
     let shape = Shape {
@@ -136,16 +136,16 @@ fn modes_from_take_first_fb_of(rt: HostRuntime) {
     };
     let object = ObjectKey::from_number(7);
     let Ok(framebuffer) = modes.addfb(1, shape, object) else {
-        return
+        panic!(rt; "refused")
     };
     assert!(rt; modes.rmfb(2, framebuffer).is_none());
     assert!(rt; modes.rmfb(1, framebuffer) == Some(object));
     let Ok(framebuffer) = modes.addfb(1, shape, object) else {
-        return
+        panic!(rt; "refused")
     };
     assert!(rt; modes.take_first_fb_of(1) == Some((framebuffer, object)));
     let Ok(framebuffer) = modes.addfb(1, shape, object) else {
-        return
+        panic!(rt; "refused")
     };
     if modes.is_of_kind(Kind::Crtc, 1) && modes.fb(framebuffer).is_some() {
         modes.setcrtc(1, framebuffer);
@@ -154,56 +154,16 @@ fn modes_from_take_first_fb_of(rt: HostRuntime) {
         modes.setplane(3, framebuffer);
     }
     assert!(rt; modes.shown(1) == framebuffer && modes.shown(2) == 0);
+    assert!(rt; matches!(modes.nth_framebuffer(0), Some(row) if row.framebuffer == framebuffer));
     assert!(rt;
-        modes
-            .nth_framebuffer(0)
-            .is_some_and(|row| row.framebuffer == framebuffer)
-    );
-}
-
-#[test]
-fn modes_from_nth_shown(rt: HostRuntime) {
-    let alloc = rt.alloc();
-    let Some(topology) = Topology::new(2, &[1, 2], &[3, 2], &[5, 6]) else {
-        return
-    };
-    let mut modes = Modes::new(alloc, topology, 4);
-    let shape = Shape {
-        width: 640,
-        height: 480,
-        pitch: 2560,
-        bpp: 32,
-    };
-    let object = ObjectKey::from_number(7);
-    let Ok(framebuffer) = modes.addfb(1, shape, object) else {
-        return
-    };
-    assert!(rt; modes.rmfb(2, framebuffer).is_none());
-    assert!(rt; modes.rmfb(1, framebuffer) == Some(object));
-    let Ok(framebuffer) = modes.addfb(1, shape, object) else {
-        return
-    };
-    assert!(rt; modes.take_first_fb_of(1) == Some((framebuffer, object)));
-    let Ok(framebuffer) = modes.addfb(1, shape, object) else {
-        return
-    };
-    if modes.is_of_kind(Kind::Crtc, 1) && modes.fb(framebuffer).is_some() {
-        modes.setcrtc(1, framebuffer);
-    }
-    if modes.is_of_kind(Kind::Plane, 3) && modes.fb(framebuffer).is_some() {
-        modes.setplane(3, framebuffer);
-    }
-    assert!(rt;
-        modes
-            .nth_shown(1)
-            .is_some_and(|row| row.engine == 3 && row.framebuffer == framebuffer)
+        matches!(modes.nth_shown(1), Some(row) if row.engine == 3 && row.framebuffer == framebuffer)
     );
 }
 
 #[test]
 fn topology_topologies(rt: HostRuntime) {
     let Some(topology) = Topology::new(2, &[1, 2], &[3, 2], &[5, 6]) else {
-        return
+        panic!(rt; "refused")
     };
     assert!(rt; Topology::new(1, &[2], &[1], &[1]).is_none());
     let kinds = [PlaneKind::Primary(1), PlaneKind::Overlay];

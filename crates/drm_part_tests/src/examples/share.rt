@@ -8,19 +8,21 @@ fn values(rt: HostRuntime) {
     let alloc = rt.alloc();
     let mut names = Names::new(alloc, 1);
     let Ok(_name) = names.give(ObjectKey::from_number(4)) else {
-        return
+        panic!(rt; "refused")
     };
     if names.name_of(ObjectKey::from_number(5)).is_none() {
         assert!(rt; names.give(ObjectKey::from_number(5)) == Err(ShareFault::Full));
     }
     let mut names = Names::new(alloc, 100);
     let object = ObjectKey::from_number(4);
-    let Ok(name) = names.give(object) else { return };
+    let Ok(name) = names.give(object) else {
+        panic!(rt; "refused")
+    };
     assert!(rt; names.nth(0) == Some(SharedName { name, object }));
     let mut tokens = Tokens::new(alloc, 100);
     let object = ObjectKey::from_number(4);
     let Ok(token) = tokens.export(9, object) else {
-        return
+        panic!(rt; "refused")
     };
     assert!(rt;
         tokens.nth(0)
@@ -37,7 +39,9 @@ fn names(rt: HostRuntime) {
     let alloc = rt.alloc();
     let mut names = Names::new(alloc, 100);
     let object = ObjectKey::from_number(4);
-    let Ok(name) = names.give(object) else { return };
+    let Ok(name) = names.give(object) else {
+        panic!(rt; "refused")
+    };
     assert!(rt; Names::new(alloc, 100).nth(0).is_none());
     assert!(rt; names.name_of(object) == Some(name));
     assert!(rt; name == 1);
@@ -54,11 +58,11 @@ fn tokens(rt: HostRuntime) {
     let mut tokens = Tokens::new(alloc, 100);
     let object = ObjectKey::from_number(4);
     let Ok(token) = tokens.export(9, object) else {
-        return
+        panic!(rt; "refused")
     };
     assert!(rt; Tokens::new(alloc, 100).last_given().is_none());
     let Ok(other) = tokens.export(9, object) else {
-        return
+        panic!(rt; "refused")
     };
     assert!(rt; other != token);
     assert!(rt; !tokens.is_full());

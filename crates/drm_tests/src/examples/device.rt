@@ -7,29 +7,29 @@ use drm_table::{Answer, AuditKind, Call, Event, Opening};
 fn values(rt: HostRuntime) {
     let alloc = rt.alloc();
     let Some(topology) = Topology::new(2, &[1, 2], &[3, 2], &[5, 6]) else {
-        return
+        panic!(rt; "refused")
     };
     let limits = Limits {
         clients: 0,
         ..Limits::PROGRAM
     };
     let Err(fault) = Device::new(alloc, topology, limits) else {
-        return
+        panic!(rt; "refused")
     };
     assert!(rt; fault == NewFault::BadLimits);
     let Some(topology) = Topology::new(2, &[1, 2], &[3, 2], &[5, 6]) else {
-        return
+        panic!(rt; "refused")
     };
     let Err(fault) = replay(alloc, topology, limits, &[]) else {
-        return
+        panic!(rt; "refused")
     };
     assert!(rt; fault == ReplayFault::New(NewFault::BadLimits));
     let Some(topology) = Topology::new(2, &[1, 2], &[3, 2], &[5, 6]) else {
-        return
+        panic!(rt; "refused")
     };
     let events = [Event::Open(Opening::Render)];
     let Ok(device) = replay(alloc, topology, Limits::PROGRAM, &events) else {
-        return
+        panic!(rt; "refused")
     };
     assert!(rt; device.journal() == events.as_slice());
 }
@@ -38,10 +38,10 @@ fn values(rt: HostRuntime) {
 fn device(rt: HostRuntime) {
     let alloc = rt.alloc();
     let Some(topology) = Topology::new(2, &[1, 2], &[3, 2], &[5, 6]) else {
-        return
+        panic!(rt; "refused")
     };
     let Ok(mut device) = Device::new(alloc, topology, Limits::PROGRAM) else {
-        return
+        panic!(rt; "refused")
     };
     assert!(rt; device.journal().is_empty());
     let opening = Opening::Primary {

@@ -13,10 +13,10 @@ use drm_turns::SharedDevice;
 fn values(rt: HostRuntime) {
     let alloc = rt.alloc();
     let Some(topology) = Topology::new(2, &[1, 2], &[3, 2], &[5, 6]) else {
-        return
+        panic!(rt; "refused")
     };
     let Ok(mut device) = Device::new(alloc, topology, Limits::PROGRAM) else {
-        return
+        panic!(rt; "refused")
     };
     let opening = Event::Open(Opening::Render);
     let opened = Alone {
@@ -57,10 +57,10 @@ fn values(rt: HostRuntime) {
 fn values_from_session_end(rt: HostRuntime) {
     let alloc = rt.alloc();
     let Some(topology) = Topology::new(2, &[1, 2], &[3, 2], &[5, 6]) else {
-        return
+        panic!(rt; "refused")
     };
     let Ok(mut device) = Device::new(alloc, topology, Limits::PROGRAM) else {
-        return
+        panic!(rt; "refused")
     };
     let mut gate = NoGate;
     gate.before(1);
@@ -73,13 +73,13 @@ fn values_from_session_end(rt: HostRuntime) {
     let Session { client, steps, .. } = session;
     assert!(rt; client == 0 && steps == 0);
     let Some(topology) = Topology::new(2, &[1, 2], &[3, 2], &[5, 6]) else {
-        return
+        panic!(rt; "refused")
     };
     let Ok(fresh) = Device::new(alloc, topology, Limits::PROGRAM) else {
-        return
+        panic!(rt; "refused")
     };
     let Ok((shared, mut participant)) = SharedDevice::new(alloc, fresh) else {
-        return
+        panic!(rt; "refused")
     };
     let (from, into) = (
         FromRead::new(hello.as_slice()),
@@ -100,13 +100,13 @@ fn values_from_finished(rt: HostRuntime) {
     let hello = [14, 0, 0, 0, 0, 1, 1, 0, 0, 0, 0, 0, 0, 0, 0, 0, 0, 0];
     let card = Class::Card;
     let Some(topology) = Topology::new(2, &[1, 2], &[3, 2], &[5, 6]) else {
-        return
+        panic!(rt; "refused")
     };
     let Ok(fresh) = Device::new(alloc, topology, Limits::PROGRAM) else {
-        return
+        panic!(rt; "refused")
     };
     let Ok((shared, mut participant)) = SharedDevice::new(alloc, fresh) else {
-        return
+        panic!(rt; "refused")
     };
     let (from, into) = (
         FromRead::new(hello.as_slice()),
@@ -120,37 +120,48 @@ fn values_from_finished(rt: HostRuntime) {
         turns: 1000,
     };
     let mut jobs = Vec::new(alloc);
-    let Ok(()) = jobs.push(job) else { return };
+    let Ok(()) = jobs.push(job) else {
+        panic!(rt; "refused")
+    };
     let Ok(served) = serve_many(&rt, alloc, &shared, &mut participant, jobs) else {
-        return
+        panic!(rt; "refused")
     };
     let Some(Finished { session, .. }) = served.first() else {
-        return
+        panic!(rt; "refused")
     };
     assert!(rt; session.steps == 2);
     let none: Vec<Job<NoGate, FromRead<&[u8]>, ToWrite<Vec<u8>>>> = Vec::new(alloc);
     match serve_many(&rt, alloc, &shared, &mut participant, none) {
         Ok(served) => assert!(rt; served.is_empty()),
-        Err(ManyFault::NoMemory | ManyFault::NoThread) => return,
+        Err(ManyFault::NoMemory | ManyFault::NoThread) => panic!(rt; "refused"),
     }
-    let jobs: Vec<Job<NoGate, FromRead<&[u8]>, ToWrite<Vec<u8>>>> = Vec::new(alloc);
-    assert!(rt; serve_many(&rt, alloc, &shared, &mut participant, jobs).is_ok());
 }
 
 #[test]
-fn values_from_serve(rt: HostRuntime) {
+fn values_from_serve_many(rt: HostRuntime) {
     let alloc = rt.alloc();
     let Some(topology) = Topology::new(2, &[1, 2], &[3, 2], &[5, 6]) else {
-        return
+        panic!(rt; "refused")
     };
     let Ok(mut device) = Device::new(alloc, topology, Limits::PROGRAM) else {
-        return
+        panic!(rt; "refused")
     };
     let mut gate = NoGate;
     gate.before(1);
     let hello = [14, 0, 0, 0, 0, 1, 1, 0, 0, 0, 0, 0, 0, 0, 0, 0, 0, 0];
     let mut sink = ToWrite::new(Vec::new(alloc));
     let card = Class::Card;
+    let Some(topology) = Topology::new(2, &[1, 2], &[3, 2], &[5, 6]) else {
+        panic!(rt; "refused")
+    };
+    let Ok(fresh) = Device::new(alloc, topology, Limits::PROGRAM) else {
+        panic!(rt; "refused")
+    };
+    let Ok((shared, mut participant)) = SharedDevice::new(alloc, fresh) else {
+        panic!(rt; "refused")
+    };
+    let jobs: Vec<Job<NoGate, FromRead<&[u8]>, ToWrite<Vec<u8>>>> = Vec::new(alloc);
+    assert!(rt; serve_many(&rt, alloc, &shared, &mut participant, jobs).is_ok());
     let mut source = FromRead::new(hello.as_slice());
     let mut alone = Alone {
         device: &mut device,
@@ -166,13 +177,13 @@ fn values_from_served(rt: HostRuntime) {
     let mut sink = ToWrite::new(Vec::new(alloc));
     let card = Class::Card;
     let Some(topology) = Topology::new(2, &[1, 2], &[3, 2], &[5, 6]) else {
-        return
+        panic!(rt; "refused")
     };
     let Ok(fresh) = Device::new(alloc, topology, Limits::PROGRAM) else {
-        return
+        panic!(rt; "refused")
     };
     let Ok((shared, mut participant)) = SharedDevice::new(alloc, fresh) else {
-        return
+        panic!(rt; "refused")
     };
     let mut source = FromRead::new(hello.as_slice());
     let mut gate = NoGate;
@@ -199,13 +210,13 @@ fn values_from_serve_through(rt: HostRuntime) {
     let mut sink = ToWrite::new(Vec::new(alloc));
     let card = Class::Card;
     let Some(topology) = Topology::new(2, &[1, 2], &[3, 2], &[5, 6]) else {
-        return
+        panic!(rt; "refused")
     };
     let Ok(fresh) = Device::new(alloc, topology, Limits::PROGRAM) else {
-        return
+        panic!(rt; "refused")
     };
     let Ok((shared, mut participant)) = SharedDevice::new(alloc, fresh) else {
-        return
+        panic!(rt; "refused")
     };
     let mut source = FromRead::new(hello.as_slice());
     let mut gate = NoGate;
@@ -240,20 +251,20 @@ fn values_from_serve_through(rt: HostRuntime) {
 fn through(rt: HostRuntime) {
     let alloc = rt.alloc();
     let Some(topology) = Topology::new(2, &[1, 2], &[3, 2], &[5, 6]) else {
-        return
+        panic!(rt; "refused")
     };
     let Ok(device) = Device::new(alloc, topology, Limits::PROGRAM) else {
-        return
+        panic!(rt; "refused")
     };
     let Ok((shared, participant)) = SharedDevice::new(alloc, device) else {
-        return
+        panic!(rt; "refused")
     };
     let mut through = Through::new(&rt, &shared, participant);
     let opened = through.call(Event::Open(Opening::Render));
     assert!(rt; opened == Ok(Answer::Opened { client: 1 }));
     let participant = through.into_seat();
     let Ok(device) = shared.close(participant) else {
-        return
+        panic!(rt; "refused")
     };
     assert!(rt; device.journal().len() == 1);
 }

@@ -8,13 +8,13 @@ use drm_turns::{NoMemory, SharedDevice, Sharing, TurnOut};
 fn values(rt: HostRuntime) {
     let alloc = rt.alloc();
     let Some(topology) = Topology::new(2, &[1, 2], &[3, 2], &[5, 6]) else {
-        return
+        panic!(rt; "refused")
     };
     let Ok(device) = Device::new(alloc, topology, Limits::PROGRAM) else {
-        return
+        panic!(rt; "refused")
     };
     let Ok((shared, mut participant)) = SharedDevice::new(alloc, device) else {
-        return
+        panic!(rt; "refused")
     };
     assert!(rt;
         shared
@@ -24,18 +24,18 @@ fn values(rt: HostRuntime) {
     let note = shared.note(&mut participant);
     shared.meet(&mut participant, note);
     let Some(topology) = Topology::new(2, &[1, 2], &[3, 2], &[5, 6]) else {
-        return
+        panic!(rt; "refused")
     };
     let Ok(device) = Device::new(alloc, topology, Limits::PROGRAM) else {
-        return
+        panic!(rt; "refused")
     };
     let (second, its_participant) = match SharedDevice::new(alloc, device) {
         Ok(made) => made,
-        Err((_device, NoMemory)) => return,
+        Err((_device, NoMemory)) => panic!(rt; "refused"),
     };
     match second.close(its_participant) {
         Ok(device) => assert!(rt; device.journal().is_empty()),
-        Err(TurnOut) => return,
+        Err(TurnOut) => panic!(rt; "refused"),
     }
     assert!(rt; shared.device().peek_count() == 1);
 }
@@ -44,13 +44,13 @@ fn values(rt: HostRuntime) {
 fn shared_device_shared(rt: HostRuntime) {
     let alloc = rt.alloc();
     let Some(topology) = Topology::new(2, &[1, 2], &[3, 2], &[5, 6]) else {
-        return
+        panic!(rt; "refused")
     };
     let Ok(device) = Device::new(alloc, topology, Limits::PROGRAM) else {
-        return
+        panic!(rt; "refused")
     };
     let Ok((shared, mut participant)) = SharedDevice::new(alloc, device) else {
-        return
+        panic!(rt; "refused")
     };
     assert!(rt; shared.peek_count() == 0);
     let opening = Event::Open(Opening::Render);
@@ -63,7 +63,7 @@ fn shared_device_shared(rt: HostRuntime) {
     shared.meet(&mut participant, note);
     assert!(rt; shared.peek_count() == 2);
     let Ok(device) = shared.close(participant) else {
-        return
+        panic!(rt; "refused")
     };
     assert!(rt; device.journal().len() == 2);
 }
