@@ -1,5 +1,5 @@
-//! The tests of the program as a library: what it lists, serves, and tells of ends and faults. They wait for all crates below, and those
-//! of `drm_tests` for none that they don't test.
+//! The tests of the program as a library: what it lists, what it serves, and what it tells of ends and faults. They stand apart from those
+//! of `drm_tests`, which don't wait for the program.
 #![tactic(auto)]
 
 #[cfg(test)]
