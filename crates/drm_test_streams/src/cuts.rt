@@ -1,7 +1,8 @@
 //! Sources and sinks that are cut where a row says.
 
-ghost use Rattle.std.specs.Prelude.{◌≡◌};
+ghost use Rattle.std.specs.Prelude.{◌≡◌, [], Some};
 ghost use Rattle.drm_streams.specs.Streams.{no_calls};
+ghost use Rattle.drm_test_streams.specs.Cuts.{left_by};
 
 use crate::sink::CutSink;
 use crate::source::CutSource;
@@ -21,8 +22,9 @@ pub enum Cut {
     Interruptions(u64),
 }
 
-/// A source of these bytes, in pieces of so many, one at least.
+/// A source of these bytes that is cut so. It gives as many in a call as `piece` says, or fewer, and one where that is 0.
 pub fn source_of(bytes: &[u8], piece: usize, cut: Cut) -> CutSource<'_>
+    ensures left { result.left ≡ Some (left_by cut bytes.now) }
     ensures counts { result.counts ≡ no_calls }
 {
     let source = CutSource::new(bytes, if piece == 0 { 1 } else { piece });
@@ -35,8 +37,9 @@ pub fn source_of(bytes: &[u8], piece: usize, cut: Cut) -> CutSource<'_>
     }
 }
 
-/// A sink that takes pieces of so many bytes, one at least.
+/// An empty sink of up to 512 bytes that is cut so. It takes as many in a call as `piece` says, or fewer, and one where that is 0.
 pub fn sink_of(piece: usize, cut: Cut) -> CutSink<512>
+    ensures written { result.written ≡ Some [] }
     ensures counts { result.counts ≡ no_calls }
 {
     let sink = CutSink::new(if piece == 0 { 1 } else { piece });
