@@ -3,11 +3,13 @@
 use crate::comparing::same;
 use drm_checks::Totals;
 use drm_server::{
-    Fault, ListEnd, ScriptEnd, ServeFault, outcome_of, outcome_of_checks, outcome_of_fault,
-    outcome_of_listing,
+    Fault, ListEnd, Outcome, ScriptEnd, ServeFault, outcome_of, outcome_of_checks,
+    outcome_of_fault, outcome_of_listing,
 };
 use drm_sessions::Class;
 use std::alloc::Global;
+use std::fmt::Display;
+use std::process::Abort;
 use std::test::Fail;
 
 /// The ends of scripts, with the status and the line.
@@ -26,25 +28,20 @@ const LISTINGS: [(ListEnd, u8, &str); 3] = [
     (ListEnd::TurnsUsed, 1, "fault: turns"),
 ];
 
+/// Compares the status and the line that an outcome tells.
+fn check_told<P: Display + Copy>(rt: &impl Abort, outcome: &Outcome, told: (u8, &str), name: P) {
+    same(rt, &(outcome.status, outcome.line.as_str()), &told, name);
+}
+
 #[test]
 fn ends_of_scripts_and_listings(rt: HostRuntime) {
     for (end, status, line) in ENDS {
         let outcome = outcome_of(&end);
-        same(
-            &rt,
-            &(outcome.status, outcome.line.as_str()),
-            &(status, line),
-            line,
-        );
+        check_told(&rt, &outcome, (status, line), line);
     }
     for (end, status, line) in LISTINGS {
         let outcome = outcome_of_listing(&end);
-        same(
-            &rt,
-            &(outcome.status, outcome.line.as_str()),
-            &(status, line),
-            line,
-        );
+        check_told(&rt, &outcome, (status, line), line);
     }
 }
 
@@ -65,12 +62,7 @@ fn ends_of_checks(rt: HostRuntime) {
             malformed,
         };
         let outcome = outcome_of_checks(&totals);
-        same(
-            &rt,
-            &(outcome.status, outcome.line.as_str()),
-            &(status, ""),
-            passed,
-        );
+        check_told(&rt, &outcome, (status, ""), passed);
     }
 }
 
@@ -102,12 +94,7 @@ fn faults_in_words(rt: HostRuntime) {
     ];
     for (fault, status, line) in rows {
         let outcome = outcome_of_fault(fault);
-        same(
-            &rt,
-            &(outcome.status, outcome.line.as_str()),
-            &(status, line),
-            line,
-        );
+        check_told(&rt, &outcome, (status, line), line);
     }
 }
 
