@@ -8,4 +8,5 @@ pub mod NumberLemmas
 pub mod OpeningLaws
 pub mod ReadingLaws
 pub mod SpacingLaws
+pub mod SplittingLemmas
 pub mod WordLemmas

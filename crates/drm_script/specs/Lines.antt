@@ -1,5 +1,5 @@
 -- Where a line ends, and the line that each answer writes (own).
-use Rattle.std.specs.Prelude.{ℕ, ◌+◌, Bool, ◌==◌, Option, None, Some, take, drop, List, [], ◌∷◌, ◌++◌, codes, decimal, length, Result, Ok, Err}
+use Rattle.std.specs.Prelude.{ℕ, ◌+◌, Bool, ◌==◌, if◌then◌else◌, Option, None, Some, take, drop, List, [], ◌∷◌, ◌++◌, codes, decimal, length, Result, Ok, Err}
 use Rattle.std.specs.List.{flat_map}
 use Rattle.drm_table.specs.declared.rules.Rule.{Rule}
 use Rattle.drm_table.specs.declared.answers.Answer.{Answer}
@@ -24,6 +24,16 @@ line_before (Some place) text = take place text
 abbrev pub text_behind : Option ℕ → List ℕ → List ℕ
 text_behind None text = []
 text_behind (Some place) text = drop (place + 1) text
+
+-- a byte in front of the first line, and a line of its own where there is none
+abbrev pub with_line_byte : ℕ → List (List ℕ) → List (List ℕ)
+with_line_byte b [] = (b ∷ []) ∷ []
+with_line_byte b (line ∷ lines) = (b ∷ line) ∷ lines
+
+-- The lines of a text without their ends: what stands before each line end, and what is left behind the last one, if anything is.
+abbrev pub lines_of : List ℕ → List (List ℕ)
+lines_of [] = []
+lines_of (b ∷ bs) = if is_line_end b then [] ∷ lines_of bs else with_line_byte b (lines_of bs)
 
 -- a number behind a word, or behind another number
 abbrev pub number_behind : Field → List ℕ

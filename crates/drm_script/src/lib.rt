@@ -27,6 +27,8 @@ pub use laws::{
 };
 pub use lines::line_of;
 pub use malformations::{Malformation, Malformed, WORD, Wanted};
+pub use numbers::u32_of;
 pub use reading::{Reading, read_line};
 pub use splitting::first_line;
 pub use texts::{LINE, LineText, push_number};
+pub use words::next_word;

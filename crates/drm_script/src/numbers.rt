@@ -41,8 +41,8 @@ pub(crate) fn u64_word(text: &[u8]) -> Result<(u64, &[u8]), Fault<'_>>
     Ok((value, rest))
 }
 
-/// The number that a word spells; None where it is none of 32 bits.
-fn u32_of(word: &[u8]) -> Option<u32>
+/// The number that a word spells in decimal digits; None where it has a sign or another letter, or is none of 32 bits (own).
+pub fn u32_of(word: &[u8]) -> Option<u32>
     ensures { result ≡ option_and_then (of_bits 32) (number_of word.now) }
 {
     u32::try_from(number(word)?).ok()

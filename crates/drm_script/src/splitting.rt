@@ -1,7 +1,7 @@
 //! Texts of several lines.
 
-ghost use Rattle.std.specs.Prelude.{◌≡◌, ◌<◌, length, position, IfSome};
-ghost use Rattle.drm_script.specs.Lines.{is_line_end, line_before, text_behind};
+ghost use Rattle.std.specs.Prelude.{◌≡◌, ◌≢◌, ◌<◌, [], ◌∷◌, length, position, IfSome};
+ghost use Rattle.drm_script.specs.Lines.{is_line_end, line_before, text_behind, lines_of};
 
 /// Where the first line ends.
 fn line_end(text: &[u8]) -> Option<usize>
@@ -15,6 +15,7 @@ fn line_end(text: &[u8]) -> Option<usize>
 pub fn first_line(text: &[u8]) -> (&[u8], &[u8])
     ensures line { result.0.now ≡ line_before (position is_line_end text.now) text.now }
     ensures behind { result.1.now ≡ text_behind (position is_line_end text.now) text.now }
+    ensures lines { text.now ≢ [] → lines_of text.now ≡ result.0.now ∷ lines_of result.1.now }
 {
     match line_end(text) {
         Some(at) => {
