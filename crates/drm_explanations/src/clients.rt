@@ -1,5 +1,9 @@
 //! Rows of clients.
 
+ghost use Rattle.std.specs.Prelude.{◌≡◌, ◌++◌, IfOk, All};
+ghost use Rattle.drm_modes.specs.Topology as fixed;
+ghost use Rattle.drm_explanations.specs.Rows as rows;
+
 use crate::names::{Labels, at, label_of};
 use crate::reasons::{authenticated, closed_at, holds_of, standing_row, universal_row};
 use crate::rows::{ClientRow, Node};
@@ -8,65 +12,39 @@ use drm_rights::Ledger;
 use drm_table::{Answer, Event, Opening};
 use std::alloc::{AllocError, Global};
 
-/// The CRTCs and planes among these ids.
-fn screens(alloc: Global, topology: &Topology, ids: &[u32]) -> Result<Vec<u32>, AllocError> {
-    let mut screens = Vec::new(alloc);
-    for id in ids {
-        if matches!(topology.kind(*id), Some(Kind::Crtc) | Some(Kind::Plane)) {
-            screens.push(*id)?;
-        }
-    }
-    Ok(screens)
-}
-
-/// All CRTCs and planes.
-fn all_screens(alloc: Global, topology: &Topology) -> Result<Vec<u32>, AllocError> {
+/// All CRTCs and planes, rising.
+fn screens(alloc: Global, topology: &Topology) -> Result<Vec<u32>, AllocError>
+    ensures { IfOk result (λ ids. ids.items ≡ fixed.crtc_ids topology.now ++ fixed.plane_ids topology.now) }
+{
     let crtcs = topology.ids(Kind::Crtc);
     let planes = topology.ids(Kind::Plane);
     let mut screens = Vec::new(alloc);
-    for id in crtcs.ids() {
-        screens.push(*id)?;
-    }
-    for id in planes.ids() {
-        screens.push(*id)?;
-    }
+    screens.extend_from_slice(crtcs.ids())?;
+    screens.extend_from_slice(planes.ids())?;
     Ok(screens)
 }
 
-/// The CRTCs and planes that a client controls as a current one: its master is no lessee, or has them by a lease that has not ended.
-fn controlled(
-    alloc: Global,
-    ledger: &Ledger,
-    topology: &Topology,
-    client: u64,
-) -> Result<Vec<u32>, AllocError> {
-    if !ledger.is_current(client) {
-        return Ok(Vec::new(alloc));
-    }
-    match ledger
-        .master_of(client)
-        .and_then(|master| ledger.lease_of(master))
-    {
-        None => all_screens(alloc, topology),
-        Some(lease) if ledger.ended(lease.master).is_none() => {
-            let ids = ledger.leased(alloc, topology, lease.master)?;
-            screens(alloc, topology, ids.as_slice())
-        }
-        Some(_) => Ok(Vec::new(alloc)),
-    }
+/// Whether a client may set a CRTC or a plane: it is current and controls it, and with universal planes off it is an overlay plane or
+/// a CRTC.
+fn may_set(ledger: &Ledger, topology: &Topology, client: u64, id: u32) -> bool
+    ensures { result ≡ rows.may_set topology.now ledger.now client id }
+{
+    ledger.is_current(client)
+        && ledger.controls(topology, client, id)
+        && (ledger.has_universal(client) || topology.crtc_of_plane(id).is_none())
 }
 
-/// The CRTCs and planes that a client may set: of those that it controls, with universal planes off the overlay planes alone.
-fn may_set(
+/// The CRTCs and planes that a client may set, rising.
+fn settable(
     alloc: Global,
     ledger: &Ledger,
     topology: &Topology,
     client: u64,
-) -> Result<Vec<u32>, AllocError> {
-    let mut ids = controlled(alloc, ledger, topology, client)?;
-    if !ledger.has_universal(client) {
-        ids.retain(|id| topology.crtc_of_plane(*id).is_none());
-    }
+) -> Result<Vec<u32>, AllocError>
+    ensures { IfOk result (λ ids. ids.items ≡ rows.settable topology.now ledger.now client) }
+{
+    let mut ids = screens(alloc, topology)?;
+    ids.retain(|id| may_set(ledger, topology, client, *id));
     Ok(ids)
 }
 
@@ -78,19 +56,54 @@ fn node_of(opening: &Opening) -> (Node, bool) {
     }
 }
 
-/// The row of an open client.
-fn open_row(
+/// The row of a client that was opened so, as a closed one.
+fn closed_row(
+    alloc: Global,
+    labels: &Labels,
+    client: u64,
+    opening: &Opening,
+    closed: Option<u64>,
+) -> ClientRow
+    ensures client { result.client ≡ client }
+    ensures closed { result.closed ≡ closed }
+    ensures nothing { rows.TellsNothing result }
+{
+    let (node, root) = node_of(opening);
+    ClientRow {
+        client,
+        label: label_of(labels, client),
+        node,
+        root,
+        closed,
+        authenticated: None,
+        universal_planes: None,
+        standing: None,
+        may_set: Vec::new(alloc),
+        holds: Vec::new(alloc),
+    }
+}
+
+/// The row of a client that was opened so.
+fn client_row(
     alloc: Global,
     ledger: &Ledger,
     topology: &Topology,
-    row: ClientRow,
-) -> Result<ClientRow, AllocError> {
-    let client = row.client;
+    labels: &Labels,
+    client: u64,
+    opening: &Opening,
+) -> Result<ClientRow, AllocError>
+    ensures { IfOk result (λ row. rows.TellsClient topology.now ledger.now row) }
+{
+    let closed = closed_at(ledger.steps(), client);
+    let row = closed_row(alloc, labels, client, opening, closed);
+    if closed.is_some() {
+        return Ok(row);
+    }
     Ok(ClientRow {
         authenticated: authenticated(ledger, client),
         universal_planes: universal_row(ledger, client),
         standing: standing_row(ledger, client),
-        may_set: may_set(alloc, ledger, topology, client)?,
+        may_set: settable(alloc, ledger, topology, client)?,
         holds: holds_of(alloc, ledger, client)?,
         ..row
     })
@@ -103,7 +116,9 @@ pub(crate) fn client_rows(
     topology: &Topology,
     labels: &Labels,
     only: Option<u64>,
-) -> Result<Vec<ClientRow>, AllocError> {
+) -> Result<Vec<ClientRow>, AllocError>
+    ensures { IfOk result (λ told. All (rows.TellsClient topology.now ledger.now) told.items) }
+{
     let mut rows = Vec::new(alloc);
     for step in ledger.steps() {
         if let (Event::Open(opening), Answer::Opened { client }) = (&step.event, &step.answer) {
@@ -111,24 +126,7 @@ pub(crate) fn client_rows(
             if only.is_some() && only != Some(client) {
                 continue;
             }
-            let (node, root) = node_of(opening);
-            let closed = closed_at(ledger.steps(), client);
-            let row = ClientRow {
-                client,
-                label: label_of(labels, client),
-                node,
-                root,
-                closed,
-                authenticated: None,
-                universal_planes: None,
-                standing: None,
-                may_set: Vec::new(alloc),
-                holds: Vec::new(alloc),
-            };
-            match closed {
-                Some(_) => rows.push(row)?,
-                None => rows.push(open_row(alloc, ledger, topology, row)?)?,
-            }
+            rows.push(client_row(alloc, ledger, topology, labels, client, opening)?)?;
         }
     }
     Ok(rows)

@@ -1,6 +1,6 @@
 //! Explaining a history.
 
-ghost use Rattle.std.specs.Prelude.{◌≡◌, IfOk};
+ghost use Rattle.std.specs.Prelude.{◌≡◌, IfOk, All};
 ghost use Rattle.drm_authority.specs.MasterState.{owner_in};
 ghost use Rattle.drm_explanations.specs.Rows as rows;
 
@@ -22,7 +22,9 @@ pub fn explain(
     labels: &Labels,
     only: Option<u64>,
 ) -> Result<Explanation, AllocError>
-    ensures { IfOk result (λ told. told.device.master ≡ owner_in ledger.now) }
+    ensures master { IfOk result (λ told. told.device.master ≡ owner_in ledger.now) }
+    ensures clients { IfOk result (λ told. All (rows.TellsClient topology.now ledger.now) told.clients.items) }
+    ensures leases { IfOk result (λ told. All (rows.TellsLease topology.now ledger.now) told.leases.items) }
 {
     let steps = ledger.steps();
     Ok(Explanation {

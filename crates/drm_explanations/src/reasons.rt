@@ -1,30 +1,53 @@
 //! Why a client is what it is, and has the handles that it has.
 
+ghost use Rattle.std.specs.Prelude.{◌≡◌, true, IfSome};
+ghost use Rattle.drm_authority.specs.Closings as closings;
+ghost use Rattle.drm_authority.specs.Closings.{has_closed};
+ghost use Rattle.drm_authority.specs.Effects.{effect};
+ghost use Rattle.drm_authority.specs.Magics.{known};
+ghost use Rattle.drm_authority.specs.Shown.{is_universal_in};
+ghost use Rattle.drm_rights.specs.Steps.{entry_of, history_of};
+ghost use Rattle.drm_explanations.specs.Rows as rows;
+
 use crate::names::at;
 use crate::rows::{
     Authenticated, AuthenticatedBy, HandleRow, LinkRow, PublishedBy, PublishedRow, StandingRow,
     UniversalRow,
 };
-use drm_rights::{Key, Ledger, Link, Origin, Step, handles_of};
-use drm_table::{Answer, Event};
+use drm_rights::{Effect, Key, Ledger, Link, Origin, Step, handles_of};
 use std::alloc::{AllocError, Global};
 
+/// Whether a step is a client's closing, carried out.
+fn closes(step: &Step, client: u64) -> bool
+    ensures { result ≡ closings.closes (effect (entry_of step.now)) client }
+{
+    match step.effect() {
+        Effect::Closes { client: closed } => closed == client,
+        _ => false,
+    }
+}
+
 /// The step at which a client closed, behind the one that opened it.
-pub fn closed_at(steps: &[Step], client: u64) -> Option<u64> {
+pub fn closed_at(steps: &[Step], client: u64) -> Option<u64>
+    ensures { IfSome result (λ number. has_closed (history_of steps.now) client ≡ true) }
+{
     let opened = usize::try_from(client).ok()?;
     let later = steps.get(opened..)?;
     for (place, step) in later.iter().enumerate() {
-        if let (Event::Close(closed), Answer::Closed) = (&step.event, &step.answer) {
-            if u64::from(*closed) == client {
-                return client.checked_add(place as u64 + 1);
-            }
+        if closes(step, client) {
+            return client.checked_add(place as u64 + 1);
         }
     }
     None
 }
 
 /// Why a client is authenticated: it opened as root, is a master, or AUTH_MAGIC named its magic.
-pub(crate) fn authenticated(ledger: &Ledger, client: u64) -> Option<Authenticated> {
+pub(crate) fn authenticated(ledger: &Ledger, client: u64) -> Option<Authenticated>
+    ensures { IfSome result (λ _. known ledger.now client ≡ true) }
+{
+    if !ledger.is_known(client) {
+        return None;
+    }
     let steps = ledger.steps();
     if ledger.is_root(client) {
         return Some(Authenticated {
@@ -49,7 +72,9 @@ pub(crate) fn authenticated(ledger: &Ledger, client: u64) -> Option<Authenticate
 }
 
 /// Whether a client has universal planes on, and since which step.
-pub(crate) fn universal_row(ledger: &Ledger, client: u64) -> Option<UniversalRow> {
+pub(crate) fn universal_row(ledger: &Ledger, client: u64) -> Option<UniversalRow>
+    ensures { IfSome result (λ told. told.on ≡ is_universal_in ledger.now client) }
+{
     let capability = ledger.capability(client)?;
     Some(UniversalRow {
         on: capability.universal,
@@ -58,7 +83,9 @@ pub(crate) fn universal_row(ledger: &Ledger, client: u64) -> Option<UniversalRow
 }
 
 /// How a client stands to masters, and since which step.
-pub(crate) fn standing_row(ledger: &Ledger, client: u64) -> Option<StandingRow> {
+pub(crate) fn standing_row(ledger: &Ledger, client: u64) -> Option<StandingRow>
+    ensures { IfSome result (rows.TellsStanding ledger.now client) }
+{
     let standing = ledger.master_state(client)?;
     Some(StandingRow {
         is_master: standing.is_master,
