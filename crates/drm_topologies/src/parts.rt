@@ -1,48 +1,17 @@
-//! What the lines of a topology have said so far.
+//! What the lines of a topology have told so far.
 
+ghost use Rattle.std.specs.Prelude.{◌≡◌, ◌≤◌, unwrap_or, length};
+
+use crate::causes::Unfit;
+use crate::lists::{MOST_OBJECTS, encoder_ids, has_such_plane};
+use crate::words::{first_number, mask_of, only_number};
 use arrayvec::ArrayVec;
 use drm_modes::{PlaneKind, Topology};
-use thiserror::Error;
 
 /// How many CRTCs a topology has at most.
 const MOST_CRTCS: u32 = 8;
 
-/// How many mode objects it has at most.
-const MOST_OBJECTS: usize = 64;
-
-/// Why a line of a topology can't be used (own).
-#[derive(Clone, Copy, Debug, PartialEq, Eq, Error)]
-pub enum Unfit {
-    /// The first word is none of those that begin a line.
-    #[error("its first word is none of crtcs, plane, primary, cursor, encoder and connector")]
-    FirstWord,
-    /// The CRTCs are told already.
-    #[error("the CRTCs are told above already")]
-    SecondCrtcs,
-    /// A line of a plane or an encoder stands above that of the CRTCs.
-    #[error("no line above it tells how many crtcs there are")]
-    NoCrtcs,
-    /// The number of CRTCs is none of those that there may be.
-    #[error("there are 1 to 8 CRTCs, as one number")]
-    CrtcCount,
-    /// A plane or an encoder names a CRTC that there is not.
-    #[error("a word is no number of a CRTC, from 1 to {0}")]
-    Crtc(u32),
-    /// A primary or a cursor plane names no CRTC.
-    #[error("a primary or a cursor plane names its CRTC first")]
-    NoCrtcOfItsOwn,
-    /// A CRTC has such a plane already.
-    #[error("its CRTC has such a plane above already")]
-    SecondPlane,
-    /// A connector names an encoder that no line above it tells of.
-    #[error("a connector names one encoder of those above, from 1 to {0}")]
-    Encoder(u32),
-    /// A topology has no more objects.
-    #[error("there are 64 objects above it already")]
-    TooMany,
-}
-
-/// The objects that the lines so far have told.
+/// The objects that the lines so far have told. Each line is given by what stands behind its first word.
 #[derive(Drop)]
 pub(crate) struct Parts {
     crtcs: Option<u32>,
@@ -52,14 +21,24 @@ pub(crate) struct Parts {
     encoders: ArrayVec<u32, MOST_OBJECTS>,
     /// The encoder of each connector, by its place among the encoders, from 1.
     connectors: ArrayVec<u32, MOST_OBJECTS>,
-}
-
-fn add<T: Copy>(list: &mut ArrayVec<T, MOST_OBJECTS>, item: T) -> Result<(), Unfit> {
-    list.try_push(item).map_err(|_| Unfit::TooMany)
+    ghost few_crtcs: { unwrap_or crtcs 0 ≤ 8 },
+    ghost one_kind_each: { length kinds.items ≡ length planes.items },
 }
 
 impl Parts {
-    pub(crate) fn new() -> Parts {
+    ghost use Rattle.std.specs.Prelude.{◌≡◌, ◌≤◌, true, [], ◌∷◌, ◌++◌, is_some, option_map, IfOk, OnOk};
+    ghost use Rattle.std.specs.List.{AllByRecursion};
+    ghost use Rattle.std.specs.Result.{result_err};
+    ghost use Rattle.drm_modes.specs.Topology.{is_topology};
+    ghost use Rattle.drm_script.specs.Words.{words_of};
+    ghost use Rattle.drm_topologies.specs.Causes.{first_cause, has_room, mask_cause, plane_cause, own_plane_cause, crtcs_cause, encoder_cause, connector_cause};
+    ghost use Rattle.drm_topologies.specs.Lines.{only_number, mask_of, own_crtc, encoder_place};
+    ghost use Rattle.drm_topologies.specs.Parts.{told_in};
+    ghost use Rattle.drm_topologies.specs.Told.{nothing_told, topology_told};
+
+    pub(crate) fn new() -> Parts
+        ensures { told_in result ≡ nothing_told }
+    {
         Parts {
             crtcs: None,
             planes: ArrayVec::new(),
@@ -69,21 +48,34 @@ impl Parts {
         }
     }
 
-    /// How many CRTCs there are.
-    pub(crate) fn crtc_count(&self) -> Result<u32, Unfit> {
-        self.crtcs.ok_or(Unfit::NoCrtcs)
-    }
-
-    fn has_room(&self) -> Result<(), Unfit> {
+    /// Whether there may be one more object.
+    fn has_room(&self) -> bool
+        ensures { result ≡ has_room (told_in self.now) }
+    {
         let crtcs = self.crtcs.unwrap_or(0) as usize;
-        let others = self.planes.len() + self.encoders.len() + self.connectors.len();
-        if others >= MOST_OBJECTS.saturating_sub(crtcs) {
-            return Err(Unfit::TooMany);
-        }
-        Ok(())
+        crtcs + self.planes.len() + self.encoders.len() + self.connectors.len() < MOST_OBJECTS
     }
 
-    pub(crate) fn set_crtcs(&mut self, count: u32) -> Result<(), Unfit> {
+    /// The mask of the CRTCs that a plane or an encoder names.
+    #[tactic(auto, unfolding(crate::specs::Causes::mask_cause))]
+    fn crtc_mask(&self, text: &[u8]) -> Result<u32, Unfit>
+        ensures cause { result_err result ≡ mask_cause (told_in self.now) (words_of text.now) }
+        ensures mask { IfOk result (λ mask. mask ≡ mask_of (words_of text.now)) }
+    {
+        let Some(count) = self.crtcs else {
+            return Err(Unfit::NoCrtcs);
+        };
+        mask_of(text, count)
+    }
+
+    /// A line `crtcs N`.
+    pub(crate) fn set_crtcs(&mut self, text: &[u8]) -> Result<(), Unfit>
+        ensures cause { result_err result ≡ crtcs_cause (told_in self.old) (words_of text.now) }
+        ensures ok { OnOk result (told_in self.new ≡ record (told_in self.old) { crtcs = only_number (words_of text.now) }) }
+    {
+        let Some(count) = only_number(text) else {
+            return Err(Unfit::CrtcCount);
+        };
         if self.crtcs.is_some() {
             return Err(Unfit::SecondCrtcs);
         }
@@ -94,42 +86,105 @@ impl Parts {
         Ok(())
     }
 
-    /// A plane that may show on the CRTCs of this mask. A CRTC has one primary and one cursor plane at most.
-    pub(crate) fn add_plane(&mut self, mask: u32, kind: PlaneKind) -> Result<(), Unfit> {
-        self.has_room()?;
-        if kind != PlaneKind::Overlay && self.kinds.as_slice().contains(&kind) {
+    /// A plane of this mask. A CRTC has one primary and one cursor plane at most.
+    fn add_plane(&mut self, mask: u32, kind: PlaneKind) -> Result<(), Unfit>
+        ensures cause { result_err result ≡ plane_cause (told_in self.old) kind }
+        ensures ok { OnOk result (told_in self.new ≡ record (told_in self.old) {
+          planes = self.old.planes.items ++ mask ∷ [];
+          kinds = self.old.kinds.items ++ kind ∷ [];
+        }) }
+    {
+        if !self.has_room() {
+            return Err(Unfit::TooMany);
+        }
+        if has_such_plane(self.kinds.as_slice(), kind) {
             return Err(Unfit::SecondPlane);
         }
-        add(&mut self.planes, mask)?;
-        add(&mut self.kinds, kind)
+        self.planes.push(mask);
+        self.kinds.push(kind);
+        Ok(())
     }
 
-    /// An encoder that may be driven by the CRTCs of this mask.
-    pub(crate) fn add_encoder(&mut self, mask: u32) -> Result<(), Unfit> {
-        self.has_room()?;
-        add(&mut self.encoders, mask)
+    /// A line `plane CRTC..`.
+    pub(crate) fn add_overlay(&mut self, text: &[u8]) -> Result<(), Unfit>
+        ensures cause { result_err result ≡ first_cause (mask_cause (told_in self.old) (words_of text.now) ∷ plane_cause (told_in self.old) PlaneKind.Overlay ∷ []) }
+        ensures ok { OnOk result (told_in self.new ≡ record (told_in self.old) {
+          planes = self.old.planes.items ++ mask_of (words_of text.now) ∷ [];
+          kinds = self.old.kinds.items ++ PlaneKind.Overlay ∷ [];
+        }) }
+    {
+        let mask = self.crtc_mask(text)?;
+        self.add_plane(mask, PlaneKind::Overlay)
     }
 
-    /// A connector of the encoder of this place, from 1.
-    pub(crate) fn add_connector(&mut self, encoder: u32) -> Result<(), Unfit> {
+    /// A line `primary CRTC..`.
+    pub(crate) fn add_primary(&mut self, text: &[u8]) -> Result<(), Unfit>
+        ensures cause { result_err result ≡ own_plane_cause (told_in self.old) PlaneKind.Primary (words_of text.now) }
+        ensures ok { OnOk result (told_in self.new ≡ record (told_in self.old) {
+          planes = self.old.planes.items ++ mask_of (words_of text.now) ∷ [];
+          kinds = self.old.kinds.items ++ PlaneKind.Primary (own_crtc (words_of text.now)) ∷ [];
+        }) }
+    {
+        let mask = self.crtc_mask(text)?;
+        let Some(crtc) = first_number(text) else {
+            return Err(Unfit::NoCrtcOfItsOwn);
+        };
+        self.add_plane(mask, PlaneKind::Primary(crtc))
+    }
+
+    /// A line `cursor CRTC..`.
+    pub(crate) fn add_cursor(&mut self, text: &[u8]) -> Result<(), Unfit>
+        ensures cause { result_err result ≡ own_plane_cause (told_in self.old) PlaneKind.Cursor (words_of text.now) }
+        ensures ok { OnOk result (told_in self.new ≡ record (told_in self.old) {
+          planes = self.old.planes.items ++ mask_of (words_of text.now) ∷ [];
+          kinds = self.old.kinds.items ++ PlaneKind.Cursor (own_crtc (words_of text.now)) ∷ [];
+        }) }
+    {
+        let mask = self.crtc_mask(text)?;
+        let Some(crtc) = first_number(text) else {
+            return Err(Unfit::NoCrtcOfItsOwn);
+        };
+        self.add_plane(mask, PlaneKind::Cursor(crtc))
+    }
+
+    /// A line `encoder CRTC..`.
+    pub(crate) fn add_encoder(&mut self, text: &[u8]) -> Result<(), Unfit>
+        ensures cause { result_err result ≡ encoder_cause (told_in self.old) (words_of text.now) }
+        ensures ok { OnOk result (told_in self.new ≡ record (told_in self.old) { encoders = self.old.encoders.items ++ mask_of (words_of text.now) ∷ [] }) }
+    {
+        let mask = self.crtc_mask(text)?;
+        if !self.has_room() {
+            return Err(Unfit::TooMany);
+        }
+        self.encoders.push(mask);
+        Ok(())
+    }
+
+    /// A line `connector ENCODER`.
+    pub(crate) fn add_connector(&mut self, text: &[u8]) -> Result<(), Unfit>
+        ensures cause { result_err result ≡ connector_cause (told_in self.old) (words_of text.now) }
+        ensures ok { OnOk result (told_in self.new ≡ record (told_in self.old) { connectors = self.old.connectors.items ++ encoder_place (words_of text.now) ∷ [] }) }
+    {
+        let place = only_number(text).unwrap_or(0);
         let count = self.encoders.len() as u32;
-        if encoder < 1 || encoder > count {
+        if place < 1 || place > count {
             return Err(Unfit::Encoder(count));
         }
-        self.has_room()?;
-        add(&mut self.connectors, encoder)
+        if !self.has_room() {
+            return Err(Unfit::TooMany);
+        }
+        self.connectors.push(place);
+        Ok(())
     }
 
-    /// The topology. None where it is none, as one without CRTCs.
-    pub(crate) fn topology(&self) -> Option<Topology> {
+    /// The topology, where the CRTCs are told.
+    pub(crate) fn topology(&self) -> Option<Topology>
+        requires places { AllByRecursion (λ place. place ≤ 64) self.now.connectors.items }
+        requires is { is_some self.now.crtcs ≡ true → is_topology (topology_told (told_in self.now)) ≡ true }
+        ensures { result ≡ option_map (λ _. topology_told (told_in self.now)) self.now.crtcs }
+    {
         let crtcs = self.crtcs?;
-        let planes = u32::try_from(self.planes.len()).ok()?;
-        let before = planes.checked_add(crtcs)?;
-        let mut connectors: ArrayVec<u32, MOST_OBJECTS> = ArrayVec::new();
-        for encoder in self.connectors.iter() {
-            let id = before.checked_add(*encoder)?;
-            let _ = connectors.try_push(id);
-        }
+        let connectors = encoder_ids(crtcs + self.planes.len() as u32, self.connectors.as_slice());
         Topology::with_kinds(
             crtcs,
             self.planes.as_slice(),

@@ -1,0 +1,12 @@
+-- What the lines so far have told.
+use Rattle.drm_topologies.specs.declared.parts.Parts.{Parts}
+use Rattle.drm_topologies.specs.Told.{Told}
+
+abbrev pub told_in : Parts → Told
+told_in parts = record {
+  crtcs = parts.crtcs;
+  planes = parts.planes.items;
+  kinds = parts.kinds.items;
+  encoders = parts.encoders.items;
+  connectors = parts.connectors.items;
+}

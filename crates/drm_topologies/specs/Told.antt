@@ -1,0 +1,74 @@
+-- What the lines of a topology tell, and the topology that this is (own).
+use Rattle.std.specs.Prelude.{ℕ, ◌+◌, Bool, ◌||◌, if◌then◌else◌, List, [], ◌++◌, map, filter, length, Option, None, unwrap_or, slice_get}
+use Rattle.std.specs.List.{filter_map}
+use Rattle.std.specs.Option.{option_or}
+use Rattle.drm_script.specs.Fields.{Words}
+use Rattle.drm_modes.specs.declared.kinds.PlaneKind.{PlaneKind}
+use Rattle.drm_modes.specs.declared.kinds.PlaneKind.TheVariants as plane_kinds
+use Rattle.drm_modes.specs.Topology.{Topology}
+use Rattle.drm_modes.specs.Topologies.{topology_with}
+use Rattle.drm_topologies.specs.declared.words.LineWord.{LineWord}
+use Rattle.drm_topologies.specs.declared.words.LineWord.TheVariants as words
+use Rattle.drm_topologies.specs.Lines.{begins_with, others, only_number, mask_of, own_crtc, encoder_place}
+
+-- how many CRTCs there are, if that is told; of each plane and each encoder the mask of its CRTCs; of each plane what it is for; of
+-- each connector the place of its encoder among the encoders, from 1
+pub record Told : Type 0 where
+  pub crtcs : Option ℕ
+  pub planes : List ℕ
+  pub kinds : List PlaneKind
+  pub encoders : List ℕ
+  pub connectors : List ℕ
+
+-- what stands behind the word in each line that begins with it
+abbrev pub behind : LineWord → List Words → List Words
+behind name lines = map others (filter (begins_with name) lines)
+
+-- the line tells of a plane
+abbrev pub tells_plane : Words → Bool
+tells_plane line = begins_with words.Plane line || begins_with words.Primary line || begins_with words.Cursor line
+
+-- what the plane of a line is for
+abbrev pub kind_told : Words → PlaneKind
+kind_told line =
+    if begins_with words.Primary line then plane_kinds.Primary (own_crtc (others line))
+    else if begins_with words.Cursor line then plane_kinds.Cursor (own_crtc (others line))
+    else plane_kinds.Overlay
+
+-- what lines tell, each list in the order of the lines
+unfoldable pub told : List Words → Told
+told lines = record {
+  crtcs = slice_get (filter_map only_number (behind words.Crtcs lines)) 0;
+  planes = map (λ line. mask_of (others line)) (filter tells_plane lines);
+  kinds = map kind_told (filter tells_plane lines);
+  encoders = map mask_of (behind words.Encoder lines);
+  connectors = map encoder_place (behind words.Connector lines);
+}
+
+abbrev pub nothing_told : Told
+nothing_told = record { crtcs = None; planes = []; kinds = []; encoders = []; connectors = [] }
+
+-- what lines tell, and those behind them
+abbrev pub joined : Told → Told → Told
+joined t u = record {
+  crtcs = option_or t.crtcs u.crtcs;
+  planes = t.planes ++ u.planes;
+  kinds = t.kinds ++ u.kinds;
+  encoders = t.encoders ++ u.encoders;
+  connectors = t.connectors ++ u.connectors;
+}
+
+-- how many CRTCs there are; 0 where it isn't told
+abbrev pub crtc_count : Told → ℕ
+crtc_count t = unwrap_or t.crtcs 0
+
+-- how many objects there are
+abbrev pub objects_told : Told → ℕ
+objects_told t = crtc_count t + length t.planes + length t.encoders + length t.connectors
+
+-- the id of the encoder at a place from 1: encoders stand behind the CRTCs and the planes
+abbrev pub encoder_id : Told → ℕ → ℕ
+encoder_id t place = crtc_count t + length t.planes + place
+
+abbrev pub topology_told : Told → Topology
+topology_told t = topology_with (crtc_count t) t.planes t.kinds t.encoders (map (encoder_id t) t.connectors)
