@@ -19,9 +19,6 @@ use Rattle.drm_topologies.specs.Lines.{number_in, of_crtcs, crtc_in, first_numbe
 
 -- ---- either of two masks
 
-pub none-or : (m : ℕ) → bit_or 0 m ≡ m
-none-or m = same_from_bits (bit_or 0 m) m (λ i. omega (arith, bit_at_or 0 m i, bit_at-zero i))
-
 pub or-none : (m : ℕ) → bit_or m 0 ≡ m
 or-none m = same_from_bits (bit_or m 0) m (λ i. omega (arith, bit_at_or m 0 i, bit_at-zero i))
 

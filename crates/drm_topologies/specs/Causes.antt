@@ -96,7 +96,7 @@ unfoldable pub cause_of : Told → Words → Option Unfit
 cause_of t [] = None
 cause_of t (w ∷ ws) = if is_comment w then None else cause_by (line_word_of w) t ws
 
--- the same of the next line, or of the end of the text, above which the CRTCs are told
+-- the same of the line that comes next; where none does, the CRTCs have to be told above
 abbrev pub next_cause : Told → Option Words → Option Unfit
 next_cause t (Some line) = cause_of t line
 next_cause t None = unless causes.NoCrtcs (is_some t.crtcs)
@@ -109,7 +109,7 @@ cause_below lines above = next_cause (told (take above lines)) (slice_get lines 
 abbrev pub AllFit : List Words → Type 0
 AllFit lines = (above : ℕ) → cause_below lines above ≡ None
 
--- the first line that doesn't fit below those above it, counted from 1, or the end of the text
+-- the first line that doesn't fit below those above it, counted from 1, and its first cause; the end of the text counts as a line
 pub record IsFirstUnfit (lines : List Words) (unfit : UnfitLine) : Type 0 where
   pub above : ℕ
   pub number : unfit.number ≡ above + 1

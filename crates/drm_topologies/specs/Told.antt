@@ -48,7 +48,7 @@ told lines = record {
 abbrev pub nothing_told : Told
 nothing_told = record { crtcs = None; planes = []; kinds = []; encoders = []; connectors = [] }
 
--- what lines tell, and those behind them
+-- what lines tell together with those behind them; how many CRTCs there are the first tell that tell it
 abbrev pub joined : Told → Told → Told
 joined t u = record {
   crtcs = option_or t.crtcs u.crtcs;

@@ -4,6 +4,7 @@ use Rattle.std.proofs.lemmas.Bool.{false≢true}
 use Rattle.drm_script.specs.Lines.{is_line_end}
 use Rattle.drm_script.specs.Words.{words_of}
 use Rattle.drm_topologies.specs.declared.causes.Unfit.TheVariants as causes
+use Rattle.drm_topologies.specs.declared.reading.UnfitLine.{UnfitLine}
 use Rattle.drm_topologies.specs.Lines.{lines_in}
 use Rattle.drm_topologies.specs.Parts.{told_in}
 use Rattle.drm_topologies.specs.Told.{topology_told}
@@ -16,8 +17,9 @@ lines-init c = record {
   room = omega arith;
 }
 
-pub returns-in-Err-clause-unfit : goal.returns-in-Err-clause-unfit
-returns-in-Err-clause-unfit c =
+-- a line doesn't fit
+pub returns-in-Err : goal.returns-in-Err
+returns-in-Err c =
     let rest = c.lines.rest.now in
     let lines = lines_in c.args.text.now in
     let t = told_in c.lines.parts in
@@ -25,19 +27,13 @@ returns-in-Err-clause-unfit c =
     let behind = c.first_line.result.1.now in
     let some = nonempty rest c.is_empty.result c.is_empty.ensures c.lines-test.true in
     let so_far = at_line lines rest line behind c.lines.above t c.lines.invariant.so_far some c.first_line.ensures.lines in
-    line_unfit lines (lines_in behind) (words_of line) c.lines.above t so_far (record { number = c.lines.above + 1; cause = c.in-Err.cause }) refl (sym c.in-Err.ensures.cause)
-
-pub returns-in-Err-clause-fits : goal.returns-in-Err-clause-fits
-returns-in-Err-clause-fits c =
-    let rest = c.lines.rest.now in
-    let lines = lines_in c.args.text.now in
-    let t = told_in c.lines.parts in
-    let line = c.first_line.result.0.now in
-    let behind = c.first_line.result.1.now in
-    let some = nonempty rest c.is_empty.result c.is_empty.ensures c.lines-test.true in
-    let so_far = at_line lines rest line behind c.lines.above t c.lines.invariant.so_far some c.first_line.ensures.lines in
-    let unfit = line_unfit lines (lines_in behind) (words_of line) c.lines.above t so_far (record { number = c.lines.above + 1; cause = c.in-Err.cause }) refl (sym c.in-Err.ensures.cause) in
-    (λ ok. absurd (false≢true ok), λ all. absurd (unfit_is_unfit lines (record { number = c.lines.above + 1; cause = c.in-Err.cause }) unfit all))
+    let told : UnfitLine = record { number = c.lines.above + 1; cause = c.in-Err.cause } in
+    let unfit = line_unfit lines (lines_in behind) (words_of line) c.lines.above t so_far told refl (sym c.in-Err.ensures.cause) in
+    record {
+      fits = (λ ok. absurd (false≢true ok), λ all. absurd (unfit_is_unfit lines told unfit all));
+      topology = tt;
+      unfit = unfit;
+    }
 
 pub lines-preserved : goal.lines-preserved
 lines-preserved c =
@@ -53,44 +49,36 @@ lines-preserved c =
       room = omega (arith, c.lines.invariant.room, ap length c.first_line.ensures.behind, shorter rest (position is_line_end rest) some);
     }
 
-pub topology-requires-clause-places : goal.topology-requires-clause-places
-topology-requires-clause-places c =
+pub topology-requires : goal.topology-requires
+topology-requires c =
     let lines = lines_in c.args.text.now in
     let t = told_in c.lines.parts in
-    few_places lines c.lines.above t (at_end lines c.lines.rest.now c.lines.above t c.is_empty.result c.lines.invariant.so_far c.is_empty.ensures c.lines-test.false)
+    let so_far = at_end lines c.lines.rest.now c.lines.above t c.is_empty.result c.lines.invariant.so_far c.is_empty.ensures c.lines-test.false in
+    record { places = few_places lines c.lines.above t so_far; is = topology_sound lines c.lines.above t so_far }
 
-pub topology-requires-clause-is : goal.topology-requires-clause-is
-topology-requires-clause-is c =
-    let lines = lines_in c.args.text.now in
-    let t = told_in c.lines.parts in
-    topology_sound lines c.lines.above t (at_end lines c.lines.rest.now c.lines.above t c.is_empty.result c.lines.invariant.so_far c.is_empty.ensures c.lines-test.false)
-
-pub returns-in-Some-clause-fits : goal.returns-in-Some-clause-fits
-returns-in-Some-clause-fits c =
+-- all lines fit, and the CRTCs are told
+pub returns-in-Some : goal.returns-in-Some
+returns-in-Some c =
     let lines = lines_in c.args.text.now in
     let t = told_in c.lines.parts in
     let so_far = at_end lines c.lines.rest.now c.lines.above t c.is_empty.result c.lines.invariant.so_far c.is_empty.ensures c.lines-test.false in
     let made = some_made t.crtcs (topology_told t) c.in-Some.topology c.in-Some.ensures in
-    (λ ok. all_fit lines c.lines.above t so_far made.0, λ all. refl)
+    record {
+      fits = (λ ok. all_fit lines c.lines.above t so_far made.0, λ all. refl);
+      topology = made.1 ∙ ap topology_told (told_all lines c.lines.above t so_far);
+      unfit = tt;
+    }
 
-pub returns-in-Some-clause-topology : goal.returns-in-Some-clause-topology
-returns-in-Some-clause-topology c =
+-- and they are not
+pub returns-in-None : goal.returns-in-None
+returns-in-None c =
     let lines = lines_in c.args.text.now in
     let t = told_in c.lines.parts in
     let so_far = at_end lines c.lines.rest.now c.lines.above t c.is_empty.result c.lines.invariant.so_far c.is_empty.ensures c.lines-test.false in
-    (some_made t.crtcs (topology_told t) c.in-Some.topology c.in-Some.ensures).1 ∙ ap topology_told (told_all lines c.lines.above t so_far)
-
-pub returns-in-None-clause-unfit : goal.returns-in-None-clause-unfit
-returns-in-None-clause-unfit c =
-    let lines = lines_in c.args.text.now in
-    let t = told_in c.lines.parts in
-    let so_far = at_end lines c.lines.rest.now c.lines.above t c.is_empty.result c.lines.invariant.so_far c.is_empty.ensures c.lines-test.false in
-    end_unfit lines c.lines.above t so_far (record { number = c.lines.above + 1; cause = causes.NoCrtcs }) refl refl (none_made t.crtcs (topology_told t) c.in-None.ensures)
-
-pub returns-in-None-clause-fits : goal.returns-in-None-clause-fits
-returns-in-None-clause-fits c =
-    let lines = lines_in c.args.text.now in
-    let t = told_in c.lines.parts in
-    let so_far = at_end lines c.lines.rest.now c.lines.above t c.is_empty.result c.lines.invariant.so_far c.is_empty.ensures c.lines-test.false in
-    let unfit = end_unfit lines c.lines.above t so_far (record { number = c.lines.above + 1; cause = causes.NoCrtcs }) refl refl (none_made t.crtcs (topology_told t) c.in-None.ensures) in
-    (λ ok. absurd (false≢true ok), λ all. absurd (unfit_is_unfit lines (record { number = c.lines.above + 1; cause = causes.NoCrtcs }) unfit all))
+    let told : UnfitLine = record { number = c.lines.above + 1; cause = causes.NoCrtcs } in
+    let unfit = end_unfit lines c.lines.above t so_far told refl refl (none_made t.crtcs (topology_told t) c.in-None.ensures) in
+    record {
+      fits = (λ ok. absurd (false≢true ok), λ all. absurd (unfit_is_unfit lines told unfit all));
+      topology = tt;
+      unfit = unfit;
+    }
