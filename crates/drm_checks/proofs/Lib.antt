@@ -4,3 +4,5 @@ pub mod CheckedLaws
 pub mod CheckerLemmas
 pub mod StepLemmas
 pub mod TellingLemmas
+pub mod UpdateLemmas
+pub mod UpdatedLaws

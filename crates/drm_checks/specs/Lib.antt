@@ -4,3 +4,4 @@ pub mod Differences
 pub mod Expectations
 pub mod Steps
 pub mod Totals
+pub mod Updates

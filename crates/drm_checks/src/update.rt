@@ -1,6 +1,12 @@
 //! A script with the answers that came in place of those that it expected.
 
-use crate::expectations::{ARROW, is_met, parts_of};
+ghost use Rattle.std.specs.Prelude.{◌≡◌, ◌++◌, Some, OnOk, IfOk, IfErr};
+ghost use Rattle.std.specs.Option.{option_map};
+ghost use Rattle.drm_runs.specs.Lines.{ended};
+ghost use Rattle.drm_checks.specs.Updates.{HasFault, Updates, UsesLine, stays, updated_line, with_answer};
+ghost use Rattle.drm_checks.specs.declared.update.UpdateFault.TheVariants as faults;
+
+use crate::expectations::{ARROW, is_met, parts_of, script_of};
 use drm_runs::{Interpreter, LineResult, Setup};
 use drm_script::{Malformed, first_line, line_of};
 use drm_table::{Answer, Apart};
@@ -22,59 +28,84 @@ pub enum UpdateFault {
 }
 
 impl From<AllocError> for UpdateFault {
+    ghost from_gives = { λ _ fault. fault ≡ faults.NoMemory };
+
     fn from(_error: AllocError) -> UpdateFault {
         UpdateFault::NoMemory
     }
 }
 
-/// Puts an answer behind the line of a script, where both fit into one.
-fn expect_answer(
-    updated: &mut Vec<u8>,
-    script: &[u8],
-    answer: &Result<Answer, Apart>,
-) -> Result<(), AllocError> {
-    let line = line_of(answer);
-    updated.extend_from_slice(script)?;
-    // the answer has its line end
-    if script.len() + ARROW.len() + line.as_bytes().len() > LONGEST + 1 {
-        return updated.extend_from_slice(LINE_END);
-    }
-    updated.extend_from_slice(ARROW)?;
-    updated.extend_from_slice(line.as_bytes())
-}
-
-/// Puts a line, and what it comes to where it expects something else.
-fn update_line(
+/// Uses what stands in a line before its first ` -> `. Gives the answer, if one came.
+fn use_line(
     interpreter: &mut Interpreter,
     alloc: Global,
     number: u64,
     line: &[u8],
-    updated: &mut Vec<u8>,
-) -> Result<(), UpdateFault> {
+) -> Result<Option<Result<Answer, Apart>>, UpdateFault>
+    ensures { UsesLine interpreter.old interpreter.new number line.now result }
+{
     if line.len() > LONGEST {
         return Err(UpdateFault::Malformed(number, Malformed::too_long()));
     }
+    match interpreter.interpret(alloc, script_of(line)) {
+        LineResult::Unanswered => Ok(None),
+        LineResult::Answered(answer) => Ok(Some(answer)),
+        LineResult::Malformed(cause) => Err(UpdateFault::Malformed(number, cause)),
+        LineResult::NoMemory => Err(UpdateFault::NoMemory),
+    }
+}
+
+/// Whether a line that expects this, if anything, stays as it is.
+fn stays(expected: Option<&[u8]>, came: &Option<Result<Answer, Apart>>) -> bool
+    ensures { result ≡ stays (option_map (λ e. e.now) expected.entry) came.now }
+{
+    match expected {
+        Some(expected) => is_met(expected, came),
+        None => true,
+    }
+}
+
+/// Puts a line with its end.
+fn put_line(updated: &mut Vec<u8>, line: &[u8]) -> Result<(), AllocError>
+    ensures { OnOk result (updated.new.items ≡ updated.old.items ++ ended line.now) }
+{
+    updated.extend_from_slice(line)?;
+    updated.extend_from_slice(LINE_END)
+}
+
+/// Puts an answer behind the line of a script, where both fit into one.
+fn put_answered(
+    updated: &mut Vec<u8>,
+    script: &[u8],
+    answer: &Result<Answer, Apart>,
+) -> Result<(), AllocError>
+    ensures { OnOk result (updated.new.items ≡ updated.old.items ++ ended (with_answer script.now (Some answer.now))) }
+{
+    let line = line_of(answer);
+    // the answer has its line end
+    if script.len() + ARROW.len() + line.as_bytes().len() > LONGEST + 1 {
+        return put_line(updated, script);
+    }
+    updated.extend_from_slice(script)?;
+    updated.extend_from_slice(ARROW)?;
+    updated.extend_from_slice(line.as_bytes())
+}
+
+/// Puts a line, or what stands in its place where it expects something else than what came.
+fn put_updated(
+    updated: &mut Vec<u8>,
+    line: &[u8],
+    came: &Option<Result<Answer, Apart>>,
+) -> Result<(), AllocError>
+    ensures { OnOk result (updated.new.items ≡ updated.old.items ++ ended (updated_line line.now came.now)) }
+{
     let (script, expected) = parts_of(line);
-    let came = match interpreter.interpret(alloc, script) {
-        LineResult::Unanswered => None,
-        LineResult::Answered(answer) => Some(answer),
-        LineResult::Malformed(cause) => return Err(UpdateFault::Malformed(number, cause)),
-        LineResult::NoMemory => return Err(UpdateFault::NoMemory),
-    };
-    let Some(expected) = expected else {
-        updated.extend_from_slice(line)?;
-        return Ok(updated.extend_from_slice(LINE_END)?);
-    };
-    if is_met(expected, &came) {
-        updated.extend_from_slice(line)?;
-        return Ok(updated.extend_from_slice(LINE_END)?);
+    if stays(expected, came) {
+        return put_line(updated, line);
     }
     match came {
-        Some(answer) => Ok(expect_answer(updated, script, &answer)?),
-        None => {
-            updated.extend_from_slice(script)?;
-            Ok(updated.extend_from_slice(LINE_END)?)
-        }
+        Some(answer) => put_answered(updated, script, answer),
+        None => put_line(updated, script),
     }
 }
 
@@ -82,18 +113,21 @@ fn update_line(
 /// and, where the text sets none, with these limits (own).
 ///
 /// A line that expects nothing stays so, and an expectation that is met stays as it is written. Where nothing is answered, or the
-/// line would have more than 255 bytes with its answer, what it expected goes. An error leaves no text: what was asked before it went with
-/// the device.
-pub fn update_script(alloc: Global, setup: Setup, text: &[u8]) -> Result<Vec<u8>, UpdateFault> {
+/// line would have more than 255 bytes with its answer, what it expected goes. Each line has its end then, the last one too. An error
+/// leaves no text: what was asked before it went with the device.
+pub fn update_script(alloc: Global, setup: Setup, text: &[u8]) -> Result<Vec<u8>, UpdateFault>
+    ensures updated { IfOk result (λ updated. Updates setup text.now updated.items) }
+    ensures fault { IfErr result (λ fault. HasFault setup text.now fault) }
+{
     let mut interpreter = Interpreter::new(setup);
     let mut updated = Vec::new(alloc);
     let mut rest = text;
-    for number in 1..u64::MAX {
-        if rest.is_empty() {
-            break;
-        }
+    let mut number = 0;
+    'lines: while !rest.is_empty() {
+        number += 1;
         let (line, behind) = first_line(rest);
-        update_line(&mut interpreter, alloc, number, line, &mut updated)?;
+        let came = use_line(&mut interpreter, alloc, number, line)?;
+        put_updated(&mut updated, line, &came)?;
         rest = behind;
     }
     Ok(updated)
