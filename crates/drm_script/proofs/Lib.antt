@@ -2,6 +2,7 @@ pub mod CallFieldLaws
 pub mod CallLaws
 pub mod CommandLaws
 pub mod FieldLaws
+pub mod FrontLemmas
 pub mod LimitsLaws
 pub mod LineLaws
 pub mod NumberLemmas

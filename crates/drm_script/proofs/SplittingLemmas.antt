@@ -5,43 +5,26 @@ use Rattle.std.proofs.lemmas.Option.{cond_some, none-some}
 use Rattle.std.proofs.lemmas.List.{take_all, drop_all}
 use Rattle.std.proofs.lemmas.Bool.Decides.{nat_tests}
 use Rattle.drm_script.specs.Lines.{is_line_end, with_line_byte, lines_of}
+use Rattle.drm_script.proofs.FrontLemmas.{front, front-take}
 
 -- where the first line ends, which is the end of the text where no line does
 abbrev pub end_of : List ℕ → ℕ
 end_of text = position_or_len is_line_end text
 
--- what the first line is, and what stands behind its end
-abbrev pub front : List ℕ → List ℕ
-front [] = []
-front (b ∷ bs) = cond (is_line_end b) [] (b ∷ front bs)
-
+-- what stands behind the end of the first line
 abbrev pub behind : List ℕ → List ℕ
 behind [] = []
 behind (b ∷ bs) = cond (is_line_end b) bs (behind bs)
 
-begins_at : (b c : ℕ) (cs : List ℕ) (e : Bool) → is_line_end c ≡ e → cond e ([] ∷ lines_of cs) (with_line_byte c (lines_of cs)) ≡ cond e [] (c ∷ front cs) ∷ lines_of (cond e cs (behind cs))
-    → with_line_byte b (cond e ([] ∷ lines_of cs) (with_line_byte c (lines_of cs))) ≡ (b ∷ cond e [] (c ∷ front cs)) ∷ lines_of (cond e cs (behind cs))
-begins_at b c cs e is h = rw h refl
-
-begins : (b : ℕ) (bs : List ℕ) (e : Bool) → is_line_end b ≡ e → (length bs ≢ 0 → lines_of bs ≡ front bs ∷ lines_of (behind bs))
-    → cond e ([] ∷ lines_of bs) (with_line_byte b (lines_of bs)) ≡ cond e [] (b ∷ front bs) ∷ lines_of (cond e bs (behind bs))
+begins : (b : ℕ) (bs : List ℕ) (e : Bool) → is_line_end b ≡ e → (length bs ≢ 0 → lines_of bs ≡ front is_line_end bs ∷ lines_of (behind bs))
+    → cond e ([] ∷ lines_of bs) (with_line_byte b (lines_of bs)) ≡ cond e [] (b ∷ front is_line_end bs) ∷ lines_of (cond e bs (behind bs))
 begins b bs true is h = refl
 begins b [] false is h = refl
 begins b (c ∷ cs) false is h = rw (h (omega arith)) refl
 
-lines-begin : (text : List ℕ) → length text ≢ 0 → lines_of text ≡ front text ∷ lines_of (behind text)
+lines-begin : (text : List ℕ) → length text ≢ 0 → lines_of text ≡ front is_line_end text ∷ lines_of (behind text)
 lines-begin [] some = absurd (some refl)
 lines-begin (b ∷ bs) some = begins b bs (is_line_end b) refl (lines-begin bs)
-
-front_at : (b : ℕ) (bs : List ℕ) (e : Bool) → front bs ≡ take (end_of bs) bs → cond e [] (b ∷ front bs) ≡ take (cond (not e) (1 + end_of bs) 0) (b ∷ bs)
-front_at b bs true h = refl
-front_at b bs false h =
-    let e : 1 + end_of bs ≡ suc (end_of bs) = omega arith in
-    rw e (ap (λ l. b ∷ l) h)
-
-front-take : (text : List ℕ) → front text ≡ take (end_of text) text
-front-take [] = refl
-front-take (b ∷ bs) = front_at b bs (is_line_end b) (front-take bs)
 
 behind_at : (b : ℕ) (bs : List ℕ) (e : Bool) → behind bs ≡ drop (end_of bs + 1) bs → cond e bs (behind bs) ≡ drop (cond (not e) (1 + end_of bs) 0 + 1) (b ∷ bs)
 behind_at b bs true h = refl
@@ -61,7 +44,7 @@ ended_line (b ∷ bs) at p some =
     let text : List ℕ = b ∷ bs in
     let place : end_of text ≡ at = (cond_some _ _ _ p).1 in
     lines-begin text (omega arith)
-    ∙ ap (λ l. l ∷ lines_of (behind text)) (front-take text ∙ ap (λ k. take k text) place)
+    ∙ ap (λ l. l ∷ lines_of (behind text)) (front-take is_line_end text ∙ ap (λ k. take k text) place)
     ∙ ap (λ r. take at text ∷ lines_of r) (behind-drop text ∙ ap (λ k. drop (k + 1) text) place)
 
 no_end : (e : Bool) (m n : ℕ) → e ≡ nat_lt m n → cond e (Some m) None ≡ None → n ≤ m
@@ -74,5 +57,5 @@ last_line (b ∷ bs) p some =
     let text : List ℕ = b ∷ bs in
     let past : length text ≤ end_of text = no_end _ _ _ refl p in
     lines-begin text (omega arith)
-    ∙ ap (λ l. l ∷ lines_of (behind text)) (front-take text ∙ take_all _ text past)
+    ∙ ap (λ l. l ∷ lines_of (behind text)) (front-take is_line_end text ∙ take_all _ text past)
     ∙ ap (λ r. text ∷ lines_of r) (behind-drop text ∙ drop_all _ text (omega arith))

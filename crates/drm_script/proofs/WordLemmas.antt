@@ -5,12 +5,9 @@ use Rattle.std.proofs.lemmas.Option.{cond_some, none-some}
 use Rattle.std.proofs.lemmas.List.{nil_from_length, take_all, drop_all}
 use Rattle.std.proofs.lemmas.Bool.Decides.{nat_tests}
 use Rattle.drm_script.specs.Words.{words_of, with_byte, begins_word, is_space, trimmed}
+use Rattle.drm_script.proofs.FrontLemmas.{front, front-take}
 
--- what stands before the first space, and from it on
-abbrev pub front : List ℕ → List ℕ
-front [] = []
-front (b ∷ bs) = cond (is_space b) [] (b ∷ front bs)
-
+-- what stands from the first space on
 abbrev pub behind : List ℕ → List ℕ
 behind [] = []
 behind (b ∷ bs) = cond (is_space b) (b ∷ bs) (behind bs)
@@ -36,31 +33,21 @@ pub trimmed_begins : (xs : List ℕ) → BeginsWord (trimmed xs)
 trimmed_begins [] = tt
 trimmed_begins (x ∷ xs) = trimmed_begins_at x xs (is_space x) refl (trimmed_begins xs)
 
-first_word_at : (x y : ℕ) (ys : List ℕ) (b : Bool) → is_space y ≡ b → with_byte y (begins_word ys) (words_of ys) ≡ (y ∷ front ys) ∷ words_of (behind ys)
-    → with_byte x (cond b false true) (cond b (words_of ys) (with_byte y (begins_word ys) (words_of ys))) ≡ (x ∷ cond b [] (y ∷ front ys)) ∷ words_of (cond b (y ∷ ys) (behind ys))
+first_word_at : (x y : ℕ) (ys : List ℕ) (b : Bool) → is_space y ≡ b → with_byte y (begins_word ys) (words_of ys) ≡ (y ∷ front is_space ys) ∷ words_of (behind ys)
+    → with_byte x (cond b false true) (cond b (words_of ys) (with_byte y (begins_word ys) (words_of ys))) ≡ (x ∷ cond b [] (y ∷ front is_space ys)) ∷ words_of (cond b (y ∷ ys) (behind ys))
 first_word_at x y ys true e h = rw e refl
 first_word_at x y ys false e h = rw h refl
 
-first_word : (x : ℕ) (xs : List ℕ) → with_byte x (begins_word xs) (words_of xs) ≡ (x ∷ front xs) ∷ words_of (behind xs)
+first_word : (x : ℕ) (xs : List ℕ) → with_byte x (begins_word xs) (words_of xs) ≡ (x ∷ front is_space xs) ∷ words_of (behind xs)
 first_word x [] = refl
 first_word x (y ∷ ys) = first_word_at x y ys (is_space y) refl (first_word y ys)
 
 -- a text that begins with a word
-pub words-begin : (xs : List ℕ) → 0 < length xs → BeginsWord xs → words_of xs ≡ front xs ∷ words_of (behind xs)
+pub words-begin : (xs : List ℕ) → 0 < length xs → BeginsWord xs → words_of xs ≡ front is_space xs ∷ words_of (behind xs)
 words-begin [] h p = absurd (omega arith)
 words-begin (x ∷ xs) h p = rw p (first_word x xs)
 
 -- where the first space is
-front_at : (x : ℕ) (xs : List ℕ) (b : Bool) → front xs ≡ take (position_or_len is_space xs) xs → cond b [] (x ∷ front xs) ≡ take (cond (not b) (1 + position_or_len is_space xs) 0) (x ∷ xs)
-front_at x xs true h = refl
-front_at x xs false h =
-    let e : 1 + position_or_len is_space xs ≡ suc (position_or_len is_space xs) = omega arith in
-    rw e (ap (λ l. x ∷ l) h)
-
-pub front-take : (xs : List ℕ) → front xs ≡ take (position_or_len is_space xs) xs
-front-take [] = refl
-front-take (x ∷ xs) = front_at x xs (is_space x) (front-take xs)
-
 behind_at : (x : ℕ) (xs : List ℕ) (b : Bool) → behind xs ≡ drop (position_or_len is_space xs) xs → cond b (x ∷ xs) (behind xs) ≡ drop (cond (not b) (1 + position_or_len is_space xs) 0) (x ∷ xs)
 behind_at x xs true h = refl
 behind_at x xs false h =
@@ -79,7 +66,7 @@ next_found text word n e h p =
     let begins : BeginsWord word = rw e (trimmed_begins text) in
     let place : position_or_len is_space word ≡ n = (cond_some _ _ _ p).1 in
     sym (words-trimmed text) ∙ sym (ap words_of e) ∙ words-begin word h begins
-    ∙ ap (λ w. w ∷ words_of (behind word)) (front-take word ∙ ap (λ k. take k word) place)
+    ∙ ap (λ w. w ∷ words_of (behind word)) (front-take is_space word ∙ ap (λ k. take k word) place)
     ∙ ap (λ r. take n word ∷ words_of r) (behind-drop word ∙ ap (λ k. drop k word) place)
 
 no_space : (b : Bool) (m n : ℕ) → b ≡ nat_lt m n → cond b (Some m) None ≡ None → n ≤ m
@@ -92,7 +79,7 @@ next_last text word e h p =
     let begins : BeginsWord word = rw e (trimmed_begins text) in
     let past : length word ≤ position_or_len is_space word = no_space _ _ _ refl p in
     sym (words-trimmed text) ∙ sym (ap words_of e) ∙ words-begin word h begins
-    ∙ ap (λ w. w ∷ words_of (behind word)) (front-take word ∙ take_all _ word past)
+    ∙ ap (λ w. w ∷ words_of (behind word)) (front-take is_space word ∙ take_all _ word past)
     ∙ ap (λ r. word ∷ words_of r) (behind-drop word ∙ drop_all _ word past)
 
 pub next_none : (text word : List ℕ) → word ≡ trimmed text → length word ≡ 0 → words_of text ≡ []
