@@ -27,7 +27,7 @@ fn closes(step: &Step, client: u64) -> bool
     }
 }
 
-/// The step at which a client closed, behind the one that opened it.
+/// The number of the step, from 1, at which a client closed, behind the one that opened it; None where no such step is among these.
 pub fn closed_at(steps: &[Step], client: u64) -> Option<u64>
     ensures { IfSome result (λ number. has_closed (history_of steps.now) client ≡ true) }
 {
