@@ -5,4 +5,3 @@ pub mod TableRows
 pub mod Readers
 pub mod AnswerRows
 pub mod RefusalRows
-pub mod ShortIds

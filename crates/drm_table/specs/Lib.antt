@@ -3,7 +3,6 @@ pub mod Audits
 pub mod Fields
 pub mod Limits
 pub mod Permit
-pub mod ResourceIds
 pub mod Results
 pub mod Rules
 pub mod Table

@@ -8,7 +8,7 @@ use crate::answers::Answer;
 use crate::audits::AuditPage;
 use crate::fields::Field::{self, U32, U64};
 use crate::fields::{AnswerFields, Width};
-use crate::lists::{ResourceIds, ShownList};
+use crate::lists::ShownList;
 use crate::rules::Rule;
 
 /// An answer with fields of fixed number: a row of the table of answers.
@@ -33,10 +33,10 @@ pub enum Told<'a> {
     Fields(AnswerKind, AnswerFields),
     /// The ids of CRTCs, connectors, encoders and framebuffers.
     Resources {
-        crtcs: &'a ResourceIds,
-        connectors: &'a ResourceIds,
-        encoders: &'a ResourceIds,
-        framebuffers: &'a ResourceIds,
+        crtcs: &'a ShownList,
+        connectors: &'a ShownList,
+        encoders: &'a ShownList,
+        framebuffers: &'a ShownList,
     },
     /// Ids or handles.
     List(&'a ShownList),

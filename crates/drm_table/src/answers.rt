@@ -1,7 +1,7 @@
 //! What the device answers.
 
 use crate::audits::AuditPage;
-use crate::lists::{ResourceIds, ShownList};
+use crate::lists::ShownList;
 use crate::rules::Rule;
 
 /// The answer of a step that is noted in the journal.
@@ -37,10 +37,10 @@ pub enum Answer {
     /// The CRTCs and connectors that the caller sees, the encoders, and the caller's framebuffers, each rising (drm-uapi,
     /// `DRM_IOCTL_MODE_GETRESOURCES`).
     Resources {
-        crtcs: ResourceIds,
-        connectors: ResourceIds,
-        encoders: ResourceIds,
-        framebuffers: ResourceIds,
+        crtcs: ShownList,
+        connectors: ShownList,
+        encoders: ShownList,
+        framebuffers: ShownList,
     },
     /// The framebuffer that a plane shows, or 0, and the CRTCs that the plane can be on, as a mask (drm-uapi,
     /// `DRM_IOCTL_MODE_GETPLANE`).

@@ -40,7 +40,7 @@ pub use laws::{
     rows_by_their_numbers_and_words,
 };
 pub use limits::{Limits, are_in_range};
-pub use lists::{IdList, ResourceIds, ShownList};
+pub use lists::{IdList, ShownList};
 pub use lookup::row;
 pub use permits::{Credentials, permit};
 pub use rows::{Family, Row};

@@ -1,8 +1,7 @@
 //! Lists of ids of bounded length.
 
-ghost use Rattle.std.specs.Prelude.{◌≡◌, ◌<◌, ◌≤◌, ◌∷◌, ◌++◌, [], All, length, map};
+ghost use Rattle.std.specs.Prelude.{◌≡◌, ◌<◌, ◌≤◌, ◌∷◌, ◌++◌, [], length, map};
 ghost use Rattle.drm_table.specs.Fields.{ids_in};
-ghost use Rattle.drm_table.specs.ResourceIds.{IsShortId, short_ids};
 ghost use Rattle.drm_table.specs.declared.fields.Field.TheVariants as fields;
 
 use crate::fields::{Field, Fields};
@@ -49,60 +48,6 @@ impl ShownList {
         ensures within { length self.now ≤ 64 }
     {
         self.ids.as_slice()
-    }
-}
-
-/// The ids of mode objects and framebuffers that resources tell, 64 at most, each below 65,536 (the bound is own). Contracts
-/// see the list of them.
-#[derive(PartialEq, Eq, Debug, Drop)]
-pub struct ResourceIds {
-    ids: ArrayVec<u16, 64>,
-}
-
-impl Model for ResourceIds {
-    ghost use Rattle.std.specs.Prelude.{List, ℕ};
-
-    ghost Value = { List ℕ };
-
-    ghost view = { λ list. list.ids.items };
-
-    ghost inverse = { λ ids. record { ids = record { items = ids } } };
-}
-
-impl ResourceIds {
-    /// A list without ids.
-    pub fn new() -> ResourceIds
-        ensures { result ≡ [] }
-    {
-        ResourceIds {
-            ids: ArrayVec::new(),
-        }
-    }
-
-    /// The ids of a list; none where one is too large.
-    pub fn of(list: &ShownList) -> Option<ResourceIds>
-        ensures { result ≡ short_ids list.now }
-    {
-        let mut ids = ArrayVec::new();
-        for id in list.ids() {
-            if *id > 65535 {
-                return None;
-            }
-            ids.push(*id as u16);
-        }
-        Some(ResourceIds { ids })
-    }
-
-    /// The ids as a list of any ids.
-    pub fn list(&self) -> ShownList
-        ensures ids { result ≡ self.now }
-        ensures short { All IsShortId self.now }
-    {
-        let mut list = ShownList::new();
-        for id in self.ids.as_slice() {
-            list.push(u32::from(*id));
-        }
-        list
     }
 }
 
