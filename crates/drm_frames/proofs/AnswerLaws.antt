@@ -13,8 +13,6 @@ use Rattle.drm_table.specs.declared.answer_kinds.AnswerKind.{AnswerKind}
 use Rattle.drm_table.specs.declared.fields.Field.{Field}
 use Rattle.drm_table.specs.Answers.{Told, answer_number, answer_widths, answer_kind_of, answer_with, told, AreToldBy}
 use Rattle.drm_table.specs.Fields.{FitsField}
-use Rattle.drm_table.specs.ResourceIds.{short_ids}
-use Rattle.drm_table.proofs.ShortIds.{were-short}
 use Rattle.drm_table.proofs.AnswerRows.{kind-of-its-own, told-by}
 use Rattle.drm_table.specs.declared.apart.Apart.{Apart}
 use Rattle.drm_table.specs.declared.rules.Rule.{Rule}
@@ -22,7 +20,7 @@ use Rattle.drm_table.specs.Rules.{rule_number, rule_errno, apart_number, apart_e
 use Rattle.drm_frames.specs.Number.{u32, u32_in, AreBytes}
 use Rattle.drm_frames.specs.Grammar.{FrameValue, frame_value, IsFrame}
 use Rattle.drm_frames.specs.Fields.{field_text, numbers_in}
-use Rattle.drm_frames.specs.Answers.{CallResult, told_frame, FitsTold, IsAnswer, Tells, rule_of, apart_of, denied, refused, resources_from, resources_in, resources_of, list_from, list_in, audit_in, denied_in, refused_in, result_in, answer_in}
+use Rattle.drm_frames.specs.Answers.{CallResult, told_frame, FitsTold, IsAnswer, Tells, rule_of, apart_of, denied, refused, resources_from, resources_in, list_from, list_in, audit_in, denied_in, refused_in, result_in, answer_in}
 use Rattle.drm_frames.specs.Lists.{list_text, front_list, behind_list}
 use Rattle.drm_frames.specs.Pages.{rows_in}
 use Rattle.drm_frames.proofs.Numbers.{AreBytes-drop}
@@ -84,52 +82,22 @@ four-texts first second third fourth behind a b c d none =
     ∙ ap (λ (t : List ℕ). w ++ t) (b.text ∙ ap (λ (t : List ℕ). x ++ t) (c.text ∙ ap (λ (t : List ℕ). y ++ t) (d.text ∙ ap (λ (t : List ℕ). z ++ t) none)))
     ∙ sym (four-apart w x y z)
 
--- resources are of four lists
-record AreFour (first second third fourth : Option (List ℕ)) (outcome : CallResult) : Type 0 where
-  pub crtcs : List ℕ
-  pub connectors : List ℕ
-  pub encoders : List ℕ
-  pub framebuffers : List ℕ
-  pub one : first ≡ Some crtcs
-  pub two : second ≡ Some connectors
-  pub three : third ≡ Some encoders
-  pub four : fourth ≡ Some framebuffers
-  pub told : Ok (Resources crtcs connectors encoders framebuffers) ≡ outcome
-
-are-four : (first second third fourth : Option (List ℕ)) (outcome : CallResult) → resources_of first second third fourth ≡ Some outcome → AreFour first second third fourth outcome
-are-four (Some a) (Some b) (Some c) (Some d) outcome e = record { crtcs = a; connectors = b; encoders = c; framebuffers = d; one = refl; two = refl; three = refl; four = refl; told = some-is (Ok (Resources a b c d)) outcome e }
-are-four None second third fourth outcome e = absurd (none-some outcome e)
-are-four (Some a) None third fourth outcome e = absurd (none-some outcome e)
-are-four (Some a) (Some b) None fourth outcome e = absurd (none-some outcome e)
-are-four (Some a) (Some b) (Some c) None outcome e = absurd (none-some outcome e)
-
 resources-by : (f : FrameValue) (second third fourth behind : List ℕ) (outcome : CallResult) → length f.fields ≤ 1022 → f.number ≡ 0x1006
     → IsInFront f.fields second → IsInFront second third → IsInFront third fourth → IsInFront fourth behind
     → resources_from f.fields second third fourth behind ≡ Some outcome → IsAnswer f outcome
 unfolding told
 resources-by f second third fourth behind outcome short number a b c d e =
-    let told = resources_of (short_ids (front_list f.fields)) (short_ids (front_list second)) (short_ids (front_list third)) (short_ids (front_list fourth)) in
-    let s = cond-some (nat_eq (length behind) 0) told outcome e in
-    let four = are-four (short_ids (front_list f.fields)) (short_ids (front_list second)) (short_ids (front_list third)) (short_ids (front_list fourth)) outcome s.1 in
-    let one = were-short (front_list f.fields) four.crtcs four.one in
-    let two = were-short (front_list second) four.connectors four.two in
-    let three = were-short (front_list third) four.encoders four.three in
-    let last = were-short (front_list fourth) four.framebuffers four.four in
-    let same : Ok (Resources (front_list f.fields) (front_list second) (front_list third) (front_list fourth)) ≡ outcome =
-    (λ i. Ok (Resources (sym one.same i) (sym two.same i) (sym three.same i) (sym last.same i))) ∙ four.told in
+    let shown : CallResult = Ok (Resources (front_list f.fields) (front_list second) (front_list third) (front_list fourth)) in
+    let s = cond-some (nat_eq (length behind) 0) (Some shown) outcome e in
     let none = nil_from_length behind (eqb-true (length behind) 0 s.0) in
     let text = four-texts f.fields second third fourth behind a b c d none in
     let size = ap length text ∙ length-four (front_list f.fields) (front_list second) (front_list third) (front_list fourth) in
-    subst (λ (o : CallResult). IsAnswer f o) same (
+    subst (λ (o : CallResult). IsAnswer f o) (some-is shown outcome s.1) (
       record {
         each_crtc = a.fits;
         each_connector = b.fits;
         each_encoder = c.fits;
         each_framebuffer = d.fits;
-        short_crtcs = one.each;
-        short_connectors = two.each;
-        short_encoders = three.each;
-        short_framebuffers = last.each;
         few = omega (arith, size, short);
       },
       frame_value-is f 0x1006 _ number text,

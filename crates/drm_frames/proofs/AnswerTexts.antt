@@ -18,12 +18,10 @@ use Rattle.drm_table.specs.declared.apart.Apart.{Apart}
 use Rattle.drm_table.specs.declared.audits.AuditRow.{AuditRow}
 use Rattle.drm_table.specs.declared.rules.Rule.{Rule}
 use Rattle.drm_table.specs.Rules.{rule_number, rule_errno, apart_number, apart_errno}
-use Rattle.drm_table.specs.ResourceIds.{short_ids}
-use Rattle.drm_table.proofs.ShortIds.{short-found}
 use Rattle.drm_frames.specs.Number.{u32, u32_in}
 use Rattle.drm_frames.specs.Grammar.{FrameValue, frame_value, IsFrame}
 use Rattle.drm_frames.specs.Fields.{field_text, numbers_in}
-use Rattle.drm_frames.specs.Answers.{CallResult, told_frame, FitsTold, answer_frame, FitsFields, IsAnswer, rule_of, apart_of, denied, refused, resources_of, resources_in, list_in, audit_in, denied_in, refused_in, answer_in}
+use Rattle.drm_frames.specs.Answers.{CallResult, told_frame, FitsTold, answer_frame, FitsFields, IsAnswer, rule_of, apart_of, denied, refused, resources_in, list_in, audit_in, denied_in, refused_in, answer_in}
 use Rattle.drm_frames.specs.Lists.{list_text, FitsList, FitsResources, front_list, behind_list}
 use Rattle.drm_frames.specs.Pages.{row_text, page_text, FitsPage, rows_in}
 use Rattle.drm_frames.proofs.Numbers.{u32_in-u32, length-u32}
@@ -104,7 +102,7 @@ list-found ids fits =
     ∙ ap (λ (xs : List ℕ). Some (Ok (Listed xs))) front.1
 
 resources_in-lists : (first second third fourth : List ℕ) → behind_list first ≡ Some second → behind_list second ≡ Some third → behind_list third ≡ Some fourth → behind_list fourth ≡ Some []
-    → resources_in first ≡ resources_of (short_ids (front_list first)) (short_ids (front_list second)) (short_ids (front_list third)) (short_ids (front_list fourth))
+    → resources_in first ≡ Some (Ok (Resources (front_list first) (front_list second) (front_list third) (front_list fourth)))
 resources_in-lists first second third fourth a b c d = rw (a, b, c, d) refl
 
 resources-found : (crtcs connectors encoders framebuffers : List ℕ) → FitsResources crtcs connectors encoders framebuffers
@@ -118,12 +116,11 @@ resources-found crtcs connectors encoders framebuffers fits =
     let b = front-found connectors third fits.each_connector in
     let c = front-found encoders fourth fits.each_encoder in
     let d = front-found framebuffers [] fits.each_framebuffer in
-    let lists : resources_of (short_ids (front_list first)) (short_ids (front_list second)) (short_ids (front_list third)) (short_ids (front_list fourth)) ≡ Some (Ok (Resources crtcs connectors encoders framebuffers)) =
-    rw (a.1, b.1, c.1, d.1, short-found crtcs fits.short_crtcs, short-found connectors fits.short_connectors, short-found encoders fits.short_encoders, short-found framebuffers fits.short_framebuffers) refl in
+    let lists : Resources (front_list first) (front_list second) (front_list third) (front_list fourth) ≡ Resources crtcs connectors encoders framebuffers = rw (a.1, b.1, c.1, d.1) refl in
     (others-own (list_text crtcs ++ list_text connectors ++ list_text encoders ++ list_text framebuffers)).4
     ∙ ap resources_in (four-apart (list_text crtcs) (list_text connectors) (list_text encoders) (list_text framebuffers))
     ∙ resources_in-lists first second third fourth a.0 b.0 c.0 d.0
-    ∙ lists
+    ∙ ap (λ (answer : Answer). Some (Ok answer)) lists
 
 audit_in-page : (count : ℕ) (fields : List ℕ) → count ≤ 16 → length fields ≡ 4 + 32 * count → u32_in fields ≡ count → audit_in fields ≡ Some (Ok (Audit (rows_in count (drop 4 fields))))
 audit_in-page count fields few len says =

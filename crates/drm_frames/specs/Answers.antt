@@ -8,7 +8,6 @@ use Rattle.drm_table.specs.declared.rules.Rule.{Rule}
 use Rattle.drm_table.specs.Answers.{Told, answer_number, answer_widths, answer_kind_of, answer_with, told}
 use Rattle.drm_table.specs.Answers.Told.{row, resources, list, page, denial}
 use Rattle.drm_table.specs.Fields.{FitsField}
-use Rattle.drm_table.specs.ResourceIds.{short_ids}
 use Rattle.drm_table.specs.Rules.{rule_number, rule_errno, rule_of_number, apart_number, apart_errno, apart_of_number}
 use Rattle.std.specs.List.{flat_map}
 use Rattle.std.specs.Option.{option_map, option_and_then}
@@ -73,15 +72,10 @@ list_from fields behind = if nat_eq (length behind) 0 then Some (Ok (Listed (fro
 abbrev pub list_in : List ℕ → Option CallResult
 list_in fields = option_and_then (list_from fields) (behind_list fields)
 
--- the resources of four lists, if each has ids of mode objects and framebuffers
-abbrev pub resources_of : Option (List ℕ) → Option (List ℕ) → Option (List ℕ) → Option (List ℕ) → Option CallResult
-resources_of (Some crtcs) (Some connectors) (Some encoders) (Some framebuffers) = Some (Ok (Resources crtcs connectors encoders framebuffers))
-resources_of _ _ _ _ = None
-
 -- what four lists say, where the last ends the fields
 abbrev pub resources_from : List ℕ → List ℕ → List ℕ → List ℕ → List ℕ → Option CallResult
 resources_from crtcs connectors encoders framebuffers behind =
-    if nat_eq (length behind) 0 then resources_of (short_ids (front_list crtcs)) (short_ids (front_list connectors)) (short_ids (front_list encoders)) (short_ids (front_list framebuffers)) else None
+    if nat_eq (length behind) 0 then Some (Ok (Resources (front_list crtcs) (front_list connectors) (front_list encoders) (front_list framebuffers))) else None
 
 -- what four lists say, and nothing behind them
 abbrev pub resources_in : List ℕ → Option CallResult

@@ -1,7 +1,6 @@
 -- Ids and handles as bytes (own).
 use Rattle.std.specs.Prelude.{ℕ, zero, suc, ◌+◌, ◌*◌, ◌^◌, ◌<◌, ◌≤◌, ◌&&◌, if◌then◌else◌, nat_le, List, [], ◌∷◌, ◌++◌, All, length, drop, Option, Some, None}
 use Rattle.std.specs.List.{flat_map}
-use Rattle.drm_table.specs.ResourceIds.{IsShortId}
 use Rattle.drm_frames.specs.Number.{u32, u32_in}
 
 -- how many ids there are, and each of them
@@ -23,10 +22,6 @@ pub record FitsResources (crtcs connectors encoders framebuffers : List ℕ) : T
   pub each_connector : FitsList connectors
   pub each_encoder : FitsList encoders
   pub each_framebuffer : FitsList framebuffers
-  pub short_crtcs : All IsShortId crtcs
-  pub short_connectors : All IsShortId connectors
-  pub short_encoders : All IsShortId encoders
-  pub short_framebuffers : All IsShortId framebuffers
   pub few : length crtcs + length connectors + length encoders + length framebuffers ≤ 251
 
 -- ---- the same as a function

@@ -4,11 +4,10 @@ ghost use Rattle.std.specs.List.{flat_map};
 ghost use Rattle.std.specs.Option.{option_map};
 ghost use Rattle.drm_frames.specs.Lists.{FitsId, FitsList, FitsResources, behind_list, front_list, ids_in, list_text};
 ghost use Rattle.drm_frames.specs.Number.{u32};
-ghost use Rattle.drm_table.specs.ResourceIds.{short_ids};
 
 use crate::number::u32_in;
 use crate::text::FrameBytes;
-use drm_table::{ResourceIds, ShownList};
+use drm_table::ShownList;
 
 /// How many ids a list has at most (own).
 const MOST_IDS: usize = 64;
@@ -50,10 +49,10 @@ pub(crate) fn push_list(fields: &mut FrameBytes, list: &ShownList)
 /// Writes the four lists of resources.
 pub(crate) fn push_resources(
     fields: &mut FrameBytes,
-    crtcs: &ResourceIds,
-    connectors: &ResourceIds,
-    encoders: &ResourceIds,
-    framebuffers: &ResourceIds,
+    crtcs: &ShownList,
+    connectors: &ShownList,
+    encoders: &ShownList,
+    framebuffers: &ShownList,
 )
     requires empty { fields.old ≡ [] }
     requires few { length crtcs.now + length connectors.now + length encoders.now + length framebuffers.now ≤ 251 }
@@ -62,10 +61,10 @@ pub(crate) fn push_resources(
     ensures fits { FitsResources crtcs.now connectors.now encoders.now framebuffers.now }
     ensures length { length fields.new ≤ 1022 }
 {
-    push_counted(fields, crtcs.list().ids());
-    push_counted(fields, connectors.list().ids());
-    push_counted(fields, encoders.list().ids());
-    push_counted(fields, framebuffers.list().ids());
+    push_counted(fields, crtcs.ids());
+    push_counted(fields, connectors.ids());
+    push_counted(fields, encoders.ids());
+    push_counted(fields, framebuffers.ids());
 }
 
 /// The list of as many ids, which the bytes begin with.
@@ -105,12 +104,4 @@ pub(crate) fn front_list(bytes: &[u8]) -> ShownList
     ensures { result ≡ front_list bytes.now }
 {
     list_of(u32_in(bytes) as usize, bytes.split_at(4).1)
-}
-
-/// The list at the front, of ids that resources tell; none where one is too large.
-pub(crate) fn front_ids(bytes: &[u8]) -> Option<ResourceIds>
-    requires { is_some (behind_list bytes.now) ≡ true }
-    ensures { result ≡ short_ids (front_list bytes.now) }
-{
-    ResourceIds::of(&front_list(bytes))
 }

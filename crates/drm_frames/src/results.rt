@@ -4,7 +4,7 @@ ghost use Rattle.drm_frames.specs.Answers.{answer_in, audit_in, denied_in, list_
 
 use crate::fields::read_numbers;
 use crate::frame::Frame;
-use crate::lists::{behind_list, front_ids, front_list};
+use crate::lists::{behind_list, front_list};
 use crate::number::u32_in;
 use crate::pages::page_of;
 use crate::refusals::{apart_of, rule_of};
@@ -35,15 +35,11 @@ fn resources(fields: &[u8]) -> Option<Result<Answer, Apart>>
     if !behind.is_empty() {
         return None;
     }
-    let crtcs = front_ids(fields)?;
-    let connectors = front_ids(second)?;
-    let encoders = front_ids(third)?;
-    let framebuffers = front_ids(fourth)?;
     Some(Ok(Answer::Resources {
-        crtcs,
-        connectors,
-        encoders,
-        framebuffers,
+        crtcs: front_list(fields),
+        connectors: front_list(second),
+        encoders: front_list(third),
+        framebuffers: front_list(fourth),
     }))
 }
 
@@ -101,7 +97,7 @@ fn refused(fields: &[u8]) -> Option<Result<Answer, Apart>>
 }
 
 /// The result that the frame is. `None` where it is none: another number, other fields, a list of
-/// more than 64 ids, an id of resources above 65,535, a page of more than 16 rows, the number of no rule, or an errno that is not the
+/// more than 64 ids, a page of more than 16 rows, the number of no rule, or an errno that is not the
 /// rule's own (own).
 #[tactic(auto, unfolding(crate::specs::Answers::answer_in))]
 pub fn answer_of(frame: &Frame<'_>) -> Option<Result<Answer, Apart>>
