@@ -7,7 +7,7 @@ ghost use Rattle.drm_script.specs.Lines.{id_behind, joined_ids, list_words, reso
 
 use crate::texts::LINE;
 use arrayvec::ArrayString;
-use drm_table::{ResourceIds, ShownList};
+use drm_table::ShownList;
 
 /// An id in decimal digits.
 fn push_digits(text: &mut ArrayString<LINE>, id: u32)
@@ -65,22 +65,13 @@ pub(crate) fn push_list(text: &mut ArrayString<LINE>, list: &ShownList)
     push_joined(text, list);
 }
 
-/// The ids of mode objects or framebuffers joined by commas, or a dash where there are none.
-fn push_objects(text: &mut ArrayString<LINE>, ids: &ResourceIds)
-    requires { array_string_len text.old + 704 ≤ LINE }
-    ensures bytes { text.new.bytes ≡ text.old.bytes ++ joined_ids ids.now }
-    ensures len { array_string_len text.new ≤ array_string_len text.old + 704 }
-{
-    push_joined(text, &ids.list());
-}
-
 /// The ids of CRTCs, connectors, encoders and framebuffers, each behind its word.
 pub(crate) fn push_resources(
     text: &mut ArrayString<LINE>,
-    crtcs: &ResourceIds,
-    connectors: &ResourceIds,
-    encoders: &ResourceIds,
-    framebuffers: &ResourceIds,
+    crtcs: &ShownList,
+    connectors: &ShownList,
+    encoders: &ShownList,
+    framebuffers: &ShownList,
 )
     requires { array_string_len text.old ≡ 0 }
     ensures bytes { text.new.bytes ≡ text.old.bytes
@@ -88,11 +79,11 @@ pub(crate) fn push_resources(
     ensures len { array_string_len text.new < LINE }
 {
     text.push_str("crtcs ");
-    push_objects(text, crtcs);
+    push_joined(text, crtcs);
     text.push_str(" connectors ");
-    push_objects(text, connectors);
+    push_joined(text, connectors);
     text.push_str(" encoders ");
-    push_objects(text, encoders);
+    push_joined(text, encoders);
     text.push_str(" framebuffers ");
-    push_objects(text, framebuffers);
+    push_joined(text, framebuffers);
 }
