@@ -1,8 +1,5 @@
 //! What there is.
 
-ghost use Rattle.std.specs.Prelude.{◌≡◌, true};
-ghost use Rattle.std.specs.List.{AllByRecursion};
-ghost use Rattle.drm_table.specs.ResourceIds.{IsShortId};
 ghost use Rattle.drm_table.specs.declared.calls.Call.TheVariants.{GetResources, GetPlaneResources};
 ghost use Rattle.drm_state.specs.Callers.{IsCaller};
 ghost use Rattle.drm_state.specs.Invariants.{MeetsInvariants};
@@ -11,7 +8,7 @@ ghost use Rattle.drm_state.specs.Refinement.{RefinesReply};
 use crate::seeing::visible;
 use drm_modes::Kind;
 use drm_state::{Caller, State};
-use drm_table::{Answer, ResourceIds, ShownList};
+use drm_table::Answer;
 
 /// MODE_GETRESOURCES (drm-uapi, mode setting): the CRTCs and connectors that the caller sees, all encoders, and its own
 /// framebuffers, each list rising. It takes no memory.
@@ -20,12 +17,11 @@ pub fn get_resources(state: &State, caller: Caller) -> Answer
     requires caller { IsCaller state.now caller }
     ensures { RefinesReply state.now caller.client GetResources result state.now }
 {
-    state.modes.laws();
     Answer::Resources {
-        crtcs: told(&visible(state, caller, Kind::Crtc)),
-        connectors: told(&visible(state, caller, Kind::Connector)),
-        encoders: told(&state.modes.ids(Kind::Encoder)),
-        framebuffers: told(&state.modes.framebuffers_of(caller.client)),
+        crtcs: visible(state, caller, Kind::Crtc),
+        connectors: visible(state, caller, Kind::Connector),
+        encoders: state.modes.ids(Kind::Encoder),
+        framebuffers: state.modes.framebuffers_of(caller.client),
     }
 }
 
@@ -37,17 +33,5 @@ pub fn get_plane_resources(state: &State, caller: Caller) -> Answer
 {
     Answer::List {
         list: visible(state, caller, Kind::Plane),
-    }
-}
-
-/// The ids of mode objects or framebuffers, as resources tell them.
-#[tactic(auto, using(drm_table::proofs::ShortIds::short_each))]
-fn told(ids: &ShownList) -> ResourceIds
-    requires { AllByRecursion IsShortId ids.now }
-    ensures { result ≡ ids.now }
-{
-    match ResourceIds::of(ids) {
-        Some(told) => told,
-        None => unreachable!(),
     }
 }

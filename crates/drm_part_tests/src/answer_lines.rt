@@ -102,7 +102,7 @@ const LISTS: [(&[u32], &[u8]); 3] = [
     (&[1, 3], b"list 1,3\n"),
 ];
 
-const RESOURCES: [([&[u32]; 4], &[u8]); 3] = [
+const RESOURCES: [([&[u32]; 4], &[u8]); 4] = [
     (
         [&[], &[], &[], &[]],
         b"crtcs - connectors - encoders - framebuffers -\n",
@@ -114,6 +114,10 @@ const RESOURCES: [([&[u32]; 4], &[u8]); 3] = [
     (
         [&[], &[8], &[], &[9, 65_535]],
         b"crtcs - connectors 8 encoders - framebuffers 9,65535\n",
+    ),
+    (
+        [&[65_536], &[8], &[], &[4_294_967_295]],
+        b"crtcs 65536 connectors 8 encoders - framebuffers 4294967295\n",
     ),
 ];
 
@@ -176,14 +180,13 @@ fn length_of(outcome: &Result<Answer, Apart>) -> usize {
 #[test]
 fn longest_answers_have_lines_of_their_lengths(rt: HostRuntime) {
     let ids = [u32::MAX; 64];
-    let objects = [65_535; 64];
     let rows = [row(u64::MAX, u64::MAX, u64::MAX, u64::MAX); 16];
     let lengths = [
         length_of(&list_of(&ids)),
-        length_of(&resources_of([&objects, &objects, &objects, &objects])),
+        length_of(&resources_of([&ids, &ids, &ids, &ids])),
         length_of(&page_of(&rows)),
     ];
-    same(&rt, &lengths, &[709, 1575, 1_384], 0);
+    same(&rt, &lengths, &[709, 2_855, 1_384], 0);
 }
 
 /// Rows of an audit with their lines.

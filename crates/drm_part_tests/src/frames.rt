@@ -72,10 +72,10 @@ fn is_few(outcome: &Result<Answer, Apart>) -> bool
                 framebuffers,
             },
         ) => {
-            crtcs.list().ids().len()
-                + connectors.list().ids().len()
-                + encoders.list().ids().len()
-                + framebuffers.list().ids().len()
+            crtcs.ids().len()
+                + connectors.ids().len()
+                + encoders.ids().len()
+                + framebuffers.ids().len()
                 <= 251
         }
         _ => true,
@@ -562,8 +562,8 @@ const LISTS: [(&[u8], &[u32]); 2] = [
     ),
 ];
 
-/// Resources with their bytes.
-const RESOURCES: [(&[u8], [&[u32]; 4]); 3] = [
+/// Resources with their bytes, their ids up to the greatest of 32 bits.
+const RESOURCES: [(&[u8], [&[u32]; 4]); 5] = [
     (
         &[
             18, 0, 0, 0, 6, 16, 0, 0, 0, 0, 0, 0, 0, 0, 0, 0, 0, 0, 0, 0, 0, 0,
@@ -583,6 +583,24 @@ const RESOURCES: [(&[u8], [&[u32]; 4]); 3] = [
             0, 0, 255, 255, 0, 0,
         ],
         [&[], &[8], &[], &[258, 65_535]],
+    ),
+    (
+        &[
+            22, 0, 0, 0, 6, 16, 0, 0, 0, 0, 0, 0, 0, 0, 0, 0, 0, 0, 1, 0, 0, 0, 0, 0, 1, 0,
+        ],
+        [&[], &[], &[], &[65_536]],
+    ),
+    (
+        &[
+            34, 0, 0, 0, 6, 16, 1, 0, 0, 0, 255, 255, 255, 255, 1, 0, 0, 0, 255, 255, 255, 255, 1,
+            0, 0, 0, 255, 255, 255, 255, 1, 0, 0, 0, 255, 255, 255, 255,
+        ],
+        [
+            &[4_294_967_295],
+            &[4_294_967_295],
+            &[4_294_967_295],
+            &[4_294_967_295],
+        ],
     ),
 ];
 
@@ -657,8 +675,8 @@ fn longest_answers_have_their_bytes(rt: HostRuntime) {
 }
 
 /// Frames that are no answer: the errno of another rule, no rule, a rule that stands apart, more behind an answer, no answer's
-/// number, lists, pages and resources whose lengths are others, and resources with an id above 65,535.
-const NO_ANSWERS: [&[u8]; 20] = [
+/// number, and lists, pages and resources whose lengths are others.
+const NO_ANSWERS: [&[u8]; 19] = [
     &[10, 0, 0, 0, 0, 32, 2, 0, 0, 0, 2, 0, 0, 0],
     &[10, 0, 0, 0, 0, 32, 4, 0, 0, 0, 22, 0, 0, 0],
     &[10, 0, 0, 0, 1, 32, 2, 0, 0, 0, 22, 0, 0, 0],
@@ -683,9 +701,6 @@ const NO_ANSWERS: [&[u8]; 20] = [
     ],
     &[
         21, 0, 0, 0, 6, 16, 0, 0, 0, 0, 0, 0, 0, 0, 0, 0, 0, 0, 1, 0, 0, 0, 9, 0, 0,
-    ],
-    &[
-        22, 0, 0, 0, 6, 16, 0, 0, 0, 0, 0, 0, 0, 0, 0, 0, 0, 0, 1, 0, 0, 0, 0, 0, 1, 0,
     ],
 ];
 

@@ -1,6 +1,6 @@
 //! Answers and calls with lists.
 
-use drm_table::{Answer, Apart, AuditPage, AuditRow, IdList, ResourceIds, ShownList};
+use drm_table::{Answer, Apart, AuditPage, AuditRow, IdList, ShownList};
 
 /// The first 32 of these ids.
 pub(crate) fn named(ids: &[u32]) -> IdList {
@@ -24,17 +24,9 @@ pub(crate) fn shown(ids: &[u32]) -> ShownList {
     list
 }
 
-/// The first 64 of these ids; none at all where one is above 65,535.
-pub(crate) fn resource_ids(ids: &[u32]) -> ResourceIds {
-    match ResourceIds::of(&shown(ids)) {
-        Some(ids) => ids,
-        None => ResourceIds::new(),
-    }
-}
-
 /// The mode objects that are shown: CRTCs, connectors, encoders and framebuffers.
 pub(crate) fn resources_of(ids: [&[u32]; 4]) -> Result<Answer, Apart> {
-    let [crtcs, connectors, encoders, framebuffers] = ids.map(|ids| resource_ids(ids));
+    let [crtcs, connectors, encoders, framebuffers] = ids.map(|ids| shown(ids));
     Ok(Answer::Resources {
         crtcs,
         connectors,

@@ -1,7 +1,7 @@
 //! Sessions of frames with each call of leases and a hello by a lease token, byte for byte, and read back.
 
 use crate::exchanges::{Exchange, HELLO};
-use crate::lists::{resource_ids, shown};
+use crate::lists::shown;
 use drm_table::{Answer, Rule};
 
 fn list_of(ids: &[u32]) -> Answer {
@@ -155,10 +155,10 @@ pub(crate) fn lessee_is_told() -> [Answer; 8] {
     [
         Answer::Opened { client: 3 },
         Answer::Resources {
-            crtcs: resource_ids(&[2]),
-            connectors: resource_ids(&[8]),
-            encoders: resource_ids(&[5, 6]),
-            framebuffers: resource_ids(&[]),
+            crtcs: shown(&[2]),
+            connectors: shown(&[8]),
+            encoders: shown(&[5, 6]),
+            framebuffers: shown(&[]),
         },
         list_of(&[2, 4, 8]),
         list_of(&[]),

@@ -1,6 +1,6 @@
 //! Calls and answers with lists.
 
-use drm_table::{AuditRow, IdList, ResourceIds, ShownList};
+use drm_table::{AuditRow, IdList, ShownList};
 
 /// The first 32 of these ids.
 pub(crate) fn named(ids: &[u32]) -> IdList {
@@ -22,14 +22,6 @@ pub(crate) fn shown(ids: &[u32]) -> ShownList {
         }
     }
     list
-}
-
-/// The first 64 of these ids; none at all where one is above 65,535.
-pub(crate) fn resource_ids(ids: &[u32]) -> ResourceIds {
-    match ResourceIds::of(&shown(ids)) {
-        Some(ids) => ids,
-        None => ResourceIds::new(),
-    }
 }
 
 pub(crate) const fn row(a: u64, b: u64, c: u64, d: u64) -> AuditRow {

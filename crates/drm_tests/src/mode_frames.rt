@@ -1,7 +1,7 @@
 //! A session of frames with each call of mode setting, byte for byte, and read back.
 
 use crate::exchanges::{Exchange, HELLO};
-use crate::lists::{resource_ids, shown};
+use crate::lists::shown;
 use drm_table::{Answer, Rule};
 
 /// MODE_CREATE_DUMB 64 64 32.
@@ -120,10 +120,10 @@ pub(crate) fn told() -> [Answer; 15] {
         },
         Answer::Number { value: 9 },
         Answer::Resources {
-            crtcs: resource_ids(&[1, 2]),
-            connectors: resource_ids(&[7, 8]),
-            encoders: resource_ids(&[5, 6]),
-            framebuffers: resource_ids(&[9]),
+            crtcs: shown(&[1, 2]),
+            connectors: shown(&[7, 8]),
+            encoders: shown(&[5, 6]),
+            framebuffers: shown(&[9]),
         },
         Answer::List {
             list: shown(&[3, 4]),
