@@ -201,7 +201,7 @@ fn handle_at(state: &State, position: usize) -> Option<AuditRow>
     Some(AuditRow {
         a: hold.client as u64,
         b: hold.handle as u64,
-        c: state.objects.step_number(hold.object) as u64,
+        c: state.objects.birth(hold.object) as u64,
         d: or_zero(hold.export_order),
     })
 }
@@ -215,7 +215,7 @@ fn name_at(state: &State, position: usize) -> Option<AuditRow>
     let shared = state.names.nth(position)?;
     Some(AuditRow {
         a: shared.name as u64,
-        b: state.objects.step_number(shared.object) as u64,
+        b: state.objects.birth(shared.object) as u64,
         c: 0,
         d: 0,
     })
@@ -231,7 +231,7 @@ fn token_at(state: &State, position: usize) -> Option<AuditRow>
     Some(AuditRow {
         a: shared.token as u64,
         b: shared.client as u64,
-        c: state.objects.step_number(shared.object) as u64,
+        c: state.objects.birth(shared.object) as u64,
         d: 0,
     })
 }
@@ -245,7 +245,7 @@ fn framebuffer_at(state: &State, position: usize) -> Option<AuditRow>
     Some(AuditRow {
         a: made.framebuffer as u64,
         b: made.client as u64,
-        c: state.objects.step_number(made.object) as u64,
+        c: state.objects.birth(made.object) as u64,
         d: 0,
     })
 }

@@ -60,7 +60,7 @@ abbrev pub stamped : ℕ → Object → Object
 stamped stamp x = record x { stamp = stamp }
 
 abbrev pub dead_of : Object → Dead
-dead_of x = record { step_number = x.step_number; size = x.size }
+dead_of x = record { birth = x.step_number; size = x.size }
 
 -- whether nothing refers to it
 abbrev pub is_unused : Object → Bool

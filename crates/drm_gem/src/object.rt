@@ -31,13 +31,13 @@ pub struct Object {
 /// ```rust
 /// let mut objects = Objects::new(alloc, 1);
 /// let Ok(key) = objects.create(3, 4096) else { return };
-/// let gone = Dead { step_number: 3, size: 4096 };
+/// let gone = Dead { birth: 3, size: 4096 };
 /// assert!(objects.unhold(key) == Some(gone));
 /// ```
 #[derive(Clone, Copy, PartialEq, Eq, Debug)]
 pub struct Dead {
     /// The number of the step that made it.
-    pub step_number: u32,
+    pub birth: u32,
     /// Its size in bytes.
     pub size: u64,
 }

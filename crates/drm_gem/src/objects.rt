@@ -101,12 +101,12 @@ impl Objects {
     /// let Ok(other) = objects.create(2, 8192) else { return };
     /// assert!(other != key);
     /// ```
-    pub fn create(&mut self, step_number: u32, size: u64) -> Result<ObjectKey, CreateFault>
-        requires newest { IsNewStepNumber self.old step_number }
+    pub fn create(&mut self, birth: u32, size: u64) -> Result<ObjectKey, CreateFault>
+        requires newest { IsNewStepNumber self.old birth }
         ensures room { OnOk result (length self.old.objects < self.old.limit) }
         ensures full { IfErr result (λ why. (why ≡ fault.Full) ↔ (self.old.limit ≤ length self.old.objects)) }
         ensures fresh { IfOk result (λ key. object_at self.old key ≡ None) }
-        ensures ok { IfOk result (λ key. self.new ≡ with_object self.old key step_number size) }
+        ensures ok { IfOk result (λ key. self.new ≡ with_object self.old key birth size) }
         ensures err { OnErr result (self.new ≡ self.old) }
     {
         if self.keys.len() >= self.limit as usize {
@@ -120,13 +120,13 @@ impl Objects {
         if let Err(_fault) = self.kept.reserve(1) {
             return Err(CreateFault::NoMemory);
         }
-        match self.keys.insert(step_number, key as u32) {
+        match self.keys.insert(birth, key as u32) {
             Ok(()) => {}
             Err(InsertFault::NoMemory(_)) => return Err(CreateFault::NoMemory),
             Err(InsertFault::Taken(_)) => unreachable!(),
         }
         let _key = self.kept.insert_reserved(Kept {
-            step_number,
+            step_number: birth,
             size,
             stamp: 0,
             holds: 1,
@@ -245,9 +245,9 @@ impl Objects {
     /// The number of the step that made the object.
     ///
     /// ```rust
-    /// assert!(objects.step_number(key) == 1);
+    /// assert!(objects.birth(key) == 1);
     /// ```
-    pub fn step_number(&self, key: ObjectKey) -> u32
+    pub fn birth(&self, key: ObjectKey) -> u32
         requires { is_there self.now key ≡ true }
         ensures { option_map (λ x. x.step_number) (object_at self.now key) ≡ Some result }
     {
@@ -356,7 +356,7 @@ impl Objects {
         }
         self.remove(object.key, object.step_number);
         Some(Dead {
-            step_number: object.step_number,
+            birth: object.step_number,
             size: object.size,
         })
     }

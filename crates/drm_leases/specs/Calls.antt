@@ -71,6 +71,6 @@ Created l v s m universal ids step_number (Ok made) l2 v2 =
     × (free_lessee v m ≡ Some made.id)
     × (next_token l ≡ Some made.token)
     × (l2 ≡ with_lease made.token step_number m (listed_objects s.topology (leased l v s m universal ids)) l)
-    × ((key : ℕ) × IsFreeKey v key × (v2 ≡ with_master (lessee key step_number m made.id) v) × (made.master ≡ key))
+    × ((key : ℕ) × IsFreeKey v key × (v2 ≡ with_master (lessee key step_number m made.id) v) × (made.m ≡ key))
 Created l v s m universal ids step_number (Err (Denied rule)) l2 v2 = (first_failing (lease_checks l v s m universal ids) ≡ Some rule) × (l2 ≡ l) × (v2 ≡ v)
 Created l v s m universal ids step_number (Err NoMemory) l2 v2 = (first_failing (lease_checks l v s m universal ids) ≡ None) × (l2 ≡ l) × (v2 ≡ v)

@@ -109,13 +109,13 @@ impl Leases {
         client: u32,
         universal: bool,
         ids: &[u32],
-        step_number: u32,
+        birth: u32,
     ) -> Result<Leased, LeaseFault>
         requires open_client { is_some (masters_sets.member_of masters.old.members client) ≡ true }
-        requires new_step_number { masters_calls.IsNewStepNumber masters.old step_number }
-        requires new_lessee { calls.IsNewLessee self.old step_number }
+        requires new_step_number { masters_calls.IsNewStepNumber masters.old birth }
+        requires new_lessee { calls.IsNewLessee self.old birth }
         requires agreed { AreAgreed self.old masters.old }
-        ensures created { IfSome (masters_sets.member_of masters.old.members client) (λ x. calls.Created self.old masters.old modes.now x.master universal ids.now step_number result self.new masters.new) }
+        ensures created { IfSome (masters_sets.member_of masters.old.members client) (λ x. calls.Created self.old masters.old modes.now x.master universal ids.now birth result self.new masters.new) }
         ensures err { OnErr result ((self.new ≡ self.old) × (masters.new ≡ masters.old)) }
         ensures agreed { AreAgreed self.new masters.new }
     {
@@ -138,20 +138,20 @@ impl Leases {
             return Err(LeaseFault::NoMemory);
         }
         self.granted.laws();
-        if let Err(NoMemory) = self.granted.add(step_number, member.master, objects) {
+        if let Err(NoMemory) = self.granted.add(birth, member.master, objects) {
             return Err(LeaseFault::NoMemory);
         }
-        let Ok(made) = masters.make_lessee(lessor.key, step_number) else {
-            self.granted.remove(step_number);
+        let Ok(made) = masters.make_lessee(lessor.key, birth) else {
+            self.granted.remove(birth);
             return Err(LeaseFault::NoMemory);
         };
         self.tokens.push_reserved(LeaseToken {
             token,
-            master: step_number,
+            master: birth,
         });
         self.last_given = Some(token);
         Ok(Leased {
-            master: made.0,
+            m: made.0,
             id: made.1,
             token,
         })

@@ -53,13 +53,13 @@ pub struct LeaseRecord {
 /// A lease that was made.
 ///
 /// ```rust
-/// let Leased { master, id, token } = leased;
-/// assert!(id == 1 && token == 1 && matches!(masters.master(2), Some(row) if row.key == master));
+/// let Leased { m, id, token } = leased;
+/// assert!(id == 1 && token == 1 && matches!(masters.master(2), Some(row) if row.key == m));
 /// ```
 #[derive(Clone, Copy, PartialEq, Eq, Debug)]
 pub struct Leased {
     /// The lessee.
-    pub master: MasterKey,
+    pub m: MasterKey,
     /// The id of the lessee among all of its owner, from 1.
     pub id: u32,
     /// The token that opens its client.

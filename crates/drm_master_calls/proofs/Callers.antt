@@ -12,7 +12,7 @@ use Rattle.drm_masters.specs.Masters.{member_of, is_current, is_current_member}
 use Rattle.drm_masters.specs.Calls as calls
 use Rattle.drm_masters.specs.Calls.{drop_checks, set_checks}
 use Rattle.drm_table.specs.declared.rules.Rule.TheVariants.{MasterPerm, MasterBusy, NotCurrent, IsLessee}
-use Rattle.drm_table.specs.declared.permits.Credentials.{Credentials}
+use Rattle.drm_table.specs.declared.permits.Standing.{Standing}
 use Rattle.std.specs.List.{list_any}
 use Rattle.std.proofs.Math.Bool.{and-false}
 use Rattle.drm_index_array.specs.Least.{least}
@@ -46,10 +46,10 @@ module _ (s : State) (w : Rows) (c : ℕ) (flags : FileFlags) (x : Member) (h : 
   stands = ap (credentials_in w) (row_is s w c flags h file) ∙ credentials_is s w h c flags
 
   pub current_is : (credentials_of w c).current ≡ is_current_member s.masters x
-  current_is = ap (λ (t : Credentials). t.current) stands ∙ ap (λ o. option_map_or (is_current_member s.masters) o false) look
+  current_is = ap (λ (t : Standing). t.current) stands ∙ ap (λ o. option_map_or (is_current_member s.masters) o false) look
 
   root_is : (credentials_of w c).root ≡ root_of s c
-  root_is = ap (λ (t : Credentials). t.root) stands ∙ sym (ap (λ o. option_map_or (λ (f : FileClient). f.flags.root) o false) file)
+  root_is = ap (λ (t : Standing). t.root) stands ∙ sym (ap (λ o. option_map_or (λ (f : FileClient). f.flags.root) o false) file)
 
   pub may_be : may_be_master w c ≡ (x.once_master || root_of s c)
   may_be = λ i. option_map_or (λ (row : ClientRow). row.once_master) (caller_row s w c flags x h file look i) false || root_is i

@@ -223,12 +223,12 @@ impl Masters {
     /// ```rust
     /// assert!(is_first);
     /// ```
-    pub fn on_open(&mut self, client: u32, step_number: u32) -> Result<bool, NoMemory>
+    pub fn on_open(&mut self, client: u32, birth: u32) -> Result<bool, NoMemory>
         requires new_client { calls.IsNewClient self.old client }
         requires room { length self.old.members < self.old.last_magic }
-        requires new_step_number { calls.IsNewStepNumber self.old step_number }
+        requires new_step_number { calls.IsNewStepNumber self.old birth }
         ensures made { IfOk result (λ made. made ≡ not (is_some self.old.device_master)) }
-        ensures ok { OnOk result (calls.Opened self.old client step_number self.old.device_master self.new) }
+        ensures ok { OnOk result (calls.Opened self.old client birth self.old.device_master self.new) }
         ensures err { OnErr result (self.new ≡ self.old) }
     {
         if let Some(master) = self.device_master {
@@ -237,14 +237,14 @@ impl Masters {
             }
             return Ok(false);
         }
-        if let Err(NoMemory) = self.masters.insert(founded_master(step_number)) {
+        if let Err(NoMemory) = self.masters.insert(founded_master(birth)) {
             return Err(NoMemory);
         }
-        if let Err(NoMemory) = self.members.add(owner(client, step_number)) {
-            self.masters.remove(step_number);
+        if let Err(NoMemory) = self.members.add(owner(client, birth)) {
+            self.masters.remove(birth);
             return Err(NoMemory);
         }
-        self.device_master = Some(step_number);
+        self.device_master = Some(birth);
         flag_current(&mut self.members, &self.masters, self.device_master);
         Ok(true)
     }
@@ -290,10 +290,10 @@ impl Masters {
     /// }
     /// ```
     #[tactic(auto, unfolding(crate::specs::Calls::set_checks))]
-    pub fn set(&mut self, client: u32, root: bool, step_number: u32) -> Result<SetDone, SetFault>
+    pub fn set(&mut self, client: u32, root: bool, birth: u32) -> Result<SetDone, SetFault>
         requires open_client { is_some (sets.member_of self.old.members client) ≡ true }
-        requires new_step_number { calls.IsNewStepNumber self.old step_number }
-        ensures set { IfSome (sets.member_of self.old.members client) (λ x. calls.SetOf self.old x root step_number result self.new) }
+        requires new_step_number { calls.IsNewStepNumber self.old birth }
+        ensures set { IfSome (sets.member_of self.old.members client) (λ x. calls.SetOf self.old x root birth result self.new) }
         ensures err { OnErr result (self.new ≡ self.old) }
     {
         let Some(member) = self.members.get(client) else {
@@ -309,7 +309,7 @@ impl Masters {
             return Err(SetFault::Denied(Rule::MasterBusy));
         }
         if !member.is_master {
-            if let Err(NoMemory) = self.found(client, step_number) {
+            if let Err(NoMemory) = self.found(client, birth) {
                 return Err(SetFault::NoMemory);
             }
             return Ok(SetDone::Made);
@@ -443,11 +443,11 @@ impl Masters {
     pub fn make_lessee(
         &mut self,
         master: MasterKey,
-        step_number: u32,
+        birth: u32,
     ) -> Result<(MasterKey, u32), LesseeFault>
         requires there { sets.is_there self.old.masters master ≡ true }
-        requires new_step_number { calls.IsNewStepNumber self.old step_number }
-        ensures made { calls.MadeLessee self.old (sets.step_number_at self.old.masters master) step_number result self.new }
+        requires new_step_number { calls.IsNewStepNumber self.old birth }
+        ensures made { calls.MadeLessee self.old (sets.step_number_at self.old.masters master) birth result self.new }
         ensures err { OnErr result (self.new ≡ self.old) }
     {
         let Some(lessor) = self.masters.of_key(master) else {
@@ -458,7 +458,7 @@ impl Masters {
         };
         let key = match self
             .masters
-            .insert(lessee(step_number, lessor.step_number, id))
+            .insert(lessee(birth, lessor.step_number, id))
         {
             Ok(key) => key,
             Err(NoMemory) => return Err(LesseeFault::NoMemory),

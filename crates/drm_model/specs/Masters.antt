@@ -4,7 +4,7 @@ use Rattle.std.specs.Option.{is_some, option_and_then}
 use Rattle.drm_lists.specs.Chains as chains
 use Rattle.drm_lists.specs.Chains.{top_of}
 use Rattle.drm_model.specs.Rows.{Rows, MasterRow, ClientRow, client_row}
-use Rattle.drm_table.specs.declared.permits.Credentials.{Credentials}
+use Rattle.drm_table.specs.declared.permits.Standing.{Standing}
 
 -- a master that nobody lent: it has no lessor
 abbrev pub new_master : ℕ → MasterRow
@@ -47,9 +47,9 @@ abbrev pub is_current_row : Rows → ClientRow → Bool
 is_current_row w row = row.is_master && is_owner w.masters w.device_master row.master
 
 -- what the tests of drm_ioctl_permit ask of a client; of one that isn't open, nothing holds
-abbrev pub credentials_in : Rows → Option ClientRow → Credentials
+abbrev pub credentials_in : Rows → Option ClientRow → Standing
 credentials_in w None = record { root = false; render = false; authenticated = false; current = false }
 credentials_in w (Some row) = record { root = row.root; render = row.render; authenticated = row.authenticated; current = is_current_row w row }
 
-abbrev pub credentials_of : Rows → ℕ → Credentials
+abbrev pub credentials_of : Rows → ℕ → Standing
 credentials_of w c = credentials_in w (client_row w c)

@@ -5,7 +5,7 @@ use Rattle.arrayvec.proofs.array_vec.ArrayVec.TheSendSync as list
 use Rattle.drm_id_alloc.proofs.Crossing.{table_send}
 use Rattle.drm_modes.specs.contracts.topologies.Topology as topology
 use Rattle.drm_modes.specs.contracts.topologies.Topology.TheInside as topology_inside
-use Rattle.drm_modes.specs.contracts.modes.Pixels as pixels
+use Rattle.drm_modes.specs.contracts.rows.Fb as pixels
 use Rattle.drm_modes.specs.contracts.modes.Modes as modes
 use Rattle.drm_modes.specs.contracts.modes.Modes.TheInside as modes_inside
 

@@ -10,9 +10,9 @@ use Rattle.drm_index_array.proofs.MarkedLemmas.{get-insert, get-remove}
 use Rattle.drm_id_alloc.specs.Table.{Table, empty_table, is_free as is_free_in, least_free, with_entry, without_entry}
 use Rattle.drm_id_alloc.proofs.TableLemmas.{IsWithin-empty, IsWithin-insert, IsWithin-remove}
 use Rattle.drm_modes.specs.declared.rows.Framebuffer.{Framebuffer}
-use Rattle.drm_modes.specs.declared.modes.Pixels.{Pixels}
+use Rattle.drm_modes.specs.declared.rows.Fb.{Fb}
 use Rattle.drm_modes.specs.Topology.{Topology, IsTopology, object_count}
-use Rattle.drm_modes.specs.Modes.{ModeSet, AreModes, IsFramebufferFrom, empty_modes, is_framebuffer, is_framebuffer_of, is_made_by, framebuffer_before, free_framebuffer, with_framebuffer, without_framebuffer, dark_of, scanout_count, first_framebuffer}
+use Rattle.drm_modes.specs.Modes.{ModeSet, AreModes, IsFramebufferFrom, empty_modes, fb_of, has_framebuffer, is_framebuffer, is_framebuffer_of, is_made_by, framebuffer_before, free_framebuffer, with_framebuffer, without_framebuffer, dark_of, scanout_count, first_framebuffer}
 use Rattle.drm_modes.specs.Tables.{framebuffer_row, framebuffers_in, mode_set, is_scanout, HasModes}
 use Rattle.drm_index_array.specs.Rows.{InOrder}
 use Rattle.drm_modes.proofs.Fixed.{few_rising}
@@ -22,10 +22,10 @@ abbrev number : Framebuffer → ℕ
 number row = row.framebuffer
 
 -- the object of what a client removes
-abbrev pub removes : ℕ → ℕ → Option Pixels → Option ℕ
-removes c n x = option_map (λ (row : Framebuffer). row.object) (option_and_then (λ (v : Pixels). cond (v.client == c) (Some (framebuffer_row (n, v))) None) x)
+abbrev pub removes : ℕ → ℕ → Option Fb → Option ℕ
+removes c n x = option_map (λ (row : Framebuffer). row.object) (option_and_then (λ (v : Fb). cond (v.client == c) (Some (framebuffer_row (n, v))) None) x)
 
-all_dark : (slots : fin.FinMap nat_cmp Pixels) (n : ℕ) → AllByRecursion (λ f. is_scanout slots f ≡ true) (replicate n 0)
+all_dark : (slots : fin.FinMap nat_cmp Fb) (n : ℕ) → AllByRecursion (λ f. is_scanout slots f ≡ true) (replicate n 0)
 all_dark slots zero = tt
 all_dark slots (suc n) = (refl, all_dark slots n)
 
@@ -34,7 +34,7 @@ all_set P v is [] i all = tt
 all_set P v is (x ∷ xs) zero all = (is, all.1)
 all_set P v is (x ∷ xs) (suc i) all = (all.0, all_set P v is xs i all.1)
 
-still_there : (z b : Bool) (v : Pixels) (x : Option Pixels) → (z || is_some x) ≡ true → (z || is_some (cond b (Some v) x)) ≡ true
+still_there : (z b : Bool) (v : Fb) (x : Option Fb) → (z || is_some x) ≡ true → (z || is_some (cond b (Some v) x)) ≡ true
 still_there true b v x h = refl
 still_there false true v x h = refl
 still_there false false v x h = h
@@ -57,20 +57,31 @@ few_between low last le fs between rise =
     numbers_rise [] rise = tt
     numbers_rise (x ∷ xs) rise = (above x xs rise.0, numbers_rise xs rise.1)
 
-module _ (t : Topology) (table : Table Pixels) (scanouts : List ℕ) where
+-- a row without its id is what it was made of
+without_id : (f : ℕ) (o : Option Fb) → o ≡ option_map fb_of (option_map (λ v. framebuffer_row (f, v)) o)
+without_id f None = refl
+without_id f (Some v) = refl
+
+pub is_some_fb : (f : ℕ) (set : ModeSet) → is_some (option_map fb_of (find (is_framebuffer f) set.framebuffers)) ≡ has_framebuffer set f
+is_some_fb f set = is_some-map fb_of (find (is_framebuffer f) set.framebuffers) ∙ is_some-find (is_framebuffer f) set.framebuffers
+
+module _ (t : Topology) (table : Table Fb) (scanouts : List ℕ) where
   pub free_is : table.first ≡ first_framebuffer t → free_framebuffer (mode_set t table scanouts) ≡ least_free table
   free_is first = least_free_is framebuffer_row number (λ e. refl) table.slots (first_framebuffer t) table.last ∙ ap (λ n. least (is_free_in table) n table.last) (sym first)
 
   pub found_is : (f : ℕ) → find (is_framebuffer f) (framebuffers_in table.slots) ≡ option_map (λ v. framebuffer_row (f, v)) (fin.get table.slots f)
   found_is f = find_number framebuffer_row number (λ e. refl) table.slots f
 
-  pub found_of_is : (c f : ℕ) → find (is_framebuffer_of c f) (framebuffers_in table.slots) ≡ option_and_then (λ (v : Pixels). cond (v.client == c) (Some (framebuffer_row (f, v))) None) (fin.get table.slots f)
+  pub found_of_is : (c f : ℕ) → find (is_framebuffer_of c f) (framebuffers_in table.slots) ≡ option_and_then (λ (v : Fb). cond (v.client == c) (Some (framebuffer_row (f, v))) None) (fin.get table.slots f)
   found_of_is c f = find_also framebuffer_row number (λ e. refl) table.slots f (is_made_by c)
 
   -- the same of the value that contracts see
   module _ (seen : ModeSet) (is : mode_set t table scanouts ≡ seen) where
     pub framebuffer_is : (f : ℕ) → option_map (λ v. framebuffer_row (f, v)) (fin.get table.slots f) ≡ find (is_framebuffer f) seen.framebuffers
     framebuffer_is f = sym (found_is f) ∙ ap (λ (set : ModeSet). find (is_framebuffer f) set.framebuffers) is
+
+    pub fb_is : (f : ℕ) → fin.get table.slots f ≡ option_map fb_of (find (is_framebuffer f) seen.framebuffers)
+    fb_is f = without_id f (fin.get table.slots f) ∙ ap (option_map fb_of) (framebuffer_is f)
 
     pub removed_is : (c f : ℕ) → removes c f (fin.get table.slots f) ≡ option_map (λ (row : Framebuffer). row.object) (find (is_framebuffer_of c f) seen.framebuffers)
     removed_is c f =
@@ -80,7 +91,7 @@ module _ (t : Topology) (table : Table Pixels) (scanouts : List ℕ) where
   pub has_is : (f : ℕ) → list_any (is_framebuffer f) (framebuffers_in table.slots) ≡ fin.contains_key table.slots f
   has_is f = sym (is_some-find (is_framebuffer f) (framebuffers_in table.slots)) ∙ ap is_some (found_is f) ∙ is_some-map (λ v. framebuffer_row (f, v)) (fin.get table.slots f)
 
-  pub added : (n : ℕ) (v : Pixels) → fin.get table.slots n ≡ None → mode_set t (with_entry table n v) scanouts ≡ with_framebuffer (mode_set t table scanouts) (framebuffer_row (n, v))
+  pub added : (n : ℕ) (v : Fb) → fin.get table.slots n ≡ None → mode_set t (with_entry table n v) scanouts ≡ with_framebuffer (mode_set t table scanouts) (framebuffer_row (n, v))
   added n v none = λ i. record { topology = t; framebuffers = rows_added framebuffer_row number (λ e. refl) table.slots n v none i; scanouts = scanouts; last = table.last }
 
   pub removed : (n : ℕ) → mode_set t (without_entry table n) (map (dark_of n) scanouts) ≡ without_framebuffer (mode_set t table scanouts) n
@@ -110,7 +121,7 @@ module _ (t : Topology) (table : Table Pixels) (scanouts : List ℕ) where
       scanouts_are = all_weaker (λ f. is_scanout table.slots f ≡ true) (λ f. ((f == 0) || list_any (is_framebuffer f) (framebuffers_in table.slots)) ≡ true) (λ f h. ap (λ b. (f == 0) || b) (has_is f) ∙ h) scanouts has.scanouts_are;
     }
 
-    pub has-added : (n : ℕ) (v : Pixels) → table.first ≤ n → n ≤ table.last → HasModes t (with_entry table n v) scanouts
+    pub has-added : (n : ℕ) (v : Fb) → table.first ≤ n → n ≤ table.last → HasModes t (with_entry table n v) scanouts
     has-added n v low high = record {
       topology = has.topology;
       first_is = has.first_is;

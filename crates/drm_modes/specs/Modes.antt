@@ -6,6 +6,7 @@ use Rattle.drm_index_array.specs.Least.{least}
 use Rattle.drm_index_array.specs.Rows.{placed, InOrder}
 use Rattle.drm_modes.specs.Topology.{Topology, IsTopology, object_count}
 use Rattle.drm_modes.specs.declared.rows.Shape.{Shape}
+use Rattle.drm_modes.specs.declared.rows.Fb.{Fb}
 use Rattle.drm_modes.specs.declared.rows.Framebuffer.{Framebuffer}
 use Rattle.drm_modes.specs.declared.rows.Shown.{Shown}
 
@@ -47,6 +48,10 @@ framebuffer_before x y = nat_lt x.framebuffer y.framebuffer
 
 abbrev pub framebuffer : ℕ → ℕ → Shape → ℕ → Framebuffer
 framebuffer f c shape k = record { framebuffer = f; client = c; shape = shape; object = k }
+
+-- a framebuffer without its id
+abbrev pub fb_of : Framebuffer → Fb
+fb_of row = record { client = row.client; shape = row.shape; object = row.object }
 
 abbrev pub has_framebuffer : ModeSet → ℕ → Bool
 has_framebuffer set f = list_any (is_framebuffer f) set.framebuffers

@@ -4,26 +4,26 @@ use Rattle.std.specs.List.{AllByRecursion}
 use Rattle.std.specs.Ordering.{nat_cmp}
 use Rattle.std.specs.FinMap as map
 use Rattle.drm_id_alloc.specs.Table.{Table, IsWithin}
-use Rattle.drm_modes.specs.declared.modes.Pixels.{Pixels}
+use Rattle.drm_modes.specs.declared.rows.Fb.{Fb}
 use Rattle.drm_modes.specs.declared.rows.Framebuffer.{Framebuffer}
 use Rattle.drm_modes.specs.Topology.{Topology, IsTopology, object_count}
 use Rattle.drm_modes.specs.Modes.{ModeSet, framebuffer, scanout_count, first_framebuffer}
 
-abbrev pub framebuffer_row : ℕ × Pixels → Framebuffer
+abbrev pub framebuffer_row : ℕ × Fb → Framebuffer
 framebuffer_row entry = framebuffer entry.0 entry.1.client entry.1.shape entry.1.object
 
-abbrev pub framebuffers_in : map.FinMap nat_cmp Pixels → List Framebuffer
+abbrev pub framebuffers_in : map.FinMap nat_cmp Fb → List Framebuffer
 framebuffers_in slots = list_map framebuffer_row (map.entries slots)
 
-abbrev pub mode_set : Topology → Table Pixels → List ℕ → ModeSet
+abbrev pub mode_set : Topology → Table Fb → List ℕ → ModeSet
 mode_set t table scanouts = record { topology = t; framebuffers = framebuffers_in table.slots; scanouts = scanouts; last = table.last }
 
 -- dark, or a framebuffer that is there
-abbrev pub is_scanout : map.FinMap nat_cmp Pixels → ℕ → Bool
+abbrev pub is_scanout : map.FinMap nat_cmp Fb → ℕ → Bool
 is_scanout slots f = (f == 0) || map.contains_key slots f
 
 -- ids follow those of the fixed objects, each CRTC and plane has a scanout, and what they show is there
-pub record HasModes (t : Topology) (table : Table Pixels) (scanouts : List ℕ) : Type 0 where
+pub record HasModes (t : Topology) (table : Table Fb) (scanouts : List ℕ) : Type 0 where
   pub topology : IsTopology t
   pub first_is : table.first ≡ first_framebuffer t
   pub last_high : table.last ≤ object_count t + 64

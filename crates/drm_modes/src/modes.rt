@@ -4,13 +4,13 @@ ghost use Rattle.std.specs.Prelude.{◌≡◌, ℕ, ◌==◌, false, ◌≤◌, 
 ghost use Rattle.std.specs.Int.{bit_at};
 ghost use Rattle.std.specs.Option.{option_map_or};
 ghost use Rattle.drm_modes.specs.Topology.{kind_of, ids_of_kind, is_of_kind, encoder_of, reaches, drives, possible_crtcs, plane_kind, crtc_of_plane, planes_of, mask_over, is_crtc, is_plane, is_encoder, object_count, AreCrtcs};
-ghost use Rattle.drm_modes.specs.Modes.{AreModes, empty_modes, has_framebuffer, is_framebuffer, is_framebuffer_of, is_made_by, framebuffers_of, framebuffer, free_framebuffer, with_framebuffer, without_framebuffer, can_show, shown_by, with_shown, shown_rows, scanout_count, first_framebuffer};
+ghost use Rattle.drm_modes.specs.Modes.{AreModes, empty_modes, fb_of, has_framebuffer, is_framebuffer, is_framebuffer_of, is_made_by, framebuffers_of, framebuffer, free_framebuffer, with_framebuffer, without_framebuffer, can_show, shown_by, with_shown, shown_rows, scanout_count, first_framebuffer};
 ghost use Rattle.drm_modes.specs.AddFbFault.{IsFull};
 ghost use Rattle.drm_modes.specs.Tables.{framebuffer_row, framebuffers_in};
 
 use crate::faults::AddFbFault;
 use crate::kinds::{Kind, PlaneKind};
-use crate::rows::{Framebuffer, Shape, Shown};
+use crate::rows::{Fb, Framebuffer, Shape, Shown};
 use crate::scanouts;
 use crate::topologies::Topology;
 use arrayvec::ArrayVec;
@@ -19,14 +19,6 @@ use drm_id_alloc::{AddFault, IdTable};
 use drm_table::ShownList;
 use std::alloc::Global;
 use std::marker::Model;
-
-// What a framebuffer is, beside its id.
-#[derive(Clone, Copy)]
-pub(crate) struct Pixels {
-    pub(crate) client: u32,
-    pub(crate) shape: Shape,
-    pub(crate) object: ObjectKey,
-}
 
 /// The fixed mode objects, the framebuffers, and what CRTCs and planes show (drm-uapi, mode setting). Contracts see the
 /// topology, and flat lists.
@@ -41,7 +33,7 @@ pub(crate) struct Pixels {
 #[derive(Drop)]
 pub struct Modes {
     topology: Topology,
-    framebuffers: IdTable<Pixels>,
+    framebuffers: IdTable<Fb>,
     // What each CRTC and then each plane shows, 0 where it is dark.
     scanouts: ArrayVec<u32, 64>,
 }
@@ -246,7 +238,7 @@ impl Modes {
         ensures err { OnErr result (self.new ≡ self.old) }
         ensures full { IfErr result (λ fault. IsFull fault ↔ (free_framebuffer self.old ≡ None)) }
     {
-        let framebuffer = match self.framebuffers.add(Pixels {
+        let framebuffer = match self.framebuffers.add(Fb {
             client,
             shape,
             object,
@@ -274,12 +266,12 @@ impl Modes {
     /// ```rust
     /// assert!(matches!(modes.fb(framebuffer), Some(row) if row.object == object));
     /// ```
-    pub fn fb(&self, id: u32) -> Option<Framebuffer>
-        ensures found { result ≡ find (is_framebuffer id) self.now.framebuffers }
+    pub fn fb(&self, id: u32) -> Option<Fb>
+        ensures found { result ≡ option_map fb_of (find (is_framebuffer id) self.now.framebuffers) }
         ensures there { is_some result ≡ has_framebuffer self.now id }
     {
-        let pixels = *self.framebuffers.get(id)?;
-        Some(row(id, pixels))
+        let fb = *self.framebuffers.get(id)?;
+        Some(fb)
     }
 
     /// The ids of a client's framebuffers, rising (drm-uapi, mode setting; that they rise is own). It takes no memory, and
@@ -410,7 +402,8 @@ impl Modes {
         ensures { result ≡ slice_get self.now.framebuffers position }
     {
         let framebuffer = self.framebuffers.nth(position)?;
-        self.fb(framebuffer)
+        let fb = *self.framebuffers.get(framebuffer)?;
+        Some(row(framebuffer, fb))
     }
 
     /// The one at a place of the list of the CRTCs and planes that show something, where 0 is the first. It takes no
@@ -426,19 +419,19 @@ impl Modes {
     }
 }
 
-fn row(framebuffer: u32, pixels: Pixels) -> Framebuffer
-    ensures { result ≡ framebuffer_row (framebuffer, pixels) }
+fn row(framebuffer: u32, fb: Fb) -> Framebuffer
+    ensures { result ≡ framebuffer_row (framebuffer, fb) }
 {
     Framebuffer {
         framebuffer,
-        client: pixels.client,
-        shape: pixels.shape,
-        object: pixels.object,
+        client: fb.client,
+        shape: fb.shape,
+        object: fb.object,
     }
 }
 
 // The framebuffer of a client with the least id.
-fn first_of(framebuffers: &IdTable<Pixels>, client: u32) -> Option<Framebuffer>
+fn first_of(framebuffers: &IdTable<Fb>, client: u32) -> Option<Framebuffer>
     ensures { result ≡ find (is_made_by client) (framebuffers_in framebuffers.now.slots) }
 {
     let mut from = 0;

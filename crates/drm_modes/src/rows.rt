@@ -26,7 +26,7 @@ pub struct Shape {
 /// let mut modes = Modes::new(alloc, topology, 4);
 /// let object = ObjectKey::from_number(7);
 /// let Ok(framebuffer) = modes.addfb(1, shape, object) else { return };
-/// assert!(modes.fb(framebuffer) == Some(Framebuffer { framebuffer, client: 1, shape, object }));
+/// assert!(modes.nth_framebuffer(0) == Some(Framebuffer { framebuffer, client: 1, shape, object }));
 /// ```
 #[derive(Clone, Copy, PartialEq, Eq, Debug)]
 pub struct Framebuffer {
@@ -37,6 +37,21 @@ pub struct Framebuffer {
     /// How its pixels lie.
     pub shape: Shape,
     /// The object that has them.
+    pub object: ObjectKey,
+}
+
+/// A framebuffer without its id: what is known of an object whose pixels can be shown (drm-uapi, mode setting).
+///
+/// ```rust
+/// assert!(modes.fb(framebuffer) == Some(Fb { client: 1, shape, object }));
+/// ```
+#[derive(Clone, Copy, PartialEq, Eq, Debug)]
+pub struct Fb {
+    /// The client that created it, and that alone may remove it.
+    pub client: u32,
+    /// The layout of its pixels.
+    pub shape: Shape,
+    /// The object with the pixels.
     pub object: ObjectKey,
 }
 

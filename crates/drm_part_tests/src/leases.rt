@@ -114,7 +114,7 @@ fn told_lease(
 ) -> Told {
     match made {
         Some(Ok(made)) => match masters.master(step_number) {
-            Some(row) if row.key == made.master => Told::Two(made.id, made.token),
+            Some(row) if row.key == made.m => Told::Two(made.id, made.token),
             _ => Told::Unasked,
         },
         Some(Err(LeaseFault::Denied(rule))) => Told::Denied(rule),

@@ -4,7 +4,7 @@ ghost use Rattle.std.specs.Prelude.{◌≡◌, ◌≤◌, IfSome};
 
 use crate::asking::{Call, Told, check};
 use drm_gem::ObjectKey;
-use drm_modes::{AddFbFault, Framebuffer, Kind, Modes, PlaneKind, Shape, Shown, Topology};
+use drm_modes::{AddFbFault, Fb, Framebuffer, Kind, Modes, PlaneKind, Shape, Shown, Topology};
 use drm_table::ShownList;
 use std::alloc::Global;
 use std::process::Abort;
@@ -155,6 +155,14 @@ fn told_ids(ids: &[u32]) -> Told {
 }
 
 /// A framebuffer of the shape.
+fn told_fb(found: Option<Fb>) -> Told {
+    match found {
+        Some(fb) if fb.shape == SHAPE => Told::Two(fb.client, fb.object.number()),
+        Some(_) => Told::Unasked,
+        None => Told::Nothing,
+    }
+}
+
 fn told_framebuffer(found: Option<Framebuffer>) -> Told {
     let Some(row) = found else {
         return Told::Nothing;
@@ -219,7 +227,7 @@ impl Call<Modes> for Ask {
             Ask::Show(id, framebuffer) => show(modes, id, framebuffer),
             Ask::Shown(id) => Told::Number(modes.shown(id)),
             Ask::NthShown(place) => told_shown(modes.nth_shown(place)),
-            Ask::Framebuffer(id) => told_framebuffer(modes.fb(id)),
+            Ask::Framebuffer(id) => told_fb(modes.fb(id)),
             Ask::NthFramebuffer(place) => told_framebuffer(modes.nth_framebuffer(place)),
             _ => asked_of_objects(modes, self),
         }
@@ -281,7 +289,7 @@ const FRAMEBUFFERS: [(Ask, Told); 20] = [
     (Ask::Add(1, 7), Told::Full),
     (Ask::FramebuffersOf(1), Told::Three(2, 9, 11)),
     (Ask::FramebuffersOf(3), Told::Three(0, 0, 0)),
-    (Ask::Framebuffer(10), Told::Three(10, 2, 4)),
+    (Ask::Framebuffer(10), Told::Two(2, 4)),
     (Ask::Framebuffer(8), Told::Nothing),
     (Ask::Remove(1, 10), Told::Nothing),
     (Ask::Remove(2, 10), Told::Number(4)),
@@ -328,7 +336,7 @@ const SCANOUTS: [(Ask, Told); 25] = [
 const ADDED: [Case; 4] = [
     (Ask::NthFramebuffer(0), Told::Nothing),
     (Ask::Add(1, 7), Told::Number(9)),
-    (Ask::Framebuffer(9), Told::Three(9, 1, 7)),
+    (Ask::Framebuffer(9), Told::Two(1, 7)),
     (Ask::NthFramebuffer(1), Told::Nothing),
 ];
 

@@ -95,7 +95,7 @@ fn read(objects: &Objects, key: ObjectKey) -> Counts
     requires { is_there objects.now key ≡ true }
 {
     Counts {
-        step_number: objects.step_number(key),
+        step_number: objects.birth(key),
         size: objects.size(key),
         stamp: objects.stamp(key),
         holds: objects.holds(key),
@@ -188,7 +188,7 @@ const REFERENCES: [Case; 12] = [
 ];
 
 const FIRST: Told = Told::Gone(Dead {
-    step_number: 1,
+    birth: 1,
     size: 4096,
 });
 
@@ -240,7 +240,7 @@ const MIDDLE: [Case; 10] = [
     (
         Ask::Unhold(1),
         Told::Gone(Dead {
-            step_number: 5,
+            birth: 5,
             size: 8192,
         }),
     ),

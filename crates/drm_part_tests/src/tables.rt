@@ -4,7 +4,7 @@ use crate::asking::same;
 use crate::lists::{named, row as audit_row};
 use bitflags::Flags;
 use drm_table::{
-    Apart, AuditKind, AuditPage, Call, CallKind, Credentials, Event, Field, IdList, Limits,
+    Apart, AuditKind, AuditPage, Call, CallKind, Standing, Event, Field, IdList, Limits,
     RowFlags, Rule, ShownList, are_in_range, permit, row,
 };
 use std::alloc::AllocError;
@@ -67,8 +67,8 @@ const RULES: [(Rule, u32, u32, &str); 30] = [
     (Rule::Full, 43, 28, "Full"),
 ];
 
-fn credentials(bits: u8) -> Credentials {
-    Credentials {
+fn credentials(bits: u8) -> Standing {
+    Standing {
         root: bits & 1 != 0,
         render: bits & 2 != 0,
         authenticated: bits & 4 != 0,

@@ -19,6 +19,7 @@ use Rattle.drm_index_array.proofs.Least.{least-same}
 use Rattle.drm_table.specs.declared.answers.Answer.TheVariants.{Framebuffer as FramebufferIs}
 use Rattle.drm_gem.specs.Objects.{ObjectSet, referred, changed_at}
 use Rattle.drm_share.specs.declared.rows.SharedName.{SharedName}
+use Rattle.drm_modes.specs.declared.rows.Fb.{Fb}
 use Rattle.drm_modes.specs.declared.rows.Framebuffer.{Framebuffer}
 use Rattle.drm_modes.specs.declared.rows.Shape.{Shape}
 use Rattle.drm_modes.specs.declared.rows.Shown.{Shown}
@@ -58,6 +59,11 @@ told_by handle (Some row) width height pitch bpp a b c d =
     let deep : row.bpp ≡ bpp = (let e : Some row.bpp ≡ Some bpp = d in cc) in
     λ i. FramebufferIs (wide i) (high i) (far i) (deep i) handle
 
+-- a number of a framebuffer is one that its id has no part in
+through_fb : (of : Fb → ℕ) (o : Option Framebuffer) → option_map (λ (x : Framebuffer). of (modes.fb_of x)) o ≡ option_map of (option_map modes.fb_of o)
+through_fb of None = refl
+through_fb of (Some x) = refl
+
 module _ (s : State) (w : Rows) (t : MeetsInvariants s) (h : Represents s w) where
   -- a framebuffer has a row exactly where it is there
   pub framebuffer_is : (f : ℕ) → is_framebuffer w f ≡ has_framebuffer s.modes f
@@ -71,9 +77,11 @@ module _ (s : State) (w : Rows) (t : MeetsInvariants s) (h : Represents s w) whe
       (all_each _ (λ x. refl) s.modes.framebuffers)
       (λ y e. one_passes framebuffer_before (modes.is_framebuffer f) (λ x. number (of x)) (later f) s.modes.framebuffers (modes_so s t).framebuffers_rise y e)
 
-  module _ (f : ℕ) (x : Framebuffer) (found : find (modes.is_framebuffer f) s.modes.framebuffers ≡ Some x) where
-    number_found : (told : FramebufferRow → ℕ) (of : Framebuffer → ℕ) (number : ℕ → ℕ) → ((x : Framebuffer) → told (framebuffer_row_of s.objects.objects x) ≡ number (of x)) → option_map told (framebuffer_row w f) ≡ Some (number (of x))
-    number_found told of number is = number_is f told of number is ∙ ap (option_map (λ x. number (of x))) found
+  module _ (f : ℕ) (x : Fb) (found : option_map modes.fb_of (find (modes.is_framebuffer f) s.modes.framebuffers) ≡ Some x) where
+    number_found : (told : FramebufferRow → ℕ) (of : Fb → ℕ) (number : ℕ → ℕ) → ((x : Framebuffer) → told (framebuffer_row_of s.objects.objects x) ≡ number (of (modes.fb_of x))) → option_map told (framebuffer_row w f) ≡ Some (number (of x))
+    number_found told of number is =
+        number_is f told (λ y. of (modes.fb_of y)) number is ∙ through_fb (λ v. number (of v)) (find (modes.is_framebuffer f) s.modes.framebuffers)
+        ∙ ap (option_map (λ v. number (of v))) found
 
     -- what is told of a framebuffer
     pub framebuffer_told : (handle : ℕ) → framebuffer_answer handle (framebuffer_row w f) ≡ FramebufferIs x.shape.width x.shape.height x.shape.pitch x.shape.bpp handle
@@ -105,11 +113,11 @@ module _ (s : State) (w : Rows) (t : MeetsInvariants s) (h : Represents s w) whe
       ∙ ap (least (modes.is_free s.modes) (modes.first_framebuffer w.topology)) (sym bounds.6) ∙ ap (λ (topology : Topology). least (modes.is_free s.modes) (modes.first_framebuffer topology) s.modes.last) (sym bounds.7)
 
 -- the object of a framebuffer is known
-pub framebuffer_known : (s : State) (f key : ℕ) → Some key ≡ option_map (λ (x : Framebuffer). x.object) (find (modes.is_framebuffer f) s.modes.framebuffers) → is_among (keys_of s.files.holds ++ referring_keys s) key ≡ true
+pub framebuffer_known : (s : State) (f key : ℕ) → Some key ≡ option_map (λ (x : Fb). x.object) (option_map modes.fb_of (find (modes.is_framebuffer f) s.modes.framebuffers)) → is_among (keys_of s.files.holds ++ referring_keys s) key ≡ true
 framebuffer_known s f key e =
     among-right (keys_of s.files.holds) (referring_keys s) key
     (among-right (token_keys s.tokens.tokens) (framebuffer_keys s.modes.framebuffers) key
-    (of_found (λ k. is_among (framebuffer_keys s.modes.framebuffers) k ≡ true) (modes.is_framebuffer f) (λ (x : Framebuffer). x.object) s.modes.framebuffers (its_key (λ (x : Framebuffer). x.object) s.modes.framebuffers) key e))
+    (of_found (λ k. is_among (framebuffer_keys s.modes.framebuffers) k ≡ true) (modes.is_framebuffer f) (λ (x : Framebuffer). x.object) s.modes.framebuffers (its_key (λ (x : Framebuffer). x.object) s.modes.framebuffers) key (e ∙ sym (through_fb (λ (x : Fb). x.object) (find (modes.is_framebuffer f) s.modes.framebuffers)))))
 
 -- ---- one more
 

@@ -14,7 +14,7 @@ use Rattle.drm_state.specs.Refinement.{Represents}
 use Rattle.drm_state.proofs.Represented.{clients_are, masters_are, device_master_is}
 use Rattle.drm_state.proofs.Members.{row_found, not_found}
 use Rattle.drm_state.proofs.Living.{current_is}
-use Rattle.drm_table.specs.declared.permits.Credentials.{Credentials}
+use Rattle.drm_table.specs.declared.permits.Standing.{Standing}
 use Rattle.drm_masters.specs.declared.rows.Member.{Member}
 
 pub client_found : (s : State) (w : Rows) → Represents s w → (c : ℕ) → client_row w c ≡ option_map (client_row_of s.masters.members) (find (files.is_client c) s.files.clients)
@@ -36,7 +36,7 @@ pub credentials_is : (s : State) (w : Rows) → Represents s w → (c : ℕ) (fl
     record { root = flags.root; render = flags.render; authenticated = flags.authenticated; current = is_current s.masters c }
 credentials_is s w h c flags =
     let o = member_of s.masters.members c in
-    let now = λ (b : Bool). let r : Credentials = record { root = flags.root; render = flags.render; authenticated = flags.authenticated; current = b } in r in
+    let now = λ (b : Bool). let r : Standing = record { root = flags.root; render = flags.render; authenticated = flags.authenticated; current = b } in r in
     ap (λ rows. now (option_map_or (λ (x : Member). x.is_master) o false && is_owner rows w.device_master (option_map (λ (x : Member). x.master) o))) (masters_are s w h)
     ∙ ap (λ device. now (option_map_or (λ (x : Member). x.is_master) o false && is_owner (masters_of s) device (option_map (λ (x : Member). x.master) o))) (device_master_is s w h)
     ∙ ap now (current_is s.leases.tokens s.masters.masters s.masters.device_master o)

@@ -7,7 +7,7 @@ ghost use Rattle.drm_state.specs.Callers.{IsCaller};
 use crate::state::State;
 use drm_files::FileFlags;
 use drm_masters::Member;
-use drm_table::Credentials;
+use drm_table::Standing;
 
 /// An open client that makes a call, as the device keeps it: looked up once, when the call is admitted.
 #[derive(Clone, Copy)]
@@ -39,10 +39,10 @@ impl Caller {
     }
 
     /// What the flags of a call's row are tested against (`drm_ioctl_permit`). It takes no memory.
-    pub fn credentials(self) -> Credentials
+    pub fn credentials(self) -> Standing
         ensures { result ≡ record { root = self.flags.root; render = self.flags.render; authenticated = self.flags.authenticated; current = self.current } }
     {
-        Credentials {
+        Standing {
             root: self.flags.root,
             render: self.flags.render,
             authenticated: self.flags.authenticated,

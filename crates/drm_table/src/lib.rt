@@ -42,6 +42,6 @@ pub use laws::{
 pub use limits::{Limits, are_in_range};
 pub use lists::{IdList, ShownList};
 pub use lookup::row;
-pub use permits::{Credentials, permit};
+pub use permits::{Standing, permit};
 pub use rows::{Family, Row};
 pub use rules::Rule;

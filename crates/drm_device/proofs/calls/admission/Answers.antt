@@ -2,7 +2,7 @@ use Rattle.std.proofs.Common.{◌≡◌, true, false, Option, None, Some, refl, 
 use Rattle.drm_table.specs.Permit.{first_failing, permit_checks}
 use Rattle.drm_table.specs.Table.{flags_of}
 use Rattle.drm_table.specs.declared.calls.Call.{Call}
-use Rattle.drm_table.specs.declared.permits.Credentials.{Credentials}
+use Rattle.drm_table.specs.declared.permits.Standing.{Standing}
 use Rattle.drm_table.specs.declared.rules.Rule.{Rule}
 use Rattle.drm_model.specs.Verdict.{admission_checks, is_known, is_laid_out}
 use Rattle.drm_state.specs.declared.state.State.{State}
@@ -39,7 +39,7 @@ permitted : (s : State) (k : Caller) (call : Call) (rule : Option Rule) → IsCa
 unfolding IsAdmission
 permitted s k call rule is known laid e = λ w h.
     e
-    ∙ ap (λ t. first_failing (permit_checks (flags_of call) t)) (ap (λ b. let r : Credentials = record { root = k.flags.root; render = k.flags.render; authenticated = k.flags.authenticated; current = b } in r) is.current ∙ sym (credentials_is s w h k.client k.flags))
+    ∙ ap (λ t. first_failing (permit_checks (flags_of call) t)) (ap (λ b. let r : Standing = record { root = k.flags.root; render = k.flags.render; authenticated = k.flags.authenticated; current = b } in r) is.current ∙ sym (credentials_is s w h k.client k.flags))
     ∙ sym (admitted_by_permit w k.client call _ known laid (client_row_is s w h k.client k.flags is.flags))
 
 pub returns-in-Some-permit-clause-err : goal.returns-in-Some-permit-clause-err

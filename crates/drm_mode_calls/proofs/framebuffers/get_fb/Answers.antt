@@ -4,8 +4,8 @@ use Rattle.std.proofs.lemmas.Result.{err_from_is_err_and}
 use Rattle.drm_table.specs.declared.calls.Call.TheVariants.{GetFb}
 use Rattle.drm_table.specs.declared.events.Event.TheVariants.{Ask}
 use Rattle.drm_table.specs.declared.rules.Rule.TheVariants.{NoFb, Full}
-use Rattle.drm_modes.specs.declared.rows.Framebuffer.{Framebuffer}
-use Rattle.drm_table.specs.declared.permits.Credentials.{Credentials}
+use Rattle.drm_modes.specs.declared.rows.Fb.{Fb}
+use Rattle.drm_table.specs.declared.permits.Standing.{Standing}
 use Rattle.drm_model.specs.Rows.{Rows}
 use Rattle.drm_model.specs.Masters.{credentials_in}
 use Rattle.drm_model.specs.Modes.{framebuffer_object, gives_handle}
@@ -27,7 +27,7 @@ use Rattle.drm_mode_calls.proofs.framebuffers.get_fb.Goals as goal
 -- whether a caller is told with a handle
 given : (s : State) (w : Rows) (k : Caller) → IsCaller s k → Represents s w → gives_handle w k.client ≡ (k.current || k.flags.root)
 given s w k is h =
-    ap (λ (t : Credentials). t.current || t.root) (ap (credentials_in w) (client_row_is s w h k.client k.flags is.flags) ∙ credentials_is s w h k.client k.flags)
+    ap (λ (t : Standing). t.current || t.root) (ap (credentials_in w) (client_row_is s w h k.client k.flags is.flags) ∙ credentials_is s w h k.client k.flags)
     ∙ ap (λ b. b || k.flags.root) (sym is.current)
 
 pub new_handle-requires-clause-open_client : goal.new_handle-requires-clause-open_client
@@ -51,7 +51,7 @@ returns-then-not-gives_handle-clause-refines c = λ w r a.
     carried_on s w (Ask c.args.caller.client (GetFb c.args.framebuffer)) _ t (call_verdict w c.args.caller.client (GetFb c.args.framebuffer) a ∙ rw (there, gives) refl) (c.framebuffer_answer.ensures ∙ rw gives (sym told)) (rw gives r.rows)
 
 pub new_handle-requires-clause-known : goal.new_handle-requires-clause-known
-new_handle-requires-clause-known c = framebuffer_known c.args.state.now c.args.framebuffer c.in-Some.row.object (sym (ap (option_map (λ (x : Framebuffer). x.object)) (sym c.fb.ensures.found ∙ c.in-Some.is)))
+new_handle-requires-clause-known c = framebuffer_known c.args.state.now c.args.framebuffer c.in-Some.row.object (sym (ap (option_map (λ (x : Fb). x.object)) (sym c.fb.ensures.found ∙ c.in-Some.is)))
 
 pub returns-in_err-handle-clause-refines : goal.returns-in_err-handle-clause-refines
 unfolding RefinesCall AddsHandle meaning changed

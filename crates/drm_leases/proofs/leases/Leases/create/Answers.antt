@@ -38,8 +38,8 @@ unreachable-requires-in_default-master c = some_none _ (master_there c.args.mast
 
 pub add-requires-clause-newest : goal.add-requires-clause-newest
 add-requires-clause-newest c =
-    let grants = subst (λ (v : LeaseSet). AllByRecursion (λ (g : Grant). g.master < c.args.step_number) v.grants) (sym c.self.view_is) c.requires.new_lessee.grants in
-    all_older c.args.step_number c.self.inside.granted.rows c.laws.ensures.full grants
+    let grants = subst (λ (v : LeaseSet). AllByRecursion (λ (g : Grant). g.master < c.args.birth) v.grants) (sym c.self.view_is) c.requires.new_lessee.grants in
+    all_older c.args.birth c.self.inside.granted.rows c.laws.ensures.full grants
 
 pub add-requires-clause-some : goal.add-requires-clause-some
 add-requires-clause-some c =
@@ -64,7 +64,7 @@ pub invariant_of-self-2 : goal.invariant_of-self-2
 invariant_of-self-2 c =
     let are : AreLeases c.args.self.now = subst AreLeases c.self.view_is c.self.invariant in
     let token = c.in-Some-next_token.token in
-    let m = c.args.step_number in
+    let m = c.args.birth in
     let lessor = c.in-Some.member.master in
     let all = leased c.args.self.now c.args.masters.now c.args.modes.now lessor c.args.universal c.args.ids.now in
     let objects = listed_objects c.args.modes.now.topology all in
@@ -88,49 +88,49 @@ not_made v new m step_number LesseeNoMemory h = h.1
 pub invariant_of-self-in_default-make_lessee : goal.invariant_of-self-in_default-make_lessee
 invariant_of-self-in_default-make_lessee c =
     let are : AreLeases c.args.self.now = subst AreLeases c.self.view_is c.self.invariant in
-    let grants = subst (λ (v : LeaseSet). AllByRecursion (λ (g : Grant). g.master < c.args.step_number) v.grants) (sym c.self.view_is) c.requires.new_lessee.grants in
+    let grants = subst (λ (v : LeaseSet). AllByRecursion (λ (g : Grant). g.master < c.args.birth) v.grants) (sym c.self.view_is) c.requires.new_lessee.grants in
     let old = c.self.inside.granted.rows in
     let back : c.remove.new.self.rows ≡ old =
-    c.remove.ensures ∙ ap (filter (λ (x : Lease). not (x.lessee == c.args.step_number))) c.in_default-add.ensures.ok ∙ taken_back old (lease c.args.step_number c.in-Some.member.master c.listed_mask-objects.result) (all_older c.args.step_number old c.laws.ensures.full grants) in
+    c.remove.ensures ∙ ap (filter (λ (x : Lease). not (x.lessee == c.args.birth))) c.in_default-add.ensures.ok ∙ taken_back old (lease c.args.birth c.in-Some.member.master c.listed_mask-objects.result) (all_older c.args.birth old c.laws.ensures.full grants) in
     still _ c.args.self.now ((λ i. record (set_of c.self.inside) { tokens = c.reserve.ensures.items i; grants = grants_in (back i); lendings = lendings_in (back i) }) ∙ c.self.view_is) are
 
 pub returns-in_default-make_lessee-clause-created : goal.returns-in_default-make_lessee-clause-created
 returns-in_default-make_lessee-clause-created c =
     let v = c.args.self.now in
-    let grants = subst (λ (v : LeaseSet). AllByRecursion (λ (g : Grant). g.master < c.args.step_number) v.grants) (sym c.self.view_is) c.requires.new_lessee.grants in
+    let grants = subst (λ (v : LeaseSet). AllByRecursion (λ (g : Grant). g.master < c.args.birth) v.grants) (sym c.self.view_is) c.requires.new_lessee.grants in
     let old = c.self.inside.granted.rows in
     let back : c.remove.new.self.rows ≡ old =
-    c.remove.ensures ∙ ap (filter (λ (x : Lease). not (x.lessee == c.args.step_number))) c.in_default-add.ensures.ok ∙ taken_back old (lease c.args.step_number c.in-Some.member.master c.listed_mask-objects.result) (all_older c.args.step_number old c.laws.ensures.full grants) in
+    c.remove.ensures ∙ ap (filter (λ (x : Lease). not (x.lessee == c.args.birth))) c.in_default-add.ensures.ok ∙ taken_back old (lease c.args.birth c.in-Some.member.master c.listed_mask-objects.result) (all_older c.args.birth old c.laws.ensures.full grants) in
     let none : first_failing (lease_checks v c.args.masters.now c.args.modes.now c.in-Some.member.master c.args.universal c.args.ids.now) ≡ None = sym c.denied.ensures ∙ c.in_default-denied.is in
     let look : member_of c.args.masters.now.members c.args.client ≡ Some c.in-Some.member = sym c.member.ensures.member ∙ c.in-Some.is in
     let new : LeaseSet = record (set_of c.self.inside) { tokens = c.reserve.new.self.items; grants = grants_in c.remove.new.self.rows; lendings = lendings_in c.remove.new.self.rows } in
-    subst (λ o. IfSome o (λ (z : Member). Created v c.args.masters.now c.args.modes.now z.master c.args.universal c.args.ids.now c.args.step_number (Err NoMemory) new c.make_lessee.new.self)) (sym look)
-    (none, (λ i. record (set_of c.self.inside) { tokens = c.reserve.ensures.items i; grants = grants_in (back i); lendings = lendings_in (back i) }) ∙ c.self.view_is, not_made c.args.masters.now c.make_lessee.new.self _ c.args.step_number c.in_default-make_lessee.field-0 c.in_default-make_lessee.ensures.made)
+    subst (λ o. IfSome o (λ (z : Member). Created v c.args.masters.now c.args.modes.now z.master c.args.universal c.args.ids.now c.args.birth (Err NoMemory) new c.make_lessee.new.self)) (sym look)
+    (none, (λ i. record (set_of c.self.inside) { tokens = c.reserve.ensures.items i; grants = grants_in (back i); lendings = lendings_in (back i) }) ∙ c.self.view_is, not_made c.args.masters.now c.make_lessee.new.self _ c.args.birth c.in_default-make_lessee.field-0 c.in_default-make_lessee.ensures.made)
 
 pub returns-in_default-make_lessee-clause-err : goal.returns-in_default-make_lessee-clause-err
 returns-in_default-make_lessee-clause-err c =
     let v = c.args.self.now in
-    let grants = subst (λ (v : LeaseSet). AllByRecursion (λ (g : Grant). g.master < c.args.step_number) v.grants) (sym c.self.view_is) c.requires.new_lessee.grants in
+    let grants = subst (λ (v : LeaseSet). AllByRecursion (λ (g : Grant). g.master < c.args.birth) v.grants) (sym c.self.view_is) c.requires.new_lessee.grants in
     let old = c.self.inside.granted.rows in
     let back : c.remove.new.self.rows ≡ old =
-    c.remove.ensures ∙ ap (filter (λ (x : Lease). not (x.lessee == c.args.step_number))) c.in_default-add.ensures.ok ∙ taken_back old (lease c.args.step_number c.in-Some.member.master c.listed_mask-objects.result) (all_older c.args.step_number old c.laws.ensures.full grants) in
+    c.remove.ensures ∙ ap (filter (λ (x : Lease). not (x.lessee == c.args.birth))) c.in_default-add.ensures.ok ∙ taken_back old (lease c.args.birth c.in-Some.member.master c.listed_mask-objects.result) (all_older c.args.birth old c.laws.ensures.full grants) in
     ((λ i. record (set_of c.self.inside) { tokens = c.reserve.ensures.items i; grants = grants_in (back i); lendings = lendings_in (back i) }) ∙ c.self.view_is, c.in_default-make_lessee.ensures.err)
 
 pub returns-in_default-make_lessee-clause-agreed : goal.returns-in_default-make_lessee-clause-agreed
 returns-in_default-make_lessee-clause-agreed c =
     let v = c.args.masters.now in
-    let grants = subst (λ (v : LeaseSet). AllByRecursion (λ (g : Grant). g.master < c.args.step_number) v.grants) (sym c.self.view_is) c.requires.new_lessee.grants in
+    let grants = subst (λ (v : LeaseSet). AllByRecursion (λ (g : Grant). g.master < c.args.birth) v.grants) (sym c.self.view_is) c.requires.new_lessee.grants in
     let old = c.self.inside.granted.rows in
     let back : c.remove.new.self.rows ≡ old =
-    c.remove.ensures ∙ ap (filter (λ (x : Lease). not (x.lessee == c.args.step_number))) c.in_default-add.ensures.ok ∙ taken_back old (lease c.args.step_number c.in-Some.member.master c.listed_mask-objects.result) (all_older c.args.step_number old c.laws.ensures.full grants) in
+    c.remove.ensures ∙ ap (filter (λ (x : Lease). not (x.lessee == c.args.birth))) c.in_default-add.ensures.ok ∙ taken_back old (lease c.args.birth c.in-Some.member.master c.listed_mask-objects.result) (all_older c.args.birth old c.laws.ensures.full grants) in
     let lendings : lendings_in c.remove.new.self.rows ≡ c.args.self.now.lendings = ap lendings_in back ∙ ap (λ (a : LeaseSet). a.lendings) c.self.view_is in
     subst (λ xs. AllByRecursion (IsAgreed c.make_lessee.new.self.members c.make_lessee.new.self.masters) xs) (sym lendings)
-    (subst (λ (w : MasterSet). AreAgreed c.args.self.now w) (sym (not_made v c.make_lessee.new.self _ c.args.step_number c.in_default-make_lessee.field-0 c.in_default-make_lessee.ensures.made)) c.requires.agreed)
+    (subst (λ (w : MasterSet). AreAgreed c.args.self.now w) (sym (not_made v c.make_lessee.new.self _ c.args.birth c.in_default-make_lessee.field-0 c.in_default-make_lessee.ensures.made)) c.requires.agreed)
 
 pub returns-clause-created : goal.returns-clause-created
 returns-clause-created c =
     let token = c.in-Some-next_token.token in
-    let m = c.args.step_number in
+    let m = c.args.birth in
     let lessor = c.in-Some.member.master in
     let l = c.args.self.now in
     let v = c.args.masters.now in
@@ -156,7 +156,7 @@ returns-clause-created c =
 
 pub returns-clause-agreed : goal.returns-clause-agreed
 returns-clause-agreed c =
-    let m = c.args.step_number in
+    let m = c.args.birth in
     let lessor = c.in-Some.member.master in
     let v = c.args.masters.now in
     let old = c.self.inside.granted.rows in

@@ -35,7 +35,7 @@ invariant_of-self-2 c =
     let keyed : Keyed c.args.self.now.masters = subst (λ (w : MasterSet). Keyed w.masters) c.self.view_is c.self.invariant.keyed in
     let old : (k : ℕ) → set.contains c.self.inside.members.flags k ≡ is_current c.args.self.now k = λ k. c.self.invariant.flagged k ∙ ap (λ (w : MasterSet). is_current w k) c.self.view_is in
     let m = c.in-Some.lessor.step_number in
-    let z = calls.lessee c.in-Ok.key c.args.step_number m c.in-Some-free_lessee.id in
+    let z = calls.lessee c.in-Ok.key c.args.birth m c.in-Some-free_lessee.id in
     let found : find (is_key c.args.master) c.args.self.now.masters ≡ Some c.in-Some.lessor = sym (ap (λ (w : MasterSet). find (is_key c.args.master) w.masters) c.self.view_is) ∙ sym c.of_key.ensures ∙ c.in-Some.is in
     let masters : c.insert.new.self.items ≡ c.self.inside.masters.items ++ z ∷ [] = c.in-Ok.ensures.ok ∙ ap (λ (x : Master). c.self.inside.masters.items ++ calls.keyed_as c.in-Ok.key x ∷ []) c.lessee.ensures in
     let there = (of_key c.args.self.now.masters c.args.master c.in-Some.lessor found).1 in
@@ -50,10 +50,10 @@ returns-clause-made c =
     let id = c.in-Some-free_lessee.id in
     let found : find (is_key c.args.master) c.args.self.now.masters ≡ Some c.in-Some.lessor = sym (ap (λ (w : MasterSet). find (is_key c.args.master) w.masters) c.self.view_is) ∙ sym c.of_key.ensures ∙ c.in-Some.is in
     let at : step_number_at c.args.self.now.masters c.args.master ≡ m = (of_key c.args.self.now.masters c.args.master c.in-Some.lessor found).0 in
-    let z = calls.lessee c.in-Ok.key c.args.step_number m id in
+    let z = calls.lessee c.in-Ok.key c.args.birth m id in
     let masters : c.insert.new.self.items ≡ c.self.inside.masters.items ++ z ∷ [] = c.in-Ok.ensures.ok ∙ ap (λ (x : Master). c.self.inside.masters.items ++ calls.keyed_as c.in-Ok.key x ∷ []) c.lessee.ensures in
     let free : free_lessee c.args.self.now m ≡ Some id = sym c.free_lessee.ensures ∙ c.in-Some-free_lessee.is in (
       ap (λ (w : MasterSet). find (is_key c.in-Ok.key) w.masters) (sym c.self.view_is) ∙ c.in-Ok.ensures.free,
       ap (free_lessee c.args.self.now) at ∙ free,
-      (λ i. record (set_of c.self.inside) { masters = masters i }) ∙ ap (calls.with_master z) c.self.view_is ∙ (λ i. calls.with_master (calls.lessee c.in-Ok.key c.args.step_number (sym at i) id) c.args.self.now),
+      (λ i. record (set_of c.self.inside) { masters = masters i }) ∙ ap (calls.with_master z) c.self.view_is ∙ (λ i. calls.with_master (calls.lessee c.in-Ok.key c.args.birth (sym at i) id) c.args.self.now),
     )

@@ -44,7 +44,7 @@ insert-requires c =
 
 pub remove-requires-clause-older : goal.remove-requires-clause-older
 remove-requires-clause-older c =
-    let z = calls.founded_master c.in_default-insert.field-0 c.args.step_number in
+    let z = calls.founded_master c.in_default-insert.field-0 c.args.birth in
     let ms = c.self.inside.masters.items in
     let newest = rw (← c.self.view_is) at c.requires.new_step_number in
     let masters : c.insert.new.self.items ≡ ms ++ z ∷ [] = c.in_default-insert.ensures.ok ∙ ap (λ (x : Master). ms ++ calls.keyed_as c.in_default-insert.field-0 x ∷ []) c.founded_master.ensures in
@@ -52,11 +52,11 @@ remove-requires-clause-older c =
 
 pub remove-requires-clause-no_lessee : goal.remove-requires-clause-no_lessee
 remove-requires-clause-no_lessee c =
-    let z = calls.founded_master c.in_default-insert.field-0 c.args.step_number in
+    let z = calls.founded_master c.in_default-insert.field-0 c.args.birth in
     let ms = c.self.inside.masters.items in
     let newest = rw (← c.self.view_is) at c.requires.new_step_number in
     let masters : c.insert.new.self.items ≡ ms ++ z ∷ [] = c.in_default-insert.ensures.ok ∙ ap (λ (x : Master). ms ++ calls.keyed_as c.in_default-insert.field-0 x ∷ []) c.founded_master.ensures in
-    subst (λ l. list_any (λ (y : Master). is_option c.args.step_number y.lessor) l ≡ false) (sym masters) (unnamed_yet ms z newest c.self.invariant.are.lessors_older refl)
+    subst (λ l. list_any (λ (y : Master). is_option c.args.birth y.lessor) l ≡ false) (sym masters) (unnamed_yet ms z newest c.self.invariant.are.lessors_older refl)
 
 pub add-requires-2 : goal.add-requires-2
 add-requires-2 c =
@@ -69,19 +69,19 @@ invariant_of-self-in-Err-add c =
     let are : AreMasters v = subst AreMasters c.self.view_is c.self.invariant.are in
     let keyed : Keyed v.masters = subst (λ (w : MasterSet). Keyed w.masters) c.self.view_is c.self.invariant.keyed in
     let old : (k : ℕ) → set.contains c.self.inside.members.flags k ≡ is_current v k = λ k. c.self.invariant.flagged k ∙ ap (λ (w : MasterSet). is_current w k) c.self.view_is in
-    let z = calls.founded_master c.in_default-insert.field-0 c.args.step_number in
+    let z = calls.founded_master c.in_default-insert.field-0 c.args.birth in
     let newest = rw (← c.self.view_is) at c.requires.new_step_number in
     let masters : c.insert.new.self.items ≡ c.self.inside.masters.items ++ z ∷ [] = c.in_default-insert.ensures.ok ∙ ap (λ (x : Master). c.self.inside.masters.items ++ calls.keyed_as c.in_default-insert.field-0 x ∷ []) c.founded_master.ensures in
-    let back : c.remove.new.self.items ≡ c.self.inside.masters.items = c.remove.ensures ∙ ap (filter (λ (x : Master). not (is_step_number c.args.step_number x))) masters ∙ taken_back c.self.inside.masters.items z newest in
+    let back : c.remove.new.self.items ≡ c.self.inside.masters.items = c.remove.ensures ∙ ap (filter (λ (x : Master). not (is_step_number c.args.birth x))) masters ∙ taken_back c.self.inside.masters.items z newest in
     let path = (λ i. record (set_of c.self.inside) { members = (c.in-Err-add.ensures.err i).items; masters = back i }) ∙ c.self.view_is in
     sound _ v path are keyed (λ k. ap (λ (m : MemberRows). set.contains m.flags k) c.in-Err-add.ensures.err ∙ old k)
 
 pub returns-in-Err-add-clause-err : goal.returns-in-Err-add-clause-err
 returns-in-Err-add-clause-err c =
-    let z = calls.founded_master c.in_default-insert.field-0 c.args.step_number in
+    let z = calls.founded_master c.in_default-insert.field-0 c.args.birth in
     let newest = rw (← c.self.view_is) at c.requires.new_step_number in
     let masters : c.insert.new.self.items ≡ c.self.inside.masters.items ++ z ∷ [] = c.in_default-insert.ensures.ok ∙ ap (λ (x : Master). c.self.inside.masters.items ++ calls.keyed_as c.in_default-insert.field-0 x ∷ []) c.founded_master.ensures in
-    let back : c.remove.new.self.items ≡ c.self.inside.masters.items = c.remove.ensures ∙ ap (filter (λ (x : Master). not (is_step_number c.args.step_number x))) masters ∙ taken_back c.self.inside.masters.items z newest in
+    let back : c.remove.new.self.items ≡ c.self.inside.masters.items = c.remove.ensures ∙ ap (filter (λ (x : Master). not (is_step_number c.args.birth x))) masters ∙ taken_back c.self.inside.masters.items z newest in
     let path = (λ i. record (set_of c.self.inside) { members = (c.in-Err-add.ensures.err i).items; masters = back i }) ∙ c.self.view_is in
     path
 
@@ -91,7 +91,7 @@ flag_current-requires-clause-older c =
     let are : AreMasters v = subst AreMasters c.self.view_is c.self.invariant.are in
     let keyed : Keyed v.masters = subst (λ (w : MasterSet). Keyed w.masters) c.self.view_is c.self.invariant.keyed in
     let old : (k : ℕ) → set.contains c.self.inside.members.flags k ≡ is_current v k = λ k. c.self.invariant.flagged k ∙ ap (λ (w : MasterSet). is_current w k) c.self.view_is in
-    let b = c.args.step_number in
+    let b = c.args.birth in
     let key = c.in_default-insert.field-0 in
     let y = calls.owner c.args.client b in
     let z = calls.founded_master key b in
@@ -102,7 +102,7 @@ pub flag_current-requires-clause-rise : goal.flag_current-requires-clause-rise
 flag_current-requires-clause-rise c =
     let v = c.args.self.now in
     let are : AreMasters v = subst AreMasters c.self.view_is c.self.invariant.are in
-    let y = calls.owner c.args.client c.args.step_number in
+    let y = calls.owner c.args.client c.args.birth in
     let items : c.add-2.new.self.items ≡ v.members ++ y ∷ [] = c.in_default-add-2.ensures.ok ∙ ap (λ (x : Member). c.self.inside.members.items ++ x ∷ []) c.owner.ensures ∙ ap (λ (w : MasterSet). w.members ++ y ∷ []) c.self.view_is in
     subst (λ (l : List Member). InOrder (λ (a b : Member). a.client < b.client) l) (sym items) (in_order_append (λ (a b : Member). a.client < b.client) v.members y are.members_rise c.requires.new_client)
 
@@ -122,7 +122,7 @@ invariant_of-self-2 c =
     let v = c.args.self.now in
     let are : AreMasters v = subst AreMasters c.self.view_is c.self.invariant.are in
     let keyed : Keyed v.masters = subst (λ (w : MasterSet). Keyed w.masters) c.self.view_is c.self.invariant.keyed in
-    let b = c.args.step_number in
+    let b = c.args.birth in
     let key = c.in_default-insert.field-0 in
     let y = calls.owner c.args.client b in
     let z = calls.founded_master key b in

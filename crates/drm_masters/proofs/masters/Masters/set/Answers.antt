@@ -66,6 +66,6 @@ returns-then-not-member-clause-set c =
     let none : v.device_master ≡ None = sym (ap (λ (w : MasterSet). w.device_master) c.self.view_is) ∙ none_is c.self.inside.device_master (sym c.is_some.ensures ∙ c.if-is_some.false) in
     let own : x.is_master ≡ false = not-true x.is_master c.if-not-member.true in
     let key = c.in_default-found.field-0 in
-    let made = c.in_default-found.ensures.ok ∙ ap (λ n. calls.remade n key c.args.step_number v) (sym num) in
-    subst (λ o. IfSome o (λ z. calls.SetOf v z c.args.root c.args.step_number (Ok Made) c.found.new.self)) (sym look)
+    let made = c.in_default-found.ensures.ok ∙ ap (λ n. calls.remade n key c.args.birth v) (sym num) in
+    subst (λ o. IfSome o (λ z. calls.SetOf v z c.args.root c.args.birth (Ok Made) c.found.new.self)) (sym look)
     (verdict v x c.args.root may current none own, (current, own, (key, c.in_default-found.ensures.free, made)))

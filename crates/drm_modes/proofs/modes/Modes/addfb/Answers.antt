@@ -1,5 +1,5 @@
 use Rattle.std.proofs.Common.{ap, sym, ◌∙◌}
-use Rattle.drm_modes.specs.declared.modes.Pixels.{Pixels}
+use Rattle.drm_modes.specs.declared.rows.Fb.{Fb}
 use Rattle.drm_modes.specs.Modes.{ModeSet, framebuffer, with_framebuffer}
 use Rattle.drm_modes.specs.Tables.{mode_set}
 use Rattle.drm_modes.proofs.ModeFacts.{free_is, added, has-added}
@@ -22,7 +22,7 @@ returns-in-Err-NoMemory-clause-full c =
 pub invariant_of-self-2 : goal.invariant_of-self-2
 invariant_of-self-2 c =
     let inside = c.self.inside in
-    let made : Pixels = record { client = c.args.client; shape = c.args.shape; object = c.args.object } in
+    let made : Fb = record { client = c.args.client; shape = c.args.shape; object = c.args.object } in
     rw c.in-Ok.ensures.ok (has-added inside.topology inside.framebuffers inside.scanouts.items c.self.invariant c.in-Ok.framebuffer made c.in-Ok.ensures.low c.in-Ok.ensures.high)
 
 pub returns-clause-given : goal.returns-clause-given
@@ -33,7 +33,7 @@ returns-clause-given c =
 pub returns-clause-ok : goal.returns-clause-ok
 returns-clause-ok c =
     let inside = c.self.inside in
-    let made : Pixels = record { client = c.args.client; shape = c.args.shape; object = c.args.object } in
+    let made : Fb = record { client = c.args.client; shape = c.args.shape; object = c.args.object } in
     ap (λ table. mode_set inside.topology table inside.scanouts.items) c.in-Ok.ensures.ok
     ∙ added inside.topology inside.framebuffers inside.scanouts.items c.in-Ok.framebuffer made c.in-Ok.ensures.fresh
     ∙ ap (λ (set : ModeSet). with_framebuffer set (framebuffer c.in-Ok.framebuffer c.args.client c.args.shape c.args.object)) c.self.view_is
