@@ -6,6 +6,7 @@ ghost use Rattle.drm_state.specs.Invariants.{MeetsInvariants, StepPrecondition};
 ghost use Rattle.drm_table.specs.declared.events.Event.TheVariants.{Ask};
 ghost use Rattle.drm_model.specs.Verdict as model;
 ghost use Rattle.drm_state.specs.Refinement.{Refines, RefinesCall, IsAdmission};
+ghost use Rattle.drm_device.specs.Places.{outcome};
 
 use crate::families::{
     buffer_call, device_call, framebuffer_call, lease_call, master_call, mode_call, share_call,
@@ -20,14 +21,18 @@ pub fn ask(
     step_number: u32,
     client: u32,
     call: &Call,
-) -> Result<Answer, AllocError>
+    answer: &mut Answer,
+) -> Result<(), AllocError>
     requires { StepPrecondition state.old step_number }
-    ensures refines { Refines state.old step_number (Ask client call.now) result state.new }
+    ensures refines { Refines state.old step_number (Ask client call.now) (outcome result answer.new) state.new }
     ensures invariants { MeetsInvariants state.new }
 {
     match admission(state, client, call) {
-        Ok(caller) => carry_out(state, step_number, caller, call),
-        Err(rule) => Ok(Answer::Denied(rule)),
+        Ok(caller) => carry_out(state, step_number, caller, call, answer),
+        Err(rule) => {
+            *answer = Answer::Denied(rule);
+            Ok(())
+        }
     }
 }
 
@@ -74,20 +79,24 @@ fn carry_out(
     step_number: u32,
     caller: Caller,
     call: &Call,
-) -> Result<Answer, AllocError>
+    answer: &mut Answer,
+) -> Result<(), AllocError>
     requires precondition { StepPrecondition state.old step_number }
     requires caller { IsCaller state.old caller }
-    ensures refines { RefinesCall state.old step_number caller.client call.now result state.new }
+    ensures refines { RefinesCall state.old step_number caller.client call.now (outcome result answer.new) state.new }
     ensures invariants { MeetsInvariants state.new }
 {
     match call.family() {
-        Some(Family::Device) => device_call(state, step_number, caller.client, call),
-        Some(Family::Masters) => master_call(state, step_number, caller, call),
-        Some(Family::Buffers) => buffer_call(state, step_number, caller.client, call),
-        Some(Family::Sharing) => share_call(state, step_number, caller.client, call),
-        Some(Family::Modes) => mode_call(state, step_number, caller, call),
-        Some(Family::Framebuffers) => framebuffer_call(state, step_number, caller, call),
-        Some(Family::Leases) => lease_call(state, step_number, caller, call),
-        None => Ok(Answer::Denied(Rule::Unknown)),
+        Some(Family::Device) => device_call(state, step_number, caller.client, call, answer),
+        Some(Family::Masters) => master_call(state, step_number, caller, call, answer),
+        Some(Family::Buffers) => buffer_call(state, step_number, caller.client, call, answer),
+        Some(Family::Sharing) => share_call(state, step_number, caller.client, call, answer),
+        Some(Family::Modes) => mode_call(state, step_number, caller, call, answer),
+        Some(Family::Framebuffers) => framebuffer_call(state, step_number, caller, call, answer),
+        Some(Family::Leases) => lease_call(state, step_number, caller, call, answer),
+        None => {
+            *answer = Answer::Denied(Rule::Unknown);
+            Ok(())
+        }
     }
 }

@@ -132,8 +132,9 @@ impl Device {
             return Err(Apart::JournalFull);
         }
         let step_number = self.journal.len() as u32 + 1;
-        match advance(&mut self.state, step_number, &event) {
-            Ok(answer) => {
+        let mut answer = Answer::Done;
+        match advance(&mut self.state, step_number, &event, &mut answer) {
+            Ok(()) => {
                 self.journal.push_reserved(event);
                 Ok(answer)
             }

@@ -1,6 +1,7 @@
 //! One event, by its kind.
 
 ghost use Rattle.drm_state.specs.Invariants.{MeetsInvariants, StepPrecondition};
+ghost use Rattle.drm_device.specs.Places.{outcome};
 ghost use Rattle.drm_state.specs.Refinement.{Refines};
 
 use crate::calls::ask;
@@ -11,14 +12,25 @@ use std::alloc::AllocError;
 
 /// Answers an event for which the journal has room. Where memory is refused nothing changes.
 #[tactic(auto, using(drm_state::proofs::Refinements::is_done))]
-pub fn advance(state: &mut State, step_number: u32, event: &Event) -> Result<Answer, AllocError>
+pub fn advance(
+    state: &mut State,
+    step_number: u32,
+    event: &Event,
+    answer: &mut Answer,
+) -> Result<(), AllocError>
     requires { StepPrecondition state.old step_number }
     ensures invariants { MeetsInvariants state.new }
-    ensures refines { Refines state.old step_number event.now result state.new }
+    ensures refines { Refines state.old step_number event.now (outcome result answer.new) state.new }
 {
     match event {
-        Event::Open(opening) => open(state, step_number, *opening),
-        Event::Ask(client, call) => ask(state, step_number, *client, call),
-        Event::Close(client) => Ok(close(state, *client)),
+        Event::Open(opening) => {
+            *answer = open(state, step_number, *opening)?;
+            Ok(())
+        }
+        Event::Ask(client, call) => ask(state, step_number, *client, call, answer),
+        Event::Close(client) => {
+            *answer = close(state, *client);
+            Ok(())
+        }
     }
 }

@@ -5,6 +5,7 @@ ghost use Rattle.drm_files.specs.Files.{is_open_client};
 ghost use Rattle.drm_state.specs.Callers.{IsCaller};
 ghost use Rattle.drm_state.specs.Invariants.{MeetsInvariants, StepPrecondition};
 ghost use Rattle.drm_state.specs.Refinement.{RefinesCall};
+ghost use Rattle.drm_device.specs.Places.{outcome};
 ghost use Rattle.drm_table.specs.Table.{family_of};
 ghost use Rattle.drm_table.specs.declared.rows.Family.TheVariants.{Device, Masters, Buffers, Sharing, Modes, Framebuffers, Leases};
 
@@ -26,25 +27,38 @@ use drm_state::{Caller, State};
 use drm_table::{Answer, Call};
 use std::alloc::AllocError;
 
-/// Answers a call of the device itself, or of what a client sees of it, that is admitted.
+/// Answers a call of the device itself, or of what a client sees of it, that is admitted. The answer is written to its place.
 #[tactic(auto, using(drm_state::proofs::Refinements::is_answered), unfolding(drm_table::specs::Table::family_of, drm_table::specs::Table::call_row, drm_table::specs::Table::kind_row))]
 pub fn device_call(
     state: &mut State,
     step_number: u32,
     client: u32,
     call: &Call,
-) -> Result<Answer, AllocError>
+    answer: &mut Answer,
+) -> Result<(), AllocError>
     requires device_call { family_of call.now ≡ Some Device }
     requires precondition { StepPrecondition state.old step_number }
     requires open_client { is_open_client state.old.files client ≡ true }
-    ensures refines { RefinesCall state.old step_number client call.now result state.new }
+    ensures refines { RefinesCall state.old step_number client call.now (outcome result answer.new) state.new }
     ensures invariants { MeetsInvariants state.new }
 {
     match call {
-        Call::Version => Ok(version()),
-        Call::GetCap { cap } => Ok(get_cap(state, client, *cap)),
-        Call::SetClientCap { cap, value } => Ok(set_client_cap(state, client, *cap, *value)),
-        Call::Audit { kind, from } => Ok(audit(state, step_number, *kind, *from)),
+        Call::Version => {
+            *answer = version();
+            Ok(())
+        }
+        Call::GetCap { cap } => {
+            *answer = get_cap(state, client, *cap);
+            Ok(())
+        }
+        Call::SetClientCap { cap, value } => {
+            *answer = set_client_cap(state, client, *cap, *value);
+            Ok(())
+        }
+        Call::Audit { kind, from } => {
+            *answer = audit(state, step_number, *kind, *from);
+            Ok(())
+        }
         _ => unreachable!(),
     }
 }
@@ -56,18 +70,31 @@ pub fn master_call(
     step_number: u32,
     caller: Caller,
     call: &Call,
-) -> Result<Answer, AllocError>
+    answer: &mut Answer,
+) -> Result<(), AllocError>
     requires master_call { family_of call.now ≡ Some Masters }
     requires precondition { StepPrecondition state.old step_number }
     requires caller { IsCaller state.old caller }
-    ensures refines { RefinesCall state.old step_number caller.client call.now result state.new }
+    ensures refines { RefinesCall state.old step_number caller.client call.now (outcome result answer.new) state.new }
     ensures invariants { MeetsInvariants state.new }
 {
     match call {
-        Call::GetMagic => Ok(get_magic(state, caller)),
-        Call::AuthMagic { magic } => Ok(auth_magic(state, caller, *magic)),
-        Call::SetMaster => set_master(state, step_number, caller),
-        Call::DropMaster => Ok(drop_master(state, caller)),
+        Call::GetMagic => {
+            *answer = get_magic(state, caller);
+            Ok(())
+        }
+        Call::AuthMagic { magic } => {
+            *answer = auth_magic(state, caller, *magic);
+            Ok(())
+        }
+        Call::SetMaster => {
+            *answer = set_master(state, step_number, caller)?;
+            Ok(())
+        }
+        Call::DropMaster => {
+            *answer = drop_master(state, caller);
+            Ok(())
+        }
         _ => unreachable!(),
     }
 }
@@ -79,28 +106,48 @@ pub fn buffer_call(
     step_number: u32,
     client: u32,
     call: &Call,
-) -> Result<Answer, AllocError>
+    answer: &mut Answer,
+) -> Result<(), AllocError>
     requires buffer_call { family_of call.now ≡ Some Buffers }
     requires precondition { StepPrecondition state.old step_number }
     requires open_client { is_open_client state.old.files client ≡ true }
-    ensures refines { RefinesCall state.old step_number client call.now result state.new }
+    ensures refines { RefinesCall state.old step_number client call.now (outcome result answer.new) state.new }
     ensures invariants { MeetsInvariants state.new }
 {
     match call {
-        Call::GemClose { handle } => Ok(gem_close(state, client, *handle)),
-        Call::DestroyDumb { handle } => Ok(gem_close(state, client, *handle)),
-        Call::BufCreate { size } => buf_create(state, step_number, client, *size),
+        Call::GemClose { handle } => {
+            *answer = gem_close(state, client, *handle);
+            Ok(())
+        }
+        Call::DestroyDumb { handle } => {
+            *answer = gem_close(state, client, *handle);
+            Ok(())
+        }
+        Call::BufCreate { size } => {
+            *answer = buf_create(state, step_number, client, *size)?;
+            Ok(())
+        }
         Call::CreateDumb { width, height, bpp } => {
             let pixels = Pixels {
                 width: *width,
                 height: *height,
                 bpp: *bpp,
             };
-            create_dumb(state, step_number, client, pixels)
+            *answer = create_dumb(state, step_number, client, pixels)?;
+            Ok(())
         }
-        Call::StampWrite { handle, stamp } => Ok(stamp_write(state, client, *handle, *stamp)),
-        Call::StampRead { handle } => Ok(stamp_read(state, client, *handle)),
-        Call::ListHandles { from } => Ok(list_handles(state, client, *from)),
+        Call::StampWrite { handle, stamp } => {
+            *answer = stamp_write(state, client, *handle, *stamp);
+            Ok(())
+        }
+        Call::StampRead { handle } => {
+            *answer = stamp_read(state, client, *handle);
+            Ok(())
+        }
+        Call::ListHandles { from } => {
+            *answer = list_handles(state, client, *from);
+            Ok(())
+        }
         _ => unreachable!(),
     }
 }
@@ -112,19 +159,35 @@ pub fn share_call(
     step_number: u32,
     client: u32,
     call: &Call,
-) -> Result<Answer, AllocError>
+    answer: &mut Answer,
+) -> Result<(), AllocError>
     requires share_call { family_of call.now ≡ Some Sharing }
     requires precondition { StepPrecondition state.old step_number }
     requires open_client { is_open_client state.old.files client ≡ true }
-    ensures refines { RefinesCall state.old step_number client call.now result state.new }
+    ensures refines { RefinesCall state.old step_number client call.now (outcome result answer.new) state.new }
     ensures invariants { MeetsInvariants state.new }
 {
     match call {
-        Call::GemFlink { handle } => gem_flink(state, step_number, client, *handle),
-        Call::GemOpen { name } => gem_open(state, step_number, client, *name),
-        Call::PrimeHandleToFd { handle } => prime_export(state, step_number, client, *handle),
-        Call::PrimeFdToHandle { token } => prime_import(state, step_number, client, *token),
-        Call::TokenClose { token } => Ok(token_close(state, client, *token)),
+        Call::GemFlink { handle } => {
+            *answer = gem_flink(state, step_number, client, *handle)?;
+            Ok(())
+        }
+        Call::GemOpen { name } => {
+            *answer = gem_open(state, step_number, client, *name)?;
+            Ok(())
+        }
+        Call::PrimeHandleToFd { handle } => {
+            *answer = prime_export(state, step_number, client, *handle)?;
+            Ok(())
+        }
+        Call::PrimeFdToHandle { token } => {
+            *answer = prime_import(state, step_number, client, *token)?;
+            Ok(())
+        }
+        Call::TokenClose { token } => {
+            *answer = token_close(state, client, *token);
+            Ok(())
+        }
         _ => unreachable!(),
     }
 }
@@ -136,30 +199,55 @@ pub fn mode_call(
     step_number: u32,
     caller: Caller,
     call: &Call,
-) -> Result<Answer, AllocError>
+    answer: &mut Answer,
+) -> Result<(), AllocError>
     requires mode_call { family_of call.now ≡ Some Modes }
     requires precondition { StepPrecondition state.old step_number }
     requires caller { IsCaller state.old caller }
-    ensures refines { RefinesCall state.old step_number caller.client call.now result state.new }
+    ensures refines { RefinesCall state.old step_number caller.client call.now (outcome result answer.new) state.new }
     ensures invariants { MeetsInvariants state.new }
 {
     match *call {
-        Call::GetResources => Ok(get_resources(state, caller)),
-        Call::GetPlaneResources => Ok(get_plane_resources(state, caller)),
-        Call::GetCrtc { crtc } => Ok(get_crtc(state, caller, crtc)),
-        Call::GetEncoder { encoder } => Ok(get_encoder(state, caller, encoder)),
-        Call::GetConnector { connector } => Ok(get_connector(state, caller, connector)),
-        Call::GetPlane { plane } => Ok(get_plane(state, caller, plane)),
+        Call::GetResources => {
+            *answer = get_resources(state, caller);
+            Ok(())
+        }
+        Call::GetPlaneResources => {
+            *answer = get_plane_resources(state, caller);
+            Ok(())
+        }
+        Call::GetCrtc { crtc } => {
+            *answer = get_crtc(state, caller, crtc);
+            Ok(())
+        }
+        Call::GetEncoder { encoder } => {
+            *answer = get_encoder(state, caller, encoder);
+            Ok(())
+        }
+        Call::GetConnector { connector } => {
+            *answer = get_connector(state, caller, connector);
+            Ok(())
+        }
+        Call::GetPlane { plane } => {
+            *answer = get_plane(state, caller, plane);
+            Ok(())
+        }
         Call::SetCrtc {
             crtc,
             framebuffer,
             connector,
-        } => Ok(set_crtc(state, caller, crtc, framebuffer, connector)),
+        } => {
+            *answer = set_crtc(state, caller, crtc, framebuffer, connector);
+            Ok(())
+        }
         Call::SetPlane {
             plane,
             crtc,
             framebuffer,
-        } => Ok(set_plane(state, caller, plane, crtc, framebuffer)),
+        } => {
+            *answer = set_plane(state, caller, plane, crtc, framebuffer);
+            Ok(())
+        }
         _ => unreachable!(),
     }
 }
@@ -171,15 +259,19 @@ pub fn framebuffer_call(
     step_number: u32,
     caller: Caller,
     call: &Call,
-) -> Result<Answer, AllocError>
+    answer: &mut Answer,
+) -> Result<(), AllocError>
     requires framebuffer_call { family_of call.now ≡ Some Framebuffers }
     requires precondition { StepPrecondition state.old step_number }
     requires caller { IsCaller state.old caller }
-    ensures refines { RefinesCall state.old step_number caller.client call.now result state.new }
+    ensures refines { RefinesCall state.old step_number caller.client call.now (outcome result answer.new) state.new }
     ensures invariants { MeetsInvariants state.new }
 {
     match *call {
-        Call::GetFb { framebuffer } => get_fb(state, step_number, caller, framebuffer),
+        Call::GetFb { framebuffer } => {
+            *answer = get_fb(state, step_number, caller, framebuffer)?;
+            Ok(())
+        }
         Call::AddFb {
             width,
             height,
@@ -193,9 +285,13 @@ pub fn framebuffer_call(
                 pitch,
                 bpp,
             };
-            add_fb(state, step_number, caller.client, shape, handle)
+            *answer = add_fb(state, step_number, caller.client, shape, handle)?;
+            Ok(())
         }
-        Call::RmFb { framebuffer } => Ok(rm_fb(state, caller.client, framebuffer)),
+        Call::RmFb { framebuffer } => {
+            *answer = rm_fb(state, caller.client, framebuffer);
+            Ok(())
+        }
         _ => unreachable!(),
     }
 }
@@ -207,18 +303,31 @@ pub fn lease_call(
     step_number: u32,
     caller: Caller,
     call: &Call,
-) -> Result<Answer, AllocError>
+    answer: &mut Answer,
+) -> Result<(), AllocError>
     requires lease_call { family_of call.now ≡ Some Leases }
     requires precondition { StepPrecondition state.old step_number }
     requires caller { IsCaller state.old caller }
-    ensures refines { RefinesCall state.old step_number caller.client call.now result state.new }
+    ensures refines { RefinesCall state.old step_number caller.client call.now (outcome result answer.new) state.new }
     ensures invariants { MeetsInvariants state.new }
 {
     match call {
-        Call::CreateLease { ids } => create_lease(state, step_number, caller, ids),
-        Call::ListLessees => Ok(list_lessees(state, caller)),
-        Call::GetLease => Ok(get_lease(state, caller)),
-        Call::RevokeLease { lessee } => Ok(revoke_lease(state, caller, *lessee)),
+        Call::CreateLease { ids } => {
+            *answer = create_lease(state, step_number, caller, ids)?;
+            Ok(())
+        }
+        Call::ListLessees => {
+            *answer = list_lessees(state, caller);
+            Ok(())
+        }
+        Call::GetLease => {
+            *answer = get_lease(state, caller);
+            Ok(())
+        }
+        Call::RevokeLease { lessee } => {
+            *answer = revoke_lease(state, caller, *lessee);
+            Ok(())
+        }
         _ => unreachable!(),
     }
 }
