@@ -1,6 +1,7 @@
 //! A device that threads share. Each call is one turn, and the calls of all threads stand in one legal history.
 #![tactic(auto)]
 
+mod boxed;
 mod history;
 mod laws;
 mod seat;

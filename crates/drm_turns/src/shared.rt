@@ -1,18 +1,19 @@
 //! A device that threads share, and the turn of a call.
 
-ghost use Rattle.std.specs.Prelude.{◌≡◌, ◌≢◌, ◌<◌, ◌-◌, ◌^◌, ◌++◌, [], ◌∷◌, true, false, Some, None, Err, IfSome, IfNone, IfOk, IfErr, IsOk, IsSome, ◌+◌, length};
+ghost use Rattle.std.specs.Prelude.{◌≡◌, ◌≢◌, ◌<◌, ◌-◌, ◌^◌, ◌++◌, [], ◌∷◌, true, false, Some, None, Err, IfSome, IfNone, IfOk, IfErr, IsOk, ◌+◌, length};
 ghost use Rattle.drm_table.specs.Limits.{are_in_range};
 ghost use Rattle.drm_table.specs.Results.{FitsOneFrame};
 ghost use Rattle.drm_model.specs.Reply.{reply};
-ghost use Rattle.drm_model.specs.Run.{DeviceValue, Step, no_room};
+ghost use Rattle.drm_model.specs.Run.{Step, no_room};
 ghost use Rattle.drm_turns.specs.declared.history.Stage.TheVariants.{Idle, Serving, Waiting};
 ghost use Rattle.drm_turns.specs.History.{AllDiffer, StartsWith, calls_by, device_at, entry, journaled_before, rows_after};
 ghost use Rattle.drm_turns.specs.Views.{Grows, IsOwn, counted, found_at, outstanding_after, passed, waiting};
 ghost use Rattle.drm_turns.specs.Plays.{IsInformed, IsServed};
 ghost use Rattle.drm_turns.specs.Participants.{Commits, Closes, Aborts, Extends, Unchanged, entries_of, tickets_of, with_outstanding};
 ghost use Rattle.drm_table.specs.declared.apart.Apart.TheVariants.{Worn};
-ghost use Rattle.drm_turns.specs.Turns.{Answered, Stepped, Turn};
+ghost use Rattle.drm_turns.specs.Turns.{Answered, Turn};
 
+use crate::boxed::BoxedDevice;
 use crate::history::View;
 use crate::seat::{Note, Seat};
 use crate::turn::{
@@ -129,18 +130,6 @@ impl Sharing for SharedDevice {
     }
 }
 
-/// Steps the device that the slot has, where it lies.
-fn step_in(slot: &mut Slot, event: Event) -> Result<Answer, Apart>
-    requires full { IsSome slot.old }
-    ensures steps { (old : DeviceValue) → slot.old ≡ Some old → (new : DeviceValue) × (slot.new ≡ Some new) × Stepped old event result new }
-    ensures few { FitsOneFrame result }
-{
-    match slot {
-        Some(device) => device.step(event),
-        None => unreachable!(),
-    }
-}
-
 impl SharedDevice {
     /// Sleeps until a turn is passed on, unless one was since this ticket was seen to be served. It may end for no reason.
     ///
@@ -239,7 +228,7 @@ impl SharedDevice {
         self.table.shared.fetch_add::<Count<E>>(place, COUNT, 1);
     }
 
-    /// Steps the device where it lies, and counts the step where it was noted.
+    /// Takes the device out of the slot, steps it, counts the step where it was noted, and puts the device back.
     fn step_in_turn(&self, place: &mut Place<Slot, View>, event: Event) -> Result<Answer, Apart>
         requires own { place.old.table_id ≡ self.now }
         requires serving { (place.old.me.0.stage ≡ Serving) × (place.old.me.0.number ≢ 0) }
@@ -254,13 +243,15 @@ impl SharedDevice {
         ensures turn { Turn event result }
         ensures few { FitsOneFrame result }
     {
+        let shared = &self.table.shared;
+        let mut device = shared.exchange(place, 0, None).unwrap();
         let journaled = Snapshot::of(&event);
-        let slot = place.slot_mut(&self.table.shared, 0);
-        let result = step_in(slot, event);
+        let result = device.step(event);
         match &result {
             Ok(answer) => self.count::<Brand>(place, &journaled, answer),
             Err(_) => {}
         }
+        drop(shared.exchange(place, 0, Some(device)));
         result
     }
 
@@ -314,13 +305,20 @@ impl SharedDevice {
         };
         let journaled = device.journal().len() as u64;
         let about = Snapshot::of(&device);
-        slots.push_reserved(Some(device));
+        let boxed = match BoxedDevice::new(alloc, device) {
+            Ok(boxed) => boxed,
+            Err(device) => return Err((device, NoMemory)),
+        };
+        slots.push_reserved(Some(boxed));
         match Table::new(alloc, &[journaled, 0, 0], slots, &about) {
             Ok((table, place)) => {
                 let sleepers = AtomicU64::new(0);
                 Ok((SharedDevice { table, sleepers }, Seat { place }))
             }
-            Err(Refused { mut slots }) => Err((slots.pop().unwrap().unwrap(), NoMemory)),
+            Err(Refused { mut slots }) => {
+                let boxed = slots.pop().unwrap().unwrap();
+                Err((boxed.into_device(), NoMemory))
+            }
         }
     }
 
@@ -479,7 +477,7 @@ impl SharedDevice {
         closed.free();
         drop(sleepers);
         match slot {
-            Some(device) if is_quiet => Ok(device),
+            Some(boxed) if is_quiet => Ok(boxed.into_device()),
             _ => Err(TurnOut),
         }
     }

@@ -24,8 +24,8 @@ returns-in-Some-clause-closes c =
     let found = closes c.participant.inside.place.id v _ _ c.word.result c.word-2.result c.take-slot.result c.participant.invariant.idle c.close_with-closed.ensures.values.2 c.word.ensures c.word-2.ensures quiet c.take-slot.ensures.value in
     let there = found.1 in
     let is = c.in-Some.is in
-    let device : c.in-Some.device ≡ device_at v.origin found.0 = cc in
-    subst (λ (s : ParticipantView). Closes s c.in-Some.device) c.participant.view_is (found.0, device, found.2.2, found.2.0, found.2.3 c.participant.invariant.numbered)
+    let device : c.into_device.result ≡ device_at v.origin found.0 = c.into_device.ensures ∙ cc in
+    subst (λ (s : ParticipantView). Closes s c.into_device.result) c.participant.view_is (found.0, device, found.2.2, found.2.0, found.2.3 c.participant.invariant.numbered)
 
 pub returns-in-Some-clause-counted : goal.returns-in-Some-clause-counted
 returns-in-Some-clause-counted c first none_outstanding =
@@ -35,5 +35,5 @@ returns-in-Some-clause-counted c first none_outstanding =
     (ap (λ (s : ParticipantView). s.number) c.participant.view_is ∙ first) (ap (λ (s : ParticipantView). s.outstanding) c.participant.view_is ∙ none_outstanding) in
     let there = found.1 in
     let is = c.in-Some.is in
-    let device : c.in-Some.device ≡ device_at v.origin found.0 = cc in
+    let device : c.into_device.result ≡ device_at v.origin found.0 = c.into_device.ensures ∙ cc in
     ap (λ (d : DeviceValue). length d.journal) device ∙ (events-length found.0 ∙ (found.2 ∙ ap (λ (s : ParticipantView). length s.origin.journal + s.journaled) c.participant.view_is))
