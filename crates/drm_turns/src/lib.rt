@@ -9,6 +9,6 @@ mod shared;
 mod turn;
 
 pub use history::{Entry, Stage, View};
-pub use laws::{device_is_placed, tickets_are_counted, tickets_differ};
+pub use laws::{device_is_placed, numbers_differ, tickets_are_counted, tickets_differ};
 pub use seat::{Note, Seat};
 pub use shared::{NoMemory, SharedDevice, Sharing, TurnOut};

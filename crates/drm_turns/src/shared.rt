@@ -1,6 +1,6 @@
 //! A device that threads share, and the turn of a call.
 
-ghost use Rattle.std.specs.Prelude.{◌≡◌, ◌≢◌, ◌<◌, ◌-◌, ◌^◌, ◌++◌, [], ◌∷◌, true, false, Some, None, Err, IfSome, IfNone, IfOk, IfErr, IsOk, ◌+◌, length};
+ghost use Rattle.std.specs.Prelude.{◌≡◌, ◌≢◌, ◌<◌, ◌≤◌, ◌-◌, ◌^◌, ◌++◌, [], ◌∷◌, true, false, Some, None, Err, IfSome, IfNone, IfOk, IfErr, IsOk, ◌+◌, length};
 ghost use Rattle.drm_table.specs.Limits.{are_in_range};
 ghost use Rattle.drm_table.specs.Results.{FitsOneFrame};
 ghost use Rattle.drm_model.specs.Reply.{reply};
@@ -154,8 +154,22 @@ impl SharedDevice {
         self.sleep(rt, served);
     }
 
-    /// Draws a ticket: once the device is free, so that it is served at once, or after so many turns of others, so that it is
-    /// served next. There is none where the last number was found; who sleeps is woken, and finds the same.
+    /// Scheduling before the turn: waits until no ticket is out, so that the one that is drawn then is served at once, or for so many
+    /// turns of others. It looks at the served ticket before the next one: the other way round it could sleep on a device that is
+    /// free. No contract speaks of it, and a turn needs none of it.
+    fn schedule_before_turn<R: Wait>(&self, rt: &R) {
+        let shared = &self.table.shared;
+        for _ in 0..PATIENCE {
+            let served = shared.peek(SERVING);
+            let next = shared.peek(TICKET);
+            if next == served || next == u64::MAX {
+                return;
+            }
+            self.await_pass(rt, served);
+        }
+    }
+
+    /// Draws a ticket. There is none where the last number was found; who sleeps is woken, and finds the same.
     fn draw<R: Wait>(&self, rt: &R, place: &mut Place<Slot, View>) -> Option<u64>
         requires own { place.old.table_id ≡ self.now }
         requires idle { place.old.me.0.stage ≡ Idle }
@@ -166,18 +180,13 @@ impl SharedDevice {
         ensures worn { IfNone result (place.old.me.0.number ≡ 1 → place.old.me.0.outstanding ≡ 0 → place.old.me.0.drawn ≡ 2 ^ 64 - 1) }
     {
         let shared = &self.table.shared;
-        let mut waits = 0;
         for _ in rt.forever() {
-            let served = shared.peek(SERVING);
             let found = shared.load::<Find>(place, TICKET);
             if found == u64::MAX {
                 shared.wake_all(SERVING);
                 return None;
             }
-            if found != served && waits < PATIENCE {
-                waits += 1;
-                self.await_pass(rt, served);
-            } else if shared.compare_exchange::<Draw>(place, TICKET, found, found + 1) == found {
+            if shared.compare_exchange::<Draw>(place, TICKET, found, found + 1) == found {
                 return Some(found);
             }
         }
@@ -353,6 +362,7 @@ impl SharedDevice {
         ensures worn { result ≡ Err Worn → participant.old.number ≡ 1 → participant.old.outstanding ≡ 0 → participant.old.drawn ≡ 2 ^ 64 - 1 }
     {
         let place = &mut participant.place;
+        self.schedule_before_turn(rt);
         let Some(ticket) = self.draw(rt, place) else {
             return Err(Apart::Worn);
         };
@@ -375,6 +385,7 @@ impl SharedDevice {
         ensures same { participant.new ≡ with_outstanding participant.old (participant.old.outstanding + 1) }
         ensures own { (result.table ≡ participant.old.table) × (result.origin ≡ participant.old.origin) }
         ensures number { result.number ≢ participant.old.number }
+        ensures numbered { 1 ≤ result.number }
         ensures parent { result.parent ≡ participant.old.number }
         ensures seen { result.seen ≡ participant.old.seen }
         ensures fresh { (result.mine ≡ []) × (result.merged ≡ []) }
