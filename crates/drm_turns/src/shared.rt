@@ -9,7 +9,7 @@ ghost use Rattle.drm_turns.specs.declared.history.Stage.TheVariants.{Idle, Servi
 ghost use Rattle.drm_turns.specs.History.{AllDiffer, StartsWith, calls_by, device_at, entry, journaled_before, rows_after};
 ghost use Rattle.drm_turns.specs.Views.{Grows, IsOwn, counted, found_at, outstanding_after, passed, waiting};
 ghost use Rattle.drm_turns.specs.Plays.{IsInformed, IsServed};
-ghost use Rattle.drm_turns.specs.Participants.{Commits, Closes, Aborts, Extends, Unchanged, entries_of, tickets_of, with_outstanding};
+ghost use Rattle.drm_turns.specs.Participants.{Commits, Closes, Aborts, Extends, IsTurnOut, Unchanged, entries_of, tickets_of, with_outstanding};
 ghost use Rattle.drm_table.specs.declared.apart.Apart.TheVariants.{Worn};
 ghost use Rattle.drm_turns.specs.Turns.{Answered, Turn};
 
@@ -464,10 +464,11 @@ impl SharedDevice {
         self.learn(place);
     }
 
-    /// The device, once nobody shares it. Where a ticket was drawn that was not passed on, it is out with a call: then it
-    /// is lost with the participant that had it. That isn't so where the participant is the first, and each participant and note that was split
-    /// off it is given back to it with all of its own: then the device has noted what it had before, and the entries of the participant
-    /// and of those that it took in, and nothing else.
+    /// The device, once nobody shares it. Where a ticket was drawn that was not passed on, the turn is out with a call: then the
+    /// device is lost with the participant that has the ticket. Where all were passed on, it is in its slot, and is given back. No
+    /// turn is out where the participant is the first, and each participant and note that was split off it is given back to it with
+    /// all of its own: then the device has noted what it had before, and the entries of the participant and of those that it took
+    /// in, and nothing else.
     ///
     /// ```rust
     /// let Ok(device) = shared.close(participant) else { return };
@@ -477,6 +478,7 @@ impl SharedDevice {
         requires own { participant.table ≡ self }
         ensures closes { IfOk result (λ device. Closes participant device) }
         ensures home { participant.number ≡ 1 → participant.outstanding ≡ 0 → IsOk result }
+        ensures turn_out { IfErr result (λ _. IsTurnOut participant) }
         ensures counted { IfOk result (λ device. participant.number ≡ 1 → participant.outstanding ≡ 0
             → length device.journal ≡ length participant.origin.journal + participant.journaled) }
     {
@@ -487,9 +489,12 @@ impl SharedDevice {
         let slot = closed.take(0);
         closed.free();
         drop(sleepers);
+        if !is_quiet {
+            return Err(TurnOut);
+        }
         match slot {
-            Some(boxed) if is_quiet => Ok(boxed.into_device()),
-            _ => Err(TurnOut),
+            Some(boxed) => Ok(boxed.into_device()),
+            None => unreachable!(),
         }
     }
 
