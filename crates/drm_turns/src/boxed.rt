@@ -1,26 +1,16 @@
 //! A device on the heap.
 
-ghost use Rattle.std.specs.Prelude.{◌≡◌, ◌≤◌, true, length, IfOk, IfErr, OnOk, OnErr};
-ghost use Rattle.drm_table.specs.Limits.{are_in_range};
-ghost use Rattle.drm_table.specs.Results.{FitsOneFrame};
-ghost use Rattle.drm_model.specs.Run.{FoundRoom, Step, journaled_in, rows_of, start_of};
+ghost use Rattle.std.specs.Prelude.{◌≡◌, IfOk, IfErr};
 
 use drm_device::Device;
-use drm_table::{Answer, Apart, Event};
 use std::alloc::{AllocFailed, Global};
 use std::marker::Model;
 
-/// A device behind a pointer, so that nothing but the pointer moves where it is taken and put back. Contracts see the device.
+/// A device behind a pointer: where it is taken out of a slot and put back, the pointer moves and nothing of the device. Contracts
+/// see the device.
+#[derive(Drop)]
 pub(crate) struct BoxedDevice {
-    device: Box<Device>,
-}
-
-// Written out, so that it is proved once: a derived one is proved again in each crate that lets such a value go.
-impl Drop for BoxedDevice {
-    fn drop(self) {
-        let BoxedDevice { device } = self;
-        drop(device);
-    }
+    pub(crate) device: Box<Device>,
 }
 
 impl Model for BoxedDevice {
@@ -41,20 +31,6 @@ impl BoxedDevice {
             Ok(device) => Ok(BoxedDevice { device }),
             Err(AllocFailed { value }) => Err(value),
         }
-    }
-
-    /// Answers one event, as the device does.
-    pub(crate) fn step(&mut self, event: Event) -> Result<Answer, Apart>
-        ensures step { Step (rows_of self.old) event result (rows_of self.new) }
-        ensures few { FitsOneFrame result }
-        ensures ok { OnOk result (self.new ≡ journaled_in self.old event) }
-        ensures err { OnErr result (self.new ≡ self.old) }
-        ensures in_range { are_in_range self.new.limits ≡ true }
-        ensures found_room { FoundRoom (start_of self.new) self.new.journal }
-        ensures within { length self.new.journal ≤ self.new.limits.journal }
-        ensures bounded { self.new.limits.journal ≤ 100000 }
-    {
-        self.device.as_mut().step(event)
     }
 
     /// The device.

@@ -253,14 +253,14 @@ impl SharedDevice {
         ensures few { FitsOneFrame result }
     {
         let shared = &self.table.shared;
-        let mut device = shared.exchange(place, 0, None).unwrap();
+        let BoxedDevice { mut device } = shared.exchange(place, 0, None).unwrap();
         let journaled = Snapshot::of(&event);
         let result = device.step(event);
         match &result {
             Ok(answer) => self.count::<Brand>(place, &journaled, answer),
             Err(_) => {}
         }
-        drop(shared.exchange(place, 0, Some(device)));
+        drop(shared.exchange(place, 0, Some(BoxedDevice { device })));
         result
     }
 

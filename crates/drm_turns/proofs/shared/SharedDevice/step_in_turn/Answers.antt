@@ -24,10 +24,13 @@ count-requires-clause-serving c =
     let v = c.args.place.now.me.0 in
     let e = c.exchange.ensures.3 in
     let found = held_is c.args.place.now.me.1 c.exchange.result (Some (device_at v.origin v.seen)) c.exchange.ensures.2 c.requires.device in
-    let device : c.unwrap-device.result ≡ device_at v.origin v.seen = cc (sym c.unwrap-device.ensures ∙ found) in
-    let same : length c.unwrap-device.result.journal ≡ length v.seen = ap (λ (d : DeviceValue). length d.journal) device ∙ events-length v.seen in
+    let full = sym c.unwrap.ensures ∙ found in
+    let opened = c.device.view_is in
+    let lies = c.deref_mut.ensures.value in
+    let device : c.deref_mut.result.now ≡ device_at v.origin v.seen = cc in
+    let same : length c.deref_mut.result.now.journal ≡ length v.seen = ap (λ (d : DeviceValue). length d.journal) device ∙ events-length v.seen in
     let is = rw c.in-Ok.is at c.step-result.ensures.ok in
-    let journaled : length c.step-result.new.self.journal ≡ length c.unwrap-device.result.journal + 1 = ap (λ (d : DeviceValue). length d.journal) is ∙ length-append c.unwrap-device.result.journal (c.args.event ∷ []) in
+    let journaled : length c.step-result.new.self.journal ≡ length c.deref_mut.result.now.journal + 1 = ap (λ (d : DeviceValue). length d.journal) is ∙ length-append c.deref_mut.result.now.journal (c.args.event ∷ []) in
     let within = c.step-result.ensures.within in
     let bounded = c.step-result.ensures.bounded in
     let seen : length c.exchange.new.seat.me.0.seen ≡ length v.seen = ap (λ (m : Sat). length m.0.seen) e in (
@@ -41,8 +44,11 @@ count-requires-clause-legal c =
     let v = c.args.place.now.me.0 in
     let e = c.exchange.ensures.3 in
     let found = held_is c.args.place.now.me.1 c.exchange.result (Some (device_at v.origin v.seen)) c.exchange.ensures.2 c.requires.device in
-    let device : c.unwrap-device.result ≡ device_at v.origin v.seen = cc (sym c.unwrap-device.ensures ∙ found) in
-    let rows : rows_of c.unwrap-device.result ≡ rows_after c.exchange.new.seat.me.0.origin c.exchange.new.seat.me.0.seen = ap rows_of device ∙ ap (λ (m : Sat). rows_after m.0.origin m.0.seen) (sym e) in
+    let full = sym c.unwrap.ensures ∙ found in
+    let opened = c.device.view_is in
+    let lies = c.deref_mut.ensures.value in
+    let device : c.deref_mut.result.now ≡ device_at v.origin v.seen = cc in
+    let rows : rows_of c.deref_mut.result.now ≡ rows_after c.exchange.new.seat.me.0.origin c.exchange.new.seat.me.0.seen = ap rows_of device ∙ ap (λ (m : Sat). rows_after m.0.origin m.0.seen) (sym e) in
     let answer = step_ok _ _ _ _ (rw c.in-Ok.is at c.step-result.ensures.step) in (
       subst (λ (z : Rows × Event). no_room z.0 z.1 ≡ false) (λ i. (rows i, sym c.of-journaled.ensures i)) answer.0,
       answer.1 ∙ (λ i. reply (rows i) (sym c.of-journaled.ensures i)),
@@ -78,7 +84,10 @@ returns-clause-device c =
     let v = c.args.place.now.me.0 in
     let e = c.exchange.ensures.3 in
     let found = held_is c.args.place.now.me.1 c.exchange.result (Some (device_at v.origin v.seen)) c.exchange.ensures.2 c.requires.device in
-    let device : c.unwrap-device.result ≡ device_at v.origin v.seen = cc (sym c.unwrap-device.ensures ∙ found) in
+    let full = sym c.unwrap.ensures ∙ found in
+    let opened = c.device.view_is in
+    let lies = c.deref_mut.ensures.value in
+    let device : c.deref_mut.result.now ≡ device_at v.origin v.seen = cc in
     let none_more : rest c.exchange.new.seat.me.1 ≡ [] = ap (λ (m : Sat). rest m.1) e ∙ ap rest c.requires.device in
     elim c.match-result.branch [
       | in-Ok w ↦
@@ -100,7 +109,10 @@ returns-clause-grows c =
     let v = c.args.place.now.me.0 in
     let e = c.exchange.ensures.3 in
     let found = held_is c.args.place.now.me.1 c.exchange.result (Some (device_at v.origin v.seen)) c.exchange.ensures.2 c.requires.device in
-    let device : c.unwrap-device.result ≡ device_at v.origin v.seen = cc (sym c.unwrap-device.ensures ∙ found) in
+    let full = sym c.unwrap.ensures ∙ found in
+    let opened = c.device.view_is in
+    let lies = c.deref_mut.ensures.value in
+    let device : c.deref_mut.result.now ≡ device_at v.origin v.seen = cc in
     let put : c.exchange-2.new.seat.me.0 ≡ c.match-result.place.me.0 = ap (λ (m : Sat). m.0) c.exchange-2.ensures.3 in
     elim c.match-result.branch [
       | in-Ok w ↦
@@ -116,18 +128,21 @@ returns-clause-grows c =
     ]
 
 pub returns-clause-turn : goal.returns-clause-turn
-returns-clause-turn c = turn_of c.unwrap-device.result c.step-result.new.self c.args.event c.step-result.result c.step-result.ensures.step c.step-result.ensures.ok c.step-result.ensures.err c.step-result.ensures.in_range c.step-result.ensures.found_room
+returns-clause-turn c = turn_of c.deref_mut.result.now c.step-result.new.self c.args.event c.step-result.result c.step-result.ensures.step c.step-result.ensures.ok c.step-result.ensures.err c.step-result.ensures.in_range c.step-result.ensures.found_room
 
 pub returns-clause-err : goal.returns-clause-err
 returns-clause-err c =
     let v = c.args.place.now.me.0 in
     let e = c.exchange.ensures.3 in
     let found = held_is c.args.place.now.me.1 c.exchange.result (Some (device_at v.origin v.seen)) c.exchange.ensures.2 c.requires.device in
-    let device : c.unwrap-device.result ≡ device_at v.origin v.seen = cc (sym c.unwrap-device.ensures ∙ found) in
+    let full = sym c.unwrap.ensures ∙ found in
+    let opened = c.device.view_is in
+    let lies = c.deref_mut.ensures.value in
+    let device : c.deref_mut.result.now ≡ device_at v.origin v.seen = cc in
     let put : c.exchange-2.new.seat.me.0 ≡ c.match-result.place.me.0 = ap (λ (m : Sat). m.0) c.exchange-2.ensures.3 in
     elim c.match-result.branch [
       | in-Ok w ↦ rw w.in-Ok.is tt
       | in-Err w ↦
-          refuses c.unwrap-device.result c.step-result.new.self c.args.event c.step-result.result v c.exchange-2.new.seat.me.0 device c.step-result.ensures.step c.step-result.ensures.err
+          refuses c.deref_mut.result.now c.step-result.new.self c.args.event c.step-result.result v c.exchange-2.new.seat.me.0 device c.step-result.ensures.step c.step-result.ensures.err
           (rw w.in-Err.is (put ∙ (ap (λ (m : Sat). m.0) (placed w.place-is) ∙ ap (λ (m : Sat). m.0) e)))
     ]
