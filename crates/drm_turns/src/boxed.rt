@@ -8,9 +8,16 @@ use std::marker::Model;
 
 /// A device behind a pointer: where it is taken out of a slot and put back, the pointer moves and nothing of the device. Contracts
 /// see the device.
-#[derive(Drop)]
 pub(crate) struct BoxedDevice {
     pub(crate) device: Box<Device>,
+}
+
+// Written out, so that it is proved once: a derived one is proved again in each crate that lets such a value go.
+impl Drop for BoxedDevice {
+    fn drop(self) {
+        let BoxedDevice { device } = self;
+        drop(device);
+    }
 }
 
 impl Model for BoxedDevice {
@@ -31,6 +38,14 @@ impl BoxedDevice {
             Ok(device) => Ok(BoxedDevice { device }),
             Err(AllocFailed { value }) => Err(value),
         }
+    }
+
+    /// The pointer, to step the device where it lies.
+    pub(crate) fn into_box(self) -> Box<Device>
+        ensures { result.value ≡ self }
+    {
+        let BoxedDevice { device } = self;
+        device
     }
 
     /// The device.

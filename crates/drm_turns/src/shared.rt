@@ -253,7 +253,7 @@ impl SharedDevice {
         ensures few { FitsOneFrame result }
     {
         let shared = &self.table.shared;
-        let BoxedDevice { mut device } = shared.exchange(place, 0, None).unwrap();
+        let mut device = shared.exchange(place, 0, None).unwrap().into_box();
         let journaled = Snapshot::of(&event);
         let result = device.step(event);
         match &result {
