@@ -155,20 +155,18 @@ impl SharedDevice {
     }
 
     /// Scheduling before the turn: waits until no ticket is out, so that the one that is drawn then is served at once, or for so many
-    /// turns of others, those that were waited for before among them; it gives how many these are. It looks at the served ticket
-    /// before the next one: the other way round it could sleep on a device that is free. No contract speaks of it, and a turn needs
-    /// none of it.
-    fn schedule_before_turn<R: Wait>(&self, rt: &R, waited: u32) -> u32 {
+    /// turns of others. It looks at the served ticket before the next one: the other way round it could sleep on a device that is
+    /// free. No contract speaks of it, and a turn needs none of it.
+    fn schedule_before_turn<R: Wait>(&self, rt: &R) {
         let shared = &self.table.shared;
-        for waits in waited..PATIENCE {
+        for _ in 0..PATIENCE {
             let served = shared.peek(SERVING);
             let next = shared.peek(TICKET);
             if next == served || next == u64::MAX {
-                return waits;
+                return;
             }
             self.await_pass(rt, served);
         }
-        PATIENCE
     }
 
     /// Draws a ticket. There is none where the last number was found; who sleeps is woken, and finds the same.
@@ -182,9 +180,7 @@ impl SharedDevice {
         ensures worn { IfNone result (place.old.me.0.number ≡ 1 → place.old.me.0.outstanding ≡ 0 → place.old.me.0.drawn ≡ 2 ^ 64 - 1) }
     {
         let shared = &self.table.shared;
-        let mut waits = 0;
         for _ in rt.forever() {
-            waits = self.schedule_before_turn(rt, waits);
             let found = shared.load::<Find>(place, TICKET);
             if found == u64::MAX {
                 shared.wake_all(SERVING);
@@ -366,6 +362,7 @@ impl SharedDevice {
         ensures worn { result ≡ Err Worn → participant.old.number ≡ 1 → participant.old.outstanding ≡ 0 → participant.old.drawn ≡ 2 ^ 64 - 1 }
     {
         let place = &mut participant.place;
+        self.schedule_before_turn(rt);
         let Some(ticket) = self.draw(rt, place) else {
             return Err(Apart::Worn);
         };
