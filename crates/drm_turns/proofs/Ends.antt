@@ -1,5 +1,6 @@
 -- Making, splitting, joining and closing.
 use Rattle.std.proofs.Common.{◌≡◌, ◌≢◌, ◌⊎◌, ⊎_elim, inl, inr, ℕ, zero, suc, ◌+◌, ◌-◌, ◌<◌, Bool, true, false, List, [], ◌∷◌, ◌++◌, length, set, sym, refl, ap, ◌∙◌, subst, arith, length-set, length-append, Some}
+use Rattle.std.specs.Prelude.{slice_index}
 use mathlib.Core.Option.{Option as maybe, some, none, some-injective, some-ne-none}
 use mathlib.Core.Logic.{dite}
 use native.Mathlib.Decide.{ℕ_discrete}
@@ -18,7 +19,7 @@ use Rattle.drm_turns.specs.Rule.{Slot, Table, Sat, World, Fits, Knows, has_ticke
 use Rattle.drm_turns.specs.Views.{IsOwn, child, informed, lending, met_of, numbered, opening_view, outstanding_after, spent_view, told_of}
 use Rattle.drm_turns.specs.Plays.{Reads, settles, learns}
 use Rattle.drm_turns.proofs.Histories.{starts_whole, starts_with_none, none_before, replayed-events, replayed-legal, replayed-calls}
-use Rattle.drm_turns.proofs.Rule.{at_below, no_ticket, stays_put, ticketless, word_same}
+use Rattle.drm_turns.proofs.Rule.{at_below, no_ticket, stays_put, ticketless, word_is, word_same}
 use Rattle.drm_turns.proofs.Rule.{know_set, differ_set, all_held_set, lent_set, placed_set, taken_set}
 use Rattle.drm_turns.proofs.Kept.{at_end, taken_snoc, taken_one, kept_apart, not_kept, differ_append, has_append, taken_join}
 use Rattle.drm_turns.proofs.Lent.{lent_join, lent_one, lent_split, no_ticket_out, out_cases}
@@ -231,6 +232,21 @@ closes id v words xs next serving slot idle final at_next at_serving quiet at =
     let home = quiet_home x.outstanding x s.homes s.views (next_is ∙ (quiet ∙ sym serving_is)) r.know r.placed in
     let found = final.4 0 (Some (device_at x.origin x.log)) home in
     (x.log, some-injective slot (Some (device_at x.origin x.log)) (sym at ∙ found) ∙ ap (λ (d : DeviceValue). Some (device_at d x.log)) (sym fits.origin_is), reads x id v fits r.legal)
+
+-- where not all tickets were served, a participant has the one that is served
+pub turn_is_out : (id : ℕ) (v : View) (words : List ℕ) (xs : List Slot) (next serving : ℕ) → Final (Seen Orderly id v) words xs
+    → get_elem? words 1 ≡ some next → get_elem? words 2 ≡ some serving → next ≢ serving
+    → (s : Table) × Orderly s × (get_elem? s.views id ≡ some v) × IsHeld s.views (slice_index s.words 2)
+turn_is_out id v words xs next serving final at_next at_serving ne =
+    let s : Table = final.0 in
+    let r : Orderly s = final.1.0 in
+    let x = r.world in
+    let words_are : words ≡ length x.log ∷ x.next ∷ x.serving ∷ [] = sym final.2 ∙ r.words in
+    let next_is : x.next ≡ next = some-injective x.next next (ap (λ (l : List ℕ). get_elem? l 1) (sym words_are) ∙ at_next) in
+    let serving_is : x.serving ≡ serving = some-injective x.serving serving (ap (λ (l : List ℕ). get_elem? l 2) (sym words_are) ∙ at_serving) in
+    let behind = r.behind in
+    let out : x.next ≢ x.serving = λ e. ne (sym next_is ∙ (e ∙ serving_is)) in
+    (s, r, final.1.1, subst (IsHeld s.views) (sym (word_is s r).2) (r.held x.serving (omega arith) (omega arith)))
 
 -- Where all that was split off the first participant is given back, all tickets were served, and the device is there.
 pub comes_home : (id : ℕ) (v : View) (words : List ℕ) (xs : List Slot) (next serving : ℕ) (slot : Slot) → v.stage ≡ Idle → v.number ≡ 1 → v.outstanding ≡ 0 → Final (Seen Orderly id v) words xs

@@ -28,11 +28,11 @@ events-length (e ∷ es) = ap suc (events-length es)
 pub held_is : (c : List (ℕ × Slot)) (found have : Slot) → c ≡ (0, found) ∷ rest c → c ≡ (0, have) ∷ [] → found ≡ have
 held_is c found have e f = ap (λ (l : List (ℕ × Slot)). (get_or l 0 (0, found)).1) (sym e ∙ f)
 
--- the device where it lies, once it was stepped
-pub after_step : (me : Sat) (w : View) (held : List (ℕ × Slot)) (slot : Slot) (d : DeviceValue) → me ≡ (w, held) → rest held ≡ [] → held ≡ (0, slot) ∷ rest held → slot ≡ Some d
-    → d ≡ device_at w.origin w.seen → me.1 ≡ (0, Some (device_at me.0.origin me.0.seen)) ∷ []
-after_step me w held slot d e none_more has full is =
-    ap (λ (m : Sat). m.1) e ∙ (has ∙ (λ i. (0, full i) ∷ none_more i) ∙ (ap (λ (x : DeviceValue). (0, Some x) ∷ []) is ∙ ap (λ (m : Sat). (0, Some (device_at m.0.origin m.0.seen)) ∷ []) (sym e)))
+-- the device is put back
+pub after_put : (me me' : Sat) (d : DeviceValue) → me' ≡ (me.0, (0, Some d) ∷ rest me.1) → rest me.1 ≡ [] → d ≡ device_at me.0.origin me.0.seen
+    → me'.1 ≡ (0, Some (device_at me'.0.origin me'.0.seen)) ∷ []
+after_put me me' d e none_more is =
+    ap (λ (m : Sat). m.1) e ∙ (ap (λ (l : List (ℕ × Slot)). (0, Some d) ∷ l) none_more ∙ (ap (λ (x : DeviceValue). (0, Some x) ∷ []) is ∙ ap (λ (m : Sat). (0, Some (device_at m.0.origin m.0.seen)) ∷ []) (sym e)))
 
 -- and after a step the history is one entry longer
 pub noting_at : (origin : DeviceValue) (log : List Entry) (e : Entry) → journaled_in (device_at origin log) e.event ≡ device_at origin (log ++ e ∷ [])

@@ -11,7 +11,7 @@ use Rattle.drm_model.specs.Run.{DeviceValue}
 use Rattle.drm_turns.specs.declared.history.Entry.{Entry}
 use Rattle.drm_turns.specs.declared.history.View.{View}
 use Rattle.drm_turns.specs.declared.history.Stage.{Stage}
-use Rattle.drm_turns.specs.declared.history.Stage.TheVariants.{Idle, Serving, Spent}
+use Rattle.drm_turns.specs.declared.history.Stage.TheVariants.{Idle, Waiting, Serving, Spent}
 use Rattle.drm_turns.specs.History.{AllDiffer, Has, IsLegal, device_at}
 use Rattle.drm_turns.proofs.Totals.{total_kept}
 use Rattle.drm_turns.specs.Rule.{Slot, Table, World, Fits, Knows, has_ticket, Placed, AllKnow, AllHeld, IsHeld, TicketsDiffer, Unborn, IsBack, IsSpent, Lent, TakenIn, Orderly, total}
@@ -199,3 +199,15 @@ pub placed_at : (b : Bool) (s : Table) (r : Orderly s) → Placed b r.world s.ho
     ⊎ ((id : ℕ) × (v : View) × (get_elem? s.views id ≡ some v) × (v.stage ≡ Serving) × (v.ticket ≡ slice_index s.words 2))
 placed_at false s r p = inl (r.world.origin, r.world.log, p, r.legal)
 placed_at true s r p = let k : Knows r.world p.0 p.1 Serving = subst (Knows r.world p.0 p.1) p.3 (r.know p.0 p.1 p.2) in inr (p.0, p.1, p.2, p.3, k.1 ∙ sym (word_is s r).2)
+
+-- what holds of a view that is not spent
+fits_unspent : (x : World) (id : ℕ) (v : View) (g : Stage) → (g ≡ Spent → ⊥) → Knows x id v g → Fits x.origin x.log id v
+fits_unspent x id v Idle live k = k
+fits_unspent x id v Waiting live k = k.0
+fits_unspent x id v Serving live k = k.0
+fits_unspent x id v Spent live k = absurd (live refl)
+
+-- its number is that of its place
+pub number_is : (s : Table) (r : Orderly s) (id : ℕ) (v : View) → get_elem? s.views id ≡ some v → (v.stage ≡ Spent → ⊥) → v.number ≢ 0 → v.number ≡ suc id
+number_is s r id v at live some_number =
+    ⊎_elim (λ (z : v.number ≡ 0). absurd (some_number z)) (λ (z : v.number ≡ suc id). z) (fits_unspent r.world id v v.stage live (r.know id v at)).number

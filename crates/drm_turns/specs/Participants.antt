@@ -1,6 +1,8 @@
 -- What contracts see of a participant and of a note.
-use Rattle.std.specs.Prelude.{◌≡◌, ℕ, ◌-◌, ◌<◌, ◌^◌, true, false, List, [], ◌∷◌, ◌++◌, map, Result, Ok, Err}
+use Rattle.std.specs.Prelude.{◌≡◌, ℕ, ◌-◌, ◌<◌, ◌^◌, true, false, List, [], ◌∷◌, ◌++◌, map, Result, Ok, Err, slice_index}
 use Rattle.std.specs.List.{AllByRecursion}
+use mathlib.Core.Option.{some}
+use lib.ListN.{get_elem?}
 use Rattle.atomic_table.specs.Seated.{TableId}
 use Rattle.drm_table.specs.declared.answers.Answer.{Answer}
 use Rattle.drm_table.specs.declared.apart.Apart.{Apart}
@@ -8,7 +10,10 @@ use Rattle.drm_table.specs.declared.apart.Apart.TheVariants.{JournalFull, NoMemo
 use Rattle.drm_table.specs.declared.events.Event.{Event}
 use Rattle.drm_model.specs.Run.{Growing, DeviceValue, no_room}
 use Rattle.drm_turns.specs.declared.history.Entry.{Entry}
+use Rattle.drm_turns.specs.declared.history.View.{View}
+use Rattle.drm_turns.specs.declared.history.Stage.TheVariants.{Idle}
 use Rattle.drm_turns.specs.History.{AllDiffer, IsLegal, StartsWith, calls_by, device_at, entry, rows_after}
+use Rattle.drm_turns.specs.Rule.{Table, IsHeld, Orderly}
 
 -- A participant: the shared device that it is of and its own number; the number of the participant that it was split off, 0 for the first
 -- participant; how many participants and notes that were split off it are not given back to it; the device as it was shared; the history
@@ -80,6 +85,13 @@ tickets_of _ = 1
 abbrev pub Closes : ParticipantView → DeviceValue → Type 0
 Closes s device = (log : List Entry) × (device ≡ device_at s.origin log) × IsLegal s.origin log × StartsWith log s.seen
     × (calls_by s.number log ≡ s.mine)
+
+-- A ticket was drawn that was not passed on: in a state that the rule of the turn allows, where this participant is, some
+-- participant has the ticket that is served.
+abbrev pub IsTurnOut : ParticipantView → Type 0
+IsTurnOut s = (state : Table) × Orderly state
+    × ((id : ℕ) × (v : View) × (get_elem? state.views id ≡ some v) × (v.stage ≡ Idle) × (v.number ≡ s.number) × (v.outstanding ≡ s.outstanding) × (v.seen ≡ s.seen))
+    × IsHeld state.views (slice_index state.words 2)
 
 -- ---- participants that are split off and taken in
 

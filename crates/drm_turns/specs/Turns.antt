@@ -1,5 +1,5 @@
 -- What one call does to the device in its turn.
-use Rattle.std.specs.Prelude.{◌≡◌, ◌≤◌, true, length, Result, Ok, Err, OnOk, OnErr, ⊤}
+use Rattle.std.specs.Prelude.{◌≡◌, true, Result, Ok, Err, ⊤}
 use Rattle.drm_table.specs.declared.answers.Answer.{Answer}
 use Rattle.drm_table.specs.declared.apart.Apart.{Apart}
 use Rattle.drm_table.specs.declared.apart.Apart.TheVariants.{JournalFull, NoMemory, Worn}
@@ -25,16 +25,6 @@ pub record Turn (event : Event) (result : Result Answer Apart) : Type 0 where
   pub steps : DeviceSteps before event result after
   pub in_range : are_in_range after.limits ≡ true
   pub found_room : FoundRoom (start_of after) after.journal
-
--- What a step does to the device, as the device says it.
-pub record Stepped (old : DeviceValue) (event : Event) (result : Result Answer Apart) (new : DeviceValue) : Type 0 where
-  pub step : Step (rows_of old) event result (rows_of new)
-  pub ok : OnOk result (new ≡ journaled_in old event)
-  pub err : OnErr result (new ≡ old)
-  pub in_range : are_in_range new.limits ≡ true
-  pub found_room : FoundRoom (start_of new) new.journal
-  pub within : length new.journal ≤ new.limits.journal
-  pub bounded : new.limits.journal ≤ 100000
 
 -- What a call answers: what its turn gives, or that there is no ticket for a turn.
 abbrev pub Answered : Event → Result Answer Apart → Type 0

@@ -1,12 +1,12 @@
 //! What the rule of the turn says. Nobody calls these functions: the contract of each is a law.
 
-ghost use Rattle.std.specs.Prelude.{◌≡◌, ◌⊎◌, ℕ, true, Some, List, slice_index};
+ghost use Rattle.std.specs.Prelude.{◌≡◌, ◌≢◌, ◌⊎◌, ℕ, true, Some, List, slice_index};
 ghost use mathlib.Core.Option.{some};
 ghost use lib.ListN.{get_elem?};
 ghost use Rattle.drm_model.specs.Run.{DeviceValue};
 ghost use Rattle.drm_turns.specs.declared.history.Entry.{Entry};
 ghost use Rattle.drm_turns.specs.declared.history.View.{View};
-ghost use Rattle.drm_turns.specs.declared.history.Stage.TheVariants.{Serving};
+ghost use Rattle.drm_turns.specs.declared.history.Stage.TheVariants.{Serving, Spent};
 ghost use Rattle.drm_turns.specs.History.{IsLegal, device_at};
 ghost use Rattle.drm_turns.specs.Rule.{Table, Orderly, has_ticket, total};
 
@@ -15,6 +15,13 @@ pub fn tickets_differ()
     ensures { (s : Table) (i j : ℕ) (v w : View) → Orderly s
         → get_elem? s.views i ≡ some v → get_elem? s.views j ≡ some w
         → has_ticket v.stage ≡ true → has_ticket w.stage ≡ true → v.ticket ≡ w.ticket → i ≡ j }
+{}
+
+/// No two participants have one number. A participant has number 0 until it is known, and one that was taken in has none.
+pub fn numbers_differ()
+    ensures { (s : Table) (i j : ℕ) (v w : View) → Orderly s
+        → get_elem? s.views i ≡ some v → get_elem? s.views j ≡ some w
+        → v.stage ≢ Spent → w.stage ≢ Spent → v.number ≢ 0 → v.number ≡ w.number → i ≡ j }
 {}
 
 /// The device is at home, as one legal history leaves it, or it is with a participant whose ticket is served.

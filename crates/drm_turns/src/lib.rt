@@ -1,6 +1,7 @@
 //! A device that threads share. Each call is one turn, and the calls of all threads stand in one legal history.
 #![tactic(auto)]
 
+mod boxed;
 mod history;
 mod laws;
 mod seat;
@@ -8,6 +9,6 @@ mod shared;
 mod turn;
 
 pub use history::{Entry, Stage, View};
-pub use laws::{device_is_placed, tickets_are_counted, tickets_differ};
+pub use laws::{device_is_placed, numbers_differ, tickets_are_counted, tickets_differ};
 pub use seat::{Note, Seat};
 pub use shared::{NoMemory, SharedDevice, Sharing, TurnOut};

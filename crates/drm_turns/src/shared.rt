@@ -1,18 +1,19 @@
 //! A device that threads share, and the turn of a call.
 
-ghost use Rattle.std.specs.Prelude.{◌≡◌, ◌≢◌, ◌<◌, ◌-◌, ◌^◌, ◌++◌, [], ◌∷◌, true, false, Some, None, Err, IfSome, IfNone, IfOk, IfErr, IsOk, IsSome, ◌+◌, length};
+ghost use Rattle.std.specs.Prelude.{◌≡◌, ◌≢◌, ◌<◌, ◌≤◌, ◌-◌, ◌^◌, ◌++◌, [], ◌∷◌, true, false, Some, None, Err, IfSome, IfNone, IfOk, IfErr, IsOk, ◌+◌, length};
 ghost use Rattle.drm_table.specs.Limits.{are_in_range};
 ghost use Rattle.drm_table.specs.Results.{FitsOneFrame};
 ghost use Rattle.drm_model.specs.Reply.{reply};
-ghost use Rattle.drm_model.specs.Run.{DeviceValue, Step, no_room};
+ghost use Rattle.drm_model.specs.Run.{Step, no_room};
 ghost use Rattle.drm_turns.specs.declared.history.Stage.TheVariants.{Idle, Serving, Waiting};
 ghost use Rattle.drm_turns.specs.History.{AllDiffer, StartsWith, calls_by, device_at, entry, journaled_before, rows_after};
 ghost use Rattle.drm_turns.specs.Views.{Grows, IsOwn, counted, found_at, outstanding_after, passed, waiting};
 ghost use Rattle.drm_turns.specs.Plays.{IsInformed, IsServed};
-ghost use Rattle.drm_turns.specs.Participants.{Commits, Closes, Aborts, Extends, Unchanged, entries_of, tickets_of, with_outstanding};
+ghost use Rattle.drm_turns.specs.Participants.{Commits, Closes, Aborts, Extends, IsTurnOut, Unchanged, entries_of, tickets_of, with_outstanding};
 ghost use Rattle.drm_table.specs.declared.apart.Apart.TheVariants.{Worn};
-ghost use Rattle.drm_turns.specs.Turns.{Answered, Stepped, Turn};
+ghost use Rattle.drm_turns.specs.Turns.{Answered, Turn};
 
+use crate::boxed::BoxedDevice;
 use crate::history::View;
 use crate::seat::{Note, Seat};
 use crate::turn::{
@@ -129,18 +130,6 @@ impl Sharing for SharedDevice {
     }
 }
 
-/// Steps the device that the slot has, where it lies.
-fn step_in(slot: &mut Slot, event: Event) -> Result<Answer, Apart>
-    requires full { IsSome slot.old }
-    ensures steps { (old : DeviceValue) → slot.old ≡ Some old → (new : DeviceValue) × (slot.new ≡ Some new) × Stepped old event result new }
-    ensures few { FitsOneFrame result }
-{
-    match slot {
-        Some(device) => device.step(event),
-        None => unreachable!(),
-    }
-}
-
 impl SharedDevice {
     /// Sleeps until a turn is passed on, unless one was since this ticket was seen to be served. It may end for no reason.
     ///
@@ -165,8 +154,22 @@ impl SharedDevice {
         self.sleep(rt, served);
     }
 
-    /// Draws a ticket: once the device is free, so that it is served at once, or after so many turns of others, so that it is
-    /// served next. There is none where the last number was found; who sleeps is woken, and finds the same.
+    /// Scheduling before the turn: waits until no ticket is out, so that the one that is drawn then is served at once, or for so many
+    /// turns of others. It looks at the served ticket before the next one: the other way round it could sleep on a device that is
+    /// free. No contract speaks of it, and a turn needs none of it.
+    fn schedule_before_turn<R: Wait>(&self, rt: &R) {
+        let shared = &self.table.shared;
+        for _ in 0..PATIENCE {
+            let served = shared.peek(SERVING);
+            let next = shared.peek(TICKET);
+            if next == served || next == u64::MAX {
+                return;
+            }
+            self.await_pass(rt, served);
+        }
+    }
+
+    /// Draws a ticket. There is none where the last number was found; who sleeps is woken, and finds the same.
     fn draw<R: Wait>(&self, rt: &R, place: &mut Place<Slot, View>) -> Option<u64>
         requires own { place.old.table_id ≡ self.now }
         requires idle { place.old.me.0.stage ≡ Idle }
@@ -177,18 +180,13 @@ impl SharedDevice {
         ensures worn { IfNone result (place.old.me.0.number ≡ 1 → place.old.me.0.outstanding ≡ 0 → place.old.me.0.drawn ≡ 2 ^ 64 - 1) }
     {
         let shared = &self.table.shared;
-        let mut waits = 0;
         for _ in rt.forever() {
-            let served = shared.peek(SERVING);
             let found = shared.load::<Find>(place, TICKET);
             if found == u64::MAX {
                 shared.wake_all(SERVING);
                 return None;
             }
-            if found != served && waits < PATIENCE {
-                waits += 1;
-                self.await_pass(rt, served);
-            } else if shared.compare_exchange::<Draw>(place, TICKET, found, found + 1) == found {
+            if shared.compare_exchange::<Draw>(place, TICKET, found, found + 1) == found {
                 return Some(found);
             }
         }
@@ -239,7 +237,7 @@ impl SharedDevice {
         self.table.shared.fetch_add::<Count<E>>(place, COUNT, 1);
     }
 
-    /// Steps the device where it lies, and counts the step where it was noted.
+    /// Takes the device out of the slot, steps it, counts the step where it was noted, and puts the device back.
     fn step_in_turn(&self, place: &mut Place<Slot, View>, event: Event) -> Result<Answer, Apart>
         requires own { place.old.table_id ≡ self.now }
         requires serving { (place.old.me.0.stage ≡ Serving) × (place.old.me.0.number ≢ 0) }
@@ -254,13 +252,15 @@ impl SharedDevice {
         ensures turn { Turn event result }
         ensures few { FitsOneFrame result }
     {
+        let shared = &self.table.shared;
+        let mut device = shared.exchange(place, 0, None).unwrap().into_box();
         let journaled = Snapshot::of(&event);
-        let slot = place.slot_mut(&self.table.shared, 0);
-        let result = step_in(slot, event);
+        let result = device.step(event);
         match &result {
             Ok(answer) => self.count::<Brand>(place, &journaled, answer),
             Err(_) => {}
         }
+        drop(shared.exchange(place, 0, Some(BoxedDevice { device })));
         result
     }
 
@@ -314,13 +314,20 @@ impl SharedDevice {
         };
         let journaled = device.journal().len() as u64;
         let about = Snapshot::of(&device);
-        slots.push_reserved(Some(device));
+        let boxed = match BoxedDevice::new(alloc, device) {
+            Ok(boxed) => boxed,
+            Err(device) => return Err((device, NoMemory)),
+        };
+        slots.push_reserved(Some(boxed));
         match Table::new(alloc, &[journaled, 0, 0], slots, &about) {
             Ok((table, place)) => {
                 let sleepers = AtomicU64::new(0);
                 Ok((SharedDevice { table, sleepers }, Seat { place }))
             }
-            Err(Refused { mut slots }) => Err((slots.pop().unwrap().unwrap(), NoMemory)),
+            Err(Refused { mut slots }) => {
+                let boxed = slots.pop().unwrap().unwrap();
+                Err((boxed.into_device(), NoMemory))
+            }
         }
     }
 
@@ -355,6 +362,7 @@ impl SharedDevice {
         ensures worn { result ≡ Err Worn → participant.old.number ≡ 1 → participant.old.outstanding ≡ 0 → participant.old.drawn ≡ 2 ^ 64 - 1 }
     {
         let place = &mut participant.place;
+        self.schedule_before_turn(rt);
         let Some(ticket) = self.draw(rt, place) else {
             return Err(Apart::Worn);
         };
@@ -377,6 +385,7 @@ impl SharedDevice {
         ensures same { participant.new ≡ with_outstanding participant.old (participant.old.outstanding + 1) }
         ensures own { (result.table ≡ participant.old.table) × (result.origin ≡ participant.old.origin) }
         ensures number { result.number ≢ participant.old.number }
+        ensures numbered { 1 ≤ result.number }
         ensures parent { result.parent ≡ participant.old.number }
         ensures seen { result.seen ≡ participant.old.seen }
         ensures fresh { (result.mine ≡ []) × (result.merged ≡ []) }
@@ -455,10 +464,11 @@ impl SharedDevice {
         self.learn(place);
     }
 
-    /// The device, once nobody shares it. Where a ticket was drawn that was not passed on, it is out with a call: then it
-    /// is lost with the participant that had it. That isn't so where the participant is the first, and each participant and note that was split
-    /// off it is given back to it with all of its own: then the device has noted what it had before, and the entries of the participant
-    /// and of those that it took in, and nothing else.
+    /// The device, once nobody shares it. Where a ticket was drawn that was not passed on, the turn is out with a call: then the
+    /// device is lost with the participant that has the ticket. Where all were passed on, it is in its slot, and is given back. No
+    /// turn is out where the participant is the first, and each participant and note that was split off it is given back to it with
+    /// all of its own: then the device has noted what it had before, and the entries of the participant and of those that it took
+    /// in, and nothing else.
     ///
     /// ```rust
     /// let Ok(device) = shared.close(participant) else { return };
@@ -468,6 +478,7 @@ impl SharedDevice {
         requires own { participant.table ≡ self }
         ensures closes { IfOk result (λ device. Closes participant device) }
         ensures home { participant.number ≡ 1 → participant.outstanding ≡ 0 → IsOk result }
+        ensures turn_out { IfErr result (λ _. IsTurnOut participant) }
         ensures counted { IfOk result (λ device. participant.number ≡ 1 → participant.outstanding ≡ 0
             → length device.journal ≡ length participant.origin.journal + participant.journaled) }
     {
@@ -478,9 +489,12 @@ impl SharedDevice {
         let slot = closed.take(0);
         closed.free();
         drop(sleepers);
+        if !is_quiet {
+            return Err(TurnOut);
+        }
         match slot {
-            Some(device) if is_quiet => Ok(device),
-            _ => Err(TurnOut),
+            Some(boxed) => Ok(boxed.into_device()),
+            None => unreachable!(),
         }
     }
 

@@ -5,6 +5,7 @@ ghost use Rattle.drm_turns.specs.Views.{child, lending, met_of, opening_view, sp
 ghost use Rattle.drm_turns.specs.Plays.{counts, draws, finds, learns, looks, passes, settles};
 ghost use Rattle.drm_turns.specs.declared.history.Entry.{Entry};
 
+use crate::boxed::BoxedDevice;
 use crate::history::View;
 use atomic_table::{Join, Play, Split, TableRule};
 use drm_device::Device;
@@ -12,7 +13,7 @@ use std::marker::{Brand, PhantomData};
 use std::snapshot::Snapshot;
 
 /// The slot has the device, unless the participant that is served has taken it.
-pub(crate) type Slot = Option<Device>;
+pub(crate) type Slot = Option<BoxedDevice>;
 
 /// The rule of the turn. What the table is told is the device as it was shared.
 pub struct InTurn;

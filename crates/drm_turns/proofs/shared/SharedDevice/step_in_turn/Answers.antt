@@ -1,102 +1,148 @@
-use Rattle.std.proofs.Common.{◌≡◌, ℕ, ◌+◌, List, ap, sym, ◌∙◌, arith, subst, Some, [], ◌∷◌, length, length-append, false, refl}
-use Rattle.std.specs.Prelude.{IsSome}
+use Rattle.std.proofs.Common.{◌≡◌, ℕ, ◌+◌, List, ap, sym, ◌∙◌, arith, subst, Some, [], ◌∷◌, length, length-append, false, refl, None}
 use Rattle.atomic_table.specs.Table.{rest}
 use Rattle.atomic_table.specs.declared.shared.Seat.{Seat}
 use Rattle.drm_turns.specs.declared.history.View.{View}
 use Rattle.drm_table.specs.declared.events.Event.{Event}
+use Rattle.drm_model.specs.Rows.{Rows}
 use Rattle.drm_model.specs.Reply.{reply}
-use Rattle.drm_model.specs.Run.{DeviceValue, no_room}
+use Rattle.drm_model.specs.Run.{DeviceValue, no_room, journaled_in, rows_of}
 use Rattle.drm_turns.specs.Rule.{Slot, Sat}
 use Rattle.drm_turns.specs.Views.{counted}
 use Rattle.drm_turns.specs.History.{device_at, entry, rows_after}
-use Rattle.drm_turns.proofs.Held.{after_step, events-length, grows_by, grows_not, held_is, noting_at, refuses, step_ok, turn_of}
+use Rattle.drm_turns.proofs.Held.{after_put, events-length, grows_by, grows_not, held_is, noting_at, refuses, step_ok, turn_of}
 use Rattle.drm_turns.proofs.shared.SharedDevice.step_in_turn.Goals as goal
 use Rattle.drm_turns.proofs.shared.SharedDevice.step_in_turn.Goals.{in-Ok, in-Err}
 
-pub slot_mut-slot-requires : goal.slot_mut-slot-requires
-slot_mut-slot-requires c = let v = c.args.place.now.me.0 in (
+pub exchange-requires : goal.exchange-requires
+exchange-requires c = let v = c.args.place.now.me.0 in (
   c.requires.own ∙ sym c.self.view_is,
   (Some (device_at v.origin v.seen), c.requires.device ∙ ap (λ l. (0, Some (device_at v.origin v.seen)) ∷ rest l) (sym c.requires.device)),
 )
 
-pub step_in-result-requires : goal.step_in-result-requires
-step_in-result-requires c = let v = c.args.place.now.me.0 in
-    let found = held_is c.args.place.now.me.1 c.slot_mut-slot.result.now (Some (device_at v.origin v.seen)) c.slot_mut-slot.ensures.value c.requires.device in
-    record { full = subst (λ (slot : Slot). IsSome slot) (sym found) refl }
-
 pub count-requires-clause-serving : goal.count-requires-clause-serving
 count-requires-clause-serving c =
     let v = c.args.place.now.me.0 in
-    let found = held_is c.args.place.now.me.1 c.slot_mut-slot.result.now (Some (device_at v.origin v.seen)) c.slot_mut-slot.ensures.value c.requires.device in
-    let s = c.step_in-result.ensures.steps (device_at v.origin v.seen) found in
-    let is = rw c.in-Ok.is at s.2.ok in
-    let journaled : length s.0.journal ≡ length v.seen + 1 = ap (λ (d : DeviceValue). length d.journal) is ∙ (length-append (device_at v.origin v.seen).journal (c.args.event ∷ []) ∙ ap (λ (n : ℕ). n + 1) (events-length v.seen)) in
-    let within = s.2.within in
-    let bounded = s.2.bounded in
-    (c.requires.serving.0, c.requires.serving.1, omega arith)
+    let e = c.exchange.ensures.3 in
+    let found = held_is c.args.place.now.me.1 c.exchange.result (Some (device_at v.origin v.seen)) c.exchange.ensures.2 c.requires.device in
+    let full = sym c.unwrap.ensures ∙ found in
+    let opened = c.into_box-device.ensures in
+    let lies = c.deref_mut.ensures.value in
+    let device : c.deref_mut.result.now ≡ device_at v.origin v.seen = cc in
+    let same : length c.deref_mut.result.now.journal ≡ length v.seen = ap (λ (d : DeviceValue). length d.journal) device ∙ events-length v.seen in
+    let is = rw c.in-Ok.is at c.step-result.ensures.ok in
+    let journaled : length c.step-result.new.self.journal ≡ length c.deref_mut.result.now.journal + 1 = ap (λ (d : DeviceValue). length d.journal) is ∙ length-append c.deref_mut.result.now.journal (c.args.event ∷ []) in
+    let within = c.step-result.ensures.within in
+    let bounded = c.step-result.ensures.bounded in
+    let seen : length c.exchange.new.seat.me.0.seen ≡ length v.seen = ap (λ (m : Sat). length m.0.seen) e in (
+      ap (λ (m : Sat). m.0.stage) e ∙ c.requires.serving.0,
+      (λ z. c.requires.serving.1 (sym (ap (λ (m : Sat). m.0.number) e) ∙ z)),
+      omega arith,
+    )
 
 pub count-requires-clause-legal : goal.count-requires-clause-legal
 count-requires-clause-legal c =
     let v = c.args.place.now.me.0 in
-    let found = held_is c.args.place.now.me.1 c.slot_mut-slot.result.now (Some (device_at v.origin v.seen)) c.slot_mut-slot.ensures.value c.requires.device in
-    let s = c.step_in-result.ensures.steps (device_at v.origin v.seen) found in
-    let answer = step_ok _ _ _ _ (rw c.in-Ok.is at s.2.step) in (
-      subst (λ (e : Event). no_room (rows_after v.origin v.seen) e ≡ false) (sym c.of-journaled.ensures) answer.0,
-      answer.1 ∙ ap (reply (rows_after v.origin v.seen)) (sym c.of-journaled.ensures),
+    let e = c.exchange.ensures.3 in
+    let found = held_is c.args.place.now.me.1 c.exchange.result (Some (device_at v.origin v.seen)) c.exchange.ensures.2 c.requires.device in
+    let full = sym c.unwrap.ensures ∙ found in
+    let opened = c.into_box-device.ensures in
+    let lies = c.deref_mut.ensures.value in
+    let device : c.deref_mut.result.now ≡ device_at v.origin v.seen = cc in
+    let rows : rows_of c.deref_mut.result.now ≡ rows_after c.exchange.new.seat.me.0.origin c.exchange.new.seat.me.0.seen = ap rows_of device ∙ ap (λ (m : Sat). rows_after m.0.origin m.0.seen) (sym e) in
+    let answer = step_ok _ _ _ _ (rw c.in-Ok.is at c.step-result.ensures.step) in (
+      subst (λ (z : Rows × Event). no_room z.0 z.1 ≡ false) (λ i. (rows i, sym c.of-journaled.ensures i)) answer.0,
+      answer.1 ∙ (λ i. reply (rows i) (sym c.of-journaled.ensures i)),
     )
 
 placed : {p q : Seat Slot View} → p ≡ q → p.me ≡ q.me
 placed e = λ i. (e i).me
 
+named : {p q : Seat Slot View} → p ≡ q → p.table_id ≡ q.table_id
+named e = λ i. (e i).table_id
+
+is_held : (held more : List (ℕ × Slot)) (slot : Slot) → held ≡ (0, slot) ∷ more → held ≡ (0, slot) ∷ rest held
+is_held held more slot is = is ∙ ap (λ l. (0, slot) ∷ rest l) (sym is)
+
+-- the slot is still held, empty, whether the event was counted or not
+pub exchange-requires-2 : goal.exchange-requires-2
+exchange-requires-2 c =
+    let more = rest c.args.place.now.me.1 in
+    let empty : c.exchange.new.seat.me.1 ≡ (0, None) ∷ more = ap (λ (m : Sat). m.1) c.exchange.ensures.3 in
+    elim c.match-result.branch [
+      | in-Ok w ↦ (
+        named w.place-is ∙ (w.count.ensures.own.0 ∙ (c.exchange.ensures.0 ∙ (c.requires.own ∙ sym c.self.view_is))),
+        (None, is_held c.match-result.place.me.1 more None (ap (λ (m : Sat). m.1) (placed w.place-is ∙ w.count.ensures.counted) ∙ empty)),
+      )
+      | in-Err w ↦ (
+        named w.place-is ∙ (c.exchange.ensures.0 ∙ (c.requires.own ∙ sym c.self.view_is)),
+        (None, is_held c.match-result.place.me.1 more None (ap (λ (m : Sat). m.1) (placed w.place-is) ∙ empty)),
+      )
+    ]
+
 pub returns-clause-device : goal.returns-clause-device
 returns-clause-device c =
     let v = c.args.place.now.me.0 in
-    let found = held_is c.args.place.now.me.1 c.slot_mut-slot.result.now (Some (device_at v.origin v.seen)) c.slot_mut-slot.ensures.value c.requires.device in
-    let s = c.step_in-result.ensures.steps (device_at v.origin v.seen) found in
-    let none_more : rest c.args.place.now.me.1 ≡ [] = ap rest c.requires.device in
-    let held : List (ℕ × Slot) = (0, c.step_in-result.new.slot) ∷ rest c.args.place.now.me.1 in
+    let e = c.exchange.ensures.3 in
+    let found = held_is c.args.place.now.me.1 c.exchange.result (Some (device_at v.origin v.seen)) c.exchange.ensures.2 c.requires.device in
+    let full = sym c.unwrap.ensures ∙ found in
+    let opened = c.into_box-device.ensures in
+    let lies = c.deref_mut.ensures.value in
+    let device : c.deref_mut.result.now ≡ device_at v.origin v.seen = cc in
+    let none_more : rest c.exchange.new.seat.me.1 ≡ [] = ap (λ (m : Sat). rest m.1) e ∙ ap rest c.requires.device in
     elim c.match-result.branch [
       | in-Ok w ↦
-          let is = rw w.in-Ok.is at s.2.ok in
-          let added = entry v.number c.args.event w.in-Ok.answer in
-          let me : c.match-result.place.me ≡ (counted v added, held) =
-          placed w.place-is ∙ (w.count.ensures.counted ∙ (λ i. (counted v (entry v.number (c.of-journaled.ensures i) w.in-Ok.answer), held))) in
-          after_step c.match-result.place.me (counted v added) held c.step_in-result.new.slot s.0 me none_more refl s.1 (is ∙ noting_at v.origin v.seen added)
+          let is = rw w.in-Ok.is at c.step-result.ensures.ok in
+          let counts = w.count.ensures.counted in
+          let me : c.match-result.place.me ≡ (counted v (entry v.number c.args.event w.in-Ok.answer), c.exchange.new.seat.me.1) =
+          placed w.place-is ∙ (counts ∙ (λ i. let u : View = (e i).0 in (counted u (entry u.number (c.of-journaled.ensures i) w.in-Ok.answer), c.exchange.new.seat.me.1))) in
+          after_put c.match-result.place.me c.exchange-2.new.seat.me c.step-result.new.self c.exchange-2.ensures.3 (ap (λ (m : Sat). rest m.1) me ∙ none_more)
+          (is ∙ (ap (λ d. journaled_in d c.args.event) device ∙ (noting_at v.origin v.seen (entry v.number c.args.event w.in-Ok.answer) ∙ ap (λ (m : Sat). device_at m.0.origin m.0.seen) (sym me))))
       | in-Err w ↦
-          let is = rw w.in-Err.is at s.2.err in
-          after_step c.match-result.place.me v held c.step_in-result.new.slot s.0 (placed w.place-is) none_more refl s.1 is
+          let is = rw w.in-Err.is at c.step-result.ensures.err in
+          let me : c.match-result.place.me ≡ c.exchange.new.seat.me = placed w.place-is in
+          after_put c.match-result.place.me c.exchange-2.new.seat.me c.step-result.new.self c.exchange-2.ensures.3 (ap (λ (m : Sat). rest m.1) me ∙ none_more)
+          (is ∙ (device ∙ ap (λ (m : Sat). device_at m.0.origin m.0.seen) (sym (me ∙ e))))
     ]
 
 pub returns-clause-grows : goal.returns-clause-grows
 returns-clause-grows c =
     let v = c.args.place.now.me.0 in
-    let found = held_is c.args.place.now.me.1 c.slot_mut-slot.result.now (Some (device_at v.origin v.seen)) c.slot_mut-slot.ensures.value c.requires.device in
-    let s = c.step_in-result.ensures.steps (device_at v.origin v.seen) found in
+    let e = c.exchange.ensures.3 in
+    let found = held_is c.args.place.now.me.1 c.exchange.result (Some (device_at v.origin v.seen)) c.exchange.ensures.2 c.requires.device in
+    let full = sym c.unwrap.ensures ∙ found in
+    let opened = c.into_box-device.ensures in
+    let lies = c.deref_mut.ensures.value in
+    let device : c.deref_mut.result.now ≡ device_at v.origin v.seen = cc in
+    let put : c.exchange-2.new.seat.me.0 ≡ c.match-result.place.me.0 = ap (λ (m : Sat). m.0) c.exchange-2.ensures.3 in
     elim c.match-result.branch [
       | in-Ok w ↦
-          let answer = step_ok _ _ _ _ (rw w.in-Ok.is at s.2.step) in
-          let added = entry v.number c.args.event w.in-Ok.answer in
-          let me : c.match-result.place.me.0 ≡ counted v added =
-          ap (λ (m : Sat). m.0) (placed w.place-is ∙ w.count.ensures.counted) ∙ (λ i. counted v (entry v.number (c.of-journaled.ensures i) w.in-Ok.answer)) in
-          grows_by v added c.match-result.place.me.0 me c.requires.seen refl answer.0 answer.1
-      | in-Err w ↦ grows_not v c.match-result.place.me.0 (ap (λ (m : Sat). m.0) (placed w.place-is)) c.requires.seen
+          let answer = step_ok _ _ _ _ (rw w.in-Ok.is at c.step-result.ensures.step) in
+          let counts = w.count.ensures.counted in
+          let me : c.match-result.place.me ≡ (counted v (entry v.number c.args.event w.in-Ok.answer), c.exchange.new.seat.me.1) =
+          placed w.place-is ∙ (counts ∙ (λ i. let u : View = (e i).0 in (counted u (entry u.number (c.of-journaled.ensures i) w.in-Ok.answer), c.exchange.new.seat.me.1))) in
+          grows_by v (entry v.number c.args.event w.in-Ok.answer) c.exchange-2.new.seat.me.0 (put ∙ ap (λ (m : Sat). m.0) me) c.requires.seen refl
+          (subst (λ (d : DeviceValue). no_room (rows_of d) c.args.event ≡ false) device answer.0)
+          (subst (λ (d : DeviceValue). w.in-Ok.answer ≡ reply (rows_of d) c.args.event) device answer.1)
+      | in-Err w ↦
+          grows_not v c.exchange-2.new.seat.me.0 (put ∙ (ap (λ (m : Sat). m.0) (placed w.place-is) ∙ ap (λ (m : Sat). m.0) e)) c.requires.seen
     ]
 
 pub returns-clause-turn : goal.returns-clause-turn
-returns-clause-turn c =
-    let v = c.args.place.now.me.0 in
-    let found = held_is c.args.place.now.me.1 c.slot_mut-slot.result.now (Some (device_at v.origin v.seen)) c.slot_mut-slot.ensures.value c.requires.device in
-    let s = c.step_in-result.ensures.steps (device_at v.origin v.seen) found in
-    turn_of (device_at v.origin v.seen) s.0 c.args.event c.step_in-result.result s.2.step s.2.ok s.2.err s.2.in_range s.2.found_room
+returns-clause-turn c = turn_of c.deref_mut.result.now c.step-result.new.self c.args.event c.step-result.result c.step-result.ensures.step c.step-result.ensures.ok c.step-result.ensures.err c.step-result.ensures.in_range c.step-result.ensures.found_room
 
 pub returns-clause-err : goal.returns-clause-err
 returns-clause-err c =
     let v = c.args.place.now.me.0 in
-    let found = held_is c.args.place.now.me.1 c.slot_mut-slot.result.now (Some (device_at v.origin v.seen)) c.slot_mut-slot.ensures.value c.requires.device in
-    let s = c.step_in-result.ensures.steps (device_at v.origin v.seen) found in
+    let e = c.exchange.ensures.3 in
+    let found = held_is c.args.place.now.me.1 c.exchange.result (Some (device_at v.origin v.seen)) c.exchange.ensures.2 c.requires.device in
+    let full = sym c.unwrap.ensures ∙ found in
+    let opened = c.into_box-device.ensures in
+    let lies = c.deref_mut.ensures.value in
+    let device : c.deref_mut.result.now ≡ device_at v.origin v.seen = cc in
+    let put : c.exchange-2.new.seat.me.0 ≡ c.match-result.place.me.0 = ap (λ (m : Sat). m.0) c.exchange-2.ensures.3 in
     elim c.match-result.branch [
       | in-Ok w ↦ rw w.in-Ok.is tt
       | in-Err w ↦
-          refuses (device_at v.origin v.seen) s.0 c.args.event c.step_in-result.result v c.match-result.place.me.0 refl s.2.step s.2.err
-          (rw w.in-Err.is (ap (λ (m : Sat). m.0) (placed w.place-is)))
+          refuses c.deref_mut.result.now c.step-result.new.self c.args.event c.step-result.result v c.exchange-2.new.seat.me.0 device c.step-result.ensures.step c.step-result.ensures.err
+          (rw w.in-Err.is (put ∙ (ap (λ (m : Sat). m.0) (placed w.place-is) ∙ ap (λ (m : Sat). m.0) e)))
     ]
