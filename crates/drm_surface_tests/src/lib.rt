@@ -1,4 +1,16 @@
-//! The public surface: each item by its name and its types, so that another name or type doesn't compile.
+//! The public surface as a table: each item by its name and its types, so that a renamed item or another type does not compile.
 #![tactic(auto)]
 
+mod arrays;
+mod devices;
+mod files;
+mod frames;
 mod gem;
+mod leases;
+mod masters;
+mod modes;
+mod programs;
+mod sessions;
+mod share;
+mod tables;
+mod turns;

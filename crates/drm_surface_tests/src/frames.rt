@@ -1,0 +1,57 @@
+//! The surface of `drm_frames`.
+
+use drm_frames::{
+    Decoded, Frame, FrameBytes, FromRead, Hello, Put, Sink, Source, Taken, ToWrite, answer_of,
+    call_of, decode, encode_answer, encode_call, encode_hello, hello_of,
+};
+use drm_table::{Answer, Apart, Call};
+
+/// The functions.
+pub fn functions() {
+    let _decode: fn(&[u8]) -> Decoded<'_> = decode;
+    let _call_of: fn(&Frame<'_>) -> Call = call_of;
+    let _hello_of: fn(&Frame<'_>) -> Option<Hello> = hello_of;
+    let _encode_call: fn(&Call) -> FrameBytes = encode_call;
+    let _encode_hello: fn(Hello) -> FrameBytes = encode_hello;
+    let _encode_answer: fn(&Result<Answer, Apart>) -> FrameBytes = encode_answer;
+    let _answer_of: fn(&Frame<'_>) -> Option<Result<Answer, Apart>> = answer_of;
+}
+
+/// A hello.
+pub fn hellos(hello: Hello) -> (u32, Option<u32>) {
+    let Hello { version, lease } = hello;
+    (version, lease)
+}
+
+/// What the first bytes are.
+pub fn decoded(decoded: Decoded<'_>) -> Option<(Frame<'_>, usize)> {
+    match decoded {
+        Decoded::Whole(frame, used) => Some((frame, used)),
+        Decoded::NeedMore => None,
+        Decoded::TooLong => None,
+    }
+}
+
+/// What a call of a source gives.
+pub fn taken(taken: Taken) -> usize {
+    match taken {
+        Taken::Got(count) => count,
+        Taken::End => 0,
+        Taken::Interrupted => 0,
+        Taken::Fault => 0,
+    }
+}
+
+/// What a call of a sink gives.
+pub fn put(put: Put) -> usize {
+    match put {
+        Put::Took(count) => count,
+        Put::Interrupted => 0,
+        Put::Fault => 0,
+    }
+}
+
+/// The number of calls of a source over any reader, and of a sink over any writer.
+pub fn counts<R: Read, W: Write>(source: &FromRead<R>, sink: &ToWrite<W>) -> (u64, u64) {
+    (Source::calls(source), Sink::calls(sink))
+}

@@ -1,0 +1,53 @@
+//! The surface of `drm_masters`.
+
+use drm_masters::{LesseeFault, MasterKey, MasterRow, Masters, NoMemory, SetDone, SetFault};
+use drm_table::Rule;
+use std::alloc::Global;
+
+/// The calls that change masters.
+pub fn changes() {
+    let _new: fn(Global, u32, u32) -> Masters = Masters::new;
+    let _on_open: fn(&mut Masters, u32, u32) -> Result<bool, NoMemory> = Masters::on_open;
+    let _on_redeem: fn(&mut Masters, u32, MasterKey) -> Result<(), NoMemory> = Masters::on_redeem;
+    let _set: fn(&mut Masters, u32, bool, u32) -> Result<SetDone, SetFault> = Masters::set;
+    let _drop_master: fn(&mut Masters, u32, bool) -> Result<(), Rule> = Masters::drop_master;
+    let _magic: fn(&mut Masters, u32) -> Result<u32, NoMemory> = Masters::magic;
+    let _auth: fn(&mut Masters, u32, u32) -> Result<u32, Rule> = Masters::auth;
+    let _on_close: fn(&mut Masters, u32) -> Option<MasterKey> = Masters::on_close;
+    let _make_lessee: fn(&mut Masters, MasterKey, u32) -> Result<(MasterKey, u32), LesseeFault> =
+        Masters::make_lessee;
+    let _release: fn(&mut Masters, MasterKey) = Masters::release;
+}
+
+/// The calls that read them.
+pub fn reads() {
+    let _is_current: fn(&Masters, u32) -> bool = Masters::is_current;
+    let _master_of: fn(&Masters, u32) -> Option<MasterKey> = Masters::master_of;
+    let _lessor_of: fn(&Masters, MasterKey) -> Option<MasterKey> = Masters::lessor_of;
+    let _nth: fn(&Masters, u32, usize) -> Option<MasterRow> = Masters::nth;
+}
+
+/// What SET_MASTER did.
+pub fn set_done(done: SetDone) -> u32 {
+    match done {
+        SetDone::Already => 0,
+        SetDone::Again => 1,
+        SetDone::Made => 2,
+    }
+}
+
+/// The reasons that it did not.
+pub fn set_faults(fault: SetFault) -> Option<Rule> {
+    match fault {
+        SetFault::Denied(rule) => Some(rule),
+        SetFault::NoMemory => None,
+    }
+}
+
+/// The reasons that no lessee was created.
+pub fn lessee_faults(fault: LesseeFault) -> bool {
+    match fault {
+        LesseeFault::Full => true,
+        LesseeFault::NoMemory => false,
+    }
+}

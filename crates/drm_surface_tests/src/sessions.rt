@@ -1,0 +1,87 @@
+//! The surface of `drm_sessions`.
+
+use drm_frames::{Sink, Source};
+use drm_sessions::{
+    Access, Alone, Class, Finished, Gate, Job, ManyFault, NoGate, Session, SessionEnd, Through, serve,
+    serve_many,
+};
+use drm_table::{Answer, Apart, Event, Rule};
+use drm_turns::{Seat, SharedDevice};
+use std::alloc::Global;
+use std::sync::Wait;
+use std::thread::Threads;
+
+/// A session over any access, gate, source and sink.
+pub fn serving<A: Access, G: Gate, S: Source, K: Sink>() {
+    let _serve: fn(&mut A, &mut G, Class, &mut S, &mut K, u64) -> Session = serve;
+    let _call: fn(&mut A, Event) -> Result<Answer, Apart> = A::call;
+    let _before: fn(&mut G, u32) = G::before;
+}
+
+/// The accesses: a device that one session has alone, and one that is shared.
+pub fn accesses<R: Wait>(alone: &mut Alone<'_>) {
+    let _alone: fn(&mut Alone<'_>, Event) -> Result<Answer, Apart> = Alone::call;
+    let _device = &alone.device;
+    let _none: fn(&mut NoGate, u32) = NoGate::before;
+}
+
+/// The classes of a connection.
+pub fn classes(class: Class) -> u32 {
+    match class {
+        Class::Card => 0,
+        Class::Render => 1,
+        Class::Root => 2,
+    }
+}
+
+/// A session.
+pub fn sessions(session: Session) -> (SessionEnd, u32, u64) {
+    let Session { end, client, steps } = session;
+    (end, client, steps)
+}
+
+/// The ends of a session.
+pub fn ends(end: SessionEnd) -> (Option<Rule>, Option<Apart>) {
+    match end {
+        SessionEnd::Ended => (None, None),
+        SessionEnd::Truncated => (None, None),
+        SessionEnd::TooLong => (None, None),
+        SessionEnd::BadHello => (None, None),
+        SessionEnd::OpenRefused(rule) => (Some(rule), None),
+        SessionEnd::ReadFault => (None, None),
+        SessionEnd::WriteFault => (None, None),
+        SessionEnd::TurnsUsed => (None, None),
+        SessionEnd::Apart(apart) => (None, Some(apart)),
+    }
+}
+
+/// A job of `serve_many`.
+pub fn jobs<G: Gate, S: Source, K: Sink>(job: Job<G, S, K>) -> (G, Class, S, K, u64) {
+    let Job {
+        gate,
+        class,
+        source,
+        sink,
+        turns,
+    } = job;
+    (gate, class, source, sink, turns)
+}
+
+/// The result of a job.
+pub fn finished<S: Source + Drop, K: Sink + Drop>(finished: Finished<S, K>) -> (Session, S, K) {
+    let Finished {
+        session,
+        source,
+        sink,
+        ..
+    } = finished;
+    (session, source, sink)
+}
+
+/// The reasons that jobs were not served.
+pub fn many_faults(fault: ManyFault) -> bool {
+    match fault {
+        ManyFault::NoMemory => true,
+        ManyFault::NoThread => false,
+    }
+}

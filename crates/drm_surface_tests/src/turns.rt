@@ -1,0 +1,25 @@
+//! The surface of `drm_turns`.
+
+use drm_device::Device;
+use drm_table::{Answer, Apart, Event};
+use drm_turns::{NoMemory, Note, Seat, SharedDevice, TurnOut};
+use std::alloc::Global;
+use std::sync::Wait;
+
+/// The calls that do not wait.
+pub fn calls() {
+    let _new: fn(Global, Device) -> Result<(SharedDevice, Seat), (Device, NoMemory)> =
+        SharedDevice::new;
+    let _split: fn(&SharedDevice, &mut Seat) -> Seat = SharedDevice::split;
+    let _join: fn(&SharedDevice, &mut Seat, Seat) = SharedDevice::join;
+    let _note: fn(&SharedDevice, &mut Seat) -> Note = SharedDevice::note;
+    let _meet: fn(&SharedDevice, &mut Seat, Note) = SharedDevice::meet;
+    let _close: fn(SharedDevice, Seat) -> Result<Device, TurnOut> = SharedDevice::close;
+    let _peek_count: fn(&SharedDevice) -> u64 = SharedDevice::peek_count;
+}
+
+/// The call that waits.
+pub fn waiting<R: Wait>() {
+    let _call: fn(&SharedDevice, &R, &mut Seat, Event) -> Result<Answer, Apart> =
+        SharedDevice::call;
+}
