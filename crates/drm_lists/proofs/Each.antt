@@ -1,9 +1,9 @@
 -- What a test that no element passes says of each, and what a found element is.
-use Rattle.std.proofs.Common.{◌≡◌, Bool, true, false, not, cond, ◌||◌, List, [], ◌∷◌, ◌++◌, filter, map, Option, None, Some, refl, ap, ◌∙◌}
+use Rattle.std.proofs.Common.{◌≡◌, Bool, true, false, cond, ◌||◌, List, [], ◌∷◌, filter, map, Option, None, Some, refl, ap, ◌∙◌}
 use Rattle.std.specs.List.{list_any, list_all, AllByRecursion}
 use Rattle.std.specs.Option.{is_some}
 use Rattle.std.proofs.lemmas.Bool.{and_parts, or_parts, or_left, or_right}
-use Rattle.drm_lists.proofs.Lists.{all_weaker, filter_all}
+use Rattle.drm_lists.proofs.Lists.{all_weaker}
 
 -- what none passes each fails
 pub each_fails : {X : Type 0} (p : X → Bool) → (xs : List X) → list_any p xs ≡ false → AllByRecursion (λ x. p x ≡ false) xs
@@ -59,7 +59,3 @@ each_passes p (x ∷ xs) h = let parts = and_parts (p x) (list_all p xs) h in (p
 pub filter_none : {X : Type 0} (p : X → Bool) → (xs : List X) → AllByRecursion (λ x. p x ≡ false) xs → filter p xs ≡ []
 filter_none p [] h = refl
 filter_none p (x ∷ xs) h = ap (λ b. cond b (x ∷ filter p xs) (filter p xs)) h.0 ∙ filter_none p xs h.1
-
--- a row behind those that pass stands last where all pass
-pub placed_last : {X : Type 0} (p : X → Bool) (x : X) (ys : List X) → AllByRecursion (λ y. p y ≡ true) ys → filter p ys ++ x ∷ filter (λ y. not (p y)) ys ≡ ys ++ x ∷ []
-placed_last p x ys h = λ i. filter_all p ys h i ++ x ∷ filter_none (λ y. not (p y)) ys (all_weaker (λ y. p y ≡ true) (λ y. not (p y) ≡ false) (λ y e. ap not e) ys h) i
