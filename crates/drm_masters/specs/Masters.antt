@@ -1,5 +1,5 @@
 -- Who stands to which master, and the masters, as flat lists in the order of step numbers (drm(7), masters; drm-uapi, leases).
-use Rattle.std.specs.Prelude.{◌≡◌, ℕ, ◌==◌, ◌<◌, ◌≤◌, Bool, true, false, not, ◌&&◌, ◌||◌, List, length, Option, None, Some, find, filter, map}
+use Rattle.std.specs.Prelude.{◌≡◌, ℕ, ◌==◌, ◌<◌, ◌≤◌, nat_lt, Bool, true, false, not, ◌&&◌, ◌||◌, List, length, Option, None, Some, find, filter, map}
 use Rattle.std.specs.List.{list_any, AllByRecursion}
 use Rattle.std.specs.Option.{is_some, option_map, option_map_or, option_and_then}
 use Rattle.drm_index_array.specs.Least.{least}
@@ -27,6 +27,10 @@ is_option n (Some m) = m == n
 
 abbrev pub is_client : ℕ → Member → Bool
 is_client c x = x.client == c
+
+-- the order of the clients
+abbrev pub member_before : Member → Member → Bool
+member_before x y = nat_lt x.client y.client
 
 abbrev pub member_of : List Member → ℕ → Option Member
 member_of members c = find (is_client c) members

@@ -216,15 +216,20 @@ impl Masters {
         self.members.is_flagged(client)
     }
 
-    /// Adds a client that opened the primary node. While the device has no master the client gets a new one, made by the
-    /// step of this number, which becomes the device's: true. Else it stands to the device's master, and is none itself: false. Without memory
-    /// nothing changes.
+    /// Adds a client that opened the primary node. No client has this number yet.
+    ///
+    /// If the device has no master, the client owns a new one with this birth, which becomes the device's: true.
+    /// Otherwise the client belongs to the device's master and is no master itself: false.
+    ///
+    /// # Errors
+    ///
+    /// If memory is refused, nothing changes.
     ///
     /// ```rust
     /// assert!(is_first);
     /// ```
     pub fn on_open(&mut self, client: u32, birth: u32) -> Result<bool, NoMemory>
-        requires new_client { calls.IsNewClient self.old client }
+        requires new_client { is_some (sets.member_of self.old.members client) ≡ false }
         requires room { length self.old.members < self.old.last_magic }
         requires new_step_number { calls.IsNewStepNumber self.old birth }
         ensures made { IfOk result (λ made. made ≡ not (is_some self.old.device_master)) }
@@ -249,8 +254,12 @@ impl Masters {
         Ok(true)
     }
 
-    /// Adds the client that redeems a lessee, which is kept no more. It is a master, though not once a master by that
-    /// (own). Without memory nothing changes.
+    /// Adds the client that redeems a lessee, which is kept no more. No client has this number yet. The client is a
+    /// master, but not once a master by that (own).
+    ///
+    /// # Errors
+    ///
+    /// If memory is refused, nothing changes.
     ///
     /// ```rust
     /// let mut masters = Masters::new(alloc, 4, 4);
@@ -261,7 +270,7 @@ impl Masters {
     /// assert!(masters.is_lessee(3));
     /// ```
     pub fn on_redeem(&mut self, client: u32, master: MasterKey) -> Result<(), NoMemory>
-        requires new_client { calls.IsNewClient self.old client }
+        requires new_client { is_some (sets.member_of self.old.members client) ≡ false }
         requires room { length self.old.members < self.old.last_magic }
         requires unredeemed { option_map_or (λ x. x.kept && is_some x.lessor) (find (sets.is_key master) self.old.masters) false ≡ true }
         ensures ok { OnOk result (self.new ≡ calls.redeemed client (sets.step_number_at self.old.masters master) self.old) }
@@ -456,10 +465,7 @@ impl Masters {
         let Some(id) = self.free_lessee(lessor.step_number) else {
             return Err(LesseeFault::Full);
         };
-        let key = match self
-            .masters
-            .insert(lessee(birth, lessor.step_number, id))
-        {
+        let key = match self.masters.insert(lessee(birth, lessor.step_number, id)) {
             Ok(key) => key,
             Err(NoMemory) => return Err(LesseeFault::NoMemory),
         };

@@ -49,7 +49,7 @@ returns-in-Err-NoMemory-clause-makes c = λ w s.
     (room w c.args.client free (object_room c.args.state.now w s.rows less), subst (λ o. Represents (record c.args.state.now { objects = o }) w) (sym c.in-Err-NoMemory.ensures.err) s.rows)
 
 pub create-requires : goal.create-requires
-create-requires c = newest_unused c.args.state.now.objects c.args.step_number c.requires.precondition.later.objects
+create-requires c = record { unused = newest_unused c.args.state.now.objects c.args.step_number c.requires.precondition.later.objects }
 
 pub unhold-dead-requires : goal.unhold-dead-requires
 unhold-dead-requires c =
