@@ -262,7 +262,7 @@ static pid_t start_server(const char *server, const char *folder, const char *pa
     snprintf(root, sizeof root, "%s/root", folder);
     snprintf(count, sizeof count, "%d", connections);
     snprintf(root_count, sizeof root_count, "%d", roots);
-    char *words[] = {(char *)server, "serve", "--quiet", "--card", (char *)path, "--render", render, "--root", root,
+    char *words[] = {(char *)server, "serve", "--card", (char *)path, "--render", render, "--root", root,
                      "--cards", count, "--renders", "0", "--roots", root_count, NULL};
     return start(words, trace);
 }

@@ -132,7 +132,7 @@ def server(folder, *counts, limits=(), **options):
             resource.setrlimit(kind, (most, most))
 
     started = subprocess.Popen(
-        [PROGRAM, "serve", "--quiet", *path_words(folder), *count_words(*counts)],
+        [PROGRAM, "serve", *path_words(folder), *count_words(*counts)],
         **{"stdin": subprocess.DEVNULL, "stdout": subprocess.PIPE, "stderr": subprocess.PIPE, "text": True, **options},
         preexec_fn=prepare)
     try:

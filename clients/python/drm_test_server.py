@@ -77,7 +77,7 @@ class Server:
             if len(os.fsencode(self.render)) > MOST_PATH:
                 raise ServerError(f"{self.folder} is too long a path for sockets: set TMPDIR to a shorter one")
             counts = dict(zip(CLASSES, (cards, renders, roots)))
-            words = [os.fspath(program) if program is not None else find_program(), "serve", "--quiet", "--until-input-ends"]
+            words = [os.fspath(program) if program is not None else find_program(), "serve", "--until-input-ends"]
             for name, count in counts.items():
                 words += [f"--{name}", os.path.join(self.folder, name), f"--{name}s", str(count)]
             for option, value in (("--topology", topology), ("--limits", limits), ("--journal", journal)):

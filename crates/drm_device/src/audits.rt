@@ -68,7 +68,7 @@ fn row_at(state: &State, steps: u32, kind: AuditKind, position: usize) -> Option
             let master = state.masters.nth_master(position)?;
             Some(master_row(master, state.leases.token_of(master.step_number)))
         }
-        AuditKind::Object => Some(object_row(state.objects.nth(position)?)),
+        AuditKind::Object => Some(object_row(state.objects.nth_object(position)?)),
         AuditKind::Name => name_at(state, position),
         AuditKind::Token => token_at(state, position),
         AuditKind::Hold => handle_at(state, position),
@@ -212,7 +212,7 @@ fn name_at(state: &State, position: usize) -> Option<AuditRow>
     ensures row { result ≡ slice_get (map name_audit (names_of state.now)) position }
     ensures names { AreNames state.now.names }
 {
-    let shared = state.names.nth(position)?;
+    let shared = state.names.nth_name(position)?;
     Some(AuditRow {
         a: shared.name as u64,
         b: state.objects.birth(shared.object) as u64,
@@ -227,7 +227,7 @@ fn token_at(state: &State, position: usize) -> Option<AuditRow>
     ensures row { result ≡ slice_get (map token_audit (tokens_of state.now)) position }
     ensures tokens { AreTokens state.now.tokens }
 {
-    let shared = state.tokens.nth(position)?;
+    let shared = state.tokens.nth_token(position)?;
     Some(AuditRow {
         a: shared.token as u64,
         b: shared.client as u64,

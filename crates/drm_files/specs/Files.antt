@@ -1,5 +1,5 @@
 -- The open clients and the handles that they hold, as flat lists.
-use Rattle.std.specs.Prelude.{◌≡◌, ℕ, ◌==◌, ◌≤◌, ◌&&◌, ◌||◌, Bool, true, false, not, if◌then◌else◌, nat_lt, List, [], map, filter, find, Option, Some, is_some}
+use Rattle.std.specs.Prelude.{◌≡◌, ℕ, ◌==◌, ◌≤◌, ◌&&◌, ◌||◌, Bool, true, false, not, if◌then◌else◌, nat_lt, List, [], map, filter, find, slice_get, Option, None, Some, is_some, option_map}
 use Rattle.std.specs.List.{list_any, filter_map, AllByRecursion}
 use Rattle.std.specs.Option.{option_or, option_and_then, option_map_or}
 use Rattle.drm_index_array.specs.Least.{least, least_of}
@@ -7,6 +7,8 @@ pub use Rattle.drm_index_array.specs.Rows.{placed, InOrder}
 use Rattle.drm_files.specs.declared.rows.FileFlags.{FileFlags}
 use Rattle.drm_files.specs.declared.rows.FileClient.{FileClient}
 use Rattle.drm_files.specs.declared.rows.FileHandle.{FileHandle}
+use Rattle.drm_files.specs.declared.rows.FileRow.{FileRow}
+use Rattle.drm_files.specs.declared.rows.FileRow.TheVariants.{Client, Hold}
 
 -- `limit` clients may be open, and each may hold the handles from 1 to `last_handle`. The clients rise, and the holds stand
 -- in the order of their clients, and then of their handles
@@ -27,6 +29,13 @@ of_client c row = row.client == c
 
 abbrev pub is_handle : ℕ → ℕ → FileHandle → Bool
 is_handle c h row = (row.client == c) && (row.handle == h)
+
+-- the row at a place of an audit's kind, of which clients are the first and handles the sixth (own)
+abbrev pub nth_row : FileLists → ℕ → ℕ → Option FileRow
+nth_row files kind i =
+    if kind == 1 then option_map Client (slice_get files.clients i)
+    else if kind == 6 then option_map Hold (slice_get files.holds i)
+    else None
 
 -- the client is open
 abbrev pub is_open_client : FileLists → ℕ → Bool

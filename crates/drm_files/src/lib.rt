@@ -11,4 +11,4 @@ mod rows;
 pub use faults::FileFault;
 pub use files::Files;
 pub use rest::FileRest;
-pub use rows::{FileClient, FileFlags, FileHandle};
+pub use rows::{FileClient, FileFlags, FileHandle, FileRow};

@@ -3,14 +3,18 @@
 ghost use Rattle.std.specs.Prelude.{◌≡◌, ◌++◌, List, true, filter, nat_le, take, slice_get, IfOk, IfErr, Some};
 ghost use Rattle.std.specs.FinMap as map;
 ghost use Rattle.drm_index_array.specs.Keys.{keys_from};
-ghost use Rattle.drm_files.specs.Files.{is_open_client, handles_of};
+ghost use Rattle.drm_files.specs.Files.{is_open_client, handles_of, nth_row};
 ghost use Rattle.drm_files.specs.Records.{rows_in};
 ghost use Rattle.drm_files.specs.declared.rows.FileHandle.{FileHandle};
 
 use crate::files::{FileRecord, Files, Held};
-use crate::rows::{FileClient, FileHandle};
+use crate::rows::{FileClient, FileHandle, FileRow};
 use drm_id_alloc::IdTable;
 use drm_table::ShownList;
+
+/// The numbers of an audit's rows of clients and of handles (own).
+const CLIENT_KIND: u32 = 1;
+const HOLD_KIND: u32 = 6;
 
 impl Files {
     /// The handles of an open client from a number on, rising, 64 at most. It takes no memory.
@@ -44,6 +48,22 @@ impl Files {
             client,
             flags: record.flags,
         })
+    }
+
+    /// Returns the row at a position, from 0, of the rows of an audit's kind (own): clients are kind 1, rising by client, handles
+    /// are kind 6, rising by client and then by handle, and no other kind is kept. Does not allocate.
+    ///
+    /// ```rust
+    /// assert!(files.nth(6, 0).is_some() && files.nth(2, 0).is_none());
+    /// ```
+    pub fn nth(&self, kind: u32, i: usize) -> Option<FileRow>
+        ensures { result ≡ nth_row self.now kind i }
+    {
+        match kind {
+            CLIENT_KIND => Some(FileRow::Client(self.nth_client(i)?)),
+            HOLD_KIND => Some(FileRow::Hold(self.nth_handle(i)?)),
+            _ => None,
+        }
     }
 
     /// The hold at a place of the list of holds, where 0 is the first. It passes over whole clients, and takes no memory.

@@ -36,6 +36,19 @@ pub struct FileClient {
     pub flags: FileFlags,
 }
 
+/// A row of an audit that [`Files`](crate::Files) keeps (own).
+///
+/// ```rust
+/// assert!(files.nth(1, 0) == Some(FileRow::Client(FileClient { client: 1, flags })));
+/// ```
+#[derive(Clone, Copy, PartialEq, Eq, Debug)]
+pub enum FileRow {
+    /// A row of kind 1.
+    Client(FileClient),
+    /// A row of kind 6.
+    Hold(FileHandle),
+}
+
 /// A handle that a client holds (drm-gem(7)).
 ///
 /// ```rust

@@ -1,4 +1,4 @@
-//! Frames: how requests, hellos and answers stand as bytes.
+//! Frames: requests, hellos and answers as bytes, and the sources and sinks that carry them.
 #![tactic(auto)]
 
 mod answers;
@@ -17,6 +17,7 @@ mod text;
 
 pub use answers::{AnswerText, encode_answer};
 pub use decoding::{Decoded, decode};
+pub use drm_streams::{FromRead, Put, Sink, Source, Taken, ToWrite};
 pub use frame::Frame;
 pub use hello::{Hello, encode_hello, hello_of};
 pub use laws::{

@@ -1,5 +1,5 @@
 -- The objects that are there, in the order of their step numbers (drm-mm, drm-gem(7); step numbers and stamps are this project's own).
-use Rattle.std.specs.Prelude.{ℕ, ◌≡◌, ◌+◌, ◌-◌, ◌<◌, ◌==◌, nat_lt, Bool, false, not, ◌&&◌, List, Option, find, map, filter, if◌then◌else◌}
+use Rattle.std.specs.Prelude.{ℕ, ◌≡◌, ◌+◌, ◌-◌, ◌<◌, ◌==◌, nat_lt, Bool, false, not, ◌&&◌, List, Option, None, find, map, filter, slice_get, if◌then◌else◌}
 use Rattle.std.specs.List.{AllByRecursion}
 use Rattle.std.specs.Option.{option_map, option_map_or, is_some}
 use Rattle.drm_index_array.specs.Rows.{placed}
@@ -52,6 +52,10 @@ changed_at key f set = record set { objects = map (λ (x : Object). if x.key == 
 -- the object of the key is gone
 abbrev pub without_key : ℕ → ObjectSet → ObjectSet
 without_key key set = record set { objects = filter (λ (x : Object). not (x.key == key)) set.objects }
+
+-- the row at a place of an audit's kind, of which objects are the third (own)
+abbrev pub nth_row : ObjectSet → ℕ → ℕ → Option Object
+nth_row set kind i = if kind == 3 then slice_get set.objects i else None
 
 -- one handle, or one reference, more or fewer
 

@@ -6,7 +6,7 @@ ghost use Rattle.drm_gem.specs.declared.object.Object as gem;
 ghost use Rattle.drm_gem.specs.declared.objects.CreateFault.TheVariants as fault;
 ghost use Rattle.drm_gem.specs.Rising.{AreRising};
 ghost use Rattle.drm_gem.specs.Fields.{object};
-ghost use Rattle.drm_gem.specs.Objects.{IsUnusedBirth, with_object, changed_at, without_key, object_at, is_there, is_key, passes, held, unheld, referred, unreferred, stamped, dead_of, dead_after, is_unused};
+ghost use Rattle.drm_gem.specs.Objects.{IsUnusedBirth, with_object, changed_at, without_key, object_at, is_there, is_key, passes, held, unheld, referred, unreferred, stamped, dead_of, dead_after, is_unused, nth_row};
 
 use crate::keys::ObjectKey;
 use crate::object::{Dead, Object};
@@ -14,6 +14,9 @@ use drm_index_array::{IndexArray, InsertFault};
 use slab::Slab;
 use std::alloc::Global;
 use std::marker::Model;
+
+/// The number of an audit's rows of objects (own).
+const OBJECT_KIND: u32 = 3;
 
 /// Why no object was made.
 ///
@@ -81,7 +84,7 @@ impl Objects {
     /// No objects, of which so many may be there at once. It takes no memory.
     ///
     /// ```rust
-    /// assert!(Objects::new(alloc, 2).nth(0).is_none());
+    /// assert!(Objects::new(alloc, 2).nth_object(0).is_none());
     /// ```
     pub fn new(alloc: Global, limit: u32) -> Objects
         ensures { result ≡ record { limit = limit; objects = [] } }
@@ -294,12 +297,27 @@ impl Objects {
         self.set(Object { stamp, ..object });
     }
 
-    /// The object at a place, from 0, in the order of step numbers; none past the last.
+    /// Returns the row at a position, from 0, of the rows of an audit's kind (own): objects are kind 3, rising by birth, and
+    /// no other kind is kept. Does not allocate.
     ///
     /// ```rust
-    /// assert!(objects.nth(0) == objects.get(key));
+    /// assert!(objects.nth(3, 0) == objects.get(key) && objects.nth(4, 0).is_none());
     /// ```
-    pub fn nth(&self, position: usize) -> Option<Object>
+    pub fn nth(&self, kind: u32, i: usize) -> Option<Object>
+        ensures { result ≡ nth_row self.now kind i }
+    {
+        if kind != OBJECT_KIND {
+            return None;
+        }
+        self.nth_object(i)
+    }
+
+    /// Returns the object at a position, from 0, in the order of births. Does not allocate.
+    ///
+    /// ```rust
+    /// assert!(objects.nth_object(0) == objects.get(key));
+    /// ```
+    pub fn nth_object(&self, position: usize) -> Option<Object>
         ensures { result ≡ slice_get self.now.objects position }
     {
         let step_number = self.keys.nth(position)?;

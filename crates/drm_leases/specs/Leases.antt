@@ -1,5 +1,5 @@
 -- What lessees control, and open lease tokens (drm-uapi, leases; lease tokens are own), as flat lists.
-use Rattle.std.specs.Prelude.{◌≡◌, ℕ, ◌+◌, ◌==◌, ◌<◌, ◌≤◌, ◌⊎◌, Bool, false, not, ◌&&◌, ◌||◌, List, [], length, Option, None, unwrap_or, find, map, filter, IfSome}
+use Rattle.std.specs.Prelude.{◌≡◌, ℕ, ◌+◌, ◌==◌, ◌<◌, ◌≤◌, ◌⊎◌, Bool, false, not, ◌&&◌, ◌||◌, List, [], length, Option, None, unwrap_or, find, map, filter, slice_get, if◌then◌else◌, IfSome}
 use Rattle.std.specs.List.{list_any, AllByRecursion}
 use Rattle.std.specs.Option.{option_map, option_map_or}
 use Rattle.drm_index_array.specs.Least.{least}
@@ -27,6 +27,10 @@ pub record LeaseSet : Type 0 where
 
 abbrev pub no_leases : ℕ → LeaseSet
 no_leases last = record { last = last; last_given = None; tokens = []; grants = []; lendings = [] }
+
+-- the row at a place of an audit's kind, of which grants are the seventh (own)
+abbrev pub nth_row : LeaseSet → ℕ → ℕ → Option Grant
+nth_row l kind i = if kind == 7 then slice_get l.grants i else None
 
 -- what a lease has
 

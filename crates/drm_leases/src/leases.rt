@@ -26,6 +26,9 @@ use drm_table::{Rule, ShownList};
 use std::alloc::Global;
 use std::marker::Model;
 
+/// The number of an audit's rows of grants (own).
+const GRANT_KIND: u32 = 7;
+
 /// What lessees control, and the open lease tokens (drm-uapi, leases; tokens are own). A lessee is named by the number of the
 /// step that made it, since a key may be given again. Contracts see flat lists, in the order of the lessees.
 ///
@@ -307,6 +310,21 @@ impl Leases {
         ensures { result ≡ self.now.last_given }
     {
         self.last_given
+    }
+
+    /// Returns the row at a position, from 0, of the rows of an audit's kind (own): grants are kind 7, in the order of lessees and of
+    /// ids in a lease, and no other kind is kept. Does not allocate.
+    ///
+    /// ```rust
+    /// assert!(leases.nth(7, 0) == leases.nth_grant(0) && leases.nth(2, 0).is_none());
+    /// ```
+    pub fn nth(&self, kind: u32, i: usize) -> Option<Grant>
+        ensures { result ≡ sets.nth_row self.now kind i }
+    {
+        if kind != GRANT_KIND {
+            return None;
+        }
+        self.nth_grant(i)
     }
 
     /// The grant at a place, from 0, in the order of lessees and of ids in a lease; none past the last. It takes no memory.

@@ -1,5 +1,5 @@
 -- Who stands to which master, and the masters, as flat lists in the order of step numbers (drm(7), masters; drm-uapi, leases).
-use Rattle.std.specs.Prelude.{◌≡◌, ℕ, ◌==◌, ◌<◌, ◌≤◌, nat_lt, Bool, true, false, not, ◌&&◌, ◌||◌, List, length, Option, None, Some, find, filter, map}
+use Rattle.std.specs.Prelude.{◌≡◌, ℕ, ◌==◌, ◌<◌, ◌≤◌, nat_lt, Bool, true, false, not, ◌&&◌, ◌||◌, List, length, Option, None, Some, find, filter, map, slice_get, if◌then◌else◌}
 use Rattle.std.specs.List.{list_any, AllByRecursion}
 use Rattle.std.specs.Option.{is_some, option_map, option_map_or, option_and_then}
 use Rattle.drm_index_array.specs.Least.{least}
@@ -8,6 +8,8 @@ use Rattle.drm_lists.specs.Chains as chains
 use Rattle.drm_lists.specs.Chains.{is_under, top_of}
 use Rattle.drm_masters.specs.declared.rows.Magic.{Magic}
 use Rattle.drm_masters.specs.declared.rows.Master.{Master}
+use Rattle.drm_masters.specs.declared.rows.MasterRow.{MasterRow}
+use Rattle.drm_masters.specs.declared.rows.MasterRow.TheVariants.{Client, Master as MasterIs}
 use Rattle.drm_masters.specs.declared.rows.Member.{Member}
 
 -- a client, a master and the device's master are named by their step numbers; magics run to one number, the ids of lessees to
@@ -111,6 +113,13 @@ is_living members masters m = list_any (λ (x : Master). is_held members x && is
 -- a master goes with the last that is held below it
 abbrev pub swept : MasterSet → MasterSet
 swept v = record v { masters = filter (λ (x : Master). is_living v.members v.masters x.step_number) v.masters }
+
+-- the row at a place of an audit's kind, of which clients are the first and masters the second (own)
+abbrev pub nth_row : MasterSet → ℕ → ℕ → Option MasterRow
+nth_row v kind i =
+    if kind == 1 then option_map Client (slice_get v.members i)
+    else if kind == 2 then option_map MasterIs (slice_get v.masters i)
+    else None
 
 -- magics
 

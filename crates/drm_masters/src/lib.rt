@@ -14,4 +14,4 @@ mod writes;
 
 pub use faults::{LesseeFault, NoMemory, SetDone, SetFault};
 pub use masters::Masters;
-pub use rows::{Magic, Master, MasterKey, Member};
+pub use rows::{Magic, Master, MasterKey, MasterRow, Member};

@@ -9,7 +9,7 @@ ghost use Rattle.drm_masters.specs.Calls as calls;
 use crate::current::{flag_current, flag_if_current, unflag_where_device};
 use crate::faults::{LesseeFault, NoMemory, SetDone, SetFault};
 use crate::members::Members;
-use crate::rows::{Master, MasterKey, Member};
+use crate::rows::{Master, MasterKey, MasterRow, Member};
 use crate::searches::{
     depth_of, find_open_magic, free_magic, is_option, is_under, lessor_of, owner_of,
 };
@@ -21,6 +21,10 @@ use crate::writes::{
 use drm_table::Rule;
 use std::alloc::Global;
 use std::marker::Model;
+
+/// The numbers of an audit's rows of clients and of masters (own).
+const CLIENT_KIND: u32 = 1;
+const MASTER_KIND: u32 = 2;
 
 /// The clients that stand to a master, the masters, and which of these is the device's (drm(7); drm-uapi, leases). A
 /// master stays while it, or one below it, is kept or named by a client. Contracts see flat lists, in the order of step numbers.
@@ -579,6 +583,22 @@ impl Masters {
         ensures { result ≡ slice_get self.now.masters position }
     {
         self.masters.nth(position)
+    }
+
+    /// Returns the row at a position, from 0, of the rows of an audit's kind (own): clients that stand to masters are kind 1, rising
+    /// by client, masters are kind 2, rising by birth, and no other kind is kept. Does not allocate.
+    ///
+    /// ```rust
+    /// assert!(masters.nth(2, 0).is_some() && masters.nth(3, 0).is_none());
+    /// ```
+    pub fn nth(&self, kind: u32, i: usize) -> Option<MasterRow>
+        ensures { result ≡ sets.nth_row self.now kind i }
+    {
+        match kind {
+            CLIENT_KIND => Some(MasterRow::Client(self.nth_member(i)?)),
+            MASTER_KIND => Some(MasterRow::Master(self.nth_master(i)?)),
+            _ => None,
+        }
     }
 
     // a new master of a client that is no master, under this key; the device has none

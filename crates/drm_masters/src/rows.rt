@@ -79,6 +79,19 @@ pub struct Member {
     pub magic: Option<Magic>,
 }
 
+/// A row of an audit that [`Masters`](crate::Masters) keeps (own).
+///
+/// ```rust
+/// assert!(matches!(masters.nth(1, 0), Some(MasterRow::Client(row)) if row.client == 1));
+/// ```
+#[derive(Clone, Copy, PartialEq, Eq, Debug)]
+pub enum MasterRow {
+    /// A row of kind 1, of a client that stands to a master.
+    Client(Member),
+    /// A row of kind 2.
+    Master(Master),
+}
+
 /// A master.
 ///
 /// ```rust

@@ -1,10 +1,12 @@
 -- Framebuffers, and what CRTCs and planes show (drm-uapi, mode setting), as flat lists.
-use Rattle.std.specs.Prelude.{◌≡◌, ℕ, ◌+◌, ◌-◌, ◌==◌, ◌≤◌, Bool, true, not, ◌&&◌, ◌||◌, nat_lt, if◌then◌else◌, List, [], ◌∷◌, map, filter, length, replicate, slice_index_or, slice_set, Option}
+use Rattle.std.specs.Prelude.{◌≡◌, ℕ, ◌+◌, ◌-◌, ◌==◌, ◌≤◌, Bool, true, not, ◌&&◌, ◌||◌, nat_lt, if◌then◌else◌, List, [], ◌∷◌, map, filter, length, replicate, slice_get, slice_index_or, slice_set, Option, None, option_map}
 use Rattle.std.specs.List.{AllByRecursion, list_any}
 use Rattle.drm_lists.specs.Numbers.{is_among}
 use Rattle.drm_index_array.specs.Least.{least}
 use Rattle.drm_index_array.specs.Rows.{placed, InOrder}
 use Rattle.drm_modes.specs.Topology.{Topology, IsTopology, object_count}
+use Rattle.drm_modes.specs.declared.rows.ModeRow.{ModeRow}
+use Rattle.drm_modes.specs.declared.rows.ModeRow.TheVariants.{Framebuffer as FramebufferRow, Shown as ShownRow}
 use Rattle.drm_modes.specs.declared.rows.Shape.{Shape}
 use Rattle.drm_modes.specs.declared.rows.Fb.{Fb}
 use Rattle.drm_modes.specs.declared.rows.Framebuffer.{Framebuffer}
@@ -101,6 +103,13 @@ lit_rows x scanouts = filter is_lit (scanout_rows x scanouts)
 -- the CRTCs and planes that show something, rising
 abbrev pub shown_rows : ModeSet → List Shown
 shown_rows set = lit_rows 1 set.scanouts
+
+-- the row at a place of an audit's kind, of which framebuffers are the eighth and what is shown the ninth (own)
+abbrev pub nth_row : ModeSet → ℕ → ℕ → Option ModeRow
+nth_row set kind i =
+    if kind == 8 then option_map FramebufferRow (slice_get set.framebuffers i)
+    else if kind == 9 then option_map ShownRow (slice_get (shown_rows set) i)
+    else None
 
 pub record IsFramebufferFrom (first last : ℕ) (row : Framebuffer) : Type 0 where
   pub low : first ≤ row.framebuffer

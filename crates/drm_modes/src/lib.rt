@@ -13,5 +13,5 @@ mod topologies;
 pub use faults::AddFbFault;
 pub use kinds::{Kind, PlaneKind};
 pub use modes::Modes;
-pub use rows::{Fb, Framebuffer, Shape, Shown};
+pub use rows::{Fb, Framebuffer, ModeRow, Shape, Shown};
 pub use topologies::Topology;

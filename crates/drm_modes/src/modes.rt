@@ -4,13 +4,13 @@ ghost use Rattle.std.specs.Prelude.{◌≡◌, ℕ, ◌==◌, false, ◌≤◌, 
 ghost use Rattle.std.specs.Int.{bit_at};
 ghost use Rattle.std.specs.Option.{option_map_or};
 ghost use Rattle.drm_modes.specs.Topology.{kind_of, ids_of_kind, is_of_kind, encoder_of, reaches, drives, possible_crtcs, plane_kind, crtc_of_plane, planes_of, mask_over, is_crtc, is_plane, is_encoder, object_count, AreCrtcs};
-ghost use Rattle.drm_modes.specs.Modes.{AreModes, empty_modes, fb_of, has_framebuffer, is_framebuffer, is_framebuffer_of, is_made_by, framebuffers_of, framebuffer, free_framebuffer, with_framebuffer, without_framebuffer, can_show, shown_by, with_shown, shown_rows, scanout_count, first_framebuffer};
+ghost use Rattle.drm_modes.specs.Modes.{AreModes, empty_modes, fb_of, has_framebuffer, is_framebuffer, is_framebuffer_of, is_made_by, framebuffers_of, framebuffer, free_framebuffer, with_framebuffer, without_framebuffer, can_show, shown_by, with_shown, shown_rows, scanout_count, first_framebuffer, nth_row};
 ghost use Rattle.drm_modes.specs.AddFbFault.{IsFull};
 ghost use Rattle.drm_modes.specs.Tables.{framebuffer_row, framebuffers_in};
 
 use crate::faults::AddFbFault;
 use crate::kinds::{Kind, PlaneKind};
-use crate::rows::{Fb, Framebuffer, Shape, Shown};
+use crate::rows::{Fb, Framebuffer, ModeRow, Shape, Shown};
 use crate::scanouts;
 use crate::topologies::Topology;
 use arrayvec::ArrayVec;
@@ -19,6 +19,10 @@ use drm_id_alloc::{AddFault, IdTable};
 use drm_table::ShownList;
 use std::alloc::Global;
 use std::marker::Model;
+
+/// The numbers of an audit's rows of framebuffers, and of what is shown (own).
+const FRAMEBUFFER_KIND: u32 = 8;
+const SHOWN_KIND: u32 = 9;
 
 /// The fixed mode objects, the framebuffers, and what CRTCs and planes show (drm-uapi, mode setting). Contracts see the
 /// topology, and flat lists.
@@ -391,6 +395,22 @@ impl Modes {
             return 0;
         }
         self.scanouts[id as usize - 1]
+    }
+
+    /// Returns the row at a position, from 0, of the rows of an audit's kind (own): framebuffers are kind 8, rising by id, what CRTCs
+    /// and planes show is kind 9, rising by the id of the CRTC or plane, and no other kind is kept. Does not allocate.
+    ///
+    /// ```rust
+    /// assert!(modes.nth(8, 0).is_some() && modes.nth(7, 0).is_none());
+    /// ```
+    pub fn nth(&self, kind: u32, i: usize) -> Option<ModeRow>
+        ensures { result ≡ nth_row self.now kind i }
+    {
+        match kind {
+            FRAMEBUFFER_KIND => Some(ModeRow::Framebuffer(self.nth_framebuffer(i)?)),
+            SHOWN_KIND => Some(ModeRow::Shown(self.nth_shown(i)?)),
+            _ => None,
+        }
     }
 
     /// The framebuffer at a place of the list of framebuffers, where 0 is the first. It takes no memory.

@@ -55,6 +55,20 @@ pub struct Fb {
     pub object: ObjectKey,
 }
 
+/// A row of an audit that [`Modes`](crate::Modes) keeps (own).
+///
+/// ```rust
+/// let row = Framebuffer { framebuffer, client: 1, shape, object };
+/// assert!(modes.nth(8, 0) == Some(ModeRow::Framebuffer(row)));
+/// ```
+#[derive(Clone, Copy, PartialEq, Eq, Debug)]
+pub enum ModeRow {
+    /// A row of kind 8.
+    Framebuffer(Framebuffer),
+    /// A row of kind 9.
+    Shown(Shown),
+}
+
 /// A CRTC or a plane that shows a framebuffer.
 ///
 /// ```rust

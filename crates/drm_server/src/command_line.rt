@@ -41,8 +41,8 @@ pub(crate) struct Serving<'a> {
     pub(crate) counts: Counts,
     /// Whether the end of standard input ends it.
     pub(crate) ends_with_input: bool,
-    /// Whether it tells only of what goes wrong.
-    pub(crate) is_quiet: bool,
+    /// Whether it logs the sockets that it listens on.
+    pub(crate) is_verbose: bool,
     pub(crate) device: AskedDevice<'a>,
     /// Where what was noted is written at the end.
     pub(crate) journal: Option<&'a str>,
@@ -225,8 +225,8 @@ fn serve_command<'a>(alloc: Global) -> Result<Command<'a>, Error> {
         ))?
         .arg(flag(
             alloc,
-            "quiet",
-            "Tells only of what goes wrong on standard error, and not where it listens",
+            "verbose",
+            "Logs on standard error where the server listens, and how many connections it accepts there",
         ))?
         .arg(topology(alloc))?
         .arg(limits(
@@ -249,7 +249,7 @@ fn run_command<'a>(alloc: Global) -> Result<Command<'a>, Error> {
 fn command<'a>(alloc: Global) -> Result<Command<'a>, Error> {
     let command = Command::new(alloc, "drm_server")
         .bin_name("drm_server")?
-        .version("1.0.0")
+        .version("2.0.0")
         .about("A display and buffer server with the access rules of the Linux DRM interface")
         .subcommand_required(true)
         .subcommand(run_command(alloc)?)?
@@ -288,7 +288,7 @@ fn serving_of<'a>(matches: &ArgMatches<'a>) -> Option<Serving<'a>> {
         paths,
         counts,
         ends_with_input: matches.get_flag("until-input-ends"),
-        is_quiet: matches.get_flag("quiet"),
+        is_verbose: matches.get_flag("verbose"),
         device: device_of(matches),
         journal: matches.get_str("journal"),
     })

@@ -15,8 +15,8 @@ use std::sync::Wait;
 use std::thread;
 use std::thread::{JoinHandle, Scope, Threads};
 
-/// Tells where the server listens, and how many connections it accepts there.
-fn tell_listening<R: Log>(rt: &R, serving: &Serving<'_>) {
+/// Logs where the server listens, and how many connections it accepts there.
+fn log_sockets<R: Log>(rt: &R, serving: &Serving<'_>) {
     let Serving { paths, counts, .. } = *serving;
     info!(rt; "card: {} accepts {} in all", paths.card, counts.cards);
     info!(rt; "render: {} accepts {} in all", paths.render, counts.renders);
@@ -147,8 +147,8 @@ pub(crate) fn serve_device<R: Input + Files + Net + Log + Wait + Threads + Sync>
         render: render.listener,
         root: root.listener,
     };
-    if !serving.is_quiet {
-        tell_listening(rt, &serving);
+    if serving.is_verbose {
+        log_sockets(rt, &serving);
     }
     let task = Task {
         device,

@@ -1,5 +1,5 @@
 -- The global names of objects (drm-gem(7), flink), as a flat list.
-use Rattle.std.specs.Prelude.{ℕ, ◌==◌, ◌≤◌, Bool, not, nat_lt, List, [], map, filter, find, Option}
+use Rattle.std.specs.Prelude.{ℕ, ◌==◌, ◌≤◌, Bool, not, nat_lt, List, [], map, filter, find, slice_get, Option, None, if◌then◌else◌}
 use Rattle.std.specs.List.{AllByRecursion}
 use Rattle.std.specs.Option.{option_map}
 use Rattle.drm_lists.specs.Numbers.{is_among}
@@ -44,6 +44,10 @@ with_name list n k = record list { names = placed name_before (shared_name n k) 
 
 abbrev pub without_name_of : NameList → ℕ → NameList
 without_name_of list k = record list { names = filter (λ row. not (names_object k row)) list.names }
+
+-- the row at a place of an audit's kind, of which names are the fourth (own)
+abbrev pub nth_row : NameList → ℕ → ℕ → Option SharedName
+nth_row list kind i = if kind == 4 then slice_get list.names i else None
 
 pub record IsNameUpTo (last : ℕ) (row : SharedName) : Type 0 where
   pub low : 1 ≤ row.name

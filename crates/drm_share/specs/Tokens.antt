@@ -1,5 +1,5 @@
 -- The open tokens of exported objects (drm-mm, PRIME; tokens are own), as a flat list.
-use Rattle.std.specs.Prelude.{ℕ, ◌+◌, ◌==◌, ◌≤◌, ◌&&◌, Bool, not, nat_lt, List, [], map, filter, Option, Some, None, unwrap_or, IfSome}
+use Rattle.std.specs.Prelude.{ℕ, ◌+◌, ◌==◌, ◌≤◌, ◌&&◌, Bool, not, nat_lt, List, [], map, filter, slice_get, Option, Some, None, unwrap_or, IfSome, if◌then◌else◌}
 use Rattle.std.specs.List.{AllByRecursion}
 use Rattle.drm_lists.specs.Numbers.{is_among}
 use Rattle.drm_index_array.specs.Least.{least}
@@ -44,6 +44,10 @@ with_token list row = record list { last_given = Some row.token; tokens = placed
 
 abbrev pub without_token : TokenList → ℕ → TokenList
 without_token list t = record list { tokens = filter (λ row. not (is_token t row)) list.tokens }
+
+-- the row at a place of an audit's kind, of which tokens are the fifth (own)
+abbrev pub nth_row : TokenList → ℕ → ℕ → Option SharedToken
+nth_row list kind i = if kind == 5 then slice_get list.tokens i else None
 
 pub record IsTokenUpTo (last : ℕ) (row : SharedToken) : Type 0 where
   pub low : 1 ≤ row.token

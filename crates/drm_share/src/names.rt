@@ -1,7 +1,7 @@
 //! The global names of objects.
 
 ghost use Rattle.std.specs.Prelude.{◌≡◌, ◌≤◌, ◌↔◌, Some, None, find, slice_get, OnErr, IfOk, IfErr, IsTrue, option_map};
-ghost use Rattle.drm_share.specs.Names.{AreNames, empty_names, is_name, name_of, free_name, with_name, without_name_of};
+ghost use Rattle.drm_share.specs.Names.{AreNames, empty_names, is_name, name_of, free_name, nth_row, with_name, without_name_of};
 ghost use Rattle.drm_share.specs.ShareFault.{IsFull};
 
 use crate::faults::ShareFault;
@@ -11,6 +11,9 @@ use drm_id_alloc::{AddFault, IdTable};
 use drm_index_array::IndexArray;
 use std::alloc::Global;
 use std::marker::Model;
+
+/// The number of an audit's rows of names (own).
+const NAME_KIND: u32 = 4;
 
 /// The global names of objects (drm-gem(7): flink), each a number from 1 on. An object has one name at most. Contracts
 /// see a flat list, rising by the names.
@@ -50,7 +53,7 @@ impl Names {
     /// No name. Those from 1 to `last` may be given. It takes no memory.
     ///
     /// ```rust
-    /// assert!(Names::new(alloc, 100).nth(0).is_none());
+    /// assert!(Names::new(alloc, 100).nth_name(0).is_none());
     /// ```
     pub fn new(alloc: Global, last: u32) -> Names
         requires { 1 ≤ last }
@@ -138,12 +141,27 @@ impl Names {
         }
     }
 
+    /// Returns the row at a position, from 0, of the rows of an audit's kind (own): names are kind 4, rising by name, and
+    /// no other kind is kept. Does not allocate.
+    ///
+    /// ```rust
+    /// assert!(names.nth(4, 0) == names.nth_name(0) && names.nth(1, 0).is_none());
+    /// ```
+    pub fn nth(&self, kind: u32, i: usize) -> Option<SharedName>
+        ensures { result ≡ nth_row self.now kind i }
+    {
+        if kind != NAME_KIND {
+            return None;
+        }
+        self.nth_name(i)
+    }
+
     /// The name at a place of the list of names, where 0 is the first, with its object. It takes no memory.
     ///
     /// ```rust
-    /// assert!(names.nth(0).is_none());
+    /// assert!(names.nth_name(0).is_none());
     /// ```
-    pub fn nth(&self, position: usize) -> Option<SharedName>
+    pub fn nth_name(&self, position: usize) -> Option<SharedName>
         ensures row { result ≡ slice_get self.now.names position }
         ensures names { AreNames self.now }
     {

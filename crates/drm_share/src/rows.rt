@@ -8,7 +8,7 @@ use drm_gem::ObjectKey;
 /// let mut names = Names::new(alloc, 100);
 /// let object = ObjectKey::from_number(4);
 /// let Ok(name) = names.give(object) else { return };
-/// assert!(names.nth(0) == Some(SharedName { name, object }));
+/// assert!(names.nth_name(0) == Some(SharedName { name, object }));
 /// ```
 #[derive(Clone, Copy, PartialEq, Eq, Debug)]
 pub struct SharedName {
@@ -24,7 +24,7 @@ pub struct SharedName {
 /// let mut tokens = Tokens::new(alloc, 100);
 /// let object = ObjectKey::from_number(4);
 /// let Ok(token) = tokens.export(9, object) else { return };
-/// assert!(tokens.nth(0) == Some(SharedToken { token, client: 9, object }));
+/// assert!(tokens.nth_token(0) == Some(SharedToken { token, client: 9, object }));
 /// ```
 #[derive(Clone, Copy, PartialEq, Eq, Debug)]
 pub struct SharedToken {

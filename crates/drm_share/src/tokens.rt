@@ -1,7 +1,7 @@
 //! The open tokens.
 
 ghost use Rattle.std.specs.Prelude.{◌≡◌, ◌≤◌, ◌↔◌, Some, None, find, slice_get, OnSome, OnErr, IfOk, IfErr, IfSome, IfNone, IsTrue, option_map};
-ghost use Rattle.drm_share.specs.Tokens.{AreTokens, empty_tokens, is_token, is_token_of, is_exported_by, next_token, with_token, without_token, token};
+ghost use Rattle.drm_share.specs.Tokens.{AreTokens, empty_tokens, is_token, is_token_of, is_exported_by, next_token, with_token, without_token, token, nth_row};
 ghost use Rattle.drm_share.specs.ShareFault.{IsFull};
 
 use crate::faults::ShareFault;
@@ -10,6 +10,9 @@ use drm_gem::ObjectKey;
 use drm_id_alloc::{Groups, IdTable};
 use std::alloc::Global;
 use std::marker::Model;
+
+/// The number of an audit's rows of tokens (own).
+const TOKEN_KIND: u32 = 5;
 
 // What an open token stands for.
 #[derive(Clone, Copy)]
@@ -175,12 +178,27 @@ impl Tokens {
         self.exports.last_given()
     }
 
+    /// Returns the row at a position, from 0, of the rows of an audit's kind (own): tokens are kind 5, rising by token, and
+    /// no other kind is kept. Does not allocate.
+    ///
+    /// ```rust
+    /// assert!(tokens.nth(5, 0) == tokens.nth_token(0) && tokens.nth(1, 0).is_none());
+    /// ```
+    pub fn nth(&self, kind: u32, i: usize) -> Option<SharedToken>
+        ensures { result ≡ nth_row self.now kind i }
+    {
+        if kind != TOKEN_KIND {
+            return None;
+        }
+        self.nth_token(i)
+    }
+
     /// The token at a place of the list of open tokens, where 0 is the first. It takes no memory.
     ///
     /// ```rust
-    /// assert!(tokens.nth(0).is_none());
+    /// assert!(tokens.nth_token(0).is_none());
     /// ```
-    pub fn nth(&self, position: usize) -> Option<SharedToken>
+    pub fn nth_token(&self, position: usize) -> Option<SharedToken>
         ensures row { result ≡ slice_get self.now.tokens position }
         ensures tokens { AreTokens self.now }
     {

@@ -9,8 +9,8 @@ use Rattle.drm_state.proofs.SharedLookups.{its_key}
 use Rattle.drm_device.proofs.AuditRows.{framebuffer_there}
 use Rattle.drm_device.proofs.audits.framebuffer_at.Goals as goal
 
-pub step_number-requires : goal.step_number-requires
-step_number-requires c =
+pub birth-requires : goal.birth-requires
+birth-requires c =
     let s = c.args.state.now in
     let key = c.in_ok-made.made.object in
     (objects_counted s c.requires).there key
@@ -19,4 +19,4 @@ step_number-requires c =
     (all_at (λ (x : Framebuffer). is_among (framebuffer_keys s.modes.framebuffers) x.object ≡ true) s.modes.framebuffers c.args.position c.in_ok-made.made (its_key (λ (x : Framebuffer). x.object) s.modes.framebuffers) (sym c.nth_framebuffer.ensures ∙ c.in_ok-made.was))))
 
 pub returns : goal.returns
-returns c = framebuffer_there c.args.state.now.objects.objects c.args.state.now.modes.framebuffers c.args.position c.in_ok-made.made c.step_number.result (sym c.nth_framebuffer.ensures ∙ c.in_ok-made.was) c.step_number.ensures
+returns c = framebuffer_there c.args.state.now.objects.objects c.args.state.now.modes.framebuffers c.args.position c.in_ok-made.made c.birth.result (sym c.nth_framebuffer.ensures ∙ c.in_ok-made.was) c.birth.ensures

@@ -8,11 +8,11 @@ use Rattle.drm_state.proofs.Sweeps.{names_known}
 use Rattle.drm_device.proofs.AuditRows.{name_there}
 use Rattle.drm_device.proofs.audits.name_at.Goals as goal
 
-pub step_number-requires : goal.step_number-requires
-step_number-requires c =
+pub birth-requires : goal.birth-requires
+birth-requires c =
     let s = c.args.state.now in
     (objects_counted s c.requires).there c.in_ok-shared.shared.object
-    (all_at (λ (x : SharedName). is_among (keys_of s.files.holds ++ referring_keys s) x.object ≡ true) s.names.names c.args.position c.in_ok-shared.shared (names_known s c.requires) (sym c.nth.ensures.row ∙ c.in_ok-shared.was))
+    (all_at (λ (x : SharedName). is_among (keys_of s.files.holds ++ referring_keys s) x.object ≡ true) s.names.names c.args.position c.in_ok-shared.shared (names_known s c.requires) (sym c.nth_name.ensures.row ∙ c.in_ok-shared.was))
 
 pub returns-clause-row : goal.returns-clause-row
-returns-clause-row c = name_there c.args.state.now.objects.objects c.args.state.now.names.names c.args.position c.in_ok-shared.shared c.step_number.result (sym c.nth.ensures.row ∙ c.in_ok-shared.was) c.step_number.ensures
+returns-clause-row c = name_there c.args.state.now.objects.objects c.args.state.now.names.names c.args.position c.in_ok-shared.shared c.birth.result (sym c.nth_name.ensures.row ∙ c.in_ok-shared.was) c.birth.ensures

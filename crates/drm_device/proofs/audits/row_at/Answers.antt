@@ -38,13 +38,13 @@ returns-in_ok-master-in-Master c = rw c.in-Master.is (λ w h.
     ∙ row_of_item (λ (x : Master). master_audit (master_row_of c.args.state.now.leases.tokens x)) c.args.state.now.masters.masters _ c.args.position (Some c.in_ok-master-in-Master.master) (master_rows c.args.state.now c.args.steps w h)
     (sym c.in_ok-master-in-Master.was ∙ c.nth_master.ensures))
 
-pub returns-in_err-nth-in-Object : goal.returns-in_err-nth-in-Object
+pub returns-in_err-nth_object-in-Object : goal.returns-in_err-nth_object-in-Object
 unfolding IsRowAt
-returns-in_err-nth-in-Object c = rw c.in-Object.is (λ w h. c.from_residual-in_err-nth-in-Object.ensures ∙ object_row_at c.args.state.now w c.args.position None c.args.steps c.requires h (sym c.in_err-nth-in-Object.was ∙ c.nth.ensures))
+returns-in_err-nth_object-in-Object c = rw c.in-Object.is (λ w h. c.from_residual-in_err-nth_object-in-Object.ensures ∙ object_row_at c.args.state.now w c.args.position None c.args.steps c.requires h (sym c.in_err-nth_object-in-Object.was ∙ c.nth_object.ensures))
 
-pub returns-in_ok-nth-in-Object : goal.returns-in_ok-nth-in-Object
+pub returns-in_ok-nth_object-in-Object : goal.returns-in_ok-nth_object-in-Object
 unfolding IsRowAt
-returns-in_ok-nth-in-Object c = rw c.in-Object.is (λ w h. ap Some c.object_row.ensures ∙ object_row_at c.args.state.now w c.args.position (Some c.in_ok-nth-in-Object.field-0) c.args.steps c.requires h (sym c.in_ok-nth-in-Object.was ∙ c.nth.ensures))
+returns-in_ok-nth_object-in-Object c = rw c.in-Object.is (λ w h. ap Some c.object_row.ensures ∙ object_row_at c.args.state.now w c.args.position (Some c.in_ok-nth_object-in-Object.field-0) c.args.steps c.requires h (sym c.in_ok-nth_object-in-Object.was ∙ c.nth_object.ensures))
 
 pub returns-in-Hold : goal.returns-in-Hold
 unfolding IsRowAt

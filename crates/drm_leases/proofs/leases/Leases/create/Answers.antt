@@ -149,7 +149,7 @@ returns-clause-created c =
     let made = subst (λ k. MadeLessee v k m (Ok c.in-Ok.made) c.make_lessee.new.self) key_is c.in-Ok.ensures.made in
     let none : first_failing (lease_checks l v c.args.modes.now lessor c.args.universal c.args.ids.now) ≡ None = sym c.denied.ensures ∙ c.in_default-denied.is in
     let look : member_of v.members c.args.client ≡ Some c.in-Some.member = sym c.member.ensures.member ∙ c.in-Some.is in
-    let told : Leased = record { master = c.in-Ok.made.0; id = c.in-Ok.made.1; token = token } in
+    let told : Leased = record { m = c.in-Ok.made.0; id = c.in-Ok.made.1; token = token } in
     let leases : LeaseSet = record (set_of c.self.inside) { tokens = c.push_reserved.new.self.items; grants = grants_in c.add.new.self.rows; lendings = lendings_in c.add.new.self.rows; last_given = Some token } in
     subst (λ o. IfSome o (λ (z : Member). Created l v c.args.modes.now z.master c.args.universal c.args.ids.now m (Ok told) leases c.make_lessee.new.self)) (sym look)
     (none, made.1, next, now, (c.in-Ok.made.0, made.0, made.2, refl))

@@ -1,6 +1,4 @@
-use Rattle.std.proofs.Common.{is_some, ap, ◌∙◌, option_map}
-use Rattle.drm_lists.proofs.Found.{is_some-find}
-use Rattle.drm_modes.specs.Modes.{fb_of, is_framebuffer}
+use Rattle.std.proofs.Common.{is_some, ap, ◌∙◌}
 use Rattle.drm_modes.proofs.ModeFacts.{fb_is, is_some_fb}
 use Rattle.drm_modes.proofs.modes.Modes.fb.Goals as goal
 

@@ -1,4 +1,4 @@
-use Rattle.std.proofs.Common.{Some, ap, sym, ◌∙◌, slice_get, option_map, option_and_then}
+use Rattle.std.proofs.Common.{Some, ap, ◌∙◌, slice_get, option_map, option_and_then}
 use Rattle.std.specs.FinMap as fin
 use Rattle.drm_index_array.proofs.Keyed.{row_at}
 use Rattle.drm_modes.specs.Modes.{ModeSet}

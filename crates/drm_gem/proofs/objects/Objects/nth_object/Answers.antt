@@ -4,7 +4,7 @@ use Rattle.slab.specs.Slab.{get}
 use Rattle.drm_gem.specs.Fields.{object}
 use Rattle.drm_gem.specs.Objects.{ObjectSet, object_at}
 use Rattle.drm_gem.proofs.Records.{found, at_position}
-use Rattle.drm_gem.proofs.objects.Objects.nth.Goals as goal
+use Rattle.drm_gem.proofs.objects.Objects.nth_object.Goals as goal
 
 pub returns : goal.returns
 returns c =

@@ -4,7 +4,7 @@ use Rattle.drm_index_array.proofs.Keyed.{row_at}
 use Rattle.drm_share.specs.Tokens.{TokenList}
 use Rattle.drm_share.specs.Tables.{token_row}
 use Rattle.drm_share.proofs.TokenFacts.{tokens_are}
-use Rattle.drm_share.proofs.tokens.Tokens.nth.Goals as goal
+use Rattle.drm_share.proofs.tokens.Tokens.nth_token.Goals as goal
 
 pub returns-in_err-token-clause-row : goal.returns-in_err-token-clause-row
 returns-in_err-token-clause-row c =

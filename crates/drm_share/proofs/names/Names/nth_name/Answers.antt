@@ -4,7 +4,7 @@ use Rattle.drm_index_array.proofs.Keyed.{row_at}
 use Rattle.drm_share.specs.Names.{NameList, shared_name}
 use Rattle.drm_share.specs.Tables.{name_row}
 use Rattle.drm_share.proofs.NameFacts.{names_are}
-use Rattle.drm_share.proofs.names.Names.nth.Goals as goal
+use Rattle.drm_share.proofs.names.Names.nth_name.Goals as goal
 
 pub returns-in_err-name-clause-row : goal.returns-in_err-name-clause-row
 returns-in_err-name-clause-row c =
