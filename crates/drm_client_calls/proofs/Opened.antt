@@ -27,10 +27,10 @@ use Rattle.drm_model.specs.Rows.{Rows, ClientRow, MasterRow}
 use Rattle.drm_state.specs.declared.state.State.{State}
 use Rattle.drm_state.specs.Parts.{client_row_by, master_row_of, magic_row_of, clients_of, masters_of}
 use Rattle.drm_leases.specs.Agreed.{AreAgreed}
-use Rattle.drm_state.specs.Invariants.{Invariant, MembersOpen, ClientsHave, MastersAre, MagicsSuffice, LesseesFew, LeasesAre, TokensOfLessees, KeptHaveTokens, LeasesAgree, meets_invariant, MeetsInvariants, IsLater, HasMaster, AreOfLessees, AreKeptBy}
+use Rattle.drm_state.specs.Invariants.{Invariant, MembersOpen, ClientsHave, MastersAre, MagicsSuffice, LeasesAre, TokensOfLessees, KeptHaveTokens, LeasesAgree, meets_invariant, MeetsInvariants, IsLater, HasMaster, AreOfLessees, AreKeptBy}
 use Rattle.drm_model.specs.Parts.{Part, Clients, Masters, Magics, DeviceMaster}
 use Rattle.drm_state.specs.Refinement.{represents_part, Represents}
-use Rattle.drm_state.proofs.Represented.{clients_are, masters_are, magics_are, members_open, masters_so, clients_have, magics_suffice, lessees_few}
+use Rattle.drm_state.proofs.Represented.{clients_are, masters_are, magics_are, members_open, masters_so, clients_have, magics_suffice}
 use Rattle.drm_state.proofs.Members.{older, client_pushed, render_pushed, members_open_yet, found_last}
 use Rattle.drm_client_calls.proofs.Files.{not_there}
 
@@ -88,22 +88,21 @@ have_more v set m e f h = ap (λ l. f.flags.render || is_some (masters.member_of
     by_render false k = is_some-find (masters.is_client f.client) (v.members ++ m ∷ []) ∙ list_any_left (masters.is_client f.client) v.members (m ∷ []) (sym (is_some-find (masters.is_client f.client) v.members) ∙ k)
 
 pub joined_invariants : (s : State) (flags : FileFlags) (m : Member) (set : MasterSet) (l : LeaseSet) → MeetsInvariants s → set.members ≡ s.masters.members ++ m ∷ [] → AreMasters set → AreLeases l → AreOfLessees l.tokens set.masters → AreKeptBy l.tokens set.masters → AreAgreed l set →
-    set.last_magic ≡ s.masters.last_magic → set.last_lessee ≡ s.masters.last_lessee → (invariant : Invariant) → meets_invariant invariant (joined s m.client flags set l)
+    set.last_magic ≡ s.masters.last_magic → (invariant : Invariant) → meets_invariant invariant (joined s m.client flags set l)
 unfolding meets_invariant
-joined_invariants s flags m set l t e are leases lessees kept agreed last ids MembersOpen =
+joined_invariants s flags m set l t e are leases lessees kept agreed last MembersOpen =
     let f : FileClient = record { client = m.client; flags = flags } in
     subst (AllByRecursion (λ (x : Member). is_open_client (with_file s.files m.client flags) x.client ≡ true)) (sym e) (all_append _ s.masters.members (m ∷ []) (members_open_yet f s.files.clients s.masters.members (members_open s t)) (found_last f s.files.clients, tt))
-joined_invariants s flags m set l t e are leases lessees kept agreed last ids ClientsHave =
+joined_invariants s flags m set l t e are leases lessees kept agreed last ClientsHave =
     all_append (HasMaster set) s.files.clients (record { client = m.client; flags = flags } ∷ []) (all_weaker (HasMaster s.masters) (HasMaster set) (λ f h. have_more s.masters set m e f h) s.files.clients (clients_have s t))
     (ap (λ l. flags.render || is_some (masters.member_of l m.client)) e ∙ or_right flags.render _ (is_some-find (masters.is_client m.client) (s.masters.members ++ m ∷ []) ∙ list_any_right (masters.is_client m.client) s.masters.members (m ∷ []) (or_left (m.client == m.client) false (eq-eqb m.client m.client refl))), tt)
-joined_invariants s flags m set l t e are leases lessees kept agreed last ids MastersAre = are
-joined_invariants s flags m set l t e are leases lessees kept agreed last ids MagicsSuffice = last ∙ magics_suffice s t
-joined_invariants s flags m set l t e are leases lessees kept agreed last ids LesseesFew = subst (λ n. n ≤ 64) (sym ids) (lessees_few s t)
-joined_invariants s flags m set l t e are leases lessees kept agreed last ids LeasesAre = leases
-joined_invariants s flags m set l t e are leases lessees kept agreed last ids TokensOfLessees = lessees
-joined_invariants s flags m set l t e are leases lessees kept agreed last ids KeptHaveTokens = kept
-joined_invariants s flags m set l t e are leases lessees kept agreed last ids LeasesAgree = agreed
-joined_invariants s flags m set l t e are leases lessees kept agreed last ids invariant = t invariant
+joined_invariants s flags m set l t e are leases lessees kept agreed last MastersAre = are
+joined_invariants s flags m set l t e are leases lessees kept agreed last MagicsSuffice = last ∙ magics_suffice s t
+joined_invariants s flags m set l t e are leases lessees kept agreed last LeasesAre = leases
+joined_invariants s flags m set l t e are leases lessees kept agreed last TokensOfLessees = lessees
+joined_invariants s flags m set l t e are leases lessees kept agreed last KeptHaveTokens = kept
+joined_invariants s flags m set l t e are leases lessees kept agreed last LeasesAgree = agreed
+joined_invariants s flags m set l t e are leases lessees kept agreed last invariant = t invariant
 
 pub no_magic_more : (m : Member) → m.magic ≡ None → (xs : List Member) → filter_map magic_row_of (xs ++ m ∷ []) ≡ filter_map magic_row_of xs
 no_magic_more m e [] = ap (λ (g : Option Magic). cons_option (option_map (λ (d : Magic). record { master = m.master; number = d.number; client = m.client; spent = d.spent }) g) []) e

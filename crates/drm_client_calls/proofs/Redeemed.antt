@@ -194,7 +194,7 @@ module _ (s : State) (t m : ℕ) (invariants : MeetsInvariants s) (is : token_ma
       joined_invariants s (lease_flags root universal) (lease_client b m) (redeemed_last b m s.masters) (without_token t s.leases) invariants refl are leases
       (subst (λ l. AreOfLessees l (released below s.masters.masters)) (sym spent_is) (of_lessees_ended below s.leases.tokens s.masters.masters (tokens_of_lessees s invariants)))
       (subst (λ l. AreKeptBy l (released below s.masters.masters)) (sym spent_is) (kept_ended below s.leases.tokens s.masters.masters (kept_have_tokens s invariants)))
-      (subst (AreAgreed s.leases) (last_redeemed b m s.masters newest) (agreed_redeemed b m s.masters s.leases.lendings (leases_agree s invariants))) refl refl
+      (subst (AreAgreed s.leases) (last_redeemed b m s.masters newest) (agreed_redeemed b m s.masters s.leases.lendings (leases_agree s invariants))) refl
 
   module _ (w : Rows) (x : Master) (there : master_at s.masters.masters m ≡ Some x) (h : Represents s w) where
     pub its_row : lease_master w t ≡ Some (master_row_of s.leases.tokens x)

@@ -53,6 +53,7 @@ pub record AreTied (v : MasterSet) : Type 0 where
   pub guests_of_owners : AllByRecursion (λ (x : Member). x.is_master ≡ false → lessor_of v.masters x.master ≡ None) v.members
   pub magics_differ : InOrder HaveOtherMagics v.members
   pub few : length v.members ≤ v.last_magic
+  pub few_ids : v.last_lessee ≤ 64
 
 -- a client that is no master stands to one without a lessor
 abbrev IsNonMaster : List Master → Member → Type 0
@@ -84,6 +85,7 @@ swept_are v t = record {
   used = swept_used v.members v.masters t.masters_rise t.lessors_older;
   magics_differ = t.magics_differ;
   few = t.few;
+  few_ids = t.few_ids;
 }
 
 -- ---- who is held
@@ -111,7 +113,7 @@ names_new xs y m e = any_placed (λ (z : Member). z.master == m) (λ x. member_b
 
 module _ (v : MasterSet) (a : AreMasters v) where
   pub ties : AreTied v
-  ties = record { members_rise = a.members_rise; masters_rise = a.masters_rise; lessors_older = a.lessors_older; masters_there = a.masters_there; device_own = a.device_own; device_owner = a.device_owner; guests_of_owners = a.guests_of_owners; magics_differ = a.magics_differ; few = a.few }
+  ties = record { members_rise = a.members_rise; masters_rise = a.masters_rise; lessors_older = a.lessors_older; masters_there = a.masters_there; device_own = a.device_own; device_owner = a.device_owner; guests_of_owners = a.guests_of_owners; magics_differ = a.magics_differ; few = a.few; few_ids = a.few_ids }
 
   -- the device's master is there
   pub device_there : (m : ℕ) → v.device_master ≡ Some m → is_some (master_at v.masters m) ≡ true
@@ -142,6 +144,7 @@ module _ (v : MasterSet) (a : AreMasters v) where
       used = same_used v.members (placed member_before y v.members) v.masters (held_more v.members y) a.used;
       magics_differ = come_differ;
       few = few_more v.members y v.last_magic room;
+      few_ids = a.few_ids;
     }
 
     pub opener_are : (z : Master) → z.lessor ≡ None → y.master ≡ z.step_number → y.is_master ≡ true → AllByRecursion (λ (x : Master). x.step_number < z.step_number) v.masters → AreMasters (with_device (Some z.step_number) (with_member y (with_master z v)))
@@ -159,6 +162,7 @@ module _ (v : MasterSet) (a : AreMasters v) where
       used = pushed_used v.masters z newest v.members (placed member_before y v.members) a.lessors_older (held_more v.members y) (or_right z.kept (list_any (λ (x : Member). x.master == z.step_number) (placed member_before y v.members)) (names_new v.members y z.step_number own)) a.used;
       magics_differ = come_differ;
       few = few_more v.members y v.last_magic room;
+      few_ids = a.few_ids;
     }
 
     pub redeemed_are : is_some (master_at v.masters y.master) ≡ true → y.is_master ≡ true → AreMasters (with_kept y.master false (with_member y v))
@@ -178,6 +182,7 @@ module _ (v : MasterSet) (a : AreMasters v) where
       used = kept_used y.master false v.masters v.members (placed member_before y v.members) held a.used;
       magics_differ = come_differ;
       few = few_more v.members y v.last_magic room;
+      few_ids = a.few_ids;
     }
       where
         held : (x : Master) → is_held v.members x ≡ true → is_held (placed member_before y v.members) (kept_at y.master false x) ≡ true
@@ -188,7 +193,7 @@ module _ (v : MasterSet) (a : AreMasters v) where
             ]) refl
 
   pub device_are : (d : Option ℕ) → ((m : ℕ) → d ≡ Some m → list_any (λ (x : Member). x.is_master && (x.master == m)) v.members ≡ true) → ((m : ℕ) → d ≡ Some m → lessor_of v.masters m ≡ None) → AreMasters (with_device d v)
-  device_are d own top = record { members_rise = a.members_rise; masters_rise = a.masters_rise; lessors_older = a.lessors_older; masters_there = a.masters_there; device_own = own; device_owner = top; guests_of_owners = a.guests_of_owners; used = a.used; magics_differ = a.magics_differ; few = a.few }
+  device_are d own top = record { members_rise = a.members_rise; masters_rise = a.masters_rise; lessors_older = a.lessors_older; masters_there = a.masters_there; device_own = own; device_owner = top; guests_of_owners = a.guests_of_owners; used = a.used; magics_differ = a.magics_differ; few = a.few; few_ids = a.few_ids }
 
   -- a new master that is kept
   pub lessee_are : (z : Master) → z.kept ≡ true → ((l : ℕ) → z.lessor ≡ Some l → is_some (master_at v.masters l) ≡ true) → AllByRecursion (λ (x : Master). x.step_number < z.step_number) v.masters → AreMasters (with_master z v)
@@ -203,6 +208,7 @@ module _ (v : MasterSet) (a : AreMasters v) where
     used = pushed_used v.masters z newest v.members v.members a.lessors_older (λ x h. h) (or_left z.kept (list_any (λ (x : Member). x.master == z.step_number) v.members) kept) a.used;
     magics_differ = a.magics_differ;
     few = a.few;
+    few_ids = a.few_ids;
   }
 
   -- a master is kept, or not
@@ -217,6 +223,7 @@ module _ (v : MasterSet) (a : AreMasters v) where
     guests_of_owners = guests_over v.masters (map (kept_at m kept) v.masters) (kept_lessors m kept v.masters) v.members a.guests_of_owners;
     magics_differ = a.magics_differ;
     few = a.few;
+    few_ids = a.few_ids;
   }
 
   -- some are kept no more
@@ -235,6 +242,7 @@ module _ (v : MasterSet) (a : AreMasters v) where
         guests_of_owners = guests_over v.masters (map g v.masters) (over_lessors g step_numbers lessors v.masters) v.members a.guests_of_owners;
         magics_differ = a.magics_differ;
         few = a.few;
+        few_ids = a.few_ids;
       }
 
   -- each client is found by its number
@@ -278,6 +286,7 @@ module _ (v : MasterSet) (a : AreMasters v) where
       guests_of_owners = all_filter (IsNonMaster v.masters) (λ (y : Member). not (is_client x.client y)) v.members a.guests_of_owners;
       magics_differ = gone_differ;
       few = gone_few;
+      few_ids = a.few_ids;
     }
 
     -- all masters are used yet, but it may be its own
@@ -314,6 +323,7 @@ module _ (v : MasterSet) (a : AreMasters v) where
       used = kept_used x.master true v.masters v.members (filter (λ (y : Member). not (is_client x.client y)) v.members) held a.used;
       magics_differ = gone_differ;
       few = gone_few;
+      few_ids = a.few_ids;
     }
       where
         still_device : {m : ℕ} (d : Option ℕ) → (if is_option x.master d then None else d) ≡ Some m → d ≡ Some m
@@ -386,6 +396,7 @@ module _ (v : MasterSet) (a : AreMasters v) where
       used = same_used v.members (map put v.members) v.masters (λ z h. or_more z.kept (list_any (λ (u : Member). u.master == z.step_number) v.members) (list_any (λ (u : Member). u.master == z.step_number) (map put v.members)) (put_any (λ (u : Member). u.master == z.step_number) (ap (λ n. n == z.step_number) of_one)) h) a.used;
       magics_differ = differ;
       few = few_put;
+      few_ids = a.few_ids;
     }
 
     -- of a new master of its own
@@ -406,6 +417,7 @@ module _ (v : MasterSet) (a : AreMasters v) where
           (λ u at h. by_row (IsNonMaster (v.masters ++ z ∷ [])) u at (λ ux g. absurd (let j : true ≡ false = sym is_own ∙ g in cc)) h) v.members clients_found (guests_pushed v.masters z newest v.members a.masters_there a.guests_of_owners));
       magics_differ = in_order_mapped (λ (u : Member). member_of v.members u.client ≡ Some u) HaveOtherMagics HaveOtherMagics put (λ u w at au h. differ u w at au h) v.members clients_found a.magics_differ;
       few = few_put;
+      few_ids = a.few_ids;
     }
       where
         is_device : (m : ℕ) → z.step_number ≡ m → list_any (λ (u : Member). u.is_master && (u.master == m)) (map put v.members) ≡ true

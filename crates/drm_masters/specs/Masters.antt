@@ -157,7 +157,7 @@ HaveOtherMagics x y = (n : ℕ) → has_magic x.master n x ≡ true → has_magi
 
 -- the lists stand in the order of step numbers; all that is named is there; the device's master is some client's own; neither it
 -- nor the master of a client that is no master has a lessor; each master is held, or one below it; no two clients of a
--- master have one number, and there are no more clients than numbers
+-- master have one number, and there are no more clients than numbers; ids of lessees run to 64 at most
 pub record AreMasters (v : MasterSet) : Type 0 where
   pub members_rise : InOrder (λ (x y : Member). x.client < y.client) v.members
   pub masters_rise : InOrder (λ (x y : Master). x.step_number < y.step_number) v.masters
@@ -169,3 +169,4 @@ pub record AreMasters (v : MasterSet) : Type 0 where
   pub used : AllByRecursion (λ (x : Master). is_living v.members v.masters x.step_number ≡ true) v.masters
   pub magics_differ : InOrder HaveOtherMagics v.members
   pub few : length v.members ≤ v.last_magic
+  pub few_ids : v.last_lessee ≤ 64

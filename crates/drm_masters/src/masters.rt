@@ -1,6 +1,6 @@
 //! The clients that stand to masters, and the masters.
 
-ghost use Rattle.std.specs.Prelude.{◌≡◌, ◌<◌, ◌&&◌, ◌||◌, true, false, None, Some, [], find, length, slice_get, OnOk, OnErr, IfOk, IfSome, IsOk, not};
+ghost use Rattle.std.specs.Prelude.{◌≡◌, ◌<◌, ◌≤◌, ◌&&◌, ◌||◌, true, false, None, Some, [], find, length, slice_get, OnOk, OnErr, IfOk, IfSome, IsOk, not};
 ghost use Rattle.std.specs.Option.{is_some, option_map, option_map_or, option_and_then};
 ghost use Rattle.drm_lists.specs.Chains as chains;
 ghost use Rattle.drm_masters.specs.Masters as sets;
@@ -24,6 +24,7 @@ use std::marker::Model;
 
 /// The numbers of an audit's rows of clients and of masters (own).
 const CLIENT_KIND: u32 = 1;
+
 const MASTER_KIND: u32 = 2;
 
 /// The clients that stand to a master, the masters, and which of these is the device's (drm(7); drm-uapi, leases). A
@@ -69,13 +70,14 @@ impl Model for Masters {
 }
 
 impl Masters {
-    /// No client and no master: for so many clients at once, with magics from 1 to that, and for lessee ids from 1 to
-    /// `lessees` below each owner. It takes no memory.
+    /// Returns masters without clients. They hold at most `clients` clients, whose magics are 1 to `clients`, and give
+    /// lessee ids from 1 to `lessees`, at most 64, under each owner. Does not allocate.
     ///
     /// ```rust
     /// assert!(Masters::new(alloc, 4, 4).device_master().is_none());
     /// ```
     pub fn new(alloc: Global, clients: u32, lessees: u32) -> Masters
+        requires few { lessees ≤ 64 }
         ensures { result ≡ record { members = []; masters = []; device_master = None; last_magic = clients; last_lessee = lessees } }
     {
         Masters {

@@ -360,9 +360,36 @@ const ROWS: [Case; 15] = [
     (Ask::Master(2), Told::Nothing),
 ];
 
+const fn client_of(client: u32, once_master: bool, is_master: bool, master: u32) -> Told {
+    Told::Client(Member {
+        client,
+        once_master,
+        is_master,
+        master,
+        magic: None,
+    })
+}
+
+/// The numbers of clients do not rise from one opening to the next. Clients are listed by their numbers.
+const UNORDERED: [Case; 12] = [
+    (Ask::OpenBy(3, 1), Told::Whether(true)),
+    (Ask::OpenBy(1, 2), Told::Whether(false)),
+    (Ask::OpenBy(3, 3), Told::Unasked),
+    (Ask::Lend(1, 4), Told::Lent(4, 1)),
+    (Ask::Redeem(2, 4), Told::Done),
+    (Ask::NthMember(0), client_of(1, false, false, 1)),
+    (Ask::NthMember(1), client_of(2, false, true, 4)),
+    (Ask::NthMember(2), client_of(3, true, true, 1)),
+    (Ask::NthMember(3), Told::Nothing),
+    (Ask::IsCurrent(1), Told::Whether(false)),
+    (Ask::IsCurrent(2), Told::Whether(true)),
+    (Ask::IsCurrent(3), Told::Whether(true)),
+];
+
 #[test]
 fn rows_in_the_order_of_step_numbers(rt: HostRuntime) {
     check_new(&rt, rt.alloc(), &ROWS);
+    check_new(&rt, rt.alloc(), &UNORDERED);
 }
 
 /// What is there after a client that was refused, which then opens.

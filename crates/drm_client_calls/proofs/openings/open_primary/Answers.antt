@@ -90,13 +90,13 @@ invariants_by s b g new None t later are h =
     (subst (λ (v : MasterSet). AreOfLessees s.leases.tokens v.masters) (sym is) (of_lessees_more s.leases.tokens s.masters.masters (masters.founded_master h.0 b) (tokens_of_lessees s t)))
     (subst (λ (v : MasterSet). AreKeptBy s.leases.tokens v.masters) (sym is) (kept_more s.leases.tokens s.masters.masters (masters.founded_master h.0 b) (kept_have_tokens s t) refl later.leases.tokens))
     (subst (λ (v : MasterSet). AreAgreed s.leases v) (sym is) (agreed_joined s.masters.members (masters.owner b b) (s.masters.masters ++ masters.founded_master h.0 b ∷ []) s.leases.lendings (agreed_more s.masters.members s.masters.masters (masters.founded_master h.0 b) s.leases.lendings (leases_agree s t))))
-    (ap (λ (v : MasterSet). v.last_magic) is) (ap (λ (v : MasterSet). v.last_lessee) is)
+    (ap (λ (v : MasterSet). v.last_magic) is)
 invariants_by s b g new (Some m) t later are h =
     let is = new_guest s.masters new b m (newer s b t later) h in
     joined_invariants s g (masters.non_master b m) new s.leases t (ap (λ (v : MasterSet). v.members) is) are (leases_so s t)
     (subst (λ (v : MasterSet). AreOfLessees s.leases.tokens v.masters) (sym is) (tokens_of_lessees s t)) (subst (λ (v : MasterSet). AreKeptBy s.leases.tokens v.masters) (sym is) (kept_have_tokens s t))
     (subst (λ (v : MasterSet). AreAgreed s.leases v) (sym is) (agreed_joined s.masters.members (masters.non_master b m) s.masters.masters s.leases.lendings (leases_agree s t)))
-    (ap (λ (v : MasterSet). v.last_magic) is) (ap (λ (v : MasterSet). v.last_lessee) is)
+    (ap (λ (v : MasterSet). v.last_magic) is)
 
 pub returns-clause-invariants : goal.returns-clause-invariants
 returns-clause-invariants c =
