@@ -6,17 +6,16 @@ use Rattle.std.specs.Option.{is_some}
 use Rattle.std.proofs.lemmas.List.{map-append}
 use Rattle.std.proofs.lemmas.Bool.{lt-ltb}
 use Rattle.drm_state.proofs.Members.{found_last}
+use Rattle.drm_lists.proofs.Lists.{all_weaker}
 use Rattle.drm_lists.proofs.Numbers.{less-differ}
+use Rattle.drm_lists.proofs.Placed.{placed_last as last}
 use Rattle.drm_files.specs.declared.rows.FileClient.{FileClient}
 use Rattle.drm_files.specs.Files.{FileLists, is_client, is_open_client, client_before, placed, authenticated, new_flags, with_client, with_authenticated}
 
 -- ---- a new client comes last
 
 pub placed_last : (f : FileClient) → (fs : List FileClient) → AllByRecursion (λ (g : FileClient). g.client < f.client) fs → placed client_before f fs ≡ fs ++ f ∷ []
-placed_last f [] h = refl
-placed_last f (g ∷ gs) h =
-    ap (λ b. cond b (g ∷ filter (λ (y : FileClient). client_before y f) gs) (filter (λ (y : FileClient). client_before y f) gs) ++ f ∷ cond (not b) (g ∷ filter (λ (y : FileClient). not (client_before y f)) gs) (filter (λ (y : FileClient). not (client_before y f)) gs)) (lt-ltb g.client f.client h.0)
-    ∙ ap (λ l. g ∷ l) (placed_last f gs h.1)
+placed_last f fs newest = last (λ (g : FileClient). client_before g f) f fs (all_weaker (λ (g : FileClient). g.client < f.client) (λ (g : FileClient). client_before g f ≡ true) (λ g less. lt-ltb g.client f.client less) fs newest)
 
 pub authenticated_last : (f : FileClient) → (fs : List FileClient) → AllByRecursion (λ (g : FileClient). g.client < f.client) fs → map (λ (row : FileClient). if is_client f.client row then authenticated row else row) fs ≡ fs
 authenticated_last f [] h = refl

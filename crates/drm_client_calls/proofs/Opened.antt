@@ -21,16 +21,16 @@ use Rattle.drm_masters.specs.declared.rows.Member.{Member}
 use Rattle.drm_masters.specs.declared.rows.Master.{Master}
 use Rattle.drm_masters.specs.Masters as masters
 use Rattle.drm_masters.specs.Masters.{MasterSet, AreMasters}
-use Rattle.drm_masters.specs.Calls.{IsNewClient, with_member, with_master, with_device}
+use Rattle.drm_masters.specs.Calls.{IsNewClient, with_master, with_device}
 use Rattle.drm_leases.specs.Leases.{LeaseSet, AreLeases}
 use Rattle.drm_model.specs.Rows.{Rows, ClientRow, MasterRow}
 use Rattle.drm_state.specs.declared.state.State.{State}
 use Rattle.drm_state.specs.Parts.{client_row_by, master_row_of, magic_row_of, clients_of, masters_of}
 use Rattle.drm_leases.specs.Agreed.{AreAgreed}
-use Rattle.drm_state.specs.Invariants.{Invariant, MembersOpen, ClientsHave, MastersAre, MagicsSuffice, LesseesFew, LeasesAre, TokensOfLessees, KeptHaveTokens, LeasesAgree, meets_invariant, MeetsInvariants, IsLater, HasMaster, AreOfLessees, AreKeptBy}
+use Rattle.drm_state.specs.Invariants.{Invariant, MembersOpen, ClientsHave, MastersAre, MagicsSuffice, LeasesAre, TokensOfLessees, KeptHaveTokens, LeasesAgree, meets_invariant, MeetsInvariants, IsLater, HasMaster, AreOfLessees, AreKeptBy}
 use Rattle.drm_model.specs.Parts.{Part, Clients, Masters, Magics, DeviceMaster}
 use Rattle.drm_state.specs.Refinement.{represents_part, Represents}
-use Rattle.drm_state.proofs.Represented.{clients_are, masters_are, magics_are, members_open, masters_so, clients_have, magics_suffice, lessees_few}
+use Rattle.drm_state.proofs.Represented.{clients_are, masters_are, magics_are, members_open, masters_so, clients_have, magics_suffice}
 use Rattle.drm_state.proofs.Members.{older, client_pushed, render_pushed, members_open_yet, found_last}
 use Rattle.drm_client_calls.proofs.Files.{not_there}
 
@@ -72,6 +72,10 @@ closed_again fs c flags are newest = λ i. record fs { clients = clients i; hold
 
 -- ---- one more client
 
+-- the masters with a client that is newer than all
+abbrev pub with_newest : Member → MasterSet → MasterSet
+with_newest m v = record v { members = v.members ++ m ∷ [] }
+
 -- the state with a client that stands to masters so, with these leases
 abbrev pub joined : State → ℕ → FileFlags → MasterSet → LeaseSet → State
 joined s c flags set l = record s { files = with_file s.files c flags; masters = set; leases = l }
@@ -84,22 +88,21 @@ have_more v set m e f h = ap (λ l. f.flags.render || is_some (masters.member_of
     by_render false k = is_some-find (masters.is_client f.client) (v.members ++ m ∷ []) ∙ list_any_left (masters.is_client f.client) v.members (m ∷ []) (sym (is_some-find (masters.is_client f.client) v.members) ∙ k)
 
 pub joined_invariants : (s : State) (flags : FileFlags) (m : Member) (set : MasterSet) (l : LeaseSet) → MeetsInvariants s → set.members ≡ s.masters.members ++ m ∷ [] → AreMasters set → AreLeases l → AreOfLessees l.tokens set.masters → AreKeptBy l.tokens set.masters → AreAgreed l set →
-    set.last_magic ≡ s.masters.last_magic → set.last_lessee ≡ s.masters.last_lessee → (invariant : Invariant) → meets_invariant invariant (joined s m.client flags set l)
+    set.last_magic ≡ s.masters.last_magic → (invariant : Invariant) → meets_invariant invariant (joined s m.client flags set l)
 unfolding meets_invariant
-joined_invariants s flags m set l t e are leases lessees kept agreed last ids MembersOpen =
+joined_invariants s flags m set l t e are leases lessees kept agreed last MembersOpen =
     let f : FileClient = record { client = m.client; flags = flags } in
     subst (AllByRecursion (λ (x : Member). is_open_client (with_file s.files m.client flags) x.client ≡ true)) (sym e) (all_append _ s.masters.members (m ∷ []) (members_open_yet f s.files.clients s.masters.members (members_open s t)) (found_last f s.files.clients, tt))
-joined_invariants s flags m set l t e are leases lessees kept agreed last ids ClientsHave =
+joined_invariants s flags m set l t e are leases lessees kept agreed last ClientsHave =
     all_append (HasMaster set) s.files.clients (record { client = m.client; flags = flags } ∷ []) (all_weaker (HasMaster s.masters) (HasMaster set) (λ f h. have_more s.masters set m e f h) s.files.clients (clients_have s t))
     (ap (λ l. flags.render || is_some (masters.member_of l m.client)) e ∙ or_right flags.render _ (is_some-find (masters.is_client m.client) (s.masters.members ++ m ∷ []) ∙ list_any_right (masters.is_client m.client) s.masters.members (m ∷ []) (or_left (m.client == m.client) false (eq-eqb m.client m.client refl))), tt)
-joined_invariants s flags m set l t e are leases lessees kept agreed last ids MastersAre = are
-joined_invariants s flags m set l t e are leases lessees kept agreed last ids MagicsSuffice = last ∙ magics_suffice s t
-joined_invariants s flags m set l t e are leases lessees kept agreed last ids LesseesFew = subst (λ n. n ≤ 64) (sym ids) (lessees_few s t)
-joined_invariants s flags m set l t e are leases lessees kept agreed last ids LeasesAre = leases
-joined_invariants s flags m set l t e are leases lessees kept agreed last ids TokensOfLessees = lessees
-joined_invariants s flags m set l t e are leases lessees kept agreed last ids KeptHaveTokens = kept
-joined_invariants s flags m set l t e are leases lessees kept agreed last ids LeasesAgree = agreed
-joined_invariants s flags m set l t e are leases lessees kept agreed last ids invariant = t invariant
+joined_invariants s flags m set l t e are leases lessees kept agreed last MastersAre = are
+joined_invariants s flags m set l t e are leases lessees kept agreed last MagicsSuffice = last ∙ magics_suffice s t
+joined_invariants s flags m set l t e are leases lessees kept agreed last LeasesAre = leases
+joined_invariants s flags m set l t e are leases lessees kept agreed last TokensOfLessees = lessees
+joined_invariants s flags m set l t e are leases lessees kept agreed last KeptHaveTokens = kept
+joined_invariants s flags m set l t e are leases lessees kept agreed last LeasesAgree = agreed
+joined_invariants s flags m set l t e are leases lessees kept agreed last invariant = t invariant
 
 pub no_magic_more : (m : Member) → m.magic ≡ None → (xs : List Member) → filter_map magic_row_of (xs ++ m ∷ []) ≡ filter_map magic_row_of xs
 no_magic_more m e [] = ap (λ (g : Option Magic). cons_option (option_map (λ (d : Magic). record { master = m.master; number = d.number; client = m.client; spent = d.spent }) g) []) e
@@ -107,7 +110,7 @@ no_magic_more m e (x ∷ xs) = ap (cons_option (magic_row_of x)) (no_magic_more 
 
 -- a client that is no master
 pub non_master_represents : (s : State) (w : Rows) (flags : FileFlags) (m : Member) (row : ClientRow) → MeetsInvariants s → IsLater s m.client → m.magic ≡ None → client_row_by (record { client = m.client; flags = flags }) (Some m) ≡ row → Represents s w →
-    (part : Part) → represents_part part (joined s m.client flags (with_member m s.masters) s.leases) (record w { clients = w.clients ++ row ∷ [] })
+    (part : Part) → represents_part part (joined s m.client flags (with_newest m s.masters) s.leases) (record w { clients = w.clients ++ row ∷ [] })
 unfolding represents_part
 non_master_represents s w flags m row t later none r h Clients =
     ap (λ l. l ++ row ∷ []) (clients_are s w h) ∙ ap (λ x. clients_of s ++ x ∷ []) (sym r) ∙ sym (client_pushed flags m s.files.clients s.masters.members later.clients (members_open s t))
@@ -116,7 +119,7 @@ non_master_represents s w flags m row t later none r h part = h part
 
 -- a master's opener
 pub opener_represents : (s : State) (w : Rows) (flags : FileFlags) (m : Member) (z : Master) (row : ClientRow) (master : MasterRow) → MeetsInvariants s → IsLater s m.client → m.magic ≡ None → client_row_by (record { client = m.client; flags = flags }) (Some m) ≡ row → master_row_of s.leases.tokens z ≡ master → Represents s w →
-    (part : Part) → represents_part part (joined s m.client flags (with_device (Some z.step_number) (with_member m (with_master z s.masters))) s.leases) (record w { masters = w.masters ++ master ∷ []; device_master = Some master.master; clients = w.clients ++ row ∷ [] })
+    (part : Part) → represents_part part (joined s m.client flags (with_device (Some z.step_number) (with_newest m (with_master z s.masters))) s.leases) (record w { masters = w.masters ++ master ∷ []; device_master = Some master.master; clients = w.clients ++ row ∷ [] })
 unfolding represents_part
 opener_represents s w flags m z row master t later none r k h Clients =
     ap (λ l. l ++ row ∷ []) (clients_are s w h) ∙ ap (λ x. clients_of s ++ x ∷ []) (sym r) ∙ sym (client_pushed flags m s.files.clients s.masters.members later.clients (members_open s t))

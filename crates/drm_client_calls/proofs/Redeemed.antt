@@ -11,11 +11,13 @@ use Rattle.drm_lists.proofs.Found.{find-map, find-same, find_none, none_found}
 use Rattle.drm_lists.proofs.Rising.{found, all_found, all_found_apart}
 use Rattle.drm_masters.specs.declared.rows.Master.{Master}
 use Rattle.drm_files.specs.declared.rows.FileFlags.{FileFlags}
-use Rattle.drm_masters.specs.Masters.{AreMasters, is_step_number, is_key, is_lessee, master_at, IsKeyOf}
-use Rattle.drm_masters.specs.Calls.{lease_client, redeemed}
+use Rattle.drm_masters.specs.Masters.{MasterSet, AreMasters, is_step_number, is_key, is_lessee, master_at, IsKeyOf}
+use Rattle.drm_masters.specs.Calls.{IsNewClient, lease_client, with_kept, redeemed}
+use Rattle.drm_masters.proofs.Newest.{newest_last}
 use Rattle.drm_leases.specs.declared.rows.LeaseToken.{LeaseToken}
 use Rattle.drm_leases.specs.Leases.{AreLeases, is_token, is_token_of, token_of, token_master}
 use Rattle.drm_leases.specs.Calls.{without_token}
+use Rattle.drm_leases.specs.Agreed.{AreAgreed}
 use Rattle.drm_model.specs.Rows.{Rows, MasterRow, step_number, is_option}
 use Rattle.drm_model.specs.Clients.{opened_lease}
 use Rattle.drm_model.specs.Leases.{lease_master}
@@ -28,7 +30,7 @@ use Rattle.drm_leases.proofs.Agreeing.{agreed_redeemed}
 use Rattle.drm_state.proofs.Represented.{clients_are, masters_are, magics_are, members_open, leases_so, tokens_of_lessees, kept_have_tokens, leases_agree}
 use Rattle.drm_state.proofs.Ended.{rows_ended, rows_released, kept_ended, of_lessees_ended}
 use Rattle.drm_state.proofs.Members.{client_pushed}
-use Rattle.drm_client_calls.proofs.Opened.{joined, joined_invariants, no_magic_more}
+use Rattle.drm_client_calls.proofs.Opened.{joined, with_newest, joined_invariants, no_magic_more}
 use Rattle.std.proofs.lemmas.Option.{same_Some}
 
 abbrev Differ : List LeaseToken → Type 0
@@ -156,9 +158,16 @@ of_lessee tokens ms t m h e =
 abbrev pub lease_flags : Bool → Bool → FileFlags
 lease_flags root universal = record { render = false; root = root; authenticated = true; universal = universal }
 
+-- the masters with the newest client, which redeemed a lessee
+abbrev pub redeemed_last : ℕ → ℕ → MasterSet → MasterSet
+redeemed_last b m v = with_kept m false (with_newest (lease_client b m) v)
+
+pub last_redeemed : (b m : ℕ) (v : MasterSet) → IsNewClient v b → redeemed b m v ≡ redeemed_last b m v
+last_redeemed b m v newest = ap (with_kept m false) (newest_last v (lease_client b m) newest)
+
 -- the state with the client that spent the token
 abbrev pub with_lease_client : State → ℕ → ℕ → ℕ → Bool → Bool → State
-with_lease_client s b t m root universal = joined s b (lease_flags root universal) (redeemed b m s.masters) (without_token t s.leases)
+with_lease_client s b t m root universal = joined s b (lease_flags root universal) (redeemed_last b m s.masters) (without_token t s.leases)
 
 module _ (s : State) (t m : ℕ) (invariants : MeetsInvariants s) (is : token_master s.leases.tokens t ≡ Some m) where
   abbrev row : LeaseToken
@@ -179,13 +188,13 @@ module _ (s : State) (t m : ℕ) (invariants : MeetsInvariants s) (is : token_ma
   spent_is : filter (λ (r : LeaseToken). not (is_token t r)) s.leases.tokens ≡ filter (λ (r : LeaseToken). not (r.master == m)) s.leases.tokens
   spent_is = spent s.leases.tokens t row found_row (leases_so s invariants).tokens_differ (leases_so s invariants).tokens_rise ∙ (λ i. filter (λ (r : LeaseToken). not (r.master == its_master i)) s.leases.tokens)
 
-  pub redeemed_invariants : (b : ℕ) (root universal : Bool) → AreMasters (redeemed b m s.masters) → AreLeases (without_token t s.leases) → MeetsInvariants (with_lease_client s b t m root universal)
-  redeemed_invariants b root universal are leases =
+  pub redeemed_invariants : (b : ℕ) (root universal : Bool) → IsNewClient s.masters b → AreMasters (redeemed_last b m s.masters) → AreLeases (without_token t s.leases) → MeetsInvariants (with_lease_client s b t m root universal)
+  redeemed_invariants b root universal newest are leases =
       let below : ℕ → Bool = λ n. n == m in
-      joined_invariants s (lease_flags root universal) (lease_client b m) (redeemed b m s.masters) (without_token t s.leases) invariants refl are leases
+      joined_invariants s (lease_flags root universal) (lease_client b m) (redeemed_last b m s.masters) (without_token t s.leases) invariants refl are leases
       (subst (λ l. AreOfLessees l (released below s.masters.masters)) (sym spent_is) (of_lessees_ended below s.leases.tokens s.masters.masters (tokens_of_lessees s invariants)))
       (subst (λ l. AreKeptBy l (released below s.masters.masters)) (sym spent_is) (kept_ended below s.leases.tokens s.masters.masters (kept_have_tokens s invariants)))
-      (agreed_redeemed b m s.masters s.leases.lendings (leases_agree s invariants)) refl refl
+      (subst (AreAgreed s.leases) (last_redeemed b m s.masters newest) (agreed_redeemed b m s.masters s.leases.lendings (leases_agree s invariants))) refl
 
   module _ (w : Rows) (x : Master) (there : master_at s.masters.masters m ≡ Some x) (h : Represents s w) where
     pub its_row : lease_master w t ≡ Some (master_row_of s.leases.tokens x)

@@ -49,7 +49,7 @@ use Rattle.drm_state.specs.declared.state.State.{State}
 use Rattle.drm_device.specs.Device.{value_of, IsDevice}
 use Rattle.drm_state.specs.Parts.{client_row_of, master_row_of, magic_row_of, object_row_of, handle_row_of, holds_of, name_row_of, token_row_of, tokens_of, grant_row_of, grants_of, framebuffer_row_of, framebuffers_of, shown_row_of, keys_of, framebuffer_keys, referring, referring_keys}
 use Rattle.drm_leases.specs.Agreed.{AreAgreed}
-use Rattle.drm_state.specs.Invariants.{Invariant, MembersOpen, ClientsHave, MastersAre, MagicsSuffice, LesseesFew, LeasesAre, TokensOfLessees, KeptHaveTokens, LeasesAgree, ModesAre, HasMaster, HoldsRise, ObjectsCounted, NamesHeld, meets_invariant, MeetsInvariants, IsLater, StepPrecondition, AreCounted, AreNamed, AreOfLessees, AreKeptBy}
+use Rattle.drm_state.specs.Invariants.{Invariant, MembersOpen, ClientsHave, MastersAre, MagicsSuffice, LeasesAre, TokensOfLessees, KeptHaveTokens, LeasesAgree, ModesAre, HasMaster, HoldsRise, ObjectsCounted, NamesHeld, meets_invariant, MeetsInvariants, IsLater, StepPrecondition, AreCounted, AreNamed, AreOfLessees, AreKeptBy}
 use Rattle.drm_model.specs.Parts.{Part, Bounds, Masters, Magics, Holds, Clients, Objects, Names, Tokens, Grants, Framebuffers, Shown, DeviceMaster, LastToken, LastLeaseToken, count_in}
 use Rattle.drm_state.specs.Refinement.{represents_part, Represents, RepresentsAt}
 use Rattle.drm_state.proofs.Represented.{bounds_are, clients_are, masters_are, holds_are, objects_are, tokens_are, grants_are, framebuffers_are, modes_so, tokens_of_lessees}
@@ -227,15 +227,14 @@ start_represents t limits s is LastLeaseToken = sym (ap (λ (l : LeaseSet). unwr
 start_represents t limits s is LastToken = sym (ap (λ (l : TokenList). unwrap_or l.last_given 0) is.tokens)
 start_represents t limits s is DeviceMaster = sym (ap (λ (v : MasterSet). v.device_master) is.masters)
 
-nobody : (clients lessees : ℕ) → AreMasters (no_masters clients lessees)
-nobody clients lessees = record { members_rise = tt; masters_rise = tt; lessors_older = tt; masters_there = tt; device_own = λ m e. absurd (let n : None ≡ Some m = e in cc); used = tt; magics_differ = tt; few = omega arith; device_owner = λ m e. absurd (let n : None ≡ Some m = e in cc); guests_of_owners = tt }
+nobody : (clients lessees : ℕ) → lessees ≤ 64 → AreMasters (no_masters clients lessees)
+nobody clients lessees few = record { members_rise = tt; masters_rise = tt; lessors_older = tt; masters_there = tt; device_own = λ m e. absurd (let n : None ≡ Some m = e in cc); used = tt; magics_differ = tt; few = omega arith; few_ids = few; device_owner = λ m e. absurd (let n : None ≡ Some m = e in cc); guests_of_owners = tt }
 
 start_invariants : (t : Topology) (limits : Limits) (s : State) → IsStart s t limits → (invariant : Invariant) → meets_invariant invariant s
 unfolding meets_invariant
 start_invariants t limits s is MembersOpen = subst (λ (v : MasterSet). AllByRecursion (λ (x : Member). is_open_client s.files x.client ≡ true) v.members) (sym is.masters) tt
 start_invariants t limits s is ClientsHave = subst (λ (f : FileLists). AllByRecursion (HasMaster s.masters) f.clients) (sym is.files) tt
-start_invariants t limits s is MastersAre = subst AreMasters (sym is.masters) (nobody limits.clients limits.lessees)
-start_invariants t limits s is LesseesFew = subst (λ (v : MasterSet). v.last_lessee ≤ 64) (sym is.masters) is.lessees_few
+start_invariants t limits s is MastersAre = subst AreMasters (sym is.masters) (nobody limits.clients limits.lessees is.lessees_few)
 start_invariants t limits s is LeasesAre = is.leases_are
 start_invariants t limits s is TokensOfLessees = subst (λ (l : LeaseSet). AreOfLessees l.tokens s.masters.masters) (sym is.leases) tt
 start_invariants t limits s is KeptHaveTokens = subst (λ (v : MasterSet). AreKeptBy s.leases.tokens v.masters) (sym is.masters) tt

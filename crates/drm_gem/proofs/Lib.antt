@@ -1,3 +1,4 @@
 pub mod Places
 mod Records
 pub mod Crossing
+pub mod Newest

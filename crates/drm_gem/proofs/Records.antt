@@ -1,5 +1,5 @@
 -- The list of the objects, by the keys of their step numbers and what is kept under these.
-use Rattle.std.proofs.Common.{◌≡◌, ◌≢◌, ℕ, ◌<◌, ◌==◌, Bool, true, false, not, cond, nat_lt, T, List, [], ◌∷◌, ◌++◌, map, filter, find as find_row, is_some, slice_get, Option, Some, None, option_map, option_and_then, unwrap_or, refl, sym, ap, subst, ◌∙◌, arith, nat_cmp, is_lt}
+use Rattle.std.proofs.Common.{◌≡◌, ◌≢◌, ℕ, ◌<◌, ◌==◌, Bool, true, false, not, cond, T, List, [], ◌∷◌, map, filter, find as find_row, slice_get, Option, Some, None, option_map, option_and_then, unwrap_or, refl, sym, ap, ◌∙◌, arith, nat_cmp}
 use Rattle.std.specs.Prelude.{if◌then◌else◌}
 use Rattle.std.specs.List.{AllByRecursion}
 use Rattle.std.specs.Ordering.{eq_by_cmp}
@@ -8,38 +8,17 @@ use Rattle.std.specs.FinMap as fin
 use Rattle.std.specs.FinMap.{nat_cmp-IsAntisymmetric}
 use Rattle.std.specs.FinMap.Entries.{find, is_sorted, below_all, same_entries}
 use Rattle.std.proofs.lemmas.Bool.{false≢true, eqb-true}
-use Rattle.std.proofs.lemmas.Bool.Decides.{nat_tests}
 use Rattle.slab.specs.Slab.{Slab, get, Updates}
 use Rattle.drm_lists.proofs.Lists.{all_of_map}
 use Rattle.drm_index_array.specs.Rows.{placed}
-use Rattle.drm_index_array.proofs.MarkedLemmas.{get-insert, get-remove}
 use Rattle.drm_index_array.proofs.Keyed.{left, right, all_rows, rows_put, rows_where, row_at, entries_removed}
 use Rattle.drm_gem.specs.declared.object.Object.{Object}
 use Rattle.drm_gem.specs.declared.objects.Kept.{Kept}
-use Rattle.drm_gem.specs.Fields.{object, nothing, kept_at, row, objects_in, IsKeyed}
-use Rattle.drm_gem.specs.Objects.{is_key}
+use Rattle.drm_gem.specs.Fields.{object, nothing, row, objects_in, IsKeyed}
+use Rattle.drm_gem.specs.Objects.{is_key, is_older}
 use Rattle.drm_gem.specs.Rising.{AreRising}
 use Rattle.std.proofs.lemmas.Option.{none-some}
 use Rattle.drm_index_array.proofs.Entries.{less_of, same_test, before_test, same, differ, apart, insert_same, insert_other, remove_same, remove_other, rows_over, rows_alike, rows_without}
-
-abbrev before : Object → Object → Bool
-before x y = nat_lt x.step_number y.step_number
-
-lt_yes : (a b : ℕ) → a < b → nat_lt a b ≡ true
-lt_yes a b less = grind (arith, nat_tests)
-
--- ---- a row behind all the others
-
-placed_last : (n : ℕ) (x : Object) → x.step_number ≡ n → (ys : List Object) → AllByRecursion (λ (y : Object). y.step_number < n) ys → placed before x ys ≡ ys ++ x ∷ []
-placed_last n x is ys newest = λ i. fore ys newest i ++ x ∷ behind ys newest i
-  where
-    fore : (ys : List Object) → AllByRecursion (λ (y : Object). y.step_number < n) ys → filter (λ y. before y x) ys ≡ ys
-    fore [] k = refl
-    fore (y ∷ ys) k = ap (λ b. cond b (y ∷ filter (λ z. before z x) ys) (filter (λ z. before z x) ys)) (lt_yes y.step_number x.step_number (rw is k.0)) ∙ ap (λ l. y ∷ l) (fore ys k.1)
-
-    behind : (ys : List Object) → AllByRecursion (λ (y : Object). y.step_number < n) ys → filter (λ y. not (before y x)) ys ≡ []
-    behind [] k = refl
-    behind (y ∷ ys) k = ap (λ b. cond (not b) (y ∷ filter (λ z. not (before z x)) ys) (filter (λ z. not (before z x)) ys)) (lt_yes y.step_number x.step_number (rw is k.0)) ∙ behind ys k.1
 
 -- ---- what holds of each entry
 
@@ -156,26 +135,25 @@ module _ (keys : fin.FinMap nat_cmp ℕ) (kept : Slab Kept) (keyed : IsKeyed key
       each None = refl
       each (Some b) = inner b (fin.get keys b) refl
 
-  -- a new step number has no key
-  pub vacant : (n : ℕ) → AllByRecursion (λ (x : Object). x.step_number < n) (objects_in kept es) → fin.get keys n ≡ None
-  vacant n newest = fin.get-entries keys n ∙ none es newest
+  -- an unused step number has no key
+  pub vacant : (n : ℕ) → AllByRecursion (λ (x : Object). (x.step_number == n) ≡ false) (objects_in kept es) → fin.get keys n ≡ None
+  vacant n unused = fin.get-entries keys n ∙ none es unused
     where
-      none : (fs : List (ℕ × ℕ)) → AllByRecursion (λ (x : Object). x.step_number < n) (objects_in kept fs) → find nat_cmp n fs ≡ None
+      none : (fs : List (ℕ × ℕ)) → AllByRecursion (λ (x : Object). (x.step_number == n) ≡ false) (objects_in kept fs) → find nat_cmp n fs ≡ None
       none [] h = refl
-      none (f ∷ fs) h = ap (λ b. cond b (Some f.1) (find nat_cmp n fs)) (sym (same_test n f.0) ∙ differ f.0 n (λ e. omega (arith, e, h.0))) ∙ none fs h.1
+      none (f ∷ fs) h = ap (λ b. cond b (Some f.1) (find nat_cmp n fs)) (sym (same_test n f.0) ∙ h.0) ∙ none fs h.1
 
   -- a new object under a key of which nothing was kept
   module _ (n k : ℕ) (x : Kept) (new : Slab Kept) (is : x.step_number ≡ n) (free : get kept k ≡ None) (up : Updates kept new k (Some x))
-      (newest : AllByRecursion (λ (y : Object). y.step_number < n) (objects_in kept es)) where
+      (unused : AllByRecursion (λ (y : Object). (y.step_number == n) ≡ false) (objects_in kept es)) where
     other_key : (b key : ℕ) → fin.get keys b ≡ Some key → key ≢ k
     other_key b key at e = none-some b (ap (option_map (λ (x : Kept). x.step_number)) (sym free) ∙ ap (step_numbers_in kept) (sym e) ∙ keyed.kept_of b key at)
 
-    pub created : objects_in new (fin.entries (fin.insert keys n k)) ≡ objects_in kept es ++ object k x ∷ []
+    pub created : objects_in new (fin.entries (fin.insert keys n k)) ≡ placed is_older (object k x) (objects_in kept es)
     created =
         ap (objects_in new) (fin.entries-insert nat_cmp_total keys n k)
-        ∙ rows_put nat_cmp nat_cmp_total (row new) before (λ e f. before_test e.0 f.0) n k es (fin.entries_sorted keys) (sym (fin.get-entries keys n) ∙ vacant n newest)
-        ∙ (λ i. placed before (row_is i) (rows_are i))
-        ∙ placed_last n (object k x) is (objects_in kept es) newest
+        ∙ rows_put nat_cmp nat_cmp_total (row new) is_older (λ e f. before_test e.0 f.0) n k es (fin.entries_sorted keys) (sym (fin.get-entries keys n) ∙ vacant n unused)
+        ∙ (λ i. placed is_older (row_is i) (rows_are i))
       where
         row_is : row new (n, k) ≡ object k x
         row_is = λ i. record (object k (unwrap_or (up.changed i) nothing)) { step_number = sym is i }
@@ -210,7 +188,7 @@ module _ (keys : fin.FinMap nat_cmp ℕ) (kept : Slab Kept) (keyed : IsKeyed key
               | false ↦ λ differs.
                   let old : get kept key ≡ Some y = sym (up.others key (apart key k differs)) ∙ at in
                   let there : fin.get keys y.step_number ≡ Some key = keyed.key_of key y old in
-                  insert_other keys n k y.step_number (λ e. none-some key (sym (vacant n newest) ∙ ap (fin.get keys) (sym e) ∙ there)) ∙ there
+                  insert_other keys n k y.step_number (λ e. none-some key (sym (vacant n unused) ∙ ap (fin.get keys) (sym e) ∙ there)) ∙ there
             ] refl
 
   abbrev BornAt : ℕ → ℕ → Type 0

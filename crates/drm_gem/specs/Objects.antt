@@ -1,7 +1,8 @@
 -- The objects that are there, in the order of their step numbers (drm-mm, drm-gem(7); step numbers and stamps are this project's own).
-use Rattle.std.specs.Prelude.{ℕ, ◌+◌, ◌-◌, ◌<◌, ◌==◌, Bool, false, not, ◌&&◌, List, [], ◌∷◌, ◌++◌, Option, None, find, map, filter, slice_get, if◌then◌else◌}
+use Rattle.std.specs.Prelude.{ℕ, ◌≡◌, ◌+◌, ◌-◌, ◌<◌, ◌==◌, nat_lt, Bool, false, not, ◌&&◌, List, Option, None, find, map, filter, slice_get, if◌then◌else◌}
 use Rattle.std.specs.List.{AllByRecursion}
 use Rattle.std.specs.Option.{option_map, option_map_or, is_some}
+use Rattle.drm_index_array.specs.Rows.{placed}
 use Rattle.drm_gem.specs.declared.object.Object.{Object}
 use Rattle.drm_gem.specs.declared.object.Dead.{Dead}
 
@@ -28,11 +29,21 @@ passes test set key = option_map_or test (object_at set key) false
 abbrev pub IsNewStepNumber : ObjectSet → ℕ → Type 0
 IsNewStepNumber set step_number = AllByRecursion (λ (x : Object). x.step_number < step_number) set.objects
 
--- one more object, which a handle names
+-- no object that is there has the birth
+abbrev pub IsUnusedBirth : ObjectSet → ℕ → Type 0
+IsUnusedBirth set birth = AllByRecursion (λ (x : Object). (x.step_number == birth) ≡ false) set.objects
+
+-- the order of the objects
+abbrev pub is_older : Object → Object → Bool
+is_older x y = nat_lt x.step_number y.step_number
+
+-- an object as it is made: one handle names it
+abbrev pub new_object : ℕ → ℕ → ℕ → Object
+new_object key birth size = record { key = key; step_number = birth; size = size; stamp = 0; holds = 1; refs = 0 }
+
+-- one more object, at its place
 abbrev pub with_object : ObjectSet → ℕ → ℕ → ℕ → ObjectSet
-with_object set key step_number size = record set {
-  objects = set.objects ++ record { key = key; step_number = step_number; size = size; stamp = 0; holds = 1; refs = 0 } ∷ [];
-}
+with_object set key birth size = record set { objects = placed is_older (new_object key birth size) set.objects }
 
 -- the object of the key is changed
 abbrev pub changed_at : ℕ → (Object → Object) → ObjectSet → ObjectSet

@@ -6,7 +6,7 @@ ghost use Rattle.drm_gem.specs.declared.object.Object as gem;
 ghost use Rattle.drm_gem.specs.declared.objects.CreateFault.TheVariants as fault;
 ghost use Rattle.drm_gem.specs.Rising.{AreRising};
 ghost use Rattle.drm_gem.specs.Fields.{object};
-ghost use Rattle.drm_gem.specs.Objects.{IsNewStepNumber, with_object, changed_at, without_key, object_at, is_there, is_key, passes, held, unheld, referred, unreferred, stamped, dead_of, dead_after, is_unused, nth_row};
+ghost use Rattle.drm_gem.specs.Objects.{IsUnusedBirth, with_object, changed_at, without_key, object_at, is_there, is_key, passes, held, unheld, referred, unreferred, stamped, dead_of, dead_after, is_unused, nth_row};
 
 use crate::keys::ObjectKey;
 use crate::object::{Dead, Object};
@@ -42,7 +42,7 @@ pub(crate) struct Kept {
     pub(crate) refs: u32,
 }
 
-/// The objects that are there, in the order of the steps that made them. Contracts see a flat list.
+/// The objects that exist, in the order of their births. Contracts see a flat list.
 ///
 /// ```rust
 /// let mut objects = Objects::new(alloc, 2);
@@ -96,16 +96,18 @@ impl Objects {
         }
     }
 
-    /// Makes an object of so many bytes, with stamp 0 and one handle that names it; the step of this number makes it,
-    /// and all that are there are older. A refusal leaves all as it was: `Full` exactly where the limit is reached
-    /// (own), `NoMemory` where memory was refused.
+    /// Creates an object of `size` bytes with stamp 0 and one handle. No object that exists has this birth.
+    ///
+    /// # Errors
+    ///
+    /// `Full` exactly if the limit is reached (own), `NoMemory` if memory is refused. The objects are then unchanged.
     ///
     /// ```rust
     /// let Ok(other) = objects.create(2, 8192) else { return };
     /// assert!(other != key);
     /// ```
     pub fn create(&mut self, birth: u32, size: u64) -> Result<ObjectKey, CreateFault>
-        requires newest { IsNewStepNumber self.old birth }
+        requires unused { IsUnusedBirth self.old birth }
         ensures room { OnOk result (length self.old.objects < self.old.limit) }
         ensures full { IfErr result (λ why. (why ≡ fault.Full) ↔ (self.old.limit ≤ length self.old.objects)) }
         ensures fresh { IfOk result (λ key. object_at self.old key ≡ None) }

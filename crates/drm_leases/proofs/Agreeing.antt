@@ -4,16 +4,18 @@ use Rattle.std.specs.Prelude.{if◌then◌else◌}
 use Rattle.std.specs.List.{list_any, AllByRecursion}
 use Rattle.std.specs.Option.{option_map, option_map_or, option_and_then}
 use Rattle.std.proofs.lemmas.Bool.{eqb-true, false≢true, or_left, or_right}
+use Rattle.drm_index_array.specs.Rows.{placed}
 use Rattle.drm_lists.specs.Orders.{InOrder}
 use Rattle.drm_lists.specs.Chains.{is_under}
 use Rattle.drm_lists.proofs.Chains.{itself}
-use Rattle.drm_lists.proofs.Lists.{list_any_left, list_any_right, all_each, all_weaker, all_append, list_any-map}
+use Rattle.drm_lists.proofs.Lists.{list_any_left, all_each, all_weaker, all_append, list_any-map}
 use Rattle.drm_lists.proofs.Found.{find-map, find_last}
 use Rattle.drm_lists.proofs.Numbers.{less-differ}
+use Rattle.drm_lists.proofs.Placed.{any_placed}
 use Rattle.drm_lists.proofs.Rising.{found, find_where, any_found, any_left, all_found}
 use Rattle.drm_masters.specs.declared.rows.Master.{Master}
 use Rattle.drm_masters.specs.declared.rows.Member.{Member}
-use Rattle.drm_masters.specs.Masters.{MasterSet, is_client, is_step_number, is_option, member_of, master_at, lessor_of, is_held, is_living}
+use Rattle.drm_masters.specs.Masters.{MasterSet, is_client, member_before, is_step_number, is_option, member_of, master_at, lessor_of, is_held, is_living}
 use Rattle.drm_masters.specs.Calls.{lessee, lease_client, kept_as, closed_own, redeemed}
 use Rattle.drm_leases.specs.declared.rows.Grant.{Grant}
 use Rattle.drm_leases.specs.declared.rows.Lease.{Lease}
@@ -142,13 +144,16 @@ agreed_joined members c ms xs h = each xs (λ x. other_members members (members 
 
 -- one of a lessee that was kept
 pub agreed_redeemed : (c m : ℕ) (v : MasterSet) (xs : List Lending) → AllByRecursion (IsAgreed v.members v.masters) xs → AllByRecursion (IsAgreed (redeemed c m v).members (redeemed c m v).masters) xs
-agreed_redeemed c m v xs h = each xs (λ x. others_kept (released (λ n. n == m)) (released_step_number (λ n. n == m)) (released_lessor (λ n. n == m)) v.members (v.members ++ lease_client c m ∷ []) v.masters x (λ y is. owned y)) h
+agreed_redeemed c m v xs h = each xs (λ x. others_kept (released (λ n. n == m)) (released_step_number (λ n. n == m)) (released_lessor (λ n. n == m)) v.members (placed member_before (lease_client c m) v.members) v.masters x (λ y is. owned y)) h
   where
-    owned : (y : Master) → is_owned v.members y ≡ true → is_owned (v.members ++ lease_client c m ∷ []) (released (λ n. n == m) y) ≡ true
+    one_more_owns : (n : ℕ) → list_any (owns n) (placed member_before (lease_client c m) v.members) ≡ (owns n (lease_client c m) || list_any (owns n) v.members)
+    one_more_owns n = any_placed (owns n) (λ (x : Member). member_before x (lease_client c m)) (lease_client c m) v.members
+
+    owned : (y : Master) → is_owned v.members y ≡ true → is_owned (placed member_before (lease_client c m) v.members) (released (λ n. n == m) y) ≡ true
     owned y k =
-        elim (y.step_number == m) as (λ b. (y.step_number == m) ≡ b → is_owned (v.members ++ lease_client c m ∷ []) (if b then kept_as false y else y) ≡ true) [
-          | true ↦ λ e. list_any_right (owns y.step_number) v.members (lease_client c m ∷ []) (ap (λ b. b || false) (eq-eqb m y.step_number (sym (eqb-true y.step_number m e))))
-          | false ↦ λ e. owned_yet v.members (v.members ++ lease_client c m ∷ []) y (list_any_left (owns y.step_number) v.members (lease_client c m ∷ [])) k
+        elim (y.step_number == m) as (λ b. (y.step_number == m) ≡ b → is_owned (placed member_before (lease_client c m) v.members) (if b then kept_as false y else y) ≡ true) [
+          | true ↦ λ e. one_more_owns y.step_number ∙ or_left (owns y.step_number (lease_client c m)) (list_any (owns y.step_number) v.members) (eq-eqb m y.step_number (sym (eqb-true y.step_number m e)))
+          | false ↦ λ e. owned_yet v.members (placed member_before (lease_client c m) v.members) y (λ h. one_more_owns y.step_number ∙ or_right (owns y.step_number (lease_client c m)) (list_any (owns y.step_number) v.members) h) k
         ] refl
 
 -- a client owns nothing but its own

@@ -195,16 +195,16 @@ impl Leases {
         is_leased_out(&self.granted, masters, master, mode_object)
     }
 
-    /// The ids of the direct lessees of the master whose lease isn't empty, rising (drm-uapi, leases; that they rise is own). It
-    /// takes no memory.
+    /// Returns the ids of the direct lessees of the master whose lease is not empty, in rising order (drm-uapi, leases;
+    /// the order is own). Does not allocate.
     ///
     /// ```rust
     /// assert!(leases.list(&masters, 1).ids() == [1].as_slice());
     /// ```
     pub fn list(&self, masters: &Masters, master: u32) -> ShownList
-        requires { masters.now.last_lessee ≤ 64 }
         ensures { result ≡ sets.lessee_ids self.now.grants masters.now.masters masters.now.last_lessee master }
     {
+        masters.laws();
         let mut list = ShownList::new();
         let last = masters.last_lessee();
         for id in 1..=last {

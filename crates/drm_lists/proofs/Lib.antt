@@ -7,3 +7,4 @@ pub mod Pages
 pub mod Chains
 pub mod Rising
 pub mod Edits
+pub mod Placed

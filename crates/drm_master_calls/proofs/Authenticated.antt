@@ -17,8 +17,8 @@ use Rattle.drm_model.specs.Rows.{ClientRow}
 use Rattle.drm_state.specs.declared.state.State.{State}
 use Rattle.drm_state.specs.Parts.{client_row_by, client_row_of}
 use Rattle.drm_leases.specs.Agreed.{AreAgreed}
-use Rattle.drm_state.specs.Invariants.{Invariant, MembersOpen, ClientsHave, MastersAre, MagicsSuffice, LesseesFew, TokensOfLessees, KeptHaveTokens, LeasesAgree, HasMaster, AreOfLessees, AreKeptBy, meets_invariant, MeetsInvariants}
-use Rattle.drm_state.proofs.Represented.{members_open, clients_have, magics_suffice, lessees_few}
+use Rattle.drm_state.specs.Invariants.{Invariant, MembersOpen, ClientsHave, MastersAre, MagicsSuffice, TokensOfLessees, KeptHaveTokens, LeasesAgree, HasMaster, AreOfLessees, AreKeptBy, meets_invariant, MeetsInvariants}
+use Rattle.drm_state.proofs.Represented.{members_open, clients_have, magics_suffice}
 
 -- ---- a client that stands to masters otherwise
 
@@ -33,19 +33,18 @@ pub found_yet : (y : Member) (xs : List Member) (c : ℕ) → member_of (map (pu
 found_yet y xs c = find-map (is_client c) (put y) xs ∙ ap (option_map (put y)) (find-same (λ z. is_client c (put y z)) (is_client c) xs (all_each (λ z. is_client c (put y z) ≡ is_client c z) (λ z. ap (λ n. n == c) (put_client y z)) xs))
 
 -- the invariants, among other masters too
-pub changed_invariants : (s : State) (y : Member) (set : MasterSet) → MeetsInvariants s → set.members ≡ (changed_member y s.masters).members → AreMasters set → AreOfLessees s.leases.tokens set.masters → AreKeptBy s.leases.tokens set.masters → AreAgreed s.leases set → set.last_magic ≡ s.masters.last_magic → set.last_lessee ≡ s.masters.last_lessee → (invariant : Invariant) → meets_invariant invariant (record s { masters = set })
+pub changed_invariants : (s : State) (y : Member) (set : MasterSet) → MeetsInvariants s → set.members ≡ (changed_member y s.masters).members → AreMasters set → AreOfLessees s.leases.tokens set.masters → AreKeptBy s.leases.tokens set.masters → AreAgreed s.leases set → set.last_magic ≡ s.masters.last_magic → (invariant : Invariant) → meets_invariant invariant (record s { masters = set })
 unfolding meets_invariant
-changed_invariants s y set t e are lessees kept agreed last ids MembersOpen =
+changed_invariants s y set t e are lessees kept agreed last MembersOpen =
     subst (AllByRecursion (λ (x : Member). is_open_client s.files x.client ≡ true)) (sym e)
     (all_mapped (λ (z : Member). is_open_client s.files z.client ≡ true) (put y) s.masters.members (all_weaker (λ (z : Member). is_open_client s.files z.client ≡ true) (λ z. is_open_client s.files (put y z).client ≡ true) (λ z h. ap (is_open_client s.files) (put_client y z) ∙ h) s.masters.members (members_open s t)))
-changed_invariants s y set t e are lessees kept agreed last ids ClientsHave = all_weaker (HasMaster s.masters) (HasMaster set) (λ f h. ap (λ b. f.flags.render || b) (ap (λ l. is_some (member_of l f.client)) e ∙ ap is_some (found_yet y s.masters.members f.client) ∙ is_some-map (put y) (member_of s.masters.members f.client)) ∙ h) s.files.clients (clients_have s t)
-changed_invariants s y set t e are lessees kept agreed last ids MastersAre = are
-changed_invariants s y set t e are lessees kept agreed last ids MagicsSuffice = last ∙ magics_suffice s t
-changed_invariants s y set t e are lessees kept agreed last ids LesseesFew = subst (λ n. n ≤ 64) (sym ids) (lessees_few s t)
-changed_invariants s y set t e are lessees kept agreed last ids TokensOfLessees = lessees
-changed_invariants s y set t e are lessees kept agreed last ids KeptHaveTokens = kept
-changed_invariants s y set t e are lessees kept agreed last ids LeasesAgree = agreed
-changed_invariants s y set t e are lessees kept agreed last ids invariant = t invariant
+changed_invariants s y set t e are lessees kept agreed last ClientsHave = all_weaker (HasMaster s.masters) (HasMaster set) (λ f h. ap (λ b. f.flags.render || b) (ap (λ l. is_some (member_of l f.client)) e ∙ ap is_some (found_yet y s.masters.members f.client) ∙ is_some-map (put y) (member_of s.masters.members f.client)) ∙ h) s.files.clients (clients_have s t)
+changed_invariants s y set t e are lessees kept agreed last MastersAre = are
+changed_invariants s y set t e are lessees kept agreed last MagicsSuffice = last ∙ magics_suffice s t
+changed_invariants s y set t e are lessees kept agreed last TokensOfLessees = lessees
+changed_invariants s y set t e are lessees kept agreed last KeptHaveTokens = kept
+changed_invariants s y set t e are lessees kept agreed last LeasesAgree = agreed
+changed_invariants s y set t e are lessees kept agreed last invariant = t invariant
 
 -- ---- one that is authenticated
 

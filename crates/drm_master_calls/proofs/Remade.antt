@@ -72,7 +72,7 @@ module _ (s : State) (x : Member) (key b : ℕ) (t : MeetsInvariants s) (new : A
       (of_lessees_swept all_members s.leases.tokens all_masters kept (of_lessees_more s.leases.tokens s.masters.masters (founded_master key b) (tokens_of_lessees s t))) (kept_swept all_members s.leases.tokens all_masters kept)
       (agreed_swept all_members all_masters s.leases.lendings
       (agreed_more all_members s.masters.masters (founded_master key b) s.leases.lendings
-      (agreed_changed s.masters.members x (owner x.client b) s.masters.masters s.leases.lendings (masters_so s t).members_rise look (λ n its. absurd (non_master_owns n its)) (leases_agree s t)))) refl refl)
+      (agreed_changed s.masters.members x (owner x.client b) s.masters.masters s.leases.lendings (masters_so s t).members_rise look (λ n its. absurd (non_master_owns n its)) (leases_agree s t)))) refl)
 
   module _ (w : Rows) (h : Represents s w) where
     abbrev remade_rows : Rows

@@ -1,20 +1,23 @@
 -- Who is current stays so, as clients and masters come and go.
-use Rattle.std.proofs.Common.{◌≡◌, ℕ, ◌<◌, ◌==◌, Bool, true, false, not, cond, ◌&&◌, ◌||◌, List, [], ◌∷◌, ◌++◌, map, filter, Option, None, Some, option_map, refl, sym, ap, ◌∙◌, eq-eqb, arith}
+use Rattle.std.proofs.Common.{◌≡◌, ℕ, ◌<◌, ◌==◌, Bool, true, false, not, cond, ◌&&◌, ◌||◌, List, [], ◌∷◌, map, filter, Option, None, Some, option_map, refl, sym, ap, subst, ◌∙◌, eq-eqb, arith}
 use Rattle.std.specs.Prelude.{if◌then◌else◌, slice_get}
 use Rattle.std.specs.List.{list_any, AllByRecursion}
-use Rattle.std.specs.Option.{option_map_or}
+use Rattle.std.specs.Option.{option_map_or, is_some}
 use Rattle.std.proofs.Math.Bool.{and-false}
 use Rattle.std.proofs.lemmas.Bool.{eqb-true}
+use Rattle.drm_index_array.specs.Rows.{placed}
 use Rattle.drm_lists.specs.Orders.{InOrder}
 use Rattle.drm_lists.specs.Chains.{last_of, top_of}
 use Rattle.drm_lists.proofs.Lists.{all_weaker, all_each}
-use Rattle.drm_lists.proofs.Found.{find-map, find-same, find_none, find_last, all_at}
+use Rattle.drm_lists.proofs.Each.{each_fails}
+use Rattle.drm_lists.proofs.Found.{is_some-find, find-map, find-same, find_none, all_at}
+use Rattle.drm_lists.proofs.Placed.{find_placed, find_other}
 use Rattle.drm_lists.proofs.Numbers.{less-differ, flipped}
 use Rattle.drm_lists.proofs.Chains.{same_chain}
-use Rattle.drm_lists.proofs.Rising.{found, find_more, find_where, all_found}
+use Rattle.drm_lists.proofs.Rising.{found, find_where, all_found}
 use Rattle.drm_masters.specs.declared.rows.Member.{Member}
 use Rattle.drm_masters.specs.declared.rows.Master.{Master}
-use Rattle.drm_masters.specs.Masters.{is_client, member_of, lessor_of, owner_of, is_current_among, is_option}
+use Rattle.drm_masters.specs.Masters.{is_client, member_before, member_of, lessor_of, owner_of, is_current_among, is_option}
 
 pub and_both : (a b : Bool) → b ≡ true → a ≡ (a && b)
 and_both true b h = sym h
@@ -58,26 +61,30 @@ owner_stays P ms others same up n p = ap (last_of n) (same_chain P (lessor_of ms
 
 -- ---- clients
 
--- a client comes that is newer than all
-pub one_more : (members : List Member) (y : Member) (ms : List Master) (device : Option ℕ) → AllByRecursion (λ (x : Member). x.client < y.client) members → (c : ℕ)
-    → current_in (members ++ y ∷ []) ms device c ≡ (((c == y.client) && is_current_among ms device y) || current_in members ms device c)
-one_more members y ms device newest c =
-    elim (c == y.client) as (λ b. (c == y.client) ≡ b → current_in (members ++ y ∷ []) ms device c ≡ ((b && is_current_among ms device y) || current_in members ms device c)) [
-      | true ↦ λ e.
-          let same : c ≡ y.client = eqb-true c y.client e in
-          let none : AllByRecursion (λ (x : Member). is_client c x ≡ false) members = all_weaker (λ (x : Member). x.client < y.client) (λ (x : Member). is_client c x ≡ false) (λ x lt. less-differ x.client c (omega (arith, lt, same))) members newest in
-          ap (λ o. option_map_or (is_current_among ms device) o false) (find_last (is_client c) y (eq-eqb y.client c (sym same)) members none)
-          ∙ sym (or_false (is_current_among ms device y)) ∙ ap (λ o. is_current_among ms device y || option_map_or (is_current_among ms device) o false) (sym (find_none (is_client c) members none))
-      | false ↦ λ e. ap (λ o. option_map_or (is_current_among ms device) o false) (find_more (λ (x : Member). x.client) y c (flipped c y.client e) members)
-    ] refl
-  where
-    or_false : (b : Bool) → (b || false) ≡ b
-    or_false true = refl
-    or_false false = refl
+-- no other client has the number
+pub others_apart : (members : List Member) (c : ℕ) → is_some (member_of members c) ≡ false → AllByRecursion (λ (x : Member). is_client c x ≡ false) members
+others_apart members c absent = each_fails (is_client c) members (sym (is_some-find (is_client c) members) ∙ absent)
 
--- it is found by its number
-pub added_there : (members : List Member) (y : Member) → AllByRecursion (λ (x : Member). x.client < y.client) members → member_of (members ++ y ∷ []) y.client ≡ Some y
-added_there members y newest = find_last (is_client y.client) y (eq-eqb y.client y.client refl) members (all_weaker (λ (x : Member). x.client < y.client) (λ (x : Member). is_client y.client x ≡ false) (λ x lt. less-differ x.client y.client lt) members newest)
+-- a client comes that is not there
+module _ (members : List Member) (y : Member) (rise : InOrder (λ (x z : Member). x.client < z.client) members) (absent : is_some (member_of members y.client) ≡ false) where
+  pub one_more : (ms : List Master) (device : Option ℕ) (c : ℕ) → current_in (placed member_before y members) ms device c ≡ (((c == y.client) && is_current_among ms device y) || current_in members ms device c)
+  one_more ms device c =
+      elim (c == y.client) as (λ b. (c == y.client) ≡ b → current_in (placed member_before y members) ms device c ≡ ((b && is_current_among ms device y) || current_in members ms device c)) [
+        | true ↦ λ e.
+            let same : y.client ≡ c = sym (eqb-true c y.client e) in
+            let none : AllByRecursion (λ (x : Member). is_client c x ≡ false) members = subst (λ n. AllByRecursion (λ (x : Member). is_client n x ≡ false) members) same (others_apart members y.client absent) in
+            ap (λ o. option_map_or (is_current_among ms device) o false) (find_placed (is_client c) (λ x. member_before x y) y members (eq-eqb y.client c same) none)
+            ∙ sym (or_false (is_current_among ms device y)) ∙ ap (λ o. is_current_among ms device y || option_map_or (is_current_among ms device) o false) (sym (find_none (is_client c) members none))
+        | false ↦ λ e. ap (λ o. option_map_or (is_current_among ms device) o false) (find_other (λ (x : Member). x.client) y members rise (is_client c) (flipped c y.client e))
+      ] refl
+    where
+      or_false : (b : Bool) → (b || false) ≡ b
+      or_false true = refl
+      or_false false = refl
+
+  -- it is found by its number
+  pub added_there : member_of (placed member_before y members) y.client ≡ Some y
+  added_there = find_placed (is_client y.client) (λ x. member_before x y) y members (eq-eqb y.client y.client refl) (others_apart members y.client absent)
 
 -- a client goes
 pub one_fewer : (members : List Member) (ms : List Master) (device : Option ℕ) (gone c : ℕ)

@@ -18,3 +18,4 @@ mod Numbered
 mod Flagged
 mod Sound
 pub mod Crossing
+pub mod Newest

@@ -1,5 +1,5 @@
 -- The clients as a list, and how it changes.
-use Rattle.std.proofs.Common.{◌≡◌, ◌≢◌, ◌-◌, ℕ, ◌<◌, ◌==◌, Bool, true, false, not, cond, T, List, [], ◌∷◌, ◌++◌, map, filter, find as find_row, length, slice_get, Option, Some, None, option_map, option_and_then, is_some, refl, sym, ap, ◌∙◌, arith, nat_cmp, is_lt, Greater}
+use Rattle.std.proofs.Common.{◌≡◌, ◌≢◌, ◌-◌, ℕ, ◌<◌, Bool, true, false, not, cond, T, List, [], ◌∷◌, map, filter, find as find_row, length, slice_get, Option, Some, None, option_map, option_and_then, is_some, refl, sym, ap, ◌∙◌, arith, nat_cmp, Greater}
 use Rattle.std.specs.Prelude.{if◌then◌else◌}
 use Rattle.std.specs.List.{AllByRecursion}
 use Rattle.std.specs.Ordering.{eq_by_cmp}
@@ -7,16 +7,17 @@ use Rattle.std.specs.Cmp.{nat_cmp_total}
 use Rattle.std.specs.Bool.{OnTrue}
 use Rattle.std.specs.FinMap as fin
 use Rattle.std.specs.FinSet as set
-use Rattle.std.specs.FinMap.Entries.{put, by_order, is_sorted, below_all}
+use Rattle.std.specs.FinMap.Entries.{is_sorted, below_all}
 use Rattle.std.proofs.lemmas.Bool.{false≢true}
 use Rattle.std.proofs.lemmas.Bool.Decides.{nat_tests}
 use Rattle.drm_lists.specs.Orders.{InOrder}
-use Rattle.drm_index_array.proofs.Keyed.{left, right, rows_where, rows_put_found, find_rows, row_at, rows_length, entries_removed}
+use Rattle.drm_index_array.specs.Rows.{placed}
+use Rattle.drm_index_array.proofs.Keyed.{left, right, rows_put, rows_where, rows_put_found, find_rows, row_at, rows_length, entries_removed}
 use Rattle.drm_masters.specs.declared.members.Membership.{Membership}
 use Rattle.drm_masters.specs.declared.rows.Member.{Member}
-use Rattle.drm_masters.specs.Masters.{is_client, member_of}
+use Rattle.drm_masters.specs.Masters.{is_client, member_before, member_of}
 use Rattle.drm_masters.specs.Tables.{member_row, members_in}
-use Rattle.drm_index_array.proofs.Entries.{same_test, less_of}
+use Rattle.drm_index_array.proofs.Entries.{same_test, before_test, less_of}
 
 abbrev pub Clients : Type 0
 Clients = fin.FinMap nat_cmp Membership
@@ -64,15 +65,11 @@ module _ (m : Clients) where
       rise [] h = tt
       rise (e ∷ es) h = (above e.0 es (left _ _ h), rise es (right _ _ h))
 
-  -- a client that is newer than all stands last
-  pub client_added : (c : ℕ) (v : Membership) → AllByRecursion (λ (x : Member). x.client < c) (members_in m) → members_in (fin.insert m c v) ≡ members_in m ++ member_row (c, v) ∷ []
-  client_added c v newest = ap (map member_row) (fin.entries-insert nat_cmp_total m c v) ∙ last (fin.entries m) newest
-    where
-      last : (es : List (ℕ × Membership)) → AllByRecursion (λ (x : Member). x.client < c) (map member_row es) → map member_row (put nat_cmp c v es) ≡ map member_row es ++ member_row (c, v) ∷ []
-      last [] h = refl
-      last (e ∷ es) h =
-          ap (λ r. map member_row (by_order r ((c, v) ∷ e ∷ es) ((e.0, v) ∷ es) (e ∷ put nat_cmp c v es))) (greater c e.0 h.0)
-          ∙ ap (λ l. member_row e ∷ l) (last es h.1)
+  -- a new client stands at its place
+  pub client_added : (c : ℕ) (v : Membership) → fin.get m c ≡ None → members_in (fin.insert m c v) ≡ placed member_before (member_row (c, v)) (members_in m)
+  client_added c v absent =
+      ap (map member_row) (fin.entries-insert nat_cmp_total m c v)
+      ∙ rows_put nat_cmp nat_cmp_total member_row member_before (λ e f. before_test e.0 f.0) c v (fin.entries m) (fin.entries_sorted m) (sym (fin.get-entries m c) ∙ absent)
 
   -- a client's row is another
   pub client_changed : (c : ℕ) (v w : Membership) (y : Member) → member_row (c, w) ≡ y → fin.get m c ≡ Some v → members_in (fin.insert m c w) ≡ map (λ (x : Member). if is_client c x then y else x) (members_in m)

@@ -1,5 +1,5 @@
 -- The clients of each master.
-use Rattle.std.proofs.Common.{◌≡◌, ℕ, ◌<◌, ◌≤◌, ◌==◌, Bool, true, false, not, cond, ◌&&◌, ◌||◌, List, [], ◌∷◌, Option, None, Some, option_map, refl, sym, ap, ◌∙◌, eq-eqb, arith}
+use Rattle.std.proofs.Common.{◌≡◌, ℕ, ◌≤◌, ◌==◌, Bool, true, false, not, cond, ◌&&◌, ◌||◌, List, [], ◌∷◌, Option, None, Some, option_map, refl, sym, ap, ◌∙◌, eq-eqb, arith}
 use Rattle.std.specs.Prelude.{IfNone}
 use Rattle.std.specs.List.{list_any, AllByRecursion}
 use Rattle.std.specs.Option.{is_some, option_map_or}
@@ -10,8 +10,7 @@ use Rattle.drm_index_array.proofs.Least.{least_some}
 use Rattle.drm_id_alloc.specs.Groups.{Groups, GroupMap, has, AreGroupsOf, IsAdded, IsTaken}
 use Rattle.drm_index_array.proofs.MarkedLemmas.{get-insert}
 use Rattle.drm_lists.proofs.Lists.{all_weaker}
-use Rattle.drm_lists.proofs.Found.{find_none}
-use Rattle.drm_lists.proofs.Numbers.{less-differ, same_either}
+use Rattle.drm_lists.proofs.Numbers.{same_either}
 use Rattle.drm_lists.proofs.Rising.{any_found, all_found}
 use Rattle.drm_masters.specs.declared.members.Membership.{Membership}
 use Rattle.drm_masters.specs.declared.rows.Member.{Member}
@@ -23,13 +22,13 @@ abbrev pub master_of : Membership → ℕ
 master_of x = x.master
 
 module _ (m : Clients) where
-  -- a client that is newer than all is not there
-  pub new_absent : (c : ℕ) → AllByRecursion (λ (x : Member). x.client < c) (members_in m) → fin.get m c ≡ None
-  new_absent c newest = by_row (fin.get m c) (sym (client_is m c) ∙ find_none (is_client c) (members_in m) (all_weaker (λ (x : Member). x.client < c) (λ (x : Member). is_client c x ≡ false) (λ x lt. less-differ x.client c lt) (members_in m) newest))
+  -- of a client that is not found nothing is kept
+  pub new_absent : (c : ℕ) → is_some (member_of (members_in m) c) ≡ false → fin.get m c ≡ None
+  new_absent c absent = by_row (fin.get m c) (ap is_some (sym (client_is m c)) ∙ absent)
     where
-      by_row : (o : Option Membership) → option_map (λ v. member_row (c, v)) o ≡ None → o ≡ None
+      by_row : (o : Option Membership) → is_some (option_map (λ v. member_row (c, v)) o) ≡ false → o ≡ None
       by_row None e = refl
-      by_row (Some v) e = absurd (false≢true (sym (ap is_some e)))
+      by_row (Some v) e = absurd (false≢true (sym e))
 
   -- what is kept of a client that is found
   pub kept_of : (c : ℕ) (x : Member) → member_of (members_in m) c ≡ Some x → (v : Membership) × (fin.get m c ≡ Some v) × (v.master ≡ x.master)

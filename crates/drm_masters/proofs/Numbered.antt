@@ -3,7 +3,7 @@ use Rattle.std.proofs.Common.{◌≡◌, ℕ, zero, suc, ◌<◌, ◌≤◌, ◌
 use Rattle.std.specs.List.{list_any}
 use Rattle.std.specs.Option.{option_map_or}
 use Rattle.std.proofs.Math.Bool.{and-false}
-use Rattle.std.proofs.lemmas.Bool.{eqb-true}
+use Rattle.std.proofs.lemmas.Bool.{false≢true, eqb-true}
 use Rattle.std.proofs.lemmas.Bool.Decides.{nat_tests}
 use Rattle.drm_index_array.specs.Least.{least}
 use Rattle.drm_index_array.proofs.Least.{least_none}
@@ -79,6 +79,9 @@ module _ (x : Member) where
   -- without a number there is none to share
   pub other_none : x.magic ≡ None → (y : Member) → HaveOtherMagics y x
   other_none e y n h = no_magic y.master n x e
+
+  pub none_other : x.magic ≡ None → (y : Member) → HaveOtherMagics x y
+  none_other e y n h = absurd (false≢true (sym (no_magic x.master n x e) ∙ h))
 
 -- the number of a row, and whose it is
 number_of : (m n k : ℕ) (spent : Bool) (x : Member) → has_magic m n (with_magic k spent x) ≡ true → (x.master ≡ m) × (k ≡ n)

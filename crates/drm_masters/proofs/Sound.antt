@@ -1,5 +1,5 @@
 -- What is so of the masters at all times is so after each change.
-use Rattle.std.proofs.Common.{◌≡◌, ℕ, ◌<◌, ◌≤◌, ◌==◌, Bool, true, false, not, ◌&&◌, ◌||◌, List, [], ◌∷◌, ◌++◌, map, filter, find, length, Option, None, Some, refl, sym, ap, subst, ◌∙◌, eq-eqb, arith, length-append}
+use Rattle.std.proofs.Common.{◌≡◌, ℕ, ◌<◌, ◌≤◌, ◌==◌, nat_lt, Bool, true, false, not, ◌&&◌, ◌||◌, List, [], ◌∷◌, ◌++◌, map, filter, find, length, Option, None, Some, refl, sym, ap, subst, ◌∙◌, eq-eqb, arith}
 use Rattle.std.specs.Prelude.{if◌then◌else◌, IfSome}
 use Rattle.std.specs.List.{list_any, AllByRecursion}
 use Rattle.std.specs.Option.{is_some, option_map, option_map_or}
@@ -7,25 +7,27 @@ use Rattle.std.specs.FinSet as set
 use Rattle.std.proofs.Math.Bool.{and-false}
 use Rattle.std.proofs.lemmas.List.{length-map}
 use Rattle.std.proofs.lemmas.Bool.{eqb-true, false≢true, or_left, or_right, and_parts, and_from}
+use Rattle.drm_index_array.specs.Rows.{placed}
 use Rattle.drm_lists.specs.Orders.{InOrder}
 use Rattle.drm_lists.specs.Chains.{is_under}
-use Rattle.drm_lists.proofs.Lists.{all_weaker, all_both, all_each, all_append, all_filter, all_mapped, filter-shorter, list_any-map, list_any_agree, list_any_left, list_any_right, some_passing}
+use Rattle.drm_lists.proofs.Lists.{all_weaker, all_both, all_each, all_append, all_filter, all_mapped, filter-shorter, list_any-map, list_any_agree, list_any_left, some_passing}
 use Rattle.drm_lists.proofs.Found.{is_some-find, none_found}
 use Rattle.drm_lists.proofs.Orders.{in_order_append, in_order_filter}
+use Rattle.drm_lists.proofs.Placed.{any_placed, length_placed, all_placed, in_order_placed, rise_placed}
 use Rattle.drm_lists.proofs.Rising.{found, any_found, any_more, any_left, all_found, all_found_apart, in_order_kept, in_order_mapped, in_order_both, each_is_there}
 use Rattle.drm_masters.specs.declared.rows.Magic.{Magic}
 use Rattle.drm_masters.specs.declared.rows.Member.{Member}
 use Rattle.drm_masters.specs.declared.rows.Master.{Master}
-use Rattle.drm_masters.specs.Masters.{MasterSet, AreMasters, HaveOtherMagics, HasOlderLessor, is_client, is_step_number, is_key, is_option, IsKeyOf, step_number_at, member_of, master_at, lessor_of, owner_of, is_held, is_used, is_living, is_current, has_magic, has_open_magic, swept}
+use Rattle.drm_masters.specs.Masters.{MasterSet, AreMasters, HaveOtherMagics, HasOlderLessor, is_client, member_before, is_step_number, is_key, is_option, IsKeyOf, step_number_at, member_of, master_at, lessor_of, owner_of, is_held, is_used, is_living, is_current, has_magic, has_open_magic, swept}
 use Rattle.drm_masters.specs.declared.masters.Masters.TheInside.{Inside}
 use Rattle.drm_masters.specs.Fields.{set_of, IsSound}
 use Rattle.drm_masters.specs.Calls.{with_member, with_master, with_device, without_member, changed_member, with_kept, with_magic, closed_own}
 use Rattle.drm_masters.proofs.Pushed.{step_number_stays, lessor_stays, kept_at, kept_there, kept_rise, kept_older, kept_used, same_used, there_too, new_there, pushed_older, pushed_used, over_there, over_lessors, over_rise, over_older, over_keyed, kept_lessors, pushed_owner, pushed_lessor, new_lessor}
 use Rattle.drm_masters.proofs.Released.{marked, marked_step_number, marked_lessor, marked_key}
 use Rattle.drm_masters.proofs.Upward.{OthersUsed, all_living_used}
-use Rattle.drm_masters.proofs.Flagged.{same_owners, under_same, one_more}
+use Rattle.drm_masters.proofs.Flagged.{same_owners, under_same, others_apart, one_more}
 use Rattle.drm_masters.proofs.Swept.{none_left, swept_older, swept_used, swept_owner, named_lives, named_there}
-use Rattle.drm_masters.proofs.Numbered.{no_magic, other_none, given_before, given_behind, spent_same}
+use Rattle.drm_masters.proofs.Numbered.{no_magic, other_none, none_other, given_before, given_behind, spent_same}
 
 abbrev pub Keyed : List Master → Type 0
 Keyed ms = InOrder (λ (x y : Master). (x.key == y.key) ≡ false) ms
@@ -51,6 +53,7 @@ pub record AreTied (v : MasterSet) : Type 0 where
   pub guests_of_owners : AllByRecursion (λ (x : Member). x.is_master ≡ false → lessor_of v.masters x.master ≡ None) v.members
   pub magics_differ : InOrder HaveOtherMagics v.members
   pub few : length v.members ≤ v.last_magic
+  pub few_ids : v.last_lessee ≤ 64
 
 -- a client that is no master stands to one without a lessor
 abbrev IsNonMaster : List Master → Member → Type 0
@@ -82,27 +85,35 @@ swept_are v t = record {
   used = swept_used v.members v.masters t.masters_rise t.lessors_older;
   magics_differ = t.magics_differ;
   few = t.few;
+  few_ids = t.few_ids;
 }
 
 -- ---- who is held
+
+-- what some client passes it passes with one more
+any_stays : (q : Member → Bool) (xs : List Member) (y : Member) → list_any q xs ≡ true → list_any q (placed member_before y xs) ≡ true
+any_stays q xs y h = any_placed q (λ x. member_before x y) y xs ∙ or_right (q y) (list_any q xs) h
+
+all_come : (P : Member → Type 0) (xs : List Member) (y : Member) → AllByRecursion P xs → P y → AllByRecursion P (placed member_before y xs)
+all_come P xs y h k = all_placed P (λ (x : Member). member_before x y) y xs k h
 
 or_more : (a b c : Bool) → (b ≡ true → c ≡ true) → (a || b) ≡ true → (a || c) ≡ true
 or_more true b c f h = refl
 or_more false b c f h = f h
 
-held_more : (members : List Member) (y : Member) (x : Master) → is_held members x ≡ true → is_held (members ++ y ∷ []) x ≡ true
-held_more members y x h = or_more x.kept (list_any (λ (z : Member). z.master == x.step_number) members) (list_any (λ (z : Member). z.master == x.step_number) (members ++ y ∷ [])) (λ e. list_any_left (λ (z : Member). z.master == x.step_number) members (y ∷ []) e) h
+held_more : (members : List Member) (y : Member) (x : Master) → is_held members x ≡ true → is_held (placed member_before y members) x ≡ true
+held_more members y x h = or_more x.kept (list_any (λ (z : Member). z.master == x.step_number) members) (list_any (λ (z : Member). z.master == x.step_number) (placed member_before y members)) (any_stays (λ z. z.master == x.step_number) members y) h
 
-few_more : (xs : List Member) (y : Member) (last : ℕ) → length xs < last → length (xs ++ y ∷ []) ≤ last
-few_more xs y last lt = let e = length-append xs (y ∷ []) in omega (arith, e, lt)
+few_more : (xs : List Member) (y : Member) (last : ℕ) → length xs < last → length (placed member_before y xs) ≤ last
+few_more xs y last lt = let e = length_placed (λ (x : Member). member_before x y) y xs in omega (arith, e, lt)
 
--- a client that is listed last names its master
-names_last : (xs : List Member) (y : Member) (m : ℕ) → y.master ≡ m → list_any (λ (z : Member). z.master == m) (xs ++ y ∷ []) ≡ true
-names_last xs y m e = list_any_right (λ (z : Member). z.master == m) xs (y ∷ []) (or_left (y.master == m) false (eq-eqb y.master m e))
+-- the client that comes names its master
+names_new : (xs : List Member) (y : Member) (m : ℕ) → y.master ≡ m → list_any (λ (z : Member). z.master == m) (placed member_before y xs) ≡ true
+names_new xs y m e = any_placed (λ (z : Member). z.master == m) (λ x. member_before x y) y xs ∙ or_left (y.master == m) (list_any (λ (z : Member). z.master == m) xs) (eq-eqb y.master m e)
 
 module _ (v : MasterSet) (a : AreMasters v) where
   pub ties : AreTied v
-  ties = record { members_rise = a.members_rise; masters_rise = a.masters_rise; lessors_older = a.lessors_older; masters_there = a.masters_there; device_own = a.device_own; device_owner = a.device_owner; guests_of_owners = a.guests_of_owners; magics_differ = a.magics_differ; few = a.few }
+  ties = record { members_rise = a.members_rise; masters_rise = a.masters_rise; lessors_older = a.lessors_older; masters_there = a.masters_there; device_own = a.device_own; device_owner = a.device_owner; guests_of_owners = a.guests_of_owners; magics_differ = a.magics_differ; few = a.few; few_ids = a.few_ids }
 
   -- the device's master is there
   pub device_there : (m : ℕ) → v.device_master ≡ Some m → is_some (master_at v.masters m) ≡ true
@@ -111,25 +122,29 @@ module _ (v : MasterSet) (a : AreMasters v) where
       subst (λ n. is_some (master_at v.masters n) ≡ true) (eqb-true w.0.master m (and_parts w.0.is_master (w.0.master == m) w.1).1) w.2
 
   -- a client comes that has no number
-  module _ (y : Member) (new : AllByRecursion (λ (x : Member). x.client < y.client) v.members) (room : length v.members < v.last_magic) (none : y.magic ≡ None) where
-    come_rise : MembersRise (v.members ++ y ∷ [])
-    come_rise = in_order_append (λ (x z : Member). x.client < z.client) v.members y a.members_rise new
+  module _ (y : Member) (absent : is_some (member_of v.members y.client) ≡ false) (room : length v.members < v.last_magic) (none : y.magic ≡ None) where
+    come_rise : MembersRise (placed member_before y v.members)
+    come_rise = rise_placed (λ (x : Member). x.client) y v.members a.members_rise (others_apart v.members y.client absent)
 
-    come_differ : InOrder HaveOtherMagics (v.members ++ y ∷ [])
-    come_differ = in_order_append HaveOtherMagics v.members y a.magics_differ (all_each (λ x. HaveOtherMagics x y) (λ x. other_none y none x) v.members)
+    come_differ : InOrder HaveOtherMagics (placed member_before y v.members)
+    come_differ =
+        in_order_placed (λ (x : Member). x.client) y v.members a.members_rise HaveOtherMagics a.magics_differ
+        (all_each (λ (x : Member). x.client < y.client → HaveOtherMagics x y) (λ x lt. other_none y none x) v.members)
+        (all_each (λ (x : Member). nat_lt x.client y.client ≡ false → HaveOtherMagics y x) (λ x e. none_other y none x) v.members)
 
     pub non_master_are : is_some (master_at v.masters y.master) ≡ true → IsNonMaster v.masters y → AreMasters (with_member y v)
     non_master_are there non_master = record {
       members_rise = come_rise;
       masters_rise = a.masters_rise;
       lessors_older = a.lessors_older;
-      masters_there = all_append (λ (x : Member). is_some (master_at v.masters x.master) ≡ true) v.members (y ∷ []) a.masters_there (there, tt);
-      device_own = λ m e. list_any_left (λ (x : Member). x.is_master && (x.master == m)) v.members (y ∷ []) (a.device_own m e);
+      masters_there = all_come (λ (x : Member). is_some (master_at v.masters x.master) ≡ true) v.members y a.masters_there there;
+      device_own = λ m e. any_stays (λ (x : Member). x.is_master && (x.master == m)) v.members y (a.device_own m e);
       device_owner = a.device_owner;
-      guests_of_owners = all_append (IsNonMaster v.masters) v.members (y ∷ []) a.guests_of_owners (non_master, tt);
-      used = same_used v.members (v.members ++ y ∷ []) v.masters (held_more v.members y) a.used;
+      guests_of_owners = all_come (IsNonMaster v.masters) v.members y a.guests_of_owners non_master;
+      used = same_used v.members (placed member_before y v.members) v.masters (held_more v.members y) a.used;
       magics_differ = come_differ;
       few = few_more v.members y v.last_magic room;
+      few_ids = a.few_ids;
     }
 
     pub opener_are : (z : Master) → z.lessor ≡ None → y.master ≡ z.step_number → y.is_master ≡ true → AllByRecursion (λ (x : Master). x.step_number < z.step_number) v.masters → AreMasters (with_device (Some z.step_number) (with_member y (with_master z v)))
@@ -138,15 +153,16 @@ module _ (v : MasterSet) (a : AreMasters v) where
       masters_rise = in_order_append (λ (x u : Master). x.step_number < u.step_number) v.masters z a.masters_rise newest;
       lessors_older = pushed_older v.masters z newest (λ l e. absurd (let n : None ≡ Some l = sym top ∙ e in cc)) a.lessors_older;
       masters_there =
-          all_append (λ (x : Member). is_some (master_at (v.masters ++ z ∷ []) x.master) ≡ true) v.members (y ∷ [])
+          all_come (λ (x : Member). is_some (master_at (v.masters ++ z ∷ []) x.master) ≡ true) v.members y
           (all_weaker (λ (x : Member). is_some (master_at v.masters x.master) ≡ true) (λ (x : Member). is_some (master_at (v.masters ++ z ∷ []) x.master) ≡ true) (λ x e. there_too v.masters z newest x.master e) v.members a.masters_there)
-          (ap (λ n. is_some (master_at (v.masters ++ z ∷ []) n)) own ∙ new_there v.masters z newest, tt);
-      device_own = λ m e. list_any_right (λ (x : Member). x.is_master && (x.master == m)) v.members (y ∷ []) (or_left (y.is_master && (y.master == m)) false (and_from y.is_master (y.master == m) is_own (eq-eqb y.master m (own ∙ (let s : Some z.step_number ≡ Some m = e in cc)))));
+          (ap (λ n. is_some (master_at (v.masters ++ z ∷ []) n)) own ∙ new_there v.masters z newest);
+      device_own = λ m e. any_placed (λ (x : Member). x.is_master && (x.master == m)) (λ x. member_before x y) y v.members ∙ or_left (y.is_master && (y.master == m)) (list_any (λ (x : Member). x.is_master && (x.master == m)) v.members) (and_from y.is_master (y.master == m) is_own (eq-eqb y.master m (own ∙ (let s : Some z.step_number ≡ Some m = e in cc))));
       device_owner = new_owner v.masters z newest top;
-      guests_of_owners = all_append (IsNonMaster (v.masters ++ z ∷ [])) v.members (y ∷ []) (guests_pushed v.masters z newest v.members a.masters_there a.guests_of_owners) ((λ g. absurd (let j : true ≡ false = sym is_own ∙ g in cc)), tt);
-      used = pushed_used v.masters z newest v.members (v.members ++ y ∷ []) a.lessors_older (held_more v.members y) (or_right z.kept (list_any (λ (x : Member). x.master == z.step_number) (v.members ++ y ∷ [])) (names_last v.members y z.step_number own)) a.used;
+      guests_of_owners = all_come (IsNonMaster (v.masters ++ z ∷ [])) v.members y (guests_pushed v.masters z newest v.members a.masters_there a.guests_of_owners) (λ g. absurd (let j : true ≡ false = sym is_own ∙ g in cc));
+      used = pushed_used v.masters z newest v.members (placed member_before y v.members) a.lessors_older (held_more v.members y) (or_right z.kept (list_any (λ (x : Member). x.master == z.step_number) (placed member_before y v.members)) (names_new v.members y z.step_number own)) a.used;
       magics_differ = come_differ;
       few = few_more v.members y v.last_magic room;
+      few_ids = a.few_ids;
     }
 
     pub redeemed_are : is_some (master_at v.masters y.master) ≡ true → y.is_master ≡ true → AreMasters (with_kept y.master false (with_member y v))
@@ -155,28 +171,29 @@ module _ (v : MasterSet) (a : AreMasters v) where
       masters_rise = kept_rise y.master false v.masters a.masters_rise;
       lessors_older = kept_older y.master false v.masters a.lessors_older;
       masters_there =
-          all_append (λ (x : Member). is_some (master_at (map (kept_at y.master false) v.masters) x.master) ≡ true) v.members (y ∷ [])
+          all_come (λ (x : Member). is_some (master_at (map (kept_at y.master false) v.masters) x.master) ≡ true) v.members y
           (all_weaker (λ (x : Member). is_some (master_at v.masters x.master) ≡ true) (λ (x : Member). is_some (master_at (map (kept_at y.master false) v.masters) x.master) ≡ true) (λ x e. kept_there y.master false v.masters x.master ∙ e) v.members a.masters_there)
-          (kept_there y.master false v.masters y.master ∙ there, tt);
-      device_own = λ m e. list_any_left (λ (x : Member). x.is_master && (x.master == m)) v.members (y ∷ []) (a.device_own m e);
+          (kept_there y.master false v.masters y.master ∙ there);
+      device_own = λ m e. any_stays (λ (x : Member). x.is_master && (x.master == m)) v.members y (a.device_own m e);
       device_owner = λ m e. kept_lessors y.master false v.masters m ∙ a.device_owner m e;
       guests_of_owners =
-          all_append (IsNonMaster (map (kept_at y.master false) v.masters)) v.members (y ∷ []) (guests_over v.masters (map (kept_at y.master false) v.masters) (kept_lessors y.master false v.masters) v.members a.guests_of_owners)
-          ((λ g. absurd (let j : true ≡ false = sym is_own ∙ g in cc)), tt);
-      used = kept_used y.master false v.masters v.members (v.members ++ y ∷ []) held a.used;
+          all_come (IsNonMaster (map (kept_at y.master false) v.masters)) v.members y (guests_over v.masters (map (kept_at y.master false) v.masters) (kept_lessors y.master false v.masters) v.members a.guests_of_owners)
+          (λ g. absurd (let j : true ≡ false = sym is_own ∙ g in cc));
+      used = kept_used y.master false v.masters v.members (placed member_before y v.members) held a.used;
       magics_differ = come_differ;
       few = few_more v.members y v.last_magic room;
+      few_ids = a.few_ids;
     }
       where
-        held : (x : Master) → is_held v.members x ≡ true → is_held (v.members ++ y ∷ []) (kept_at y.master false x) ≡ true
+        held : (x : Master) → is_held v.members x ≡ true → is_held (placed member_before y v.members) (kept_at y.master false x) ≡ true
         held x h =
-            (elim (x.step_number == y.master) as (λ b. (x.step_number == y.master) ≡ b → is_held (v.members ++ y ∷ []) (if b then record x { kept = false } else x) ≡ true) [
-              | true ↦ λ e. names_last v.members y x.step_number (sym (eqb-true x.step_number y.master e))
+            (elim (x.step_number == y.master) as (λ b. (x.step_number == y.master) ≡ b → is_held (placed member_before y v.members) (if b then record x { kept = false } else x) ≡ true) [
+              | true ↦ λ e. names_new v.members y x.step_number (sym (eqb-true x.step_number y.master e))
               | false ↦ λ e. held_more v.members y x h
             ]) refl
 
   pub device_are : (d : Option ℕ) → ((m : ℕ) → d ≡ Some m → list_any (λ (x : Member). x.is_master && (x.master == m)) v.members ≡ true) → ((m : ℕ) → d ≡ Some m → lessor_of v.masters m ≡ None) → AreMasters (with_device d v)
-  device_are d own top = record { members_rise = a.members_rise; masters_rise = a.masters_rise; lessors_older = a.lessors_older; masters_there = a.masters_there; device_own = own; device_owner = top; guests_of_owners = a.guests_of_owners; used = a.used; magics_differ = a.magics_differ; few = a.few }
+  device_are d own top = record { members_rise = a.members_rise; masters_rise = a.masters_rise; lessors_older = a.lessors_older; masters_there = a.masters_there; device_own = own; device_owner = top; guests_of_owners = a.guests_of_owners; used = a.used; magics_differ = a.magics_differ; few = a.few; few_ids = a.few_ids }
 
   -- a new master that is kept
   pub lessee_are : (z : Master) → z.kept ≡ true → ((l : ℕ) → z.lessor ≡ Some l → is_some (master_at v.masters l) ≡ true) → AllByRecursion (λ (x : Master). x.step_number < z.step_number) v.masters → AreMasters (with_master z v)
@@ -191,6 +208,7 @@ module _ (v : MasterSet) (a : AreMasters v) where
     used = pushed_used v.masters z newest v.members v.members a.lessors_older (λ x h. h) (or_left z.kept (list_any (λ (x : Member). x.master == z.step_number) v.members) kept) a.used;
     magics_differ = a.magics_differ;
     few = a.few;
+    few_ids = a.few_ids;
   }
 
   -- a master is kept, or not
@@ -205,6 +223,7 @@ module _ (v : MasterSet) (a : AreMasters v) where
     guests_of_owners = guests_over v.masters (map (kept_at m kept) v.masters) (kept_lessors m kept v.masters) v.members a.guests_of_owners;
     magics_differ = a.magics_differ;
     few = a.few;
+    few_ids = a.few_ids;
   }
 
   -- some are kept no more
@@ -223,6 +242,7 @@ module _ (v : MasterSet) (a : AreMasters v) where
         guests_of_owners = guests_over v.masters (map g v.masters) (over_lessors g step_numbers lessors v.masters) v.members a.guests_of_owners;
         magics_differ = a.magics_differ;
         few = a.few;
+        few_ids = a.few_ids;
       }
 
   -- each client is found by its number
@@ -266,6 +286,7 @@ module _ (v : MasterSet) (a : AreMasters v) where
       guests_of_owners = all_filter (IsNonMaster v.masters) (λ (y : Member). not (is_client x.client y)) v.members a.guests_of_owners;
       magics_differ = gone_differ;
       few = gone_few;
+      few_ids = a.few_ids;
     }
 
     -- all masters are used yet, but it may be its own
@@ -302,6 +323,7 @@ module _ (v : MasterSet) (a : AreMasters v) where
       used = kept_used x.master true v.masters v.members (filter (λ (y : Member). not (is_client x.client y)) v.members) held a.used;
       magics_differ = gone_differ;
       few = gone_few;
+      few_ids = a.few_ids;
     }
       where
         still_device : {m : ℕ} (d : Option ℕ) → (if is_option x.master d then None else d) ≡ Some m → d ≡ Some m
@@ -374,6 +396,7 @@ module _ (v : MasterSet) (a : AreMasters v) where
       used = same_used v.members (map put v.members) v.masters (λ z h. or_more z.kept (list_any (λ (u : Member). u.master == z.step_number) v.members) (list_any (λ (u : Member). u.master == z.step_number) (map put v.members)) (put_any (λ (u : Member). u.master == z.step_number) (ap (λ n. n == z.step_number) of_one)) h) a.used;
       magics_differ = differ;
       few = few_put;
+      few_ids = a.few_ids;
     }
 
     -- of a new master of its own
@@ -394,6 +417,7 @@ module _ (v : MasterSet) (a : AreMasters v) where
           (λ u at h. by_row (IsNonMaster (v.masters ++ z ∷ [])) u at (λ ux g. absurd (let j : true ≡ false = sym is_own ∙ g in cc)) h) v.members clients_found (guests_pushed v.masters z newest v.members a.masters_there a.guests_of_owners));
       magics_differ = in_order_mapped (λ (u : Member). member_of v.members u.client ≡ Some u) HaveOtherMagics HaveOtherMagics put (λ u w at au h. differ u w at au h) v.members clients_found a.magics_differ;
       few = few_put;
+      few_ids = a.few_ids;
     }
       where
         is_device : (m : ℕ) → z.step_number ≡ m → list_any (λ (u : Member). u.is_master && (u.master == m)) (map put v.members) ≡ true
@@ -543,9 +567,9 @@ pub freed_same : (v : MasterSet) (under : ℕ → Bool) → (c : ℕ) → is_cur
 freed_same v under = under_same v.members v.masters (freed under v).masters v.device_master (over_lessors (marked under) (marked_step_number under) (marked_lessor under) v.masters)
 
 -- a client that is no master is not current
-pub non_master_same : (v : MasterSet) (y : Member) → y.is_master ≡ false → AllByRecursion (λ (x : Member). x.client < y.client) v.members → (c : ℕ) → is_current (with_member y v) c ≡ is_current v c
-non_master_same v y own newest c =
-    one_more v.members y v.masters v.device_master newest c
+pub non_master_same : (v : MasterSet) (y : Member) → y.is_master ≡ false → AreMasters v → is_some (member_of v.members y.client) ≡ false → (c : ℕ) → is_current (with_member y v) c ≡ is_current v c
+non_master_same v y own a absent c =
+    one_more v.members y a.members_rise absent v.masters v.device_master c
     ∙ ap (λ b. ((c == y.client) && (b && is_option (owner_of v.masters y.master) v.device_master)) || is_current v c) own ∙ ap (λ b. b || is_current v c) (and-false (c == y.client))
 
 -- ---- the fields

@@ -2,6 +2,7 @@
 use Rattle.std.specs.Prelude.{◌≡◌, ℕ, ◌<◌, Bool, true, false, not, ◌&&◌, ◌||◌, List, [], ◌∷◌, ◌++◌, Option, None, Some, Result, Ok, Err, find, map, filter, if◌then◌else◌}
 use Rattle.std.specs.List.{AllByRecursion}
 use Rattle.std.specs.Option.{is_some}
+use Rattle.drm_index_array.specs.Rows.{placed}
 use Rattle.drm_table.specs.declared.rules.Rule.{Rule}
 use Rattle.drm_table.specs.declared.rules.Rule.TheVariants.{MasterPerm, MasterBusy, IsLessee, NotCurrent, NoMagic}
 use Rattle.drm_table.specs.Permit.{Check, check, first_failing}
@@ -15,7 +16,7 @@ use Rattle.drm_masters.specs.declared.rows.Magic.{Magic}
 use Rattle.drm_masters.specs.declared.rows.Master.{Master}
 use Rattle.drm_masters.specs.declared.rows.Member.{Member}
 use Rattle.drm_lists.specs.Chains.{is_under}
-use Rattle.drm_masters.specs.Masters.{MasterSet, is_client, is_step_number, is_key, is_option, IsKeyOf, lessor_of, is_lessee, is_below, is_current_member, has_open_magic, free_magic, free_lessee, swept}
+use Rattle.drm_masters.specs.Masters.{MasterSet, is_client, member_before, is_step_number, is_key, is_option, IsKeyOf, lessor_of, is_lessee, is_below, is_current_member, has_open_magic, free_magic, free_lessee, swept}
 
 -- each client that is there is older
 abbrev pub IsNewClient : MasterSet → ℕ → Type 0
@@ -54,8 +55,9 @@ keyed_as key x = record x { key = key }
 
 -- changes
 
+-- one more client, at its place
 abbrev pub with_member : Member → MasterSet → MasterSet
-with_member x v = record v { members = v.members ++ x ∷ [] }
+with_member x v = record v { members = placed member_before x v.members }
 
 abbrev pub with_master : Master → MasterSet → MasterSet
 with_master x v = record v { masters = v.masters ++ x ∷ [] }

@@ -1,5 +1,5 @@
 -- Who stands to which master, and the masters, as flat lists in the order of step numbers (drm(7), masters; drm-uapi, leases).
-use Rattle.std.specs.Prelude.{◌≡◌, ℕ, ◌==◌, ◌<◌, ◌≤◌, Bool, true, false, not, ◌&&◌, ◌||◌, List, length, Option, None, Some, find, filter, map, slice_get, if◌then◌else◌}
+use Rattle.std.specs.Prelude.{◌≡◌, ℕ, ◌==◌, ◌<◌, ◌≤◌, nat_lt, Bool, true, false, not, ◌&&◌, ◌||◌, List, length, Option, None, Some, find, filter, map, slice_get, if◌then◌else◌}
 use Rattle.std.specs.List.{list_any, AllByRecursion}
 use Rattle.std.specs.Option.{is_some, option_map, option_map_or, option_and_then}
 use Rattle.drm_index_array.specs.Least.{least}
@@ -29,6 +29,10 @@ is_option n (Some m) = m == n
 
 abbrev pub is_client : ℕ → Member → Bool
 is_client c x = x.client == c
+
+-- the order of the clients
+abbrev pub member_before : Member → Member → Bool
+member_before x y = nat_lt x.client y.client
 
 abbrev pub member_of : List Member → ℕ → Option Member
 member_of members c = find (is_client c) members
@@ -153,7 +157,7 @@ HaveOtherMagics x y = (n : ℕ) → has_magic x.master n x ≡ true → has_magi
 
 -- the lists stand in the order of step numbers; all that is named is there; the device's master is some client's own; neither it
 -- nor the master of a client that is no master has a lessor; each master is held, or one below it; no two clients of a
--- master have one number, and there are no more clients than numbers
+-- master have one number, and there are no more clients than numbers; ids of lessees run to 64 at most
 pub record AreMasters (v : MasterSet) : Type 0 where
   pub members_rise : InOrder (λ (x y : Member). x.client < y.client) v.members
   pub masters_rise : InOrder (λ (x y : Master). x.step_number < y.step_number) v.masters
@@ -165,3 +169,4 @@ pub record AreMasters (v : MasterSet) : Type 0 where
   pub used : AllByRecursion (λ (x : Master). is_living v.members v.masters x.step_number ≡ true) v.masters
   pub magics_differ : InOrder HaveOtherMagics v.members
   pub few : length v.members ≤ v.last_magic
+  pub few_ids : v.last_lessee ≤ 64

@@ -1,6 +1,6 @@
 //! The clients that stand to masters, and the masters.
 
-ghost use Rattle.std.specs.Prelude.{◌≡◌, ◌<◌, ◌&&◌, ◌||◌, true, false, None, Some, [], find, length, slice_get, OnOk, OnErr, IfOk, IfSome, IsOk, not};
+ghost use Rattle.std.specs.Prelude.{◌≡◌, ◌<◌, ◌≤◌, ◌&&◌, ◌||◌, true, false, None, Some, [], find, length, slice_get, OnOk, OnErr, IfOk, IfSome, IsOk, not};
 ghost use Rattle.std.specs.Option.{is_some, option_map, option_map_or, option_and_then};
 ghost use Rattle.drm_lists.specs.Chains as chains;
 ghost use Rattle.drm_masters.specs.Masters as sets;
@@ -24,10 +24,12 @@ use std::marker::Model;
 
 /// The numbers of an audit's rows of clients and of masters (own).
 const CLIENT_KIND: u32 = 1;
+
 const MASTER_KIND: u32 = 2;
 
 /// The clients that stand to a master, the masters, and which of these is the device's (drm(7); drm-uapi, leases). A
-/// master stays while it, or one below it, is kept or named by a client. Contracts see flat lists, in the order of step numbers.
+/// master stays while it, or one below it, is kept or named by a client. Contracts see flat lists: clients in
+/// the order of their numbers, masters in the order of births.
 ///
 /// ```rust
 /// let mut masters = Masters::new(alloc, 4, 4);
@@ -69,13 +71,14 @@ impl Model for Masters {
 }
 
 impl Masters {
-    /// No client and no master: for so many clients at once, with magics from 1 to that, and for lessee ids from 1 to
-    /// `lessees` below each owner. It takes no memory.
+    /// Returns masters without clients. They hold at most `clients` clients, whose magics are 1 to `clients`, and give
+    /// lessee ids from 1 to `lessees`, at most 64, under each owner. Does not allocate.
     ///
     /// ```rust
     /// assert!(Masters::new(alloc, 4, 4).device_master().is_none());
     /// ```
     pub fn new(alloc: Global, clients: u32, lessees: u32) -> Masters
+        requires few { lessees ≤ 64 }
         ensures { result ≡ record { members = []; masters = []; device_master = None; last_magic = clients; last_lessee = lessees } }
     {
         Masters {
@@ -220,15 +223,20 @@ impl Masters {
         self.members.is_flagged(client)
     }
 
-    /// Adds a client that opened the primary node. While the device has no master the client gets a new one, made by the
-    /// step of this number, which becomes the device's: true. Else it stands to the device's master, and is none itself: false. Without memory
-    /// nothing changes.
+    /// Adds a client that opened the primary node. No client has this number yet.
+    ///
+    /// If the device has no master, the client owns a new one with this birth, which becomes the device's: true.
+    /// Otherwise the client belongs to the device's master and is no master itself: false.
+    ///
+    /// # Errors
+    ///
+    /// If memory is refused, nothing changes.
     ///
     /// ```rust
     /// assert!(is_first);
     /// ```
     pub fn on_open(&mut self, client: u32, birth: u32) -> Result<bool, NoMemory>
-        requires new_client { calls.IsNewClient self.old client }
+        requires new_client { is_some (sets.member_of self.old.members client) ≡ false }
         requires room { length self.old.members < self.old.last_magic }
         requires new_step_number { calls.IsNewStepNumber self.old birth }
         ensures made { IfOk result (λ made. made ≡ not (is_some self.old.device_master)) }
@@ -253,8 +261,12 @@ impl Masters {
         Ok(true)
     }
 
-    /// Adds the client that redeems a lessee, which is kept no more. It is a master, though not once a master by that
-    /// (own). Without memory nothing changes.
+    /// Adds the client that redeems a lessee, which is kept no more. No client has this number yet. The client is a
+    /// master, but not once a master by that (own).
+    ///
+    /// # Errors
+    ///
+    /// If memory is refused, nothing changes.
     ///
     /// ```rust
     /// let mut masters = Masters::new(alloc, 4, 4);
@@ -265,7 +277,7 @@ impl Masters {
     /// assert!(masters.is_lessee(3));
     /// ```
     pub fn on_redeem(&mut self, client: u32, master: MasterKey) -> Result<(), NoMemory>
-        requires new_client { calls.IsNewClient self.old client }
+        requires new_client { is_some (sets.member_of self.old.members client) ≡ false }
         requires room { length self.old.members < self.old.last_magic }
         requires unredeemed { option_map_or (λ x. x.kept && is_some x.lessor) (find (sets.is_key master) self.old.masters) false ≡ true }
         ensures ok { OnOk result (self.new ≡ calls.redeemed client (sets.step_number_at self.old.masters master) self.old) }
@@ -460,10 +472,7 @@ impl Masters {
         let Some(id) = self.free_lessee(lessor.step_number) else {
             return Err(LesseeFault::Full);
         };
-        let key = match self
-            .masters
-            .insert(lessee(birth, lessor.step_number, id))
-        {
+        let key = match self.masters.insert(lessee(birth, lessor.step_number, id)) {
             Ok(key) => key,
             Err(NoMemory) => return Err(LesseeFault::NoMemory),
         };
@@ -556,7 +565,7 @@ impl Masters {
         sweep_under(&self.members, &mut self.masters, top);
     }
 
-    /// The client at a place, from 0, in the order of step numbers, among those that stand to masters; none past the last. It
+    /// The client at a place, from 0, in the order of their numbers, among those that stand to masters; none past the last. It
     /// takes no memory.
     ///
     /// ```rust

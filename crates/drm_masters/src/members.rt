@@ -1,12 +1,13 @@
 //! The clients that stand to masters.
 
-ghost use Rattle.std.specs.Prelude.{◌≡◌, ◌==◌, ◌<◌, ◌++◌, ◌∷◌, ℕ, [], None, not, false, true, filter, map, length, slice_get, OnOk, OnErr, IfSome, if◌then◌else◌};
-ghost use Rattle.std.specs.List.{list_any, AllByRecursion};
+ghost use Rattle.std.specs.Prelude.{◌≡◌, ◌==◌, ◌++◌, ◌∷◌, ℕ, [], None, not, false, true, filter, map, length, slice_get, OnOk, OnErr, IfSome, if◌then◌else◌};
+ghost use Rattle.std.specs.List.{list_any};
 ghost use Rattle.std.specs.Option.{is_some, option_map_or};
 ghost use Rattle.std.specs.FinMap as fin;
 ghost use Rattle.std.specs.FinSet as set;
 ghost use Rattle.drm_masters.specs.Masters as sets;
 ghost use Rattle.drm_index_array.specs.Indexed.{with_item};
+ghost use Rattle.drm_index_array.specs.Rows.{placed};
 ghost use Rattle.drm_id_alloc.specs.Groups.{IsAdded, has};
 ghost use Rattle.drm_masters.specs.Tables.{member_row};
 
@@ -100,10 +101,10 @@ impl Members {
         self.named.next(master, 0).is_some()
     }
 
-    /// Adds a client that is newer than all, without a flag. Without memory nothing changes.
+    /// Adds a client that is not there, without a flag. If memory is refused, nothing changes.
     pub fn add(&mut self, member: Member) -> Result<(), NoMemory>
-        requires newest { AllByRecursion (λ x. x.client < member.client) self.old.items }
-        ensures ok { OnOk result (self.new.items ≡ self.old.items ++ member ∷ []) }
+        requires new_client { is_some (sets.member_of self.old.items member.client) ≡ false }
+        ensures ok { OnOk result (self.new.items ≡ placed sets.member_before member self.old.items) }
         ensures flags { self.new.flags ≡ self.old.flags }
         ensures err { OnErr result (self.new ≡ self.old) }
     {

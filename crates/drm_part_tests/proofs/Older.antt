@@ -8,7 +8,6 @@ use Rattle.drm_lists.proofs.Lists.{all_weaker, all_append, all_filter, all_mappe
 use Rattle.drm_lists.proofs.Rising.{found, all_found}
 use Rattle.drm_modes.specs.Modes.{ModeSet}
 use Rattle.drm_masters.specs.declared.rows.Master.{Master}
-use Rattle.drm_masters.specs.declared.rows.Member.{Member}
 use Rattle.drm_masters.specs.Masters.{MasterSet, AreMasters, is_key, is_step_number, master_at, lessor_of, is_below, is_living, swept, IsKeyOf}
 use Rattle.drm_masters.specs.Calls as masters_calls
 use Rattle.drm_leases.specs.declared.faults.LeaseFault.{LeaseFault}
@@ -25,7 +24,7 @@ later_still : {X : Type 0} (f : X → ℕ) (n : ℕ) (xs : List X) → AllByRecu
 later_still f n xs h = all_weaker (λ x. f x < n) (λ x. f x < n + 1) (λ x lt. omega (arith, lt)) xs h
 
 pub later : (v : MasterSet) (n : ℕ) → IsBefore v n → IsBefore v (n + 1)
-later v n h = record { step_numbers = later_still (λ (x : Master). x.step_number) n v.masters h.step_numbers; clients = later_still (λ (x : Member). x.client) n v.members h.clients; few = h.few; four = h.four }
+later v n h = record { step_numbers = later_still (λ (x : Master). x.step_number) n v.masters h.step_numbers; four = h.four }
 
 pub later_lessees : (l : LeaseSet) (n : ℕ) → IsNewLessee l n → IsNewLessee l (n + 1)
 later_lessees l n h = record { tokens = later_still (λ (row : LeaseToken). row.master) n l.tokens h.tokens; grants = later_still (λ (g : Grant). g.master) n l.grants h.grants }
@@ -60,8 +59,6 @@ module _ (v : MasterSet) (n : ℕ) (p : ℕ → Bool) (h : IsBefore v n) where
       let older = λ (x : Master) (lt : x.step_number < n). elim (p x.step_number) as (λ b. (if b then masters_calls.kept_as false x else x).step_number < n) [ true ↦ lt | false ↦ lt ] in
       record {
         step_numbers = all_filter (λ (x : Master). x.step_number < n) (λ (x : Master). is_living v.members now x.step_number) now (all_mapped (λ (x : Master). x.step_number < n) g v.masters (all_weaker (λ (x : Master). x.step_number < n) (λ x. (g x).step_number < n) older v.masters h.step_numbers));
-        clients = h.clients;
-        few = h.few;
         four = h.four;
       }
 
@@ -98,8 +95,6 @@ entered_before v v2 c m h e =
     subst (λ (w : MasterSet). IsBefore w (c + 1)) (sym e)
     (record {
       step_numbers = all_mapped (λ (x : Master). x.step_number < c + 1) g v.masters (all_weaker (λ (x : Master). x.step_number < c + 1) (λ x. (g x).step_number < c + 1) older v.masters k.step_numbers);
-      clients = all_append (λ (x : Member). x.client < c + 1) v.members (masters_calls.lease_client c m ∷ []) k.clients (omega arith, tt);
-      few = k.few;
       four = k.four;
     })
 

@@ -1,10 +1,8 @@
--- What the tests know of masters before a step: all are older, and so are the clients, of which four may be there.
-use Rattle.std.specs.Prelude.{◌≡◌, ℕ, ◌≤◌}
+-- What the tests know of masters before a step: all are older, and four clients may be there.
+use Rattle.std.specs.Prelude.{◌≡◌, ℕ}
 use Rattle.drm_masters.specs.Masters.{MasterSet}
-use Rattle.drm_masters.specs.Calls.{IsNewStepNumber, IsNewClient}
+use Rattle.drm_masters.specs.Calls.{IsNewStepNumber}
 
 pub record IsBefore (v : MasterSet) (step_number : ℕ) : Type 0 where
   pub step_numbers : IsNewStepNumber v step_number
-  pub clients : IsNewClient v step_number
-  pub few : v.last_lessee ≤ 64
   pub four : v.last_magic ≡ 4

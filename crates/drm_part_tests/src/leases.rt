@@ -1,6 +1,6 @@
 //! Leases and their tokens, call by call.
 
-ghost use Rattle.std.specs.Prelude.{◌≡◌, ◌+◌, ◌<◌, ◌≤◌, IfOk, Some, Err};
+ghost use Rattle.std.specs.Prelude.{◌≡◌, ◌+◌, ◌<◌, IfOk, Some, Err};
 ghost use Rattle.drm_leases.specs.declared.faults.LeaseFault.{LeaseFault as AFault};
 ghost use Rattle.drm_leases.specs.Leases.{LeaseSet};
 ghost use Rattle.drm_leases.specs.Calls.{IsNewLessee};
@@ -137,6 +137,9 @@ fn enter(masters: &mut Masters, lessee: u32, client: u32) -> Told
     if !row.kept || row.lessor.is_none() || masters.nth_member(3).is_some() {
         return Told::Unasked;
     }
+    if masters.member(client).is_some() {
+        return Told::Unasked;
+    }
     match masters.on_redeem(client, row.key) {
         Ok(()) => Told::Done,
         Err(_fault) => Told::NoMemory,
@@ -216,8 +219,7 @@ fn told_grant(leases: &Leases, place: usize) -> Told {
 
 /// Asks what changes nothing.
 fn told_of(leases: &Leases, masters: &Masters, ask: Ask) -> Told
-    requires few { masters.now.last_lessee ≤ 64 }
-    requires agreed { AreAgreed leases.now masters.now }
+    requires { AreAgreed leases.now masters.now }
 {
     match ask {
         Ask::Has(lessee, ids) => Told::Whether(has(leases, lessee, ids)),

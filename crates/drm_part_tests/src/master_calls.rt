@@ -1,8 +1,9 @@
 //! Calls of masters as data, each made where it may be.
 
-ghost use Rattle.std.specs.Prelude.{◌≡◌, ◌<◌, true, length, IfSome};
-ghost use Rattle.drm_masters.specs.Calls.{IsNewClient, IsNewStepNumber};
-ghost use Rattle.drm_masters.specs.Masters.{is_there};
+ghost use Rattle.std.specs.Prelude.{◌≡◌, ◌<◌, true, false, length, IfSome};
+ghost use Rattle.std.specs.Option.{is_some};
+ghost use Rattle.drm_masters.specs.Calls.{IsNewStepNumber};
+ghost use Rattle.drm_masters.specs.Masters.{is_there, member_of};
 
 use drm_masters::{LesseeFault, Master, MasterKey, Masters, Member, SetDone, SetFault};
 use drm_table::Rule;
@@ -11,6 +12,8 @@ use drm_table::Rule;
 #[derive(Clone, Copy)]
 pub(crate) enum Ask {
     Open(u32),
+    /// A client opens, by the step of a number.
+    OpenBy(u32, u32),
     /// A client opens by a lessee.
     Redeem(u32, u32),
     /// A client sets the device's master, by the step of a number.
@@ -65,15 +68,6 @@ pub(crate) enum Told {
     },
 }
 
-fn is_older_client(row: Option<Member>, client: u32) -> bool
-    ensures { result ≡ true → IfSome row (λ x. x.client < client) }
-{
-    match row {
-        Some(row) => row.client < client,
-        None => true,
-    }
-}
-
 fn is_older(row: Option<Master>, step_number: u32) -> bool
     ensures { result ≡ true → IfSome row (λ x. x.step_number < step_number) }
 {
@@ -83,16 +77,14 @@ fn is_older(row: Option<Master>, step_number: u32) -> bool
     }
 }
 
-/// Whether a client may open by a step: there are three at most, which are older.
+/// Returns whether a client may open: no client has its number, and there are three at most.
 fn is_new_client(masters: &Masters, client: u32) -> bool
-    ensures older { result ≡ true → IsNewClient masters.now client }
+    ensures new { result ≡ true → is_some (member_of masters.now.members client) ≡ false }
     ensures few { result ≡ true → length masters.now.members < 4 }
 {
-    let is_first = is_older_client(masters.nth_member(0), client);
-    let is_second = is_older_client(masters.nth_member(1), client);
-    let is_third = is_older_client(masters.nth_member(2), client);
+    let is_new = masters.member(client).is_none();
     let is_last = masters.nth_member(3).is_none();
-    is_last && is_first && is_second && is_third
+    is_last && is_new
 }
 
 /// Whether a step may make a master: there are three at most, which are older.
@@ -165,14 +157,14 @@ fn told_master(masters: &Masters, row: Option<Master>) -> Told {
     }
 }
 
-fn opened(masters: &mut Masters, client: u32) -> Told
+fn opened(masters: &mut Masters, client: u32, birth: u32) -> Told
     requires { masters.old.last_magic ≡ 4 }
     ensures { masters.new.last_magic ≡ 4 }
 {
-    if !is_new_client(masters, client) || !is_new_step_number(masters, client) {
+    if !is_new_client(masters, client) || !is_new_step_number(masters, birth) {
         return Told::Unasked;
     }
-    match masters.on_open(client, client) {
+    match masters.on_open(client, birth) {
         Ok(made) => Told::Whether(made),
         Err(_fault) => Told::NoMemory,
     }
@@ -335,7 +327,8 @@ pub(crate) fn asked(masters: &mut Masters, ask: Ask) -> Told
     ensures { masters.new.last_magic ≡ 4 }
 {
     match ask {
-        Ask::Open(client) => opened(masters, client),
+        Ask::Open(client) => opened(masters, client, client),
+        Ask::OpenBy(client, birth) => opened(masters, client, birth),
         Ask::Redeem(client, lessee) => redeemed(masters, client, lessee),
         Ask::Set(client, step_number) => set(masters, client, false, step_number),
         Ask::SetAsRoot(client, step_number) => set(masters, client, true, step_number),

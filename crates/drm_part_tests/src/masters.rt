@@ -360,9 +360,50 @@ const ROWS: [Case; 15] = [
     (Ask::Master(2), Told::Nothing),
 ];
 
+const GUEST_1: Told = Told::Client(Member {
+    client: 1,
+    once_master: false,
+    is_master: false,
+    master: 1,
+    magic: None,
+});
+
+const LEASE_CLIENT_2: Told = Told::Client(Member {
+    client: 2,
+    once_master: false,
+    is_master: true,
+    master: 4,
+    magic: None,
+});
+
+const OWNER_3: Told = Told::Client(Member {
+    client: 3,
+    once_master: true,
+    is_master: true,
+    master: 1,
+    magic: None,
+});
+
+/// The numbers of clients do not rise from one opening to the next. Clients are listed by their numbers.
+const UNORDERED: [Case; 12] = [
+    (Ask::OpenBy(3, 1), Told::Whether(true)),
+    (Ask::OpenBy(1, 2), Told::Whether(false)),
+    (Ask::OpenBy(3, 3), Told::Unasked),
+    (Ask::Lend(1, 4), Told::Lent(4, 1)),
+    (Ask::Redeem(2, 4), Told::Done),
+    (Ask::NthMember(0), GUEST_1),
+    (Ask::NthMember(1), LEASE_CLIENT_2),
+    (Ask::NthMember(2), OWNER_3),
+    (Ask::NthMember(3), Told::Nothing),
+    (Ask::IsCurrent(1), Told::Whether(false)),
+    (Ask::IsCurrent(2), Told::Whether(true)),
+    (Ask::IsCurrent(3), Told::Whether(true)),
+];
+
 #[test]
 fn rows_in_the_order_of_step_numbers(rt: HostRuntime) {
     check_new(&rt, rt.alloc(), &ROWS);
+    check_new(&rt, rt.alloc(), &UNORDERED);
 }
 
 /// What is there after a client that was refused, which then opens.

@@ -1,7 +1,7 @@
 //! Objects and what refers to them, call by call.
 
-ghost use Rattle.std.specs.Prelude.{◌≡◌, ◌<◌, true, IfSome};
-ghost use Rattle.drm_gem.specs.Objects.{IsNewStepNumber, is_there};
+ghost use Rattle.std.specs.Prelude.{◌≡◌, ◌==◌, true, false, IfSome};
+ghost use Rattle.drm_gem.specs.Objects.{IsUnusedBirth, is_there};
 
 use crate::asking::{Call, Told, check};
 use drm_gem::{CreateFault, Dead, Object, ObjectKey, Objects};
@@ -37,31 +37,31 @@ enum Ask {
     HasNth(usize),
 }
 
-fn is_older(object: Option<Object>, step_number: u32) -> bool
-    ensures { result ≡ true → IfSome object (λ x. x.step_number < step_number) }
+fn is_of_another(object: Option<Object>, birth: u32) -> bool
+    ensures { result ≡ true → IfSome object (λ x. (x.step_number == birth) ≡ false) }
 {
     match object {
-        Some(object) => object.step_number < step_number,
+        Some(object) => object.step_number != birth,
         None => true,
     }
 }
 
-/// Whether a step may make an object: there are three at most, which are older.
-fn is_new_step_number(objects: &Objects, step_number: u32) -> bool
-    ensures { result ≡ true → IsNewStepNumber objects.now step_number }
+/// Returns whether no object has the birth. There are three at most.
+fn is_unused_birth(objects: &Objects, birth: u32) -> bool
+    ensures { result ≡ true → IsUnusedBirth objects.now birth }
 {
-    let is_first = is_older(objects.nth(0), step_number);
-    let is_second = is_older(objects.nth(1), step_number);
-    let is_third = is_older(objects.nth(2), step_number);
-    let is_last = objects.nth(3).is_none();
+    let is_first = is_of_another(objects.nth_object(0), birth);
+    let is_second = is_of_another(objects.nth_object(1), birth);
+    let is_third = is_of_another(objects.nth_object(2), birth);
+    let is_last = objects.nth_object(3).is_none();
     is_last && is_first && is_second && is_third
 }
 
-fn created(objects: &mut Objects, step_number: u32, size: u64) -> Told {
-    if !is_new_step_number(objects, step_number) {
+fn created(objects: &mut Objects, birth: u32, size: u64) -> Told {
+    if !is_unused_birth(objects, birth) {
         return Told::Unasked;
     }
-    match objects.create(step_number, size) {
+    match objects.create(birth, size) {
         Ok(key) => Told::Number(key.number()),
         Err(CreateFault::Full) => Told::Full,
         Err(CreateFault::NoMemory) => Told::NoMemory,
@@ -136,11 +136,11 @@ impl Call<Objects> for Ask {
             Ask::Get(number, counts) => {
                 is_told(objects.get(ObjectKey::from_number(number)), counts)
             }
-            Ask::Nth(place, counts) => is_told(objects.nth(place), counts),
+            Ask::Nth(place, counts) => is_told(objects.nth_object(place), counts),
             Ask::IsThere(number) => {
                 Told::Whether(objects.get(ObjectKey::from_number(number)).is_some())
             }
-            Ask::HasNth(place) => Told::Whether(objects.nth(place).is_some()),
+            Ask::HasNth(place) => Told::Whether(objects.nth_object(place).is_some()),
             Ask::Hold(number) => asked_of(objects, number, self),
             Ask::Unhold(number) => asked_of(objects, number, self),
             Ask::Refer(number) => asked_of(objects, number, self),
@@ -252,6 +252,50 @@ const MIDDLE: [Case; 10] = [
     (Ask::HasNth(2), Told::Whether(false)),
 ];
 
+const OF_BIRTH_2: Counts = Counts {
+    step_number: 2,
+    size: 8192,
+    stamp: 0,
+    holds: 1,
+    refs: 0,
+};
+
+const OF_BIRTH_5: Counts = Counts {
+    step_number: 5,
+    size: 4096,
+    stamp: 0,
+    holds: 1,
+    refs: 0,
+};
+
+const OF_BIRTH_9: Counts = Counts {
+    step_number: 9,
+    size: 12288,
+    stamp: 0,
+    holds: 1,
+    refs: 0,
+};
+
+/// Births do not rise from one call to the next. Objects are listed by their births.
+const UNORDERED: [Case; 10] = [
+    (Ask::Create(5, 4096), Told::Number(0)),
+    (Ask::Create(2, 8192), Told::Number(1)),
+    (Ask::Create(9, 12288), Told::Number(2)),
+    (Ask::Create(5, 4096), Told::Unasked),
+    (Ask::Nth(0, OF_BIRTH_2), Told::Whether(true)),
+    (Ask::Nth(1, OF_BIRTH_5), Told::Whether(true)),
+    (Ask::Nth(2, OF_BIRTH_9), Told::Whether(true)),
+    (Ask::HasNth(3), Told::Whether(false)),
+    (
+        Ask::Unhold(0),
+        Told::Gone(Dead {
+            birth: 5,
+            size: 4096,
+        }),
+    ),
+    (Ask::Create(5, 64), Told::Number(0)),
+];
+
 /// So many objects may be there.
 fn check_objects(rt: &impl Abort, alloc: Global, limit: u32, cases: &[Case]) {
     check(rt, &mut Objects::new(alloc, limit), cases);
@@ -263,4 +307,5 @@ fn references_of_objects(rt: HostRuntime) {
     check_objects(&rt, rt.alloc(), 1, &LAST_HANDLE);
     check_objects(&rt, rt.alloc(), 1, &LAST_TOKEN);
     check_objects(&rt, rt.alloc(), 3, &MIDDLE);
+    check_objects(&rt, rt.alloc(), 4, &UNORDERED);
 }

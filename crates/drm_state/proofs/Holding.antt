@@ -8,6 +8,7 @@ use Rattle.drm_lists.specs.Numbers.{is_among}
 use Rattle.drm_lists.proofs.Lists.{all_weaker, all_append, all_filter, filter_true, all_both}
 use Rattle.drm_lists.proofs.Found.{is_some-find, is_among-map_filter}
 use Rattle.drm_lists.proofs.Orders.{RisesTo, in_order_filter, same-trans, same-refl, same-cons, same-swap, moved_in, same_parts}
+use Rattle.drm_lists.proofs.Placed as lists
 use Rattle.drm_files.specs.declared.rows.FileHandle.{FileHandle}
 use Rattle.drm_files.specs.Files.{FileLists, is_handle, of_client, handle_before, placed, handles_of, free_handle}
 use Rattle.drm_index_array.proofs.Least.{least_some}
@@ -19,18 +20,14 @@ AreInOrder holds = InOrder (λ x y. handle_before x y ≡ true) holds
 
 -- one more row, where it belongs
 pub placed_same : {X : Type 0} (before : X → X → Bool) (x : X) (xs : List X) → SameRows (x ∷ xs) (placed before x xs)
-placed_same before x xs =
-    let front = filter (λ y. before y x) xs in
-    let behind = filter (λ y. not (before y x)) xs in
-    same-trans (x ∷ xs) (x ∷ (front ++ behind)) (front ++ x ∷ behind) (same-cons x xs (front ++ behind) (same_parts (λ y. before y x) xs)) (moved_in x front behind)
+placed_same before x xs = lists.same_placed (λ y. before y x) x xs
 
 pub same_placed : (h : FileHandle) (hs : List FileHandle) → SameRows (h ∷ hs) (placed handle_before h hs)
 same_placed h hs = placed_same handle_before h hs
 
 -- what is so of a row and of all others is so of all
 pub all_placed : {X : Type 0} (before : X → X → Bool) (P : X → Type 0) (x : X) (xs : List X) → P x → AllByRecursion P xs → AllByRecursion P (placed before x xs)
-all_placed before P x xs h k =
-    all_append P (filter (λ y. before y x) xs) (x ∷ filter (λ y. not (before y x)) xs) (all_filter P (λ y. before y x) xs k) (h, all_filter P (λ y. not (before y x)) xs k)
+all_placed before P x xs h k = lists.all_placed P (λ y. before y x) x xs h k
 
 before-trans : (x y z : FileHandle) → handle_before x y ≡ true → handle_before y z ≡ true → handle_before x z ≡ true
 before-trans x y z h k = grind (arith, nat_tests)

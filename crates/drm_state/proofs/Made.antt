@@ -13,8 +13,7 @@ use Rattle.drm_lists.proofs.Numbers.{among-left, among-right, among-more}
 use Rattle.drm_lists.proofs.Orders.{same-map, same-trans, same-any, same-cons, last_first}
 use Rattle.drm_gem.specs.declared.object.Object.{Object}
 use Rattle.drm_gem.specs.declared.object.Dead.{Dead}
-use Rattle.drm_gem.specs.Objects as gem
-use Rattle.drm_gem.specs.Objects.{ObjectSet, IsNewStepNumber, is_key, object_at, passes, without_key, unheld, is_unused, dead_of, dead_after}
+use Rattle.drm_gem.specs.Objects.{ObjectSet, IsNewStepNumber, is_key, object_at, passes, without_key, unheld, is_unused, dead_of, dead_after, new_object}
 use Rattle.drm_files.specs.declared.rows.FileHandle.{FileHandle}
 use Rattle.drm_files.specs.Files as files
 use Rattle.drm_files.specs.Files.{handle_before, placed, with_handle_row, hold}
@@ -35,8 +34,9 @@ use Rattle.drm_state.proofs.Counting.{is_found, same_invariants, created_invaria
 use Rattle.drm_state.proofs.Naming.{same_numbers}
 use Rattle.drm_state.proofs.Holding.{same_placed, in_order_placed, free_is_new}
 
-abbrev pub new_object : ℕ → ℕ → ℕ → Object
-new_object key step_number size = record { key = key; step_number = step_number; size = size; stamp = 0; holds = 1; refs = 0 }
+-- one more object, younger than all others
+abbrev pub with_newest : ObjectSet → ℕ → ℕ → ℕ → ObjectSet
+with_newest set key birth size = record set { objects = set.objects ++ new_object key birth size ∷ [] }
 
 -- ---- a new object is taken back
 
@@ -45,12 +45,12 @@ drop_last key y e [] h = ap (λ b. cond (not b) (y ∷ []) []) e
 drop_last key y e (x ∷ xs) h =
     ap (λ b. cond (not b) (x ∷ filter (λ (x : Object). not (x.key == key)) (xs ++ y ∷ [])) (filter (λ (x : Object). not (x.key == key)) (xs ++ y ∷ []))) h.0 ∙ ap (λ l. x ∷ l) (drop_last key y e xs h.1)
 
-pub made_there : (old set : ObjectSet) (key step_number size : ℕ) → object_at old key ≡ None → set ≡ gem.with_object old key step_number size → passes (λ x. nat_le 1 x.holds) set key ≡ true
+pub made_there : (old set : ObjectSet) (key step_number size : ℕ) → object_at old key ≡ None → set ≡ with_newest old key step_number size → passes (λ x. nat_le 1 x.holds) set key ≡ true
 made_there old set key step_number size fresh e =
     ap (λ (o : ObjectSet). passes (λ x. nat_le 1 x.holds) o key) e
     ∙ ap (λ o. option_map_or (λ (x : Object). nat_le 1 x.holds) o false) (find_last (is_key key) (new_object key step_number size) (eq-eqb key key refl) old.objects (none_found (is_key key) old.objects fresh))
 
-pub taken_back : (old set new : ObjectSet) (key step_number size : ℕ) (left : Option Dead) → object_at old key ≡ None → set ≡ gem.with_object old key step_number size → left ≡ dead_after unheld set key → OnSome left (new ≡ without_key key set) → new ≡ old
+pub taken_back : (old set new : ObjectSet) (key step_number size : ℕ) (left : Option Dead) → object_at old key ≡ None → set ≡ with_newest old key step_number size → left ≡ dead_after unheld set key → OnSome left (new ≡ without_key key set) → new ≡ old
 taken_back old set new key step_number size left fresh e is gone =
     let others = none_found (is_key key) old.objects fresh in
     let x = new_object key step_number size in
@@ -110,7 +110,7 @@ new_number key step_number size objects fresh = ap (λ o. option_map_or (λ (x :
 
 -- the state with a new object and a handle of it
 abbrev pub with_made : State → ℕ → ℕ → ℕ → ℕ → ℕ → State
-with_made s c handle key step_number size = record s { files = with_handle_row s.files (hold c handle key None); objects = gem.with_object s.objects key step_number size }
+with_made s c handle key step_number size = record s { files = with_handle_row s.files (hold c handle key None); objects = with_newest s.objects key step_number size }
 
 pub made : (s : State) (w : Rows) (c handle key b size : ℕ) → MeetsInvariants s → RepresentsAt s b w → object_at s.objects key ≡ None → files.free_handle s.files c ≡ Some handle → (part : Part) → represents_part part (with_made s c handle key b size) (with_object w c size)
 unfolding represents_part with_object

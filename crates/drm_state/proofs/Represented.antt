@@ -12,7 +12,7 @@ use Rattle.drm_modes.specs.Modes.{AreModes}
 use Rattle.drm_state.specs.declared.state.State.{State}
 use Rattle.drm_state.specs.Parts.{clients_of, masters_of, magics_of, holds_of, objects_of, names_of, tokens_of, grants_of, framebuffers_of, shown_of, last_token_of, last_lease_token_of, keys_of, referring_keys}
 use Rattle.drm_leases.specs.Agreed.{AreAgreed}
-use Rattle.drm_state.specs.Invariants.{MembersOpen, ClientsHave, MastersAre, MagicsSuffice, LesseesFew, LeasesAre, TokensOfLessees, KeptHaveTokens, LeasesAgree, ModesAre, HoldsRise, ObjectsCounted, NamesHeld, meets_invariant, MeetsInvariants, AreCounted, AreNamed, AreOfLessees, AreKeptBy, HasMaster}
+use Rattle.drm_state.specs.Invariants.{MembersOpen, ClientsHave, MastersAre, MagicsSuffice, LeasesAre, TokensOfLessees, KeptHaveTokens, LeasesAgree, ModesAre, HoldsRise, ObjectsCounted, NamesHeld, meets_invariant, MeetsInvariants, AreCounted, AreNamed, AreOfLessees, AreKeptBy, HasMaster}
 use Rattle.drm_model.specs.Parts.{Bounds, Clients, Masters, Magics, Holds, Objects, Names, Tokens, Grants, Framebuffers, Shown, DeviceMaster, LastToken, LastLeaseToken}
 use Rattle.drm_state.specs.Refinement.{represents_part, Represents, HaveBounds}
 
@@ -85,10 +85,6 @@ module _ (s : State) (t : MeetsInvariants s) where
   pub masters_so : AreMasters s.masters
   unfolding meets_invariant
   masters_so = t MastersAre
-
-  pub lessees_few : s.masters.last_lessee ≤ 64
-  unfolding meets_invariant
-  lessees_few = t LesseesFew
 
   pub leases_so : AreLeases s.leases
   unfolding meets_invariant

@@ -39,10 +39,10 @@ use Rattle.drm_masters.specs.Masters.{MasterSet, AreMasters}
 use Rattle.drm_leases.specs.Leases.{LeaseSet, AreLeases}
 use Rattle.drm_state.specs.declared.state.State.{State}
 use Rattle.drm_state.specs.Parts.{clients_of, masters_of, magics_of, names_of, objects_of, client_row_by, magic_row_of, handle_row_of, name_row_of, token_row_of, framebuffer_row_of, framebuffers_of, shown_row_of, object_row_of, master_row_of, step_number_at, keys_of, token_keys, framebuffer_keys, referring, referring_keys, without_tokens_of, LosesFramebuffersOf, grant_row_of, grants_of, device_without, own_master, is_below, released, ended, ends_with, without_its_master, without_its_leases}
-use Rattle.drm_state.specs.Invariants.{Invariant, MembersOpen, ClientsHave, MastersAre, MagicsSuffice, LesseesFew, LeasesAre, TokensOfLessees, KeptHaveTokens, LeasesAgree, ModesAre, HoldsRise, ObjectsCounted, NamesHeld, meets_invariant, MeetsInvariants, HasMaster, AreCounted, AreNamed, AreThoseNamed, Leaves, names_among}
+use Rattle.drm_state.specs.Invariants.{Invariant, MembersOpen, ClientsHave, MastersAre, MagicsSuffice, LeasesAre, TokensOfLessees, KeptHaveTokens, LeasesAgree, ModesAre, HoldsRise, ObjectsCounted, NamesHeld, meets_invariant, MeetsInvariants, HasMaster, AreCounted, AreNamed, AreThoseNamed, Leaves, names_among}
 use Rattle.drm_model.specs.Parts.{Part, Bounds, Clients, Masters, Magics, Holds, Objects, Names, Tokens, Grants, Framebuffers, Shown, DeviceMaster, LastToken}
 use Rattle.drm_state.specs.Refinement.{represents_part, Represents}
-use Rattle.drm_state.proofs.Represented.{bounds_are, clients_are, masters_are, magics_are, holds_are, objects_are, names_are, tokens_are, grants_are, framebuffers_are, shown_are, device_master_is, last_token_is, members_open, clients_have, masters_so, lessees_few, tokens_of_lessees, kept_have_tokens, leases_agree, magics_suffice, modes_so, holds_rise, objects_counted, names_held}
+use Rattle.drm_state.proofs.Represented.{bounds_are, clients_are, masters_are, magics_are, holds_are, objects_are, names_are, tokens_are, grants_are, framebuffers_are, shown_are, device_master_is, last_token_is, members_open, clients_have, masters_so, tokens_of_lessees, kept_have_tokens, leases_agree, magics_suffice, modes_so, holds_rise, objects_counted, names_held}
 use Rattle.drm_state.proofs.Counting.{all_named}
 use Rattle.drm_state.proofs.Naming.{references, references_by, among_numbers, among_key, holds_naming, holds_as_before, tokens_as_before, framebuffers_as_before, names_as_before, rows_left}
 use Rattle.drm_state.proofs.Frames.{shown_left, shown_yet, some_framed, framed_left}
@@ -377,7 +377,6 @@ unfolding meets_invariant
 client_gone_invariants s c ms names set t are leases_are modes_are left MembersOpen = members_open_left c s.files.clients s.masters.members (members_open s t)
 client_gone_invariants s c ms names set t are leases_are modes_are left ClientsHave = have_left s.masters c s.files.clients (clients_have s t)
 client_gone_invariants s c ms names set t are leases_are modes_are left MastersAre = are
-client_gone_invariants s c ms names set t are leases_are modes_are left LesseesFew = lessees_few s t
 client_gone_invariants s c ms names set t are leases_are modes_are left LeasesAre = leases_are
 client_gone_invariants s c ms names set t are leases_are modes_are left TokensOfLessees =
     let below = ends_with s.masters c in

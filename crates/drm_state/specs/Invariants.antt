@@ -73,7 +73,7 @@ abbrev pub AreKeptBy : List LeaseToken → List Master → Type 0
 AreKeptBy tokens ms = AllByRecursion (λ (x : Master). x.kept ≡ is_some (token_of tokens x.step_number)) ms
 
 -- the invariants of the parts: who stands to masters is open, and of the clients all but those of render nodes do; what is so of masters
--- at all times, and there are as many magics as clients may be, and 64 ids of lessees at most; what is so of leases at all times,
+-- at all times, and there are as many magics as clients may be; what is so of leases at all times,
 -- whose open tokens are of lessees, and of masters those are kept that have one; leases agree with masters; what is so of mode objects at all times; handles stand in the order of their clients and numbers; objects are those that handles, tokens and framebuffers name, which they
 -- count; names are of objects that handles name
 pub data Invariant : Type 0 where
@@ -81,7 +81,6 @@ pub data Invariant : Type 0 where
   ClientsHave : Invariant
   MastersAre : Invariant
   MagicsSuffice : Invariant
-  LesseesFew : Invariant
   LeasesAre : Invariant
   TokensOfLessees : Invariant
   KeptHaveTokens : Invariant
@@ -96,7 +95,6 @@ meets_invariant MembersOpen s = AllByRecursion (λ (x : Member). is_open_client 
 meets_invariant ClientsHave s = AllByRecursion (HasMaster s.masters) s.files.clients
 meets_invariant MastersAre s = AreMasters s.masters
 meets_invariant MagicsSuffice s = s.masters.last_magic ≡ s.files.limit
-meets_invariant LesseesFew s = s.masters.last_lessee ≤ 64
 meets_invariant LeasesAre s = AreLeases s.leases
 meets_invariant TokensOfLessees s = AreOfLessees s.leases.tokens s.masters.masters
 meets_invariant KeptHaveTokens s = AreKeptBy s.leases.tokens s.masters.masters

@@ -2,6 +2,7 @@ use Rattle.std.proofs.Common.{◌≡◌, ℕ, ◌<◌, ◌≤◌, ◌&&◌, true
 use Rattle.std.specs.Option.{unwrap_or, is_some}
 use Rattle.std.proofs.lemmas.Bool.{cases_lt}
 use Rattle.drm_gem.specs.declared.objects.CreateFault.TheVariants as faults
+use Rattle.drm_gem.proofs.Newest.{newest_unused, newest_last}
 use Rattle.drm_files.specs.Files as files
 use Rattle.drm_model.specs.Rows.{Rows, free_handle, has_object_room}
 use Rattle.drm_model.specs.Buffers.{has_buffer_room, with_object}
@@ -47,11 +48,18 @@ returns-in-Err-NoMemory-clause-makes c = λ w s.
     let less : length c.args.state.now.objects.objects < c.args.state.now.objects.limit = below _ _ (λ le. not_full c.in-Err-NoMemory.field-0-is (c.in-Err-NoMemory.ensures.full.1 le)) in
     (room w c.args.client free (object_room c.args.state.now w s.rows less), subst (λ o. Represents (record c.args.state.now { objects = o }) w) (sym c.in-Err-NoMemory.ensures.err) s.rows)
 
+pub create-requires : goal.create-requires
+create-requires c = record { unused = newest_unused c.args.state.now.objects c.args.step_number c.requires.precondition.later.objects }
+
 pub unhold-dead-requires : goal.unhold-dead-requires
-unhold-dead-requires c = made_there c.args.state.now.objects c.create.new.self c.in-Ok.made c.args.step_number c.args.size c.in-Ok.ensures.fresh c.in-Ok.ensures.ok
+unhold-dead-requires c =
+    let last = newest_last c.args.state.now.objects c.in-Ok.made c.args.step_number c.args.size c.requires.precondition.later.objects in
+    made_there c.args.state.now.objects c.create.new.self c.in-Ok.made c.args.step_number c.args.size c.in-Ok.ensures.fresh (c.in-Ok.ensures.ok ∙ last)
 
 back : (c : goal.After-unhold-dead) → c.unhold-dead.new.self ≡ c.args.state.now.objects
-back c = taken_back c.args.state.now.objects c.create.new.self c.unhold-dead.new.self c.in-Ok.made c.args.step_number c.args.size c.unhold-dead.result c.in-Ok.ensures.fresh c.in-Ok.ensures.ok c.unhold-dead.ensures.dead c.unhold-dead.ensures.gone
+back c =
+    let last = newest_last c.args.state.now.objects c.in-Ok.made c.args.step_number c.args.size c.requires.precondition.later.objects in
+    taken_back c.args.state.now.objects c.create.new.self c.unhold-dead.new.self c.in-Ok.made c.args.step_number c.args.size c.unhold-dead.result c.in-Ok.ensures.fresh (c.in-Ok.ensures.ok ∙ last) c.unhold-dead.ensures.dead c.unhold-dead.ensures.gone
 
 pub returns-in_default-clause-makes : goal.returns-in_default-clause-makes
 unfolding MakesBuffer
@@ -69,19 +77,21 @@ returns-in_default-clause-invariants c =
 
 pub returns-clause-invariants : goal.returns-clause-invariants
 returns-clause-invariants c =
+    let last = newest_last c.args.state.now.objects c.in-Ok.made c.args.step_number c.args.size c.requires.precondition.later.objects in
     subst (λ fs. MeetsInvariants (record c.args.state.now { files = fs; objects = c.create.new.self })) (sym c.in-Ok-add_handle.ensures.ok)
-    (subst (λ o. MeetsInvariants (record c.args.state.now { files = files.with_handle_row c.args.state.now.files (files.hold c.args.client c.in-Ok-add_handle.handle c.in-Ok.made None); objects = o })) (sym c.in-Ok.ensures.ok)
+    (subst (λ o. MeetsInvariants (record c.args.state.now { files = files.with_handle_row c.args.state.now.files (files.hold c.args.client c.in-Ok-add_handle.handle c.in-Ok.made None); objects = o })) (sym (c.in-Ok.ensures.ok ∙ last))
     (made_invariants c.args.state.now c.args.client c.in-Ok-add_handle.handle c.in-Ok.made c.args.step_number c.args.size c.requires.precondition.invariants c.requires.precondition.later.objects c.in-Ok.ensures.fresh c.in-Ok-add_handle.ensures.given))
 
 pub returns-clause-makes : goal.returns-clause-makes
 unfolding MakesBuffer
 returns-clause-makes c = λ w s.
+    let last = newest_last c.args.state.now.objects c.in-Ok.made c.args.step_number c.args.size c.requires.precondition.later.objects in
     let free = free_handle_is c.args.state.now w s.rows c.args.client in
     let number = ap (λ o. unwrap_or o 0) (sym (free ∙ c.in-Ok-add_handle.ensures.given)) in
     let state : State = record c.args.state.now { files = c.add_handle.new.self; objects = c.create.new.self } in
     let more : Represents state (with_object w c.args.client c.args.size) =
     subst (λ fs. Represents (record c.args.state.now { files = fs; objects = c.create.new.self }) (with_object w c.args.client c.args.size)) (sym c.in-Ok-add_handle.ensures.ok)
-    (subst (λ o. Represents (record c.args.state.now { files = files.with_handle_row c.args.state.now.files (files.hold c.args.client c.in-Ok-add_handle.handle c.in-Ok.made None); objects = o }) (with_object w c.args.client c.args.size)) (sym c.in-Ok.ensures.ok)
+    (subst (λ o. Represents (record c.args.state.now { files = files.with_handle_row c.args.state.now.files (files.hold c.args.client c.in-Ok-add_handle.handle c.in-Ok.made None); objects = o }) (with_object w c.args.client c.args.size)) (sym (c.in-Ok.ensures.ok ∙ last))
     (made c.args.state.now w c.args.client c.in-Ok-add_handle.handle c.in-Ok.made c.args.step_number c.args.size c.requires.precondition.invariants s c.in-Ok.ensures.fresh c.in-Ok-add_handle.ensures.given)) in (
       room w c.args.client (ap is_some free ∙ sym c.has_room.ensures ∙ c.if-not-has_room.false) (object_room c.args.state.now w s.rows c.in-Ok.ensures.room),
       number,

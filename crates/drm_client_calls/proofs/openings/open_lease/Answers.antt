@@ -10,7 +10,8 @@ use Rattle.drm_files.specs.declared.rows.FileClient.{FileClient}
 use Rattle.drm_files.specs.Files.{FileLists, AreFiles, is_open_client, without_client}
 use Rattle.drm_masters.specs.declared.rows.Master.{Master}
 use Rattle.drm_masters.specs.Masters.{MasterSet, AreMasters, IsKeyOf, step_number_at, is_key, is_lessee, master_at}
-use Rattle.drm_masters.specs.Calls.{redeemed}
+use Rattle.drm_masters.specs.Calls.{IsNewClient, redeemed}
+use Rattle.drm_masters.proofs.Newest.{newest_absent}
 use Rattle.drm_leases.specs.Leases.{LeaseSet, AreLeases, token_master}
 use Rattle.drm_leases.specs.Calls.{without_token}
 use Rattle.drm_model.specs.Rows.{Rows, MasterRow, has_client_room, step_number}
@@ -26,7 +27,7 @@ use Rattle.drm_state.proofs.Members.{found_last}
 use Rattle.drm_state.proofs.Refinements.{denied, carried_on, refused, opening_verdict, client_room}
 use Rattle.drm_state.proofs.Represented.{masters_are, masters_so, kept_have_tokens, tokens_of_lessees}
 use Rattle.drm_client_calls.proofs.Opened.{joined, with_file, not_full, newer, room_for, back, closed_again}
-use Rattle.drm_client_calls.proofs.Redeemed.{not_leased, no_token, of_lessee, lease_flags, opens, its_row, redeemed_invariants, redeemed_represents, unredeemed, with_lease_client}
+use Rattle.drm_client_calls.proofs.Redeemed.{not_leased, no_token, of_lessee, lease_flags, opens, its_row, redeemed_invariants, redeemed_represents, redeemed_last, last_redeemed, unredeemed, with_lease_client}
 use Rattle.drm_client_calls.proofs.openings.open_lease.Goals as goal
 
 accepted : (w : Rows) (token : ℕ) (root universal : Bool) → is_some (lease_master w token) ≡ true → has_client_room w ≡ true → verdict w (Open (Lease token root universal)) ≡ None
@@ -84,7 +85,7 @@ returns-in_err-open_file-clause-refines c = λ w s.
     (subst (λ fs. Represents (record old { files = fs }) w) (sym c.in_err-open_file.ensures.err) s.rows))
 
 pub on_redeem-requires-clause-new_client : goal.on_redeem-requires-clause-new_client
-on_redeem-requires-clause-new_client c = newer c.args.state.now c.args.step_number c.requires.invariants c.requires.later
+on_redeem-requires-clause-new_client c = newest_absent c.args.state.now.masters c.args.step_number (newer c.args.state.now c.args.step_number c.requires.invariants c.requires.later)
 
 pub on_redeem-requires-clause-room : goal.on_redeem-requires-clause-room
 on_redeem-requires-clause-room c = room_for c.args.state.now c.requires.invariants (not_full c.args.state.now.files.limit (length c.args.state.now.files.clients) (sym c.is_full.ensures.full ∙ c.if-is_full.false))
@@ -126,17 +127,17 @@ number_is ms m key h = by_row (find (is_key key) ms) h
     by_row (Some x) k = let n : Some x.step_number ≡ Some m = k in cc
 
 -- told by the parts as they were
-told : (P : State → Type 0) (s : State) (b t m key : ℕ) (root universal : Bool) (fs : FileLists) (set : MasterSet) (l : LeaseSet) → IsKeyOf s.masters.masters m key → fs ≡ with_file s.files b (lease_flags root universal) → set ≡ redeemed b (step_number_at s.masters.masters key) s.masters → l ≡ without_token t s.leases →
+told : (P : State → Type 0) (s : State) (b t m key : ℕ) (root universal : Bool) (fs : FileLists) (set : MasterSet) (l : LeaseSet) → IsNewClient s.masters b → IsKeyOf s.masters.masters m key → fs ≡ with_file s.files b (lease_flags root universal) → set ≡ redeemed b (step_number_at s.masters.masters key) s.masters → l ≡ without_token t s.leases →
     P (with_lease_client s b t m root universal) → P (record s { files = fs; masters = set; leases = l })
-told P s b t m key root universal fs set l is e f g h =
+told P s b t m key root universal fs set l newest is e f g h =
     let number = number_is s.masters.masters m key is in
     subst (λ files. P (record s { files = files; masters = set; leases = l })) (sym e)
-    (subst (λ v. P (joined s b (lease_flags root universal) v l)) (sym (f ∙ (λ i. redeemed b (number i) s.masters)))
-    (subst (λ ls. P (joined s b (lease_flags root universal) (redeemed b m s.masters) ls)) (sym g) h))
+    (subst (λ v. P (joined s b (lease_flags root universal) v l)) (sym (f ∙ (λ i. redeemed b (number i) s.masters) ∙ last_redeemed b m s.masters newest))
+    (subst (λ ls. P (joined s b (lease_flags root universal) (redeemed_last b m s.masters) ls)) (sym g) h))
 
 -- the masters are those that a redeeming leaves
-masters_after : (s : State) (b m key : ℕ) (set : MasterSet) → IsKeyOf s.masters.masters m key → set ≡ redeemed b (step_number_at s.masters.masters key) s.masters → AreMasters set → AreMasters (redeemed b m s.masters)
-masters_after s b m key set is e = subst AreMasters (e ∙ (λ i. redeemed b (number_is s.masters.masters m key is i) s.masters))
+masters_after : (s : State) (b m key : ℕ) (set : MasterSet) → IsNewClient s.masters b → IsKeyOf s.masters.masters m key → set ≡ redeemed b (step_number_at s.masters.masters key) s.masters → AreMasters set → AreMasters (redeemed_last b m s.masters)
+masters_after s b m key set newest is e = subst AreMasters (e ∙ (λ i. redeemed b (number_is s.masters.masters m key is i) s.masters) ∙ last_redeemed b m s.masters newest)
 
 pub returns-clause-invariants : goal.returns-clause-invariants
 returns-clause-invariants c =
@@ -144,8 +145,9 @@ returns-clause-invariants c =
     let m = c.in-Some.number in
     let key = c.in-Some-master.lessee.key in
     let is = sym c.token_master.ensures ∙ c.in-Some.is in
-    told MeetsInvariants s c.args.step_number c.args.token m key c.args.root c.args.universal c.open_file.new.files c.on_redeem.new.self c.redeem-spent.new.self c.in-Some-master.ensures.keyed c.in_ok-open_file.ensures.ok c.in_default-on_redeem.ensures.ok c.redeem-spent.ensures.spent
-    (redeemed_invariants s c.args.token m c.requires.invariants is c.args.step_number c.args.root c.args.universal (masters_after s c.args.step_number m key c.on_redeem.new.self c.in-Some-master.ensures.keyed c.in_default-on_redeem.ensures.ok c.laws.ensures) (subst AreLeases c.redeem-spent.ensures.spent c.laws-2.ensures))
+    let newest = newer s c.args.step_number c.requires.invariants c.requires.later in
+    told MeetsInvariants s c.args.step_number c.args.token m key c.args.root c.args.universal c.open_file.new.files c.on_redeem.new.self c.redeem-spent.new.self newest c.in-Some-master.ensures.keyed c.in_ok-open_file.ensures.ok c.in_default-on_redeem.ensures.ok c.redeem-spent.ensures.spent
+    (redeemed_invariants s c.args.token m c.requires.invariants is c.args.step_number c.args.root c.args.universal newest (masters_after s c.args.step_number m key c.on_redeem.new.self newest c.in-Some-master.ensures.keyed c.in_default-on_redeem.ensures.ok c.laws.ensures) (subst AreLeases c.redeem-spent.ensures.spent c.laws-2.ensures))
 
 pub returns-clause-refines : goal.returns-clause-refines
 unfolding Refines changed opened answer_of
@@ -155,8 +157,9 @@ returns-clause-refines c = λ w r.
     let key = c.in-Some-master.lessee.key in
     let is = sym c.token_master.ensures ∙ c.in-Some.is in
     let found = sym c.master.ensures.master ∙ c.in-Some-master.is in
+    let newest = newer s c.args.step_number c.requires.invariants c.requires.later in
     let room = client_room s w r.rows ∙ ap not (sym c.is_full.ensures.full ∙ c.if-is_full.false) in
     let there = leased s w c.args.token m c.in-Some-master.lessee c.requires.invariants is found r.rows in
     carried_on (record s { files = c.open_file.new.files; masters = c.on_redeem.new.self; leases = c.redeem-spent.new.self }) w (Open (Lease c.args.token c.args.root c.args.universal)) (Opened c.args.step_number) (returns-clause-invariants c) (accepted w c.args.token c.args.root c.args.universal there room) (ap Opened (sym r.step_number_is))
-    (told (λ t. Represents t (opened_lease w c.args.token c.args.root c.args.universal)) s c.args.step_number c.args.token m key c.args.root c.args.universal c.open_file.new.files c.on_redeem.new.self c.redeem-spent.new.self c.in-Some-master.ensures.keyed c.in_ok-open_file.ensures.ok c.in_default-on_redeem.ensures.ok c.redeem-spent.ensures.spent
+    (told (λ t. Represents t (opened_lease w c.args.token c.args.root c.args.universal)) s c.args.step_number c.args.token m key c.args.root c.args.universal c.open_file.new.files c.on_redeem.new.self c.redeem-spent.new.self newest c.in-Some-master.ensures.keyed c.in_ok-open_file.ensures.ok c.in_default-on_redeem.ensures.ok c.redeem-spent.ensures.spent
     (redeemed_represents s c.args.token m c.requires.invariants is w c.in-Some-master.lessee found r.rows c.args.step_number c.args.root c.args.universal c.requires.later r.step_number_is))

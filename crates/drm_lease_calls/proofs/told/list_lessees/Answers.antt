@@ -8,7 +8,6 @@ use Rattle.drm_model.specs.Calls.{meaning}
 use Rattle.drm_model.specs.Change.{changed}
 use Rattle.drm_model.specs.Reply.{answer_of}
 use Rattle.drm_state.specs.Refinement.{RefinesReply}
-use Rattle.drm_state.proofs.Represented.{lessees_few}
 use Rattle.drm_state.proofs.Refinements.{carried_on, call_verdict}
 use Rattle.drm_state.proofs.Callers.{caller_file, caller_open, never_admitted, own_master_is}
 use Rattle.drm_lease_calls.proofs.Flags.{list_lessees_flags}
@@ -18,9 +17,6 @@ use Rattle.drm_lease_calls.proofs.told.list_lessees.Goals as goal
 pub returns-in_default : goal.returns-in_default
 unfolding RefinesReply
 returns-in_default c = λ w h admitted. absurd (never_admitted c.args.state.now w c.args.caller.client ListLessees c.requires.invariants (caller_open c.args.state.now c.args.caller c.requires.caller) h list_lessees_flags (sym c.requires.caller.member ∙ c.in_default.is) admitted)
-
-pub list-requires : goal.list-requires
-list-requires c = lessees_few c.args.state.now c.requires.invariants
 
 pub returns : goal.returns
 unfolding RefinesReply meaning changed answer_of

@@ -85,7 +85,7 @@ returns-in-Ok-clause-invariants c =
     (changed_invariants s (with_magic c.args.number true by.0) c.auth.new.self c.requires.invariants (ap (λ (v : MasterSet). v.members) by.3) c.laws.ensures
     (subst (λ (v : MasterSet). AreOfLessees s.leases.tokens v.masters) (sym by.3) (tokens_of_lessees s c.requires.invariants)) (subst (λ (v : MasterSet). AreKeptBy s.leases.tokens v.masters) (sym by.3) (kept_have_tokens s c.requires.invariants))
     (subst (λ (v : MasterSet). AreAgreed s.leases v) (sym by.3) (agreed_changed s.masters.members by.0 (with_magic c.args.number true by.0) s.masters.masters s.leases.lendings rise here (λ n its. its) (leases_agree s c.requires.invariants)))
-    (ap (λ (v : MasterSet). v.last_magic) by.3) (ap (λ (v : MasterSet). v.last_lessee) by.3)))
+    (ap (λ (v : MasterSet). v.last_magic) by.3)))
 
 pub returns-in-Ok-clause-refines : goal.returns-in-Ok-clause-refines
 unfolding RefinesReply meaning changed answer_of

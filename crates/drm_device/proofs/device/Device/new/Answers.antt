@@ -5,6 +5,9 @@ use Rattle.drm_device.proofs.device.Device.new.Goals as goal
 pub new-requires : goal.new-requires
 new-requires c = some_handles c.args.limits (sym c.are_in_range.ensures ∙ c.if-not-are_in_range.false)
 
+pub new-requires-2 : goal.new-requires-2
+new-requires-2 c = record { few = few_lessees_allowed c.args.limits (sym c.are_in_range.ensures ∙ c.if-not-are_in_range.false) }
+
 pub new-requires-4 : goal.new-requires-4
 new-requires-4 c = some_names c.args.limits (sym c.are_in_range.ensures ∙ c.if-not-are_in_range.false)
 

@@ -1,6 +1,5 @@
-use Rattle.std.proofs.Common.{◌≡◌, List, None, Some, is_some, option_map, refl, ap, sym, ◌∙◌, arith}
+use Rattle.std.proofs.Common.{◌≡◌, List, is_some, option_map, refl, ap, sym, ◌∙◌, arith}
 use Rattle.std.proofs.lemmas.Bool.{false≢true}
-use Rattle.slab.specs.Slab.{Updates}
 use Rattle.drm_index_array.proofs.Keyed.{rows_length}
 use Rattle.drm_gem.specs.declared.object.Object.{Object}
 use Rattle.drm_gem.specs.declared.objects.Kept.{Kept}
@@ -31,19 +30,19 @@ returns-in-Err-NoMemory-clause-full c =
 
 pub unreachable-requires : goal.unreachable-requires
 unreachable-requires c =
-    let newest = rw (← c.self.view_is) at c.requires.newest in
+    let unused = rw (← c.self.view_is) at c.requires.unused in
     let taken = rw c.in-Err-Taken.field-0-is at c.in-Err-Taken.ensures.taken in
-    false≢true (sym (ap is_some (vacant c.self.inside.keys.items c.self.inside.kept c.self.invariant c.args.birth newest)) ∙ taken.0 tt)
+    false≢true (sym (ap is_some (vacant c.self.inside.keys.items c.self.inside.kept c.self.invariant c.args.birth unused)) ∙ taken.0 tt)
 
 pub invariant_of-self-2 : goal.invariant_of-self-2
 invariant_of-self-2 c =
-    let newest = rw (← c.self.view_is) at c.requires.newest in
+    let unused = rw (← c.self.view_is) at c.requires.unused in
     let kept : Kept = record { step_number = c.args.birth; size = c.args.size; stamp = 0; holds = 1; refs = 0 } in
     let key : c.insert_reserved-key.result ≡ c.vacant_key-key.result = c.insert_reserved-key.ensures.key ∙ ap (λ s. s.vacant_key) c.in_default.ensures.rest_kept ∙ sym c.vacant_key-key.ensures.value in
     rw c.in-Ok.ensures.ok
     (created_keyed c.self.inside.keys.items c.self.inside.kept c.self.invariant c.args.birth c.vacant_key-key.result kept c.insert_reserved-key.new.self refl c.vacant_key-key.ensures.vacant
     (grown c.self.inside.kept c.reserve.new.self c.insert_reserved-key.new.self c.reserve.new.self.capacity c.vacant_key-key.result c.insert_reserved-key.result kept c.in_default.ensures.rest_kept key c.insert_reserved-key.ensures.updates)
-    newest)
+    unused)
 
 pub returns-clause-room : goal.returns-clause-room
 returns-clause-room c =
@@ -57,11 +56,11 @@ returns-clause-fresh c =
 
 pub returns-clause-ok : goal.returns-clause-ok
 returns-clause-ok c =
-    let newest = rw (← c.self.view_is) at c.requires.newest in
+    let unused = rw (← c.self.view_is) at c.requires.unused in
     let kept : Kept = record { step_number = c.args.birth; size = c.args.size; stamp = 0; holds = 1; refs = 0 } in
     let key : c.insert_reserved-key.result ≡ c.vacant_key-key.result = c.insert_reserved-key.ensures.key ∙ ap (λ s. s.vacant_key) c.in_default.ensures.rest_kept ∙ sym c.vacant_key-key.ensures.value in
     rw (← c.self.view_is, c.from_number.ensures, c.in-Ok.ensures.ok)
     (ap (λ (os : List Object). record { limit = c.self.inside.limit; objects = os })
     (created c.self.inside.keys.items c.self.inside.kept c.self.invariant c.args.birth c.vacant_key-key.result kept c.insert_reserved-key.new.self refl c.vacant_key-key.ensures.vacant
     (grown c.self.inside.kept c.reserve.new.self c.insert_reserved-key.new.self c.reserve.new.self.capacity c.vacant_key-key.result c.insert_reserved-key.result kept c.in_default.ensures.rest_kept key c.insert_reserved-key.ensures.updates)
-    newest))
+    unused))

@@ -4,14 +4,15 @@ use Rattle.std.specs.List.{list_any, AllByRecursion}
 use Rattle.std.specs.Option.{is_some}
 use Rattle.std.proofs.lemmas.Bool.{false≢true}
 use Rattle.drm_lists.specs.Orders.{InOrder}
-use Rattle.drm_lists.proofs.Orders.{in_order_append}
+use Rattle.drm_index_array.specs.Rows.{placed}
+use Rattle.drm_lists.proofs.Placed.{rise_placed}
 use Rattle.drm_masters.specs.Tables.{MemberRows}
 use Rattle.drm_masters.specs.declared.rows.Master.{Master}
 use Rattle.drm_masters.specs.declared.rows.Member.{Member}
 use Rattle.drm_masters.specs.Fields.{set_of}
-use Rattle.drm_masters.specs.Masters.{MasterSet, AreMasters, HasOlderLessor, is_key, is_step_number, is_option, master_at, owner_of, is_lessee_of, is_current}
+use Rattle.drm_masters.specs.Masters.{MasterSet, AreMasters, HasOlderLessor, member_of, member_before, is_key, is_step_number, is_option, master_at, owner_of, is_lessee_of, is_current}
 use Rattle.drm_masters.specs.Calls as calls
-use Rattle.drm_masters.proofs.Flagged.{current_in, no_device}
+use Rattle.drm_masters.proofs.Flagged.{current_in, no_device, others_apart}
 use Rattle.drm_masters.proofs.Living.{Older}
 use Rattle.drm_masters.proofs.Owned.{unnamed_yet}
 use Rattle.drm_masters.proofs.Pushed.{pushed_older, taken_back}
@@ -25,11 +26,11 @@ invariant_of-self-in-Some c =
     let keyed : Keyed v.masters = subst (λ (w : MasterSet). Keyed w.masters) c.self.view_is c.self.invariant.keyed in
     let old : (k : ℕ) → set.contains c.self.inside.members.flags k ≡ is_current v k = λ k. c.self.invariant.flagged k ∙ ap (λ (w : MasterSet). is_current w k) c.self.view_is in
     let y = calls.non_master c.args.client c.in-Some.master in
-    let items : c.add.new.self.items ≡ c.self.inside.members.items ++ y ∷ [] = c.in_default-add.ensures.ok ∙ ap (λ (x : Member). c.self.inside.members.items ++ x ∷ []) c.non_master.ensures in
+    let items : c.add.new.self.items ≡ placed member_before y c.self.inside.members.items = c.in_default-add.ensures.ok ∙ ap (λ (x : Member). placed member_before x c.self.inside.members.items) c.non_master.ensures in
     let device : v.device_master ≡ Some c.in-Some.master = sym (ap (λ (w : MasterSet). w.device_master) c.self.view_is) ∙ c.in-Some.is in
     sound _ (calls.with_member y v) ((λ i. record (set_of c.self.inside) { members = items i }) ∙ ap (calls.with_member y) c.self.view_is)
     (non_master_are v are y c.requires.new_client c.requires.room refl (device_there v are c.in-Some.master device) (λ _. are.device_owner c.in-Some.master device)) keyed
-    (λ k. ap (λ (t : set.FinSet nat_cmp). set.contains t k) c.in_default-add.ensures.flags ∙ old k ∙ sym (non_master_same v y refl c.requires.new_client k))
+    (λ k. ap (λ (t : set.FinSet nat_cmp). set.contains t k) c.in_default-add.ensures.flags ∙ old k ∙ sym (non_master_same v y refl are c.requires.new_client k))
 
 pub insert-requires : goal.insert-requires
 insert-requires c =
@@ -60,8 +61,8 @@ remove-requires-clause-no_lessee c =
 
 pub add-requires-2 : goal.add-requires-2
 add-requires-2 c =
-    let newest = rw (← c.self.view_is) at c.requires.new_client in
-    record { newest = subst (λ (u : Member). AllByRecursion (λ (x : Member). x.client < u.client) c.self.inside.members.items) (sym c.owner.ensures) newest }
+    let absent = rw (← c.self.view_is) at c.requires.new_client in
+    record { new_client = subst (λ (u : Member). is_some (member_of c.self.inside.members.items u.client) ≡ false) (sym c.owner.ensures) absent }
 
 pub invariant_of-self-in-Err-add : goal.invariant_of-self-in-Err-add
 invariant_of-self-in-Err-add c =
@@ -103,8 +104,8 @@ flag_current-requires-clause-rise c =
     let v = c.args.self.now in
     let are : AreMasters v = subst AreMasters c.self.view_is c.self.invariant.are in
     let y = calls.owner c.args.client c.args.birth in
-    let items : c.add-2.new.self.items ≡ v.members ++ y ∷ [] = c.in_default-add-2.ensures.ok ∙ ap (λ (x : Member). c.self.inside.members.items ++ x ∷ []) c.owner.ensures ∙ ap (λ (w : MasterSet). w.members ++ y ∷ []) c.self.view_is in
-    subst (λ (l : List Member). InOrder (λ (a b : Member). a.client < b.client) l) (sym items) (in_order_append (λ (a b : Member). a.client < b.client) v.members y are.members_rise c.requires.new_client)
+    let items : c.add-2.new.self.items ≡ placed member_before y v.members = c.in_default-add-2.ensures.ok ∙ ap (λ (x : Member). placed member_before x c.self.inside.members.items) c.owner.ensures ∙ ap (λ (w : MasterSet). placed member_before y w.members) c.self.view_is in
+    subst (λ (l : List Member). InOrder (λ (a b : Member). a.client < b.client) l) (sym items) (rise_placed (λ (a : Member). a.client) y v.members are.members_rise (others_apart v.members y.client c.requires.new_client))
 
 pub flag_current-requires-clause-unflagged : goal.flag_current-requires-clause-unflagged
 flag_current-requires-clause-unflagged c = λ k.
@@ -127,8 +128,8 @@ invariant_of-self-2 c =
     let y = calls.owner c.args.client b in
     let z = calls.founded_master key b in
     let masters : c.insert.new.self.items ≡ c.self.inside.masters.items ++ z ∷ [] = c.in_default-insert.ensures.ok ∙ ap (λ (x : Master). c.self.inside.masters.items ++ calls.keyed_as key x ∷ []) c.founded_master.ensures in
-    let items : c.add-2.new.self.items ≡ c.self.inside.members.items ++ y ∷ [] = c.in_default-add-2.ensures.ok ∙ ap (λ (x : Member). c.self.inside.members.items ++ x ∷ []) c.owner.ensures in
-    let rows : c.flag_current.new.members.items ≡ c.self.inside.members.items ++ y ∷ [] = c.flag_current.ensures.rows ∙ items in
+    let items : c.add-2.new.self.items ≡ placed member_before y c.self.inside.members.items = c.in_default-add-2.ensures.ok ∙ ap (λ (x : Member). placed member_before x c.self.inside.members.items) c.owner.ensures in
+    let rows : c.flag_current.new.members.items ≡ placed member_before y c.self.inside.members.items = c.flag_current.ensures.rows ∙ items in
     let path = ap (founded c.args.client key b) c.self.view_is in
     sound _ (founded c.args.client key b v) ((λ i. record (set_of c.self.inside) { members = rows i; masters = masters i; device_master = Some b }) ∙ path)
     (opener_are v are y c.requires.new_client c.requires.room refl z refl refl refl c.requires.new_step_number)
