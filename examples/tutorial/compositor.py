@@ -1,4 +1,4 @@
-"""A compositor that shows one picture on two outputs. It makes two mistakes, which docs/TUTORIAL.md finds by tests."""
+"""A compositor that shows one picture on two outputs. It makes two mistakes, which the tests of docs/TUTORIAL.md find."""
 from typing import NamedTuple
 
 from drm_client import Client
@@ -20,12 +20,12 @@ class Compositor:
         self.picture = self.client.addfb(64, 64, buffer.pitch, 32, buffer.handle).value
 
     def repaint(self):
-        """Scans its picture out."""
+        """Scans out its picture on each output."""
         for output in OUTPUTS:
             self.client.setcrtc(output.crtc, self.picture, output.connector)
 
     def switch_away(self):
-        """Another session gets the screen."""
+        """Gives the screen to another session."""
         self.client.drop_master()
 
     def switch_back(self):
@@ -33,7 +33,7 @@ class Compositor:
         self.repaint()
 
     def lend(self, output):
-        """Leases an output to somebody else, and gives the token that opens the lessee's client."""
+        """Leases an output and returns the token that opens the lessee's client."""
         return self.client.create_lease(*output).token
 
     def close(self):

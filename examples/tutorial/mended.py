@@ -1,4 +1,4 @@
-"""The compositor without its mistakes: it knows whether it has the screen, and which outputs it lent."""
+"""The compositor without its mistakes: it tracks whether it has the screen and which outputs it lent."""
 import compositor
 from compositor import OUTPUTS
 

@@ -1,9 +1,9 @@
 #!/usr/bin/env python3
-"""Tests that a compositor scans out only what it may, each on a server of its own.
+"""Tests that a compositor scans out only where it may. Each test has its own server.
 
     tools/with-server examples/tutorial/scan_out_test.py MODULE TEST
 
-MODULE has the class `Compositor`: compositor or mended, beside this file. TEST is a function below. The status is 1 where the
+MODULE has the class `Compositor`: compositor or mended, next to this file. TEST is a function below. The status is 1 if the
 test fails. Standard library only.
 """
 import importlib
@@ -13,15 +13,15 @@ import sys
 
 sys.dont_write_bytecode = True
 sys.path.insert(0, str(pathlib.Path(__file__).resolve().parents[2] / "clients/python"))
-from drm_client import Client, Denied  # noqa: E402  (the client stands in clients/python)
+from drm_client import Client, Denied  # noqa: E402  (the client is in clients/python)
 
 CARD = os.environ.get("DRM_SERVER_CARD", "card")
 ROOT = os.environ.get("DRM_SERVER_ROOT", "root")
-SHOWN = 9  # the kind of audit that tells what CRTCs and planes show
+SHOWN = 9  # the kind of audit that lists what CRTCs and planes show
 
 
 def shown():
-    """The framebuffer that each CRTC and plane shows, of those that aren't dark."""
+    """Returns the framebuffer that each CRTC and plane shows, without those that are dark."""
     with Client(ROOT) as auditor:
         return {row.a: row.b for row in auditor.audit(SHOWN).rows}
 
@@ -37,10 +37,10 @@ def shows_its_picture(compositor):
 
 
 def rests_while_switched_away(compositor):
-    """It asks for nothing that only a current client may."""
+    """While it is switched away, the compositor makes no call that needs a current client."""
     compositor.repaint()
     compositor.switch_away()
-    with Client(CARD) as other:  # the device has no master: this client brings one
+    with Client(CARD) as other:  # the device has no master, so this opening creates one
         buffer = other.create_dumb(64, 64, 32)
         other.setcrtc(1, other.addfb(64, 64, buffer.pitch, 32, buffer.handle).value, 7)
         compositor.repaint()
@@ -49,7 +49,7 @@ def rests_while_switched_away(compositor):
 
 
 def leaves_what_it_lent(compositor):
-    """What a lessee shows stays: no rule keeps the lessor from it, so the test asks what is shown."""
+    """The compositor leaves a lessee's picture alone. No rule denies the mistake, so the test asks what is shown."""
     compositor.repaint()
     token = compositor.lend((2, 4, 8))
     with Client(CARD, token) as lessee:
@@ -61,7 +61,7 @@ def leaves_what_it_lent(compositor):
 
 
 def told(failure):
-    """What is wrong: of a denial its rule and its errno."""
+    """Returns what is wrong; for a denial, its rule and errno."""
     if isinstance(failure, Denied):
         return f"denied by rule {failure.rule}, {failure.name}, with errno {failure.errno} ({os.strerror(failure.errno)})"
     return str(failure)

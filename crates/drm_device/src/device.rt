@@ -133,13 +133,11 @@ impl Device {
         }
         let step_number = self.journal.len() as u32 + 1;
         let mut answer = Answer::Done;
-        match advance(&mut self.state, step_number, &event, &mut answer) {
-            Ok(()) => {
-                self.journal.push_reserved(event);
-                Ok(answer)
-            }
-            Err(_) => Err(Apart::NoMemory),
-        }
+        let Ok(()) = advance(&mut self.state, step_number, &event, &mut answer) else {
+            return Err(Apart::NoMemory);
+        };
+        self.journal.push_reserved(event);
+        Ok(answer)
     }
 
     /// Whether the journal has a place for the event beside those kept for closings.

@@ -28,52 +28,52 @@ invariant_of-self c =
     next_device c.self.inside c.args.event c.push_reserved.new.self c.advance.new.state c.self.invariant (rw (ap rows_of c.self.view_is) room)
     c.push_reserved.ensures.items c.push_reserved.ensures.len c.push_reserved.ensures.capacity c.in-Ok.ensures.invariants out.1
 
-pub invariant_of-self-in-Err : goal.invariant_of-self-in-Err
+pub invariant_of-self-in_default : goal.invariant_of-self-in_default
 unfolding Refines
-invariant_of-self-in-Err c =
-    let out = c.in-Err.ensures.refines (rows_of (value_of c.self.inside)) (stands c.self.inside c.len.result c.self.invariant c.len.ensures) in
-    same_device c.self.inside c.advance.new.state c.self.invariant c.in-Err.ensures.invariants out.1
+invariant_of-self-in_default c =
+    let out = c.in_default.ensures.refines (rows_of (value_of c.self.inside)) (stands c.self.inside c.len.result c.self.invariant c.len.ensures) in
+    same_device c.self.inside c.advance.new.state c.self.invariant c.in_default.ensures.invariants out.1
 
-pub returns-in-Ok-clause-step : goal.returns-in-Ok-clause-step
+pub returns-clause-step : goal.returns-clause-step
 unfolding Step Refines
-returns-in-Ok-clause-step c =
+returns-clause-step c =
     let room = not-true _ (sym c.has_room.ensures ∙ c.if-not-has_room.false) in
     let out = c.in-Ok.ensures.refines (rows_of (value_of c.self.inside)) (stands c.self.inside c.len.result c.self.invariant c.len.ensures) in
     (room, rw (← ap rows_of c.self.view_is) out.0, rw (← ap rows_of c.self.view_is) (next_rows c.self.inside c.args.event c.push_reserved.new.self c.advance.new.state c.push_reserved.ensures.items (topology_after c.self.inside c.args.event c.advance.new.state out.1)))
 
-pub returns-in-Err-clause-step : goal.returns-in-Err-clause-step
+pub returns-in_default-clause-step : goal.returns-in_default-clause-step
 unfolding Step Refines
-returns-in-Err-clause-step c =
+returns-in_default-clause-step c =
     let room = not-true _ (sym c.has_room.ensures ∙ c.if-not-has_room.false) in
-    let out = c.in-Err.ensures.refines (rows_of (value_of c.self.inside)) (stands c.self.inside c.len.result c.self.invariant c.len.ensures) in
+    let out = c.in_default.ensures.refines (rows_of (value_of c.self.inside)) (stands c.self.inside c.len.result c.self.invariant c.len.ensures) in
     let fixed = topology_same c.self.inside c.advance.new.state (rows_of (value_of c.self.inside)) out.1 refl in
     (room, rw (← ap rows_of c.self.view_is) out.0, ap rows_of (same_history c.self.inside c.advance.new.state fixed ∙ c.self.view_is))
 
-pub returns-in-Ok-clause-few : goal.returns-in-Ok-clause-few
+pub returns-clause-few : goal.returns-clause-few
 unfolding Refines
-returns-in-Ok-clause-few c =
+returns-clause-few c =
     let out = c.in-Ok.ensures.refines (rows_of (value_of c.self.inside)) (stands c.self.inside c.len.result c.self.invariant c.len.ensures) in
     subst (λ (a : Answer). FitsOneFrame (Ok a)) (sym out.0) (few_answer c.self.inside c.args.event c.self.invariant)
 
-pub returns-in-Ok-clause-ok : goal.returns-in-Ok-clause-ok
+pub returns-clause-ok : goal.returns-clause-ok
 unfolding Refines
-returns-in-Ok-clause-ok c =
+returns-clause-ok c =
     let out = c.in-Ok.ensures.refines (rows_of (value_of c.self.inside)) (stands c.self.inside c.len.result c.self.invariant c.len.ensures) in
     next_history c.self.inside c.args.event c.push_reserved.new.self c.advance.new.state c.push_reserved.ensures.items (topology_after c.self.inside c.args.event c.advance.new.state out.1) ∙ ap (λ h. journaled_in h c.args.event) c.self.view_is
 
-pub returns-in-Err-clause-err : goal.returns-in-Err-clause-err
+pub returns-in_default-clause-err : goal.returns-in_default-clause-err
 unfolding Refines
-returns-in-Err-clause-err c =
-    let out = c.in-Err.ensures.refines (rows_of (value_of c.self.inside)) (stands c.self.inside c.len.result c.self.invariant c.len.ensures) in
+returns-in_default-clause-err c =
+    let out = c.in_default.ensures.refines (rows_of (value_of c.self.inside)) (stands c.self.inside c.len.result c.self.invariant c.len.ensures) in
     same_history c.self.inside c.advance.new.state (topology_same c.self.inside c.advance.new.state (rows_of (value_of c.self.inside)) out.1 refl) ∙ c.self.view_is
 
-pub returns-in-Err-clause-found_room : goal.returns-in-Err-clause-found_room
-returns-in-Err-clause-found_room c = (invariant_of-self-in-Err c).found_room
+pub returns-in_default-clause-found_room : goal.returns-in_default-clause-found_room
+returns-in_default-clause-found_room c = (invariant_of-self-in_default c).found_room
 
-pub returns-in-Ok-clause-within : goal.returns-in-Ok-clause-within
-returns-in-Ok-clause-within c =
+pub returns-clause-within : goal.returns-clause-within
+returns-clause-within c =
     let room = not-true _ (sym c.has_room.ensures ∙ c.if-not-has_room.false) in
     within_after c.self.inside c.args.event c.push_reserved.new.self c.self.invariant (rw (ap rows_of c.self.view_is) room) c.push_reserved.ensures.len
 
-pub returns-in-Ok-clause-found_room : goal.returns-in-Ok-clause-found_room
-returns-in-Ok-clause-found_room c = (invariant_of-self c).found_room
+pub returns-clause-found_room : goal.returns-clause-found_room
+returns-clause-found_room c = (invariant_of-self c).found_room
