@@ -1,11 +1,11 @@
 //! The examples of `drm_sessions`, made by `tools/doc_examples` of its doc comments.
 
 use drm_device::{Device, Limits, Topology};
+use drm_frames::{FromRead, ToWrite};
 use drm_sessions::{
     Access, Alone, Class, Finished, Gate, Job, ManyFault, NoGate, Served, Session, SessionEnd,
     Through, serve, serve_alone, serve_lent, serve_many, serve_through,
 };
-use drm_streams::{FromRead, ToWrite};
 use drm_table::{Answer, Event, Opening};
 use drm_turns::SharedDevice;
 
