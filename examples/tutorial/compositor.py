@@ -1,4 +1,4 @@
-"""A compositor that shows one picture on two outputs. It makes two mistakes, which the tests of docs/TUTORIAL.md find."""
+"""A compositor that shows one picture on two outputs. It makes two mistakes, which the tests of docs/guides/compositor.md find."""
 from typing import NamedTuple
 
 from drm_client import Client
