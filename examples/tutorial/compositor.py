@@ -25,7 +25,7 @@ class Compositor:
             self.client.setcrtc(output.crtc, self.picture, output.connector)
 
     def switch_away(self):
-        """Gives the screen to another session."""
+        """Leaves the screen to another session."""
         self.client.drop_master()
 
     def switch_back(self):
