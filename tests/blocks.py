@@ -48,7 +48,7 @@ class Block(NamedTuple):
 
 def documents():
     """The paths of all documents."""
-    found = [path for folder in ("", "docs/", "clients/*/", "bench/") for path in REPOSITORY.glob(f"{folder}*.md")]
+    found = [path for folder in ("", "docs/", "docs/guides/", "clients/*/", "bench/") for path in REPOSITORY.glob(f"{folder}*.md")]
     return sorted(str(path.relative_to(REPOSITORY)) for path in found)
 
 

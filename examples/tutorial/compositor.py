@@ -1,4 +1,4 @@
-"""A compositor that shows one picture on two outputs. It makes two mistakes, which the tests of docs/TUTORIAL.md find."""
+"""A compositor that shows one picture on two outputs. It makes two mistakes, which the tests of docs/guides/compositor.md find."""
 from typing import NamedTuple
 
 from drm_client import Client
@@ -25,7 +25,7 @@ class Compositor:
             self.client.setcrtc(output.crtc, self.picture, output.connector)
 
     def switch_away(self):
-        """Gives the screen to another session."""
+        """Leaves the screen to another session."""
         self.client.drop_master()
 
     def switch_back(self):
