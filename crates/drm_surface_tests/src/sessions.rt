@@ -1,9 +1,10 @@
 //! The surface of `drm_sessions`.
 
+use drm_device::Device;
 use drm_frames::{Sink, Source};
 use drm_sessions::{
-    Access, Alone, Class, Finished, Gate, Job, ManyFault, NoGate, Session, SessionEnd, Through, serve,
-    serve_many,
+    Access, Alone, Class, Finished, Gate, Job, ManyFault, NoGate, Session, SessionEnd, Through,
+    serve, serve_many,
 };
 use drm_table::{Answer, Apart, Event, Rule};
 use drm_turns::{Seat, SharedDevice};
@@ -18,10 +19,14 @@ pub fn serving<A: Access, G: Gate, S: Source, K: Sink>() {
     let _before: fn(&mut G, u32) = G::before;
 }
 
+/// Takes any access.
+fn access<A: Access>(_access: &mut A) {}
+
 /// The accesses: a device that one session has alone, and one that is shared.
-pub fn accesses<R: Wait>(alone: &mut Alone<'_>) {
-    let _alone: fn(&mut Alone<'_>, Event) -> Result<Answer, Apart> = Alone::call;
-    let _device = &alone.device;
+pub fn accesses<R: Wait>(rt: &R, device: &mut Device, shared: &SharedDevice, seat: Seat) {
+    access(&mut Alone(device));
+    let _through: fn(&R, &SharedDevice, Seat) -> Through<'_, R> = Through::new;
+    let _ = (rt, shared, seat);
     let _none: fn(&mut NoGate, u32) = NoGate::before;
 }
 
