@@ -237,7 +237,7 @@ impl Masters {
     pub fn on_open(&mut self, client: u32, birth: u32) -> Result<bool, NoMemory>
         requires new_client { is_some (sets.member_of self.old.members client) ≡ false }
         requires room { length self.old.members < self.old.last_magic }
-        requires new_step_number { calls.IsNewStepNumber self.old birth }
+        requires new_step_number { is_some (sets.master_at self.old.masters birth) ≡ false }
         ensures made { IfOk result (λ made. made ≡ not (is_some self.old.device_master)) }
         ensures ok { OnOk result (calls.Opened self.old client birth self.old.device_master self.new) }
         ensures err { OnErr result (self.new ≡ self.old) }
@@ -307,7 +307,7 @@ impl Masters {
     #[tactic(auto, unfolding(crate::specs::Calls::set_checks))]
     pub fn set(&mut self, client: u32, root: bool, birth: u32) -> Result<SetDone, SetFault>
         requires open_client { is_some (sets.member_of self.old.members client) ≡ true }
-        requires new_step_number { calls.IsNewStepNumber self.old birth }
+        requires new_step_number { is_some (sets.master_at self.old.masters birth) ≡ false }
         ensures set { IfSome (sets.member_of self.old.members client) (λ x. calls.SetOf self.old x root birth result self.new) }
         ensures err { OnErr result (self.new ≡ self.old) }
     {
@@ -606,7 +606,7 @@ impl Masters {
     // a new master of a client that is no master, under this key; the device has none
     fn found(&mut self, client: u32, step_number: u32) -> Result<MasterKey, NoMemory>
         requires none { self.old.device_master ≡ None }
-        requires new_step_number { calls.IsNewStepNumber self.old step_number }
+        requires new_step_number { is_some (sets.master_at self.old.masters step_number) ≡ false }
         requires open_client { is_some (sets.member_of self.old.members client) ≡ true }
         ensures ok { IfOk result (λ key. self.new ≡ calls.remade client key step_number self.old) }
         ensures free { IfOk result (λ key. calls.IsFreeKey self.old key) }
