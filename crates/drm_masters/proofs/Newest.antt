@@ -19,8 +19,11 @@ use Rattle.drm_masters.specs.Calls.{IsNewClient, IsNewStepNumber, with_member, w
 pub newest_absent : (v : MasterSet) (c : ℕ) → IsNewClient v c → is_some (member_of v.members c) ≡ false
 newest_absent v c newest = is_some-find (is_client c) v.members ∙ none_passes (is_client c) v.members (all_weaker (λ (x : Member). x.client < c) (λ (x : Member). is_client c x ≡ false) (λ x less. less-differ x.client c less) v.members newest)
 
+abbrev pub with_last_member : Member → MasterSet → MasterSet
+with_last_member y v = record v { members = v.members ++ y ∷ [] }
+
 -- its place is the end
-pub newest_last : (v : MasterSet) (y : Member) → IsNewClient v y.client → with_member y v ≡ record v { members = v.members ++ y ∷ [] }
+pub newest_last : (v : MasterSet) (y : Member) → IsNewClient v y.client → with_member y v ≡ with_last_member y v
 newest_last v y newest =
     ap (λ (ms : List Member). record v { members = ms })
     (placed_last (λ (x : Member). member_before x y) y v.members (all_weaker (λ (x : Member). x.client < y.client) (λ (x : Member). member_before x y ≡ true) (λ x less. lt-ltb x.client y.client less) v.members newest))
@@ -38,8 +41,11 @@ newest_older ms birth newest m there =
     let is = found (is_step_number m) (λ (y : Master). y.step_number < birth) x.0 ms newest x.1 in
     subst (λ n. n < birth) (eqb-true x.0.step_number m is.0) is.1
 
+abbrev pub with_last_master : Master → MasterSet → MasterSet
+with_last_master y v = record v { masters = v.masters ++ y ∷ [] }
+
 -- its place is the end
-pub newest_master : (v : MasterSet) (y : Master) → IsNewStepNumber v y.step_number → with_master y v ≡ record v { masters = v.masters ++ y ∷ [] }
+pub newest_master : (v : MasterSet) (y : Master) → IsNewStepNumber v y.step_number → with_master y v ≡ with_last_master y v
 newest_master v y newest =
     ap (λ (ms : List Master). record v { masters = ms })
     (placed_last (λ (x : Master). master_before x y) y v.masters (all_weaker (λ (x : Master). x.step_number < y.step_number) (λ (x : Master). master_before x y ≡ true) (λ x less. lt-ltb x.step_number y.step_number less) v.masters newest))

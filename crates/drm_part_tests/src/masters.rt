@@ -386,10 +386,32 @@ const UNORDERED: [Case; 12] = [
     (Ask::IsCurrent(3), Told::Whether(true)),
 ];
 
+const fn founded_by(step_number: u32) -> Told {
+    Told::Master {
+        step_number,
+        lessor: None,
+        lessee_id: 0,
+        kept: false,
+    }
+}
+
+/// Births do not rise from one founded master to the next. Masters are listed by their births.
+const UNORDERED_BIRTHS: [Case; 8] = [
+    (Ask::OpenBy(1, 9), Told::Whether(true)),
+    (Ask::Drop(1), Told::Done),
+    (Ask::OpenBy(2, 4), Told::Whether(true)),
+    (Ask::OpenBy(3, 9), Told::Unasked),
+    (Ask::NthMaster(0), founded_by(4)),
+    (Ask::NthMaster(1), founded_by(9)),
+    (Ask::NthMaster(2), Told::Nothing),
+    (Ask::DeviceMaster, Told::Number(4)),
+];
+
 #[test]
 fn rows_in_the_order_of_step_numbers(rt: HostRuntime) {
     check_new(&rt, rt.alloc(), &ROWS);
     check_new(&rt, rt.alloc(), &UNORDERED);
+    check_new(&rt, rt.alloc(), &UNORDERED_BIRTHS);
 }
 
 /// What is there after a client that was refused, which then opens.
