@@ -360,15 +360,29 @@ const ROWS: [Case; 15] = [
     (Ask::Master(2), Told::Nothing),
 ];
 
-const fn client_of(client: u32, once_master: bool, is_master: bool, master: u32) -> Told {
-    Told::Client(Member {
-        client,
-        once_master,
-        is_master,
-        master,
-        magic: None,
-    })
-}
+const GUEST_1: Told = Told::Client(Member {
+    client: 1,
+    once_master: false,
+    is_master: false,
+    master: 1,
+    magic: None,
+});
+
+const LEASE_CLIENT_2: Told = Told::Client(Member {
+    client: 2,
+    once_master: false,
+    is_master: true,
+    master: 4,
+    magic: None,
+});
+
+const OWNER_3: Told = Told::Client(Member {
+    client: 3,
+    once_master: true,
+    is_master: true,
+    master: 1,
+    magic: None,
+});
 
 /// The numbers of clients do not rise from one opening to the next. Clients are listed by their numbers.
 const UNORDERED: [Case; 12] = [
@@ -377,9 +391,9 @@ const UNORDERED: [Case; 12] = [
     (Ask::OpenBy(3, 3), Told::Unasked),
     (Ask::Lend(1, 4), Told::Lent(4, 1)),
     (Ask::Redeem(2, 4), Told::Done),
-    (Ask::NthMember(0), client_of(1, false, false, 1)),
-    (Ask::NthMember(1), client_of(2, false, true, 4)),
-    (Ask::NthMember(2), client_of(3, true, true, 1)),
+    (Ask::NthMember(0), GUEST_1),
+    (Ask::NthMember(1), LEASE_CLIENT_2),
+    (Ask::NthMember(2), OWNER_3),
     (Ask::NthMember(3), Told::Nothing),
     (Ask::IsCurrent(1), Told::Whether(false)),
     (Ask::IsCurrent(2), Told::Whether(true)),

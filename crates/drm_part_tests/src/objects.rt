@@ -50,10 +50,10 @@ fn is_of_another(object: Option<Object>, birth: u32) -> bool
 fn is_unused_birth(objects: &Objects, birth: u32) -> bool
     ensures { result ≡ true → IsUnusedBirth objects.now birth }
 {
-    let is_first = is_of_another(objects.nth(0), birth);
-    let is_second = is_of_another(objects.nth(1), birth);
-    let is_third = is_of_another(objects.nth(2), birth);
-    let is_last = objects.nth(3).is_none();
+    let is_first = is_of_another(objects.nth_object(0), birth);
+    let is_second = is_of_another(objects.nth_object(1), birth);
+    let is_third = is_of_another(objects.nth_object(2), birth);
+    let is_last = objects.nth_object(3).is_none();
     is_last && is_first && is_second && is_third
 }
 
@@ -136,11 +136,11 @@ impl Call<Objects> for Ask {
             Ask::Get(number, counts) => {
                 is_told(objects.get(ObjectKey::from_number(number)), counts)
             }
-            Ask::Nth(place, counts) => is_told(objects.nth(place), counts),
+            Ask::Nth(place, counts) => is_told(objects.nth_object(place), counts),
             Ask::IsThere(number) => {
                 Told::Whether(objects.get(ObjectKey::from_number(number)).is_some())
             }
-            Ask::HasNth(place) => Told::Whether(objects.nth(place).is_some()),
+            Ask::HasNth(place) => Told::Whether(objects.nth_object(place).is_some()),
             Ask::Hold(number) => asked_of(objects, number, self),
             Ask::Unhold(number) => asked_of(objects, number, self),
             Ask::Refer(number) => asked_of(objects, number, self),
@@ -252,15 +252,29 @@ const MIDDLE: [Case; 10] = [
     (Ask::HasNth(2), Told::Whether(false)),
 ];
 
-const fn created_by(step_number: u32, size: u64) -> Counts {
-    Counts {
-        step_number,
-        size,
-        stamp: 0,
-        holds: 1,
-        refs: 0,
-    }
-}
+const OF_BIRTH_2: Counts = Counts {
+    step_number: 2,
+    size: 8192,
+    stamp: 0,
+    holds: 1,
+    refs: 0,
+};
+
+const OF_BIRTH_5: Counts = Counts {
+    step_number: 5,
+    size: 4096,
+    stamp: 0,
+    holds: 1,
+    refs: 0,
+};
+
+const OF_BIRTH_9: Counts = Counts {
+    step_number: 9,
+    size: 12288,
+    stamp: 0,
+    holds: 1,
+    refs: 0,
+};
 
 /// Births do not rise from one call to the next. Objects are listed by their births.
 const UNORDERED: [Case; 10] = [
@@ -268,9 +282,9 @@ const UNORDERED: [Case; 10] = [
     (Ask::Create(2, 8192), Told::Number(1)),
     (Ask::Create(9, 12288), Told::Number(2)),
     (Ask::Create(5, 4096), Told::Unasked),
-    (Ask::Nth(0, created_by(2, 8192)), Told::Whether(true)),
-    (Ask::Nth(1, created_by(5, 4096)), Told::Whether(true)),
-    (Ask::Nth(2, created_by(9, 12288)), Told::Whether(true)),
+    (Ask::Nth(0, OF_BIRTH_2), Told::Whether(true)),
+    (Ask::Nth(1, OF_BIRTH_5), Told::Whether(true)),
+    (Ask::Nth(2, OF_BIRTH_9), Told::Whether(true)),
     (Ask::HasNth(3), Told::Whether(false)),
     (
         Ask::Unhold(0),

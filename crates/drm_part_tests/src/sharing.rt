@@ -59,7 +59,7 @@ impl Call<Names> for Naming {
                 Told::Done
             }
             Naming::Lookup(name) => told_object(names.lookup(name)),
-            Naming::Nth(place) => told_name(names.nth(place)),
+            Naming::Nth(place) => told_name(names.nth_name(place)),
             Naming::IsFull => Told::Whether(names.is_full()),
         }
     }
@@ -154,7 +154,7 @@ impl Call<Tokens> for Tokening {
             Tokening::Close(client, token) => told_object(tokens.close(client, token)),
             Tokening::TakeFirst(client) => told_pair(tokens.take_first_of(client)),
             Tokening::Lookup(token) => told_object(tokens.lookup(token)),
-            Tokening::Nth(place) => told_token(tokens.nth(place)),
+            Tokening::Nth(place) => told_token(tokens.nth_token(place)),
             Tokening::LastGiven => Told::of(tokens.last_given()),
             Tokening::IsFull => Told::Whether(tokens.is_full()),
         }

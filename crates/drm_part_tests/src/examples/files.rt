@@ -1,6 +1,6 @@
 //! The examples of `drm_files`, made by `tools/doc_examples` of its doc comments.
 
-use drm_files::{FileClient, FileFault, FileFlags, FileHandle, Files};
+use drm_files::{FileClient, FileFault, FileFlags, FileHandle, FileRow, Files};
 use drm_gem::ObjectKey;
 
 #[test]
@@ -20,6 +20,7 @@ fn values(rt: HostRuntime) {
     };
     assert!(rt; files.flags_of(1) == Some(flags));
     assert!(rt; files.nth_client(0) == Some(FileClient { client: 1, flags }));
+    assert!(rt; files.nth(1, 0) == Some(FileRow::Client(FileClient { client: 1, flags })));
     let object = ObjectKey::from_number(7);
     let Ok(handle) = files.add_handle(1, object, Some(3)) else {
         panic!(rt; "refused")
@@ -78,6 +79,7 @@ fn files_lists(rt: HostRuntime) {
     };
     assert!(rt; files.handles_of(1, 0).ids() == [handle].as_slice());
     assert!(rt; matches!(files.nth_client(0), Some(row) if row.client == 1));
+    assert!(rt; files.nth(6, 0).is_some() && files.nth(2, 0).is_none());
     assert!(rt; matches!(files.nth_handle(0), Some(row) if row.handle == handle));
 }
 

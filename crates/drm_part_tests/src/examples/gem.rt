@@ -18,7 +18,7 @@ fn values(rt: HostRuntime) {
         panic!(rt; "refused")
     };
     let gone = Dead {
-        step_number: 3,
+        birth: 3,
         size: 4096,
     };
     assert!(rt; objects.unhold(key) == Some(gone));
@@ -40,7 +40,7 @@ fn objects(rt: HostRuntime) {
     let Ok(key) = objects.create(1, 4096) else {
         panic!(rt; "refused")
     };
-    assert!(rt; Objects::new(alloc, 2).nth(0).is_none());
+    assert!(rt; Objects::new(alloc, 2).nth_object(0).is_none());
     let Ok(other) = objects.create(2, 8192) else {
         panic!(rt; "refused")
     };
@@ -54,10 +54,11 @@ fn objects(rt: HostRuntime) {
     assert!(rt; objects.unrefer(key).is_none());
     assert!(rt; objects.holds(key) == 1);
     assert!(rt; objects.refs(key) == 0);
-    assert!(rt; objects.step_number(key) == 1);
+    assert!(rt; objects.birth(key) == 1);
     assert!(rt; objects.size(key) == 4096);
     assert!(rt; objects.stamp(key) == 0);
     objects.set_stamp(key, 77);
     assert!(rt; objects.stamp(key) == 77);
-    assert!(rt; objects.nth(0) == objects.get(key));
+    assert!(rt; objects.nth(3, 0) == objects.get(key) && objects.nth(4, 0).is_none());
+    assert!(rt; objects.nth_object(0) == objects.get(key));
 }

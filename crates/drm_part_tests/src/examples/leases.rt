@@ -42,10 +42,8 @@ fn values(rt: HostRuntime) {
         master: 2,
     };
     assert!(rt; leases.token_of(token.master) == Some(token.token));
-    let Leased { master, id, token } = leased;
-    assert!(rt;
-        id == 1 && token == 1 && matches!(masters.master(2), Some(row) if row.key == master)
-    );
+    let Leased { m, id, token } = leased;
+    assert!(rt; id == 1 && token == 1 && matches!(masters.master(2), Some(row) if row.key == m));
 }
 
 #[test]
@@ -79,5 +77,6 @@ fn leases(rt: HostRuntime) {
     leases.revoke_below(&mut masters, 1);
     assert!(rt; leases.list(&masters, 1).ids().is_empty());
     assert!(rt; leases.last_given() == Some(leased.token));
+    assert!(rt; leases.nth(7, 0) == leases.nth_grant(0) && leases.nth(2, 0).is_none());
     assert!(rt; leases.nth_grant(0).is_none());
 }

@@ -1,6 +1,8 @@
 //! The examples of `drm_masters`, made by `tools/doc_examples` of its doc comments.
 
-use drm_masters::{LesseeFault, Magic, Master, Masters, Member, NoMemory, SetDone, SetFault};
+use drm_masters::{
+    LesseeFault, Magic, Master, MasterRow, Masters, Member, NoMemory, SetDone, SetFault,
+};
 use drm_table::Rule;
 
 #[test]
@@ -48,7 +50,7 @@ fn values(rt: HostRuntime) {
 }
 
 #[test]
-fn values_from_master(rt: HostRuntime) {
+fn values_from_master_row(rt: HostRuntime) {
     let alloc = rt.alloc();
     let mut masters = Masters::new(alloc, 4, 4);
     let Ok(_first) = masters.on_open(1, 1) else {
@@ -60,6 +62,7 @@ fn values_from_master(rt: HostRuntime) {
     if masters.member(1).is_some() {
         assert!(rt; masters.magic(1) == Ok(1));
     }
+    assert!(rt; matches!(masters.nth(1, 0), Some(MasterRow::Client(row)) if row.client == 1));
     let master = Master {
         key,
         step_number: 1,
@@ -186,4 +189,5 @@ fn masters_from_lessee(rt: HostRuntime) {
     assert!(rt; masters.master(1).is_some());
     assert!(rt; matches!(masters.nth_member(0), Some(row) if row.client == 1));
     assert!(rt; matches!(masters.nth_master(0), Some(row) if row.step_number == 1));
+    assert!(rt; masters.nth(2, 0).is_some() && masters.nth(3, 0).is_none());
 }

@@ -1,7 +1,9 @@
 //! The examples of `drm_modes`, made by `tools/doc_examples` of its doc comments.
 
 use drm_gem::ObjectKey;
-use drm_modes::{AddFbFault, Framebuffer, Kind, Modes, PlaneKind, Shape, Shown, Topology};
+use drm_modes::{
+    AddFbFault, Fb, Framebuffer, Kind, ModeRow, Modes, PlaneKind, Shape, Shown, Topology,
+};
 use drm_table::ShownList;
 
 #[test]
@@ -52,7 +54,7 @@ fn values_from_framebuffer(rt: HostRuntime) {
         panic!(rt; "refused")
     };
     assert!(rt;
-        modes.fb(framebuffer)
+        modes.nth_framebuffer(0)
             == Some(Framebuffer {
                 framebuffer,
                 client: 1,
@@ -60,6 +62,40 @@ fn values_from_framebuffer(rt: HostRuntime) {
                 object
             })
     );
+    assert!(rt;
+        modes.fb(framebuffer)
+            == Some(Fb {
+                client: 1,
+                shape,
+                object
+            })
+    );
+    let row = Framebuffer {
+        framebuffer,
+        client: 1,
+        shape,
+        object,
+    };
+    assert!(rt; modes.nth(8, 0) == Some(ModeRow::Framebuffer(row)));
+}
+
+#[test]
+fn values_from_shown(rt: HostRuntime) {
+    let alloc = rt.alloc();
+    let shape = Shape {
+        width: 640,
+        height: 480,
+        pitch: 2560,
+        bpp: 32,
+    };
+    let Some(topology) = Topology::new(2, &[1, 2], &[3, 2], &[5, 6]) else {
+        panic!(rt; "refused")
+    };
+    let mut modes = Modes::new(alloc, topology, 4);
+    let object = ObjectKey::from_number(7);
+    let Ok(framebuffer) = modes.addfb(1, shape, object) else {
+        panic!(rt; "refused")
+    };
     if modes.is_of_kind(Kind::Crtc, 1) && modes.fb(framebuffer).is_some() {
         modes.setcrtc(1, framebuffer);
     }
@@ -154,6 +190,7 @@ fn modes_from_setcrtc(rt: HostRuntime) {
         modes.setplane(3, framebuffer);
     }
     assert!(rt; modes.shown(1) == framebuffer && modes.shown(2) == 0);
+    assert!(rt; modes.nth(8, 0).is_some() && modes.nth(7, 0).is_none());
     assert!(rt; matches!(modes.nth_framebuffer(0), Some(row) if row.framebuffer == framebuffer));
     assert!(rt;
         matches!(modes.nth_shown(1), Some(row) if row.engine == 3 && row.framebuffer == framebuffer)

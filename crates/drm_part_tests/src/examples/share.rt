@@ -18,14 +18,14 @@ fn values(rt: HostRuntime) {
     let Ok(name) = names.give(object) else {
         panic!(rt; "refused")
     };
-    assert!(rt; names.nth(0) == Some(SharedName { name, object }));
+    assert!(rt; names.nth_name(0) == Some(SharedName { name, object }));
     let mut tokens = Tokens::new(alloc, 100);
     let object = ObjectKey::from_number(4);
     let Ok(token) = tokens.export(9, object) else {
         panic!(rt; "refused")
     };
     assert!(rt;
-        tokens.nth(0)
+        tokens.nth_token(0)
             == Some(SharedToken {
                 token,
                 client: 9,
@@ -42,14 +42,15 @@ fn names(rt: HostRuntime) {
     let Ok(name) = names.give(object) else {
         panic!(rt; "refused")
     };
-    assert!(rt; Names::new(alloc, 100).nth(0).is_none());
+    assert!(rt; Names::new(alloc, 100).nth_name(0).is_none());
     assert!(rt; names.name_of(object) == Some(name));
     assert!(rt; name == 1);
     assert!(rt; !names.is_full());
     assert!(rt; names.lookup(name) == Some(object));
     names.forget(object);
     assert!(rt; names.lookup(name).is_none());
-    assert!(rt; names.nth(0).is_none());
+    assert!(rt; names.nth(4, 0) == names.nth_name(0) && names.nth(1, 0).is_none());
+    assert!(rt; names.nth_name(0).is_none());
 }
 
 #[test]
@@ -71,5 +72,6 @@ fn tokens(rt: HostRuntime) {
     assert!(rt; tokens.close(9, token) == Some(object));
     assert!(rt; tokens.take_first_of(9) == Some((other, object)));
     assert!(rt; tokens.last_given() == Some(other));
-    assert!(rt; tokens.nth(0).is_none());
+    assert!(rt; tokens.nth(5, 0) == tokens.nth_token(0) && tokens.nth(1, 0).is_none());
+    assert!(rt; tokens.nth_token(0).is_none());
 }
