@@ -400,14 +400,19 @@ const UNORDERED: [Case; 12] = [
     (Ask::IsCurrent(3), Told::Whether(true)),
 ];
 
-const fn founded_by(step_number: u32) -> Told {
-    Told::Master {
-        step_number,
-        lessor: None,
-        lessee_id: 0,
-        kept: false,
-    }
-}
+const OF_BIRTH_4: Told = Told::Master {
+    step_number: 4,
+    lessor: None,
+    lessee_id: 0,
+    kept: false,
+};
+
+const OF_BIRTH_9: Told = Told::Master {
+    step_number: 9,
+    lessor: None,
+    lessee_id: 0,
+    kept: false,
+};
 
 /// Births do not rise from one founded master to the next. Masters are listed by their births.
 const UNORDERED_BIRTHS: [Case; 8] = [
@@ -415,8 +420,8 @@ const UNORDERED_BIRTHS: [Case; 8] = [
     (Ask::Drop(1), Told::Done),
     (Ask::OpenBy(2, 4), Told::Whether(true)),
     (Ask::OpenBy(3, 9), Told::Unasked),
-    (Ask::NthMaster(0), founded_by(4)),
-    (Ask::NthMaster(1), founded_by(9)),
+    (Ask::NthMaster(0), OF_BIRTH_4),
+    (Ask::NthMaster(1), OF_BIRTH_9),
     (Ask::NthMaster(2), Told::Nothing),
     (Ask::DeviceMaster, Told::Number(4)),
 ];
