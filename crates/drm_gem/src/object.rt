@@ -14,7 +14,7 @@ use crate::keys::ObjectKey;
 pub struct Object {
     /// What names it while it is there.
     pub key: ObjectKey,
-    /// The number of the step that made it, which no other object ever has (own).
+    /// The number of the step that created it (own). No other object that exists has it.
     pub step_number: u32,
     /// Its size in bytes.
     pub size: u64,

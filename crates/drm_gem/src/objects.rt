@@ -42,7 +42,7 @@ pub(crate) struct Kept {
     pub(crate) refs: u32,
 }
 
-/// The objects that are there, in the order of the steps that made them. Contracts see a flat list.
+/// The objects that exist, in the order of their births. Contracts see a flat list.
 ///
 /// ```rust
 /// let mut objects = Objects::new(alloc, 2);

@@ -28,7 +28,8 @@ const CLIENT_KIND: u32 = 1;
 const MASTER_KIND: u32 = 2;
 
 /// The clients that stand to a master, the masters, and which of these is the device's (drm(7); drm-uapi, leases). A
-/// master stays while it, or one below it, is kept or named by a client. Contracts see flat lists, in the order of step numbers.
+/// master stays while it, or one below it, is kept or named by a client. Contracts see flat lists: clients in
+/// the order of their numbers, masters in the order of births.
 ///
 /// ```rust
 /// let mut masters = Masters::new(alloc, 4, 4);
@@ -564,7 +565,7 @@ impl Masters {
         sweep_under(&self.members, &mut self.masters, top);
     }
 
-    /// The client at a place, from 0, in the order of step numbers, among those that stand to masters; none past the last. It
+    /// The client at a place, from 0, in the order of their numbers, among those that stand to masters; none past the last. It
     /// takes no memory.
     ///
     /// ```rust
