@@ -223,7 +223,7 @@ impl Masters {
         self.members.is_flagged(client)
     }
 
-    /// Adds a client that opened the primary node. No client has this number yet.
+    /// Adds a client that opened the primary node. No client has this number yet, and no master this birth.
     ///
     /// If the device has no master, the client owns a new one with this birth, which becomes the device's: true.
     /// Otherwise the client belongs to the device's master and is no master itself: false.
@@ -297,8 +297,8 @@ impl Masters {
 
     /// SET_MASTER (drm-uapi), in order: a client that was never a master and isn't root is refused (26); one that is
     /// current is done; while the device has a master others are refused (27); a client that is no master gets a new one,
-    /// made by the step of this number, and loses its magic; a lessee is refused (29); any other has its own set again.
-    /// A refusal changes nothing.
+    /// with this birth, and loses its magic; a lessee is refused (29); any other has its own set again. A refusal
+    /// changes nothing. No master has this birth yet.
     ///
     /// ```rust
     /// if masters.member(1).is_some() {
