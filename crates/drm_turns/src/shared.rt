@@ -237,31 +237,36 @@ impl SharedDevice {
         self.table.shared.fetch_add::<Count<E>>(place, COUNT, 1);
     }
 
-    /// Takes the device out of the slot, steps it, counts the step where it was noted, and puts the device back.
-    fn step_in_turn(&self, place: &mut Place<Slot, View>, event: Event) -> Result<Answer, Apart>
+    /// Takes the device out of the slot, steps it, counts the step if it is journaled, and puts the device back. What came of the step
+    /// is written to its place, so that it moves less.
+    fn step_in_turn(
+        &self,
+        place: &mut Place<Slot, View>,
+        event: Event,
+        outcome: &mut Result<Answer, Apart>,
+    )
         requires own { place.old.table_id ≡ self.now }
         requires serving { (place.old.me.0.stage ≡ Serving) × (place.old.me.0.number ≢ 0) }
         requires device { place.old.me.1 ≡ (0, Some (device_at place.old.me.0.origin place.old.me.0.seen)) ∷ [] }
         requires seen { IsOwn place.old.me.0 }
         ensures own { (place.new.table_id ≡ place.old.table_id) × (place.new.id ≡ place.old.id) }
         ensures grows { Grows place.old.me.0 place.new.me.0 }
-        ensures ok { IfOk result (λ answer. place.new.me.0 ≡ counted place.old.me.0 (entry place.old.me.0.number event answer)) }
-        ensures err { IfErr result (λ apart. (place.new.me.0 ≡ place.old.me.0)
+        ensures ok { IfOk outcome.new (λ answer. place.new.me.0 ≡ counted place.old.me.0 (entry place.old.me.0.number event answer)) }
+        ensures err { IfErr outcome.new (λ apart. (place.new.me.0 ≡ place.old.me.0)
             × Step (rows_after place.old.me.0.origin place.old.me.0.seen) event (Err apart) (rows_after place.old.me.0.origin place.old.me.0.seen)) }
         ensures device { place.new.me.1 ≡ (0, Some (device_at place.new.me.0.origin place.new.me.0.seen)) ∷ [] }
-        ensures turn { Turn event result }
-        ensures few { FitsOneFrame result }
+        ensures turn { Turn event outcome.new }
+        ensures few { FitsOneFrame outcome.new }
     {
         let shared = &self.table.shared;
         let mut device = shared.exchange(place, 0, None).unwrap().into_box();
         let journaled = Snapshot::of(&event);
-        let result = device.step(event);
-        match &result {
+        *outcome = device.step(event);
+        match &*outcome {
             Ok(answer) => self.count::<Brand>(place, &journaled, answer),
             Err(_) => {}
         }
         drop(shared.exchange(place, 0, Some(BoxedDevice { device })));
-        result
     }
 
     /// Leaves the device at home and lets the next ticket be served. Of the calls that sleep one is woken, or all where a ticket
@@ -367,9 +372,10 @@ impl SharedDevice {
             return Err(Apart::Worn);
         };
         self.wait_turn(rt, place, ticket);
-        let result = self.step_in_turn(place, event);
+        let mut outcome = Err(Apart::Worn);
+        self.step_in_turn(place, event, &mut outcome);
         self.pass(place);
-        result
+        outcome
     }
 
     /// A further participant, of a number of its own, which has seen as much. The participant that it is split off counts one more that

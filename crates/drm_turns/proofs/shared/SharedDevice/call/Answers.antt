@@ -26,11 +26,11 @@ its_turn g c =
     )
 
 -- what a whole turn does to the view
-whole : (g : Over) (c : After-pass g) → let v = c.participant.inside.place.me.0 in let w = c.step_in_turn-result.new.place.me.0 in
+whole : (g : Over) (c : After-pass g) → let v = c.participant.inside.place.me.0 in let w = c.step_in_turn.new.place.me.0 in
     (w.number ≡ v.number) × (w.origin ≡ v.origin) × (w.told ≡ v.told) × StartsWith w.seen v.seen × IsOwn w × (w.kept ≡ v.kept) × (w.ticket ≡ c.in-Some.ticket) × (w.parent ≡ v.parent) × (w.outstanding ≡ v.outstanding) × (w.drawn ≡ v.drawn + 1)
 whole g c =
     let t = its_turn g c in
-    turned c.participant.inside.place.me.0 c.in-Some.ticket t.0 c.step_in_turn-result.new.place.me.0 t.1 (subst (λ (u : View). Grows u c.step_in_turn-result.new.place.me.0) t.2 c.step_in_turn-result.ensures.grows)
+    turned c.participant.inside.place.me.0 c.in-Some.ticket t.0 c.step_in_turn.new.place.me.0 t.1 (subst (λ (u : View). Grows u c.step_in_turn.new.place.me.0) t.2 c.step_in_turn.ensures.grows)
 
 abbrev after : (g : Over) → After-pass g → ParticipantView
 after g c = participant_view_of record { place = c.pass.new.place }
@@ -52,7 +52,7 @@ invariant_of-participant-2 g c = let t = whole g c in let p = c.pass.ensures.pas
 pub returns-clause-extends : goal.returns-clause-extends
 returns-clause-extends g c = let t = whole g c in let p = c.pass.ensures.passed in let r : List Entry = t.3.0 in (
   (
-    c.pass.ensures.own.0 ∙ (c.step_in_turn-result.ensures.own.0 ∙ (c.wait_turn.ensures.own.0 ∙ (c.in-Some.ensures.own.0 ∙ ap (λ (s : ParticipantView). s.table) c.participant.view_is))),
+    c.pass.ensures.own.0 ∙ (c.step_in_turn.ensures.own.0 ∙ (c.wait_turn.ensures.own.0 ∙ (c.in-Some.ensures.own.0 ∙ ap (λ (s : ParticipantView). s.table) c.participant.view_is))),
     ap (λ (m : Sat). m.0.number) p ∙ (t.0 ∙ ap (λ (s : ParticipantView). s.number) c.participant.view_is),
     ap (λ (m : Sat). m.0.origin) p ∙ (t.1 ∙ ap (λ (s : ParticipantView). s.origin) c.participant.view_is),
   ),
@@ -75,7 +75,7 @@ returns-clause-ok g c =
     let t = its_turn g c in
     let p = c.pass.ensures.passed in
     let between : List Entry = t.1.0.0 in
-    commits c.step_in_turn-result.result c.args.event c.args.participant.now (after g c) c.wait_turn.new.place.me.0 c.step_in_turn-result.new.place.me.0 between c.step_in_turn-result.ensures.ok
+    commits c.step_in_turn.new.outcome c.args.event c.args.participant.now (after g c) c.wait_turn.new.place.me.0 c.step_in_turn.new.place.me.0 between c.step_in_turn.ensures.ok
     (ap (λ (m : Sat). m.0.seen) p)
     (ap (λ (m : Sat). m.0.mine) p)
     (ap (λ (u : View). u.number) t.2 ∙ ap (λ (s : ParticipantView). s.number) c.participant.view_is)
@@ -87,7 +87,7 @@ pub returns-clause-err : goal.returns-clause-err
 returns-clause-err g c =
     let t = its_turn g c in
     let p = c.pass.ensures.passed in
-    aborts c.step_in_turn-result.result c.args.event c.args.participant.now (after g c) c.wait_turn.new.place.me.0 c.step_in_turn-result.new.place.me.0 c.step_in_turn-result.ensures.err
+    aborts c.step_in_turn.new.outcome c.args.event c.args.participant.now (after g c) c.wait_turn.new.place.me.0 c.step_in_turn.new.place.me.0 c.step_in_turn.ensures.err
     (ap (λ (m : Sat). m.0.origin) p)
     (ap (λ (m : Sat). m.0.seen) p)
     (ap (λ (m : Sat). m.0.mine) p)
@@ -95,20 +95,20 @@ returns-clause-err g c =
     (found g c)
 
 pub returns-clause-turn : goal.returns-clause-turn
-returns-clause-turn g c = answered c.args.event c.step_in_turn-result.result c.step_in_turn-result.ensures.turn
+returns-clause-turn g c = answered c.args.event c.step_in_turn.new.outcome c.step_in_turn.ensures.turn
 
 pub returns-clause-counts : goal.returns-clause-counts
 returns-clause-counts g c =
     let v = c.participant.inside.place.me.0 in
     let t = whole g c in
     let p = c.pass.ensures.passed in
-    let one = turn_tickets c.args.event c.step_in_turn-result.result c.step_in_turn-result.ensures.turn in
+    let one = turn_tickets c.args.event c.step_in_turn.new.outcome c.step_in_turn.ensures.turn in
     let drew = ap (λ (m : Sat). m.0.drawn) p ∙ (t.9 ∙ ap (λ (s : ParticipantView). s.drawn + 1) c.participant.view_is) in
-    let more = turn_entries c.step_in_turn-result.result c.args.event c.wait_turn.new.place.me.0 c.step_in_turn-result.new.place.me.0 c.step_in_turn-result.ensures.ok c.step_in_turn-result.ensures.err in
+    let more = turn_entries c.step_in_turn.new.outcome c.args.event c.wait_turn.new.place.me.0 c.step_in_turn.new.place.me.0 c.step_in_turn.ensures.ok c.step_in_turn.ensures.err in
     let had = ap (λ (u : View). u.journaled) (its_turn g c).2 ∙ ap (λ (s : ParticipantView). s.journaled) c.participant.view_is in (
       drew ∙ ap (λ (n : ℕ). c.args.participant.now.drawn + n) (sym one),
-      ap (λ (m : Sat). m.0.journaled) p ∙ (more ∙ ap (λ (n : ℕ). n + entries_of c.step_in_turn-result.result) had),
+      ap (λ (m : Sat). m.0.journaled) p ∙ (more ∙ ap (λ (n : ℕ). n + entries_of c.step_in_turn.new.outcome) had),
     )
 
 pub returns-clause-worn : goal.returns-clause-worn
-returns-clause-worn g c worn = absurd (not_worn c.args.event c.step_in_turn-result.result c.step_in_turn-result.ensures.turn worn)
+returns-clause-worn g c worn = absurd (not_worn c.args.event c.step_in_turn.new.outcome c.step_in_turn.ensures.turn worn)
