@@ -64,11 +64,6 @@ def told_by(line):
     return re.sub(r"^\[([A-Z]+) +drm_[a-z_:]+\] ", r"\1 ", line.rstrip("\n"))
 
 
-def is_of_listening(line):
-    """Whether a line tells where a server listens."""
-    return re.fullmatch(r"INFO (card|render|root): .* accepts \d+ in all", told_by(line)) is not None
-
-
 def next_told(started):
     """The next line that a running server logs."""
     ready, _, _ = select.select([started.stderr], [], [], SECONDS)

@@ -21,7 +21,8 @@ use Rattle.drm_masters.specs.declared.rows.Member.{Member}
 use Rattle.drm_masters.specs.declared.rows.Master.{Master}
 use Rattle.drm_masters.specs.Masters as masters
 use Rattle.drm_masters.specs.Masters.{MasterSet, AreMasters}
-use Rattle.drm_masters.specs.Calls.{IsNewClient, with_master, with_device}
+use Rattle.drm_masters.specs.Calls.{IsNewClient, with_device}
+use Rattle.drm_masters.proofs.Newest.{with_last_member, with_last_master}
 use Rattle.drm_leases.specs.Leases.{LeaseSet, AreLeases}
 use Rattle.drm_model.specs.Rows.{Rows, ClientRow, MasterRow}
 use Rattle.drm_state.specs.declared.state.State.{State}
@@ -72,10 +73,6 @@ closed_again fs c flags are newest = λ i. record fs { clients = clients i; hold
 
 -- ---- one more client
 
--- the masters with a client that is newer than all
-abbrev pub with_newest : Member → MasterSet → MasterSet
-with_newest m v = record v { members = v.members ++ m ∷ [] }
-
 -- the state with a client that stands to masters so, with these leases
 abbrev pub joined : State → ℕ → FileFlags → MasterSet → LeaseSet → State
 joined s c flags set l = record s { files = with_file s.files c flags; masters = set; leases = l }
@@ -110,7 +107,7 @@ no_magic_more m e (x ∷ xs) = ap (cons_option (magic_row_of x)) (no_magic_more 
 
 -- a client that is no master
 pub non_master_represents : (s : State) (w : Rows) (flags : FileFlags) (m : Member) (row : ClientRow) → MeetsInvariants s → IsLater s m.client → m.magic ≡ None → client_row_by (record { client = m.client; flags = flags }) (Some m) ≡ row → Represents s w →
-    (part : Part) → represents_part part (joined s m.client flags (with_newest m s.masters) s.leases) (record w { clients = w.clients ++ row ∷ [] })
+    (part : Part) → represents_part part (joined s m.client flags (with_last_member m s.masters) s.leases) (record w { clients = w.clients ++ row ∷ [] })
 unfolding represents_part
 non_master_represents s w flags m row t later none r h Clients =
     ap (λ l. l ++ row ∷ []) (clients_are s w h) ∙ ap (λ x. clients_of s ++ x ∷ []) (sym r) ∙ sym (client_pushed flags m s.files.clients s.masters.members later.clients (members_open s t))
@@ -119,7 +116,7 @@ non_master_represents s w flags m row t later none r h part = h part
 
 -- a master's opener
 pub opener_represents : (s : State) (w : Rows) (flags : FileFlags) (m : Member) (z : Master) (row : ClientRow) (master : MasterRow) → MeetsInvariants s → IsLater s m.client → m.magic ≡ None → client_row_by (record { client = m.client; flags = flags }) (Some m) ≡ row → master_row_of s.leases.tokens z ≡ master → Represents s w →
-    (part : Part) → represents_part part (joined s m.client flags (with_device (Some z.step_number) (with_newest m (with_master z s.masters))) s.leases) (record w { masters = w.masters ++ master ∷ []; device_master = Some master.master; clients = w.clients ++ row ∷ [] })
+    (part : Part) → represents_part part (joined s m.client flags (with_device (Some z.step_number) (with_last_member m (with_last_master z s.masters))) s.leases) (record w { masters = w.masters ++ master ∷ []; device_master = Some master.master; clients = w.clients ++ row ∷ [] })
 unfolding represents_part
 opener_represents s w flags m z row master t later none r k h Clients =
     ap (λ l. l ++ row ∷ []) (clients_are s w h) ∙ ap (λ x. clients_of s ++ x ∷ []) (sym r) ∙ sym (client_pushed flags m s.files.clients s.masters.members later.clients (members_open s t))

@@ -13,7 +13,7 @@ use Rattle.drm_masters.specs.declared.rows.Master.{Master}
 use Rattle.drm_files.specs.declared.rows.FileFlags.{FileFlags}
 use Rattle.drm_masters.specs.Masters.{MasterSet, AreMasters, is_step_number, is_key, is_lessee, master_at, IsKeyOf}
 use Rattle.drm_masters.specs.Calls.{IsNewClient, lease_client, with_kept, redeemed}
-use Rattle.drm_masters.proofs.Newest.{newest_last}
+use Rattle.drm_masters.proofs.Newest.{newest_last, with_last_member}
 use Rattle.drm_leases.specs.declared.rows.LeaseToken.{LeaseToken}
 use Rattle.drm_leases.specs.Leases.{AreLeases, is_token, is_token_of, token_of, token_master}
 use Rattle.drm_leases.specs.Calls.{without_token}
@@ -30,7 +30,7 @@ use Rattle.drm_leases.proofs.Agreeing.{agreed_redeemed}
 use Rattle.drm_state.proofs.Represented.{clients_are, masters_are, magics_are, members_open, leases_so, tokens_of_lessees, kept_have_tokens, leases_agree}
 use Rattle.drm_state.proofs.Ended.{rows_ended, rows_released, kept_ended, of_lessees_ended}
 use Rattle.drm_state.proofs.Members.{client_pushed}
-use Rattle.drm_client_calls.proofs.Opened.{joined, with_newest, joined_invariants, no_magic_more}
+use Rattle.drm_client_calls.proofs.Opened.{joined, joined_invariants, no_magic_more}
 use Rattle.std.proofs.lemmas.Option.{same_Some}
 
 abbrev Differ : List LeaseToken → Type 0
@@ -160,7 +160,7 @@ lease_flags root universal = record { render = false; root = root; authenticated
 
 -- the masters with the newest client, which redeemed a lessee
 abbrev pub redeemed_last : ℕ → ℕ → MasterSet → MasterSet
-redeemed_last b m v = with_kept m false (with_newest (lease_client b m) v)
+redeemed_last b m v = with_kept m false (with_last_member (lease_client b m) v)
 
 pub last_redeemed : (b m : ℕ) (v : MasterSet) → IsNewClient v b → redeemed b m v ≡ redeemed_last b m v
 last_redeemed b m v newest = ap (with_kept m false) (newest_last v (lease_client b m) newest)

@@ -11,7 +11,8 @@ use Rattle.std.proofs.lemmas.Bool.{false≢true, eqb-true}
 use Rattle.std.proofs.lemmas.Bool.Decides.{nat_tests}
 use Rattle.slab.specs.Slab.{Slab, get, Updates}
 use Rattle.drm_lists.specs.Orders.{InOrder}
-use Rattle.drm_lists.proofs.Lists.{all_of_map}
+use Rattle.std.proofs.lemmas.List.{map-append}
+use Rattle.drm_lists.proofs.Lists.{all_of_map, map-map}
 use Rattle.drm_index_array.specs.Rows.{placed}
 use Rattle.drm_index_array.proofs.Keyed.{left, right, all_rows, rows_put, rows_where, row_at, rows_length, entries_removed}
 use Rattle.drm_index_array.proofs.MarkedLemmas.{get-insert, get-remove}
@@ -191,45 +192,51 @@ module _ {X : Type 0} (key step_number : X → ℕ) (nothing : X) where
     pub many : length rows ≡ fin.len keys
     many = rows_length keys 0 (row slab)
 
-    -- a new step number has no key
-    pub vacant : (n : ℕ) → AllByRecursion (λ x. step_number x < n) rows → fin.get keys n ≡ None
-    vacant n newest = fin.get-entries keys n ∙ none es tells newest
+    -- an unused step number has no key
+    pub vacant : (n : ℕ) → AllByRecursion (λ x. (step_number x == n) ≡ false) rows → fin.get keys n ≡ None
+    vacant n unused = fin.get-entries keys n ∙ none es tells unused
       where
-        none : (fs : List (ℕ × ℕ)) → AllByRecursion Tells fs → AllByRecursion (λ x. step_number x < n) (rows_in nothing slab fs) → find nat_cmp n fs ≡ None
+        none : (fs : List (ℕ × ℕ)) → AllByRecursion Tells fs → AllByRecursion (λ x. (step_number x == n) ≡ false) (rows_in nothing slab fs) → find nat_cmp n fs ≡ None
         none [] t h = refl
-        none (f ∷ fs) t h = ap (λ b. cond b (Some f.1) (find nat_cmp n fs)) (sym (same_test n f.0) ∙ differ f.0 n (λ e. omega (arith, e, h.0, t.0.0))) ∙ none fs t.1 h.1
+        none (f ∷ fs) t h = ap (λ b. cond b (Some f.1) (find nat_cmp n fs)) (sym (same_test n f.0) ∙ ap (λ m. m == n) (sym t.0.0) ∙ h.0) ∙ none fs t.1 h.1
 
     -- a new record under a key that had none
     module _ (n k : ℕ) (x : X) (new : Slab X) (is_step_number : step_number x ≡ n) (is_key : key x ≡ k) (free : get slab k ≡ None) (up : Updates slab new k (Some x))
-        (newest : AllByRecursion (λ y. step_number y < n) rows) where
+        (unused : AllByRecursion (λ y. (step_number y == n) ≡ false) rows) where
       other_key : (b j : ℕ) → fin.get keys b ≡ Some j → j ≢ k
       other_key b j at e = let w = keyed.record_of b j at in none-some w.0 (sym free ∙ ap (get slab) (sym e) ∙ w.1)
 
       unmoved : rows_in nothing new es ≡ rows
       unmoved = rows_alike (row slab) (row new) es (by_get (λ e. row new e ≡ row slab e) (λ b j at. ap (λ o. unwrap_or o nothing) (up.others j (other_key b j at))))
 
-      last : (fs : List (ℕ × ℕ)) → AllByRecursion (λ e. (step_number (row slab e) < n) × (step_number (row slab e) ≡ e.0)) fs → put nat_cmp n k fs ≡ fs ++ (n, k) ∷ []
-      last [] h = refl
-      last (f ∷ fs) h =
-          ap (λ r. by_order r ((n, k) ∷ f ∷ fs) ((f.0, k) ∷ fs) (f ∷ put nat_cmp n k fs)) (greater n f.0 (omega (arith, h.0.0, h.0.1)))
-          ∙ ap (λ l. f ∷ l) (last fs h.1)
-        where
-          greater : (a b : ℕ) → b < a → nat_cmp a b ≡ Greater
-          greater a b lt = grind (arith, nat_tests)
+      -- a record beside its step number
+      abbrev tagged : ℕ × ℕ → ℕ × X
+      tagged e = (e.0, row new e)
 
-      pub created : rows_in nothing new (fin.entries (fin.insert keys n k)) ≡ rows ++ x ∷ []
+      abbrev record_of_tagged : ℕ × X → X
+      record_of_tagged p = p.1
+
+      tells_new : AllByRecursion (λ e. step_number (row new e) ≡ e.0) es
+      tells_new = by_get (λ e. step_number (row new e) ≡ e.0) (λ b j at. ap (λ o. step_number (unwrap_or o nothing)) (up.others j (other_key b j at)) ∙ row_step_number b j at)
+
+      untagged : (q : ℕ → Bool) (fs : List (ℕ × ℕ)) → AllByRecursion (λ e. step_number (row new e) ≡ e.0) fs → map record_of_tagged (filter (λ p. q p.0) (map tagged fs)) ≡ filter (λ y. q (step_number y)) (map (row new) fs)
+      untagged q [] t = refl
+      untagged q (f ∷ fs) t =
+          let rest = untagged q fs t.1 in
+          let more = filter (λ y. q (step_number y)) (map (row new) fs) in
+          elim (q f.0) as (λ b. q (step_number (row new f)) ≡ b → map record_of_tagged (cond b (tagged f ∷ filter (λ p. q p.0) (map tagged fs)) (filter (λ p. q p.0) (map tagged fs))) ≡ cond (q (step_number (row new f))) (row new f ∷ more) more) [
+            | true ↦ λ e. ap (λ l. row new f ∷ l) rest ∙ ap (λ b. cond b (row new f ∷ more) more) (sym e)
+            | false ↦ λ e. rest ∙ ap (λ b. cond b (row new f ∷ more) more) (sym e)
+          ] (ap q t.0)
+
+      pub created : rows_in nothing new (fin.entries (fin.insert keys n k)) ≡ placed (λ y z. nat_lt (step_number y) (step_number z)) x rows
       created =
-          ap (rows_in nothing new) (fin.entries-insert nat_cmp_total keys n k ∙ last es (both es tells newest))
-          ∙ map_pushed (row new) es (n, k)
-          ∙ (λ i. unmoved i ++ unwrap_or (up.changed i) nothing ∷ [])
-        where
-          both : (fs : List (ℕ × ℕ)) → AllByRecursion Tells fs → AllByRecursion (λ y. step_number y < n) (rows_in nothing slab fs) → AllByRecursion (λ e. (step_number (row slab e) < n) × (step_number (row slab e) ≡ e.0)) fs
-          both [] t h = tt
-          both (f ∷ fs) t h = ((h.0, t.0.0), both fs t.1 h.1)
-
-          map_pushed : (f : ℕ × ℕ → X) (xs : List (ℕ × ℕ)) (y : ℕ × ℕ) → map f (xs ++ y ∷ []) ≡ map f xs ++ f y ∷ []
-          map_pushed f [] y = refl
-          map_pushed f (z ∷ zs) y = ap (λ l. f z ∷ l) (map_pushed f zs y)
+          ap (map (row new)) (fin.entries-insert nat_cmp_total keys n k)
+          ∙ sym (map-map record_of_tagged tagged (put nat_cmp n k es))
+          ∙ ap (map record_of_tagged) (rows_put nat_cmp nat_cmp_total tagged (λ p q. nat_lt p.0 q.0) (λ e f. before_test e.0 f.0) n k es (fin.entries_sorted keys) (sym (fin.get-entries keys n) ∙ vacant n unused))
+          ∙ map-append record_of_tagged (filter (λ p. nat_lt p.0 n) (map tagged es)) (tagged (n, k) ∷ filter (λ p. not (nat_lt p.0 n)) (map tagged es))
+          ∙ (λ i. untagged (λ b. nat_lt b n) es tells_new i ++ unwrap_or (up.changed i) nothing ∷ untagged (λ b. not (nat_lt b n)) es tells_new i)
+          ∙ (λ i. filter (λ y. nat_lt (step_number y) (sym is_step_number i)) (unmoved i) ++ x ∷ filter (λ y. not (nat_lt (step_number y) (sym is_step_number i))) (unmoved i))
 
       pub created_keyed : IsKeyed key step_number (fin.insert keys n k) new
       created_keyed = record {
@@ -252,7 +259,7 @@ module _ {X : Type 0} (key step_number : X → ℕ) (nothing : X) where
                   (ap key (sym is_y) ∙ is_key ∙ sym alike, ap (fin.get (fin.insert keys n k)) (ap step_number (sym is_y) ∙ is_step_number) ∙ insert_same keys n k ∙ ap Some (sym alike))
               | false ↦ λ differs.
                   let w = keyed.key_of j y (sym (up.others j (apart j k differs)) ∙ at) in
-                  (w.0, insert_other keys n k (step_number y) (λ e. none-some j (sym (vacant n newest) ∙ ap (fin.get keys) (sym e) ∙ w.1)) ∙ w.1)
+                  (w.0, insert_other keys n k (step_number y) (λ e. none-some j (sym (vacant n unused) ∙ ap (fin.get keys) (sym e) ∙ w.1)) ∙ w.1)
             ] refl;
       }
 

@@ -11,7 +11,8 @@ use Rattle.drm_lists.proofs.Orders.{same-map}
 use Rattle.drm_lists.proofs.Rising.{find_more}
 use Rattle.drm_masters.specs.declared.rows.Master.{Master}
 use Rattle.drm_masters.specs.Masters.{AreMasters, is_step_number, is_lessee}
-use Rattle.drm_masters.specs.Calls.{IsNewStepNumber, lessee, with_master}
+use Rattle.drm_masters.specs.Calls.{IsNewStepNumber, lessee}
+use Rattle.drm_masters.proofs.Newest.{with_last_master}
 use Rattle.drm_leases.specs.declared.rows.LeaseToken.{LeaseToken}
 use Rattle.drm_leases.specs.Leases.{AreLeases, is_token_of, token_of}
 use Rattle.drm_leases.specs.Calls as leases
@@ -40,7 +41,7 @@ same_append xs ys us vs h k = λ test. length-filter_append test xs us ∙ (λ i
 
 module _ (s : State) (key b m id token : ℕ) (objects : List ℕ) where
   abbrev pub leased : State
-  leased = record s { masters = with_master (lessee key b m id) s.masters; leases = with_lease token b m objects s.leases }
+  leased = record s { masters = with_last_master (lessee key b m id) s.masters; leases = with_lease token b m objects s.leases }
 
   abbrev tokens_now : List LeaseToken
   tokens_now = s.leases.tokens ++ lease_token token b ∷ []

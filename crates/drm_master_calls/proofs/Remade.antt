@@ -9,8 +9,9 @@ use Rattle.drm_files.specs.Files.{with_authenticated}
 use Rattle.drm_masters.specs.declared.rows.Master.{Master}
 use Rattle.drm_masters.specs.declared.rows.Member.{Member}
 use Rattle.drm_leases.specs.declared.rows.LeaseToken.{LeaseToken}
-use Rattle.drm_masters.specs.Masters.{AreMasters, is_client, member_of}
-use Rattle.drm_masters.specs.Calls.{owner, founded_master, with_master, remade}
+use Rattle.drm_masters.specs.Masters.{MasterSet, AreMasters, is_client, member_of, swept as masters_swept}
+use Rattle.drm_masters.specs.Calls.{IsNewStepNumber, owner, founded_master, with_device, changed_member, remade}
+use Rattle.drm_masters.proofs.Newest.{newest_master, with_last_master}
 use Rattle.drm_leases.proofs.Agreeing.{owns, agreed_swept, agreed_more, agreed_changed}
 use Rattle.drm_model.specs.Rows.{Rows, ClientRow, MasterRow, MagicRow, without}
 use Rattle.drm_model.specs.Masters.{new_master}
@@ -47,13 +48,20 @@ own_rows w c b = record w {
   device_master = Some b;
 }
 
+-- the masters where it has it, which is newer than all
+abbrev pub remade_last : ℕ → ℕ → ℕ → MasterSet → MasterSet
+remade_last c key b v = masters_swept (with_device (Some b) (changed_member (owner c b) (with_last_master (founded_master key b) v)))
+
+pub last_remade : (c key b : ℕ) (v : MasterSet) → IsNewStepNumber v b → remade c key b v ≡ remade_last c key b v
+last_remade c key b v newest = ap (λ u. masters_swept (with_device (Some b) (changed_member (owner c b) u))) (newest_master v (founded_master key b) newest)
+
 -- the state where it has it, and what it stands for
-module _ (s : State) (x : Member) (key b : ℕ) (t : MeetsInvariants s) (new : AllByRecursion (λ (row : LeaseToken). row.master < b) s.leases.tokens) (are : AreMasters (remade x.client key b s.masters)) (look : member_of s.masters.members x.client ≡ Some x) (non_master : x.is_master ≡ false) where
+module _ (s : State) (x : Member) (key b : ℕ) (t : MeetsInvariants s) (new : AllByRecursion (λ (row : LeaseToken). row.master < b) s.leases.tokens) (are : AreMasters (remade_last x.client key b s.masters)) (look : member_of s.masters.members x.client ≡ Some x) (non_master : x.is_master ≡ false) where
   abbrev remade_state : State
-  remade_state = record s { files = with_authenticated s.files x.client; masters = remade x.client key b s.masters }
+  remade_state = record s { files = with_authenticated s.files x.client; masters = remade_last x.client key b s.masters }
 
   abbrev all_masters : List Master
-  all_masters = (with_master (founded_master key b) s.masters).masters
+  all_masters = (with_last_master (founded_master key b) s.masters).masters
 
   abbrev all_members : List Member
   all_members = map (put (owner x.client b)) s.masters.members
@@ -67,8 +75,8 @@ module _ (s : State) (x : Member) (key b : ℕ) (t : MeetsInvariants s) (new : A
 
   pub remade_invariants : MeetsInvariants remade_state
   remade_invariants =
-      authenticated_invariants (record s { masters = remade x.client key b s.masters }) x.client
-      (changed_invariants s (owner x.client b) (remade x.client key b s.masters) t refl are
+      authenticated_invariants (record s { masters = remade_last x.client key b s.masters }) x.client
+      (changed_invariants s (owner x.client b) (remade_last x.client key b s.masters) t refl are
       (of_lessees_swept all_members s.leases.tokens all_masters kept (of_lessees_more s.leases.tokens s.masters.masters (founded_master key b) (tokens_of_lessees s t))) (kept_swept all_members s.leases.tokens all_masters kept)
       (agreed_swept all_members all_masters s.leases.lendings
       (agreed_more all_members s.masters.masters (founded_master key b) s.leases.lendings

@@ -9,6 +9,7 @@ use Rattle.std.specs.FinMap.Entries.{is_sorted, below_all}
 use Rattle.std.proofs.lemmas.Bool.{eqb-true, ne_eqb, false≢true}
 use Rattle.std.proofs.lemmas.Bool.Decides.{nat_tests}
 use Rattle.drm_index_array.specs.Least.{least}
+use Rattle.drm_index_array.specs.Rows.{placed}
 use Rattle.drm_index_array.specs.Indexed.{Indexed}
 use Rattle.drm_index_array.proofs.Keyed.{left, right}
 use Rattle.drm_index_array.proofs.Least.{least-same, least_some}
@@ -21,10 +22,10 @@ use Rattle.drm_lists.proofs.Found.{find_none}
 use Rattle.drm_lists.proofs.Numbers.{less-differ, flipped}
 use Rattle.drm_lists.proofs.Rising.{any_found, all_found, find_more, find_where}
 use Rattle.drm_masters.specs.declared.rows.Master.{Master}
-use Rattle.drm_masters.specs.Masters.{is_step_number, is_option, master_at, lessor_of, lessees_of}
+use Rattle.drm_masters.specs.Masters.{is_step_number, master_before, is_option, master_at, lessor_of, lessees_of}
 use Rattle.drm_masters.specs.Tables.{AreLesseesOf, IsListed, IsUnlisted}
-use Rattle.drm_masters.proofs.Living.{Rise}
-use Rattle.drm_masters.proofs.Pushed.{new_lessor}
+use Rattle.drm_masters.proofs.Living.{Rise, IsFresh, others_apart}
+use Rattle.drm_masters.proofs.Pushed.{new_lessor, other_lessors}
 use Rattle.drm_index_array.proofs.Entries.{less_of}
 
 none_more : (a b : Bool) → (a || (b && false)) ≡ a
@@ -46,19 +47,19 @@ itself_gone true = refl
 itself_gone false = refl
 
 module _ (ms : List Master) (x : Master) where
-  module _ (newest : AllByRecursion (λ (y : Master). y.step_number < x.step_number) ms) where
+  module _ (fresh : IsFresh ms x.step_number) where
     none_yet : lessor_of ms x.step_number ≡ None
-    none_yet = ap (option_and_then (λ (y : Master). y.lessor)) (find_none (is_step_number x.step_number) ms (all_weaker (λ (y : Master). y.step_number < x.step_number) (λ (y : Master). is_step_number x.step_number y ≡ false) (λ y lt. less-differ y.step_number x.step_number lt) ms newest))
+    none_yet = ap (option_and_then (λ (y : Master). y.lessor)) (find_none (is_step_number x.step_number) ms (others_apart ms x.step_number fresh))
 
-    pub listed : (old new : Groups) → AreLesseesOf ms old → IsListed old x.lessor x.step_number new → AreLesseesOf (ms ++ x ∷ []) new
+    pub listed : (old new : Groups) → AreLesseesOf ms old → IsListed old x.lessor x.step_number new → AreLesseesOf (placed master_before x ms) new
     listed old new are added m n =
         added m n
-        ∙ elim (n == x.step_number) as (λ b. (n == x.step_number) ≡ b → (old m n || (is_option m x.lessor && b)) ≡ is_option m (lessor_of (ms ++ x ∷ []) n)) [
+        ∙ elim (n == x.step_number) as (λ b. (n == x.step_number) ≡ b → (old m n || (is_option m x.lessor && b)) ≡ is_option m (lessor_of (placed master_before x ms) n)) [
           | true ↦ λ e.
               let same : n ≡ x.step_number = eqb-true n x.step_number e in
               ap (λ b. b || (is_option m x.lessor && true)) (are m n ∙ ap (is_option m) (ap (lessor_of ms) same ∙ none_yet))
-              ∙ one_more (is_option m x.lessor) ∙ sym (ap (is_option m) (ap (lessor_of (ms ++ x ∷ [])) same ∙ new_lessor ms x newest))
-          | false ↦ λ e. none_more (old m n) (is_option m x.lessor) ∙ are m n ∙ sym (ap (λ o. is_option m (option_and_then (λ (y : Master). y.lessor) o)) (find_more (λ (y : Master). y.step_number) x n (flipped n x.step_number e) ms))
+              ∙ one_more (is_option m x.lessor) ∙ sym (ap (is_option m) (ap (lessor_of (placed master_before x ms)) same ∙ new_lessor ms x fresh))
+          | false ↦ λ e. none_more (old m n) (is_option m x.lessor) ∙ are m n ∙ sym (ap (is_option m) (other_lessors ms x fresh n e))
         ] refl
 
     -- one that was listed and is not any more

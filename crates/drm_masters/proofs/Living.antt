@@ -6,6 +6,8 @@ use Rattle.std.proofs.lemmas.Bool.{eqb-true, or_left, or_right, not-true, and_pa
 use Rattle.drm_lists.specs.Orders.{InOrder}
 use Rattle.drm_lists.specs.Chains.{is_under}
 use Rattle.drm_lists.proofs.Lists.{some_passing}
+use Rattle.drm_lists.proofs.Each.{each_fails}
+use Rattle.drm_lists.proofs.Found.{is_some-find}
 use Rattle.drm_lists.proofs.Chains.{IsFalling, itself, child, above_too}
 use Rattle.drm_lists.proofs.Rising.{found, any_found, all_found}
 use Rattle.drm_masters.specs.declared.rows.Member.{Member}
@@ -17,6 +19,14 @@ step_number_of x = x.step_number
 
 abbrev pub Rise : List Master → Type 0
 Rise ms = InOrder (λ (x y : Master). x.step_number < y.step_number) ms
+
+-- masters that rise, none of which has the birth
+abbrev pub IsFresh : List Master → ℕ → Type 0
+IsFresh ms birth = Rise ms × (is_some (master_at ms birth) ≡ false)
+
+-- each has another
+pub others_apart : (ms : List Master) (birth : ℕ) → IsFresh ms birth → AllByRecursion (λ (x : Master). is_step_number birth x ≡ false) ms
+others_apart ms birth fresh = each_fails (is_step_number birth) ms (sym (is_some-find (is_step_number birth) ms) ∙ fresh.1)
 
 abbrev pub Older : List Master → Type 0
 Older ms = AllByRecursion (HasOlderLessor ms) ms

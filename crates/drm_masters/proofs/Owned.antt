@@ -4,21 +4,23 @@ use Rattle.std.specs.Prelude.{if◌then◌else◌}
 use Rattle.std.specs.List.{list_any, AllByRecursion}
 use Rattle.std.specs.Option.{is_some, option_map, option_map_or, option_and_then}
 use Rattle.std.proofs.lemmas.Bool.{eqb-true, ne_eqb, false≢true, and_parts}
+use Rattle.drm_index_array.specs.Rows.{placed}
 use Rattle.drm_index_array.specs.Least.{least}
 use Rattle.drm_index_array.proofs.Least.{least-same}
 use Rattle.drm_lists.specs.Chains.{top_of}
 use Rattle.drm_lists.proofs.Chains.{top_some}
 use Rattle.drm_lists.proofs.Lists.{all_weaker, all_each, all_both, all_append}
 use Rattle.drm_lists.proofs.Found.{is_some-find, find_none, find_last}
+use Rattle.drm_lists.proofs.Placed.{all_placed}
 use Rattle.drm_lists.proofs.Numbers.{less-differ, flipped, same_either}
 use Rattle.drm_lists.proofs.Rising.{found, any_found, all_found, find_more, find_where}
 use Rattle.drm_masters.specs.declared.rows.Master.{Master}
 use Rattle.drm_masters.specs.declared.rows.Member.{Member}
-use Rattle.drm_masters.specs.Masters.{is_step_number, is_option, master_at, lessor_of, owner_of, is_held, is_used, HasOlderLessor, is_lessee_of}
+use Rattle.drm_masters.specs.Masters.{is_step_number, master_before, is_option, master_at, lessor_of, owner_of, is_held, is_used, HasOlderLessor, is_lessee_of}
 use Rattle.drm_masters.specs.Ids.{Ids, has_id, IsNamed, IsUnnamed, owner_to_be, AreIdsOf}
-use Rattle.drm_masters.proofs.Living.{Rise, Older, falls, lessee_of}
+use Rattle.drm_masters.proofs.Living.{Rise, IsFresh, others_apart, Older, falls, lessee_of}
 use Rattle.drm_masters.proofs.Flagged.{owner_stays}
-use Rattle.drm_masters.proofs.Pushed.{over_at, over_lessors, pushed_older, pushed_owner, new_lessor}
+use Rattle.drm_masters.proofs.Pushed.{over_at, over_lessors, pushed_older, pushed_owner, new_lessor, new_at, others_at, there_apart}
 
 -- whether an option is this one, as what it is
 is_this : (n : ℕ) (o : Option ℕ) → is_option n o ≡ true → o ≡ Some n
@@ -99,26 +101,23 @@ no_step_number b false o none = refl
 
 -- ---- a master comes
 
-module _ (ms : List Master) (x : Master) (newest : AllByRecursion (λ (y : Master). y.step_number < x.step_number) ms) where
+module _ (ms : List Master) (x : Master) (fresh : IsFresh ms x.step_number) where
   not_yet : master_at ms x.step_number ≡ None
-  not_yet = find_none (is_step_number x.step_number) ms (all_weaker (λ (y : Master). y.step_number < x.step_number) (λ (y : Master). is_step_number x.step_number y ≡ false) (λ y lt. less-differ y.step_number x.step_number lt) ms newest)
+  not_yet = find_none (is_step_number x.step_number) ms (others_apart ms x.step_number fresh)
 
-  module _ (older : Older ms) (there : (l : ℕ) → x.lessor ≡ Some l → is_some (master_at ms l) ≡ true) (old : Ids) (are : AreIdsOf ms old) (free : (p q : ℕ) → has_id (owner_to_be ms x) x.lessor x.lessee_id p q ≡ true → old p q ≡ None) where
+  module _ (older : Older ms) (there : HasOlderLessor ms x) (old : Ids) (are : AreIdsOf ms old) (free : (p q : ℕ) → has_id (owner_to_be ms x) x.lessor x.lessee_id p q ≡ true → old p q ≡ None) where
     abbrev now : List Master
-    now = ms ++ x ∷ []
+    now = placed master_before x ms
 
     new_owner : (l : ℕ) → x.lessor ≡ Some l → owner_of now x.step_number ≡ owner_to_be ms x
-    new_owner l e = sym (top_some (lessor_of now) (falls now (pushed_older ms x newest there older)) x.step_number l (new_lessor ms x newest ∙ e)) ∙ pushed_owner ms x newest older l (there l e) ∙ sym (ap (λ r. option_map_or (owner_of ms) r x.step_number) e)
-
-    new_at : master_at now x.step_number ≡ Some x
-    new_at = find_last (is_step_number x.step_number) x (eq-eqb x.step_number x.step_number refl) ms (all_weaker (λ (y : Master). y.step_number < x.step_number) (λ (y : Master). is_step_number x.step_number y ≡ false) (λ y lt. less-differ y.step_number x.step_number lt) ms newest)
+    new_owner l e = sym (top_some (lessor_of now) (falls now (pushed_older ms x fresh there older)) x.step_number l (new_lessor ms x fresh ∙ e)) ∙ pushed_owner ms x fresh older l (there l e).0 ∙ sym (ap (λ r. option_map_or (owner_of ms) r x.step_number) e)
 
     -- the others have their ids yet
     same_row : (p q b : ℕ) (r : Option Master) → master_at ms b ≡ r → option_map_or (is_lessee_of now p q) r false ≡ option_map_or (is_lessee_of ms p q) r false
     same_row p q b None at = refl
     same_row p q b (Some y) at =
         let is : y.step_number ≡ b = eqb-true y.step_number b (found (is_step_number b) (λ _. Unit {0}) y ms (all_each (λ _. Unit {0}) (λ _. tt) ms) at).0 in
-        ap (λ w. (is_some y.lessor && (y.lessee_id == q)) && (w == p)) (pushed_owner ms x newest older y.step_number (ap (λ n. is_some (master_at ms n)) is ∙ ap is_some at))
+        ap (λ w. (is_some y.lessor && (y.lessee_id == q)) && (w == p)) (pushed_owner ms x fresh older y.step_number (ap (λ n. is_some (master_at ms n)) is ∙ ap is_some at))
 
     pub come : (new : Ids) → IsNamed old (owner_to_be ms x) x.lessor x.lessee_id x.step_number new → AreIdsOf now new
     come new named p q b =
@@ -129,11 +128,11 @@ module _ (ms : List Master) (x : Master) (newest : AllByRecursion (λ (y : Maste
               ap (λ n. is_option n (if has_id (owner_to_be ms x) x.lessor x.lessee_id p q then Some x.step_number else old p q)) same
               ∙ its_step_number x.step_number (has_id (owner_to_be ms x) x.lessor x.lessee_id p q) (old p q) (are p q x.step_number ∙ ap (λ r. option_map_or (is_lessee_of ms p q) r false) not_yet)
               ∙ its_id now (owner_to_be ms x) p q x new_owner
-              ∙ sym (ap (λ r. option_map_or (is_lessee_of now p q) r false) (ap (master_at now) same ∙ new_at))
+              ∙ sym (ap (λ r. option_map_or (is_lessee_of now p q) r false) (ap (master_at now) same ∙ new_at ms x fresh))
           | false ↦ λ e.
               other_step_number x.step_number b (has_id (owner_to_be ms x) x.lessor x.lessee_id p q) (old p q) (flipped b x.step_number e) (λ t. ap (is_option b) (free p q t))
               ∙ are p q b ∙ sym (same_row p q b (master_at ms b) refl)
-              ∙ sym (ap (λ r. option_map_or (is_lessee_of now p q) r false) (find_more (λ (y : Master). y.step_number) x b (flipped b x.step_number e) ms))
+              ∙ sym (ap (λ r. option_map_or (is_lessee_of now p q) r false) (others_at ms x fresh b e))
         ] refl
 
     -- one that came and is taken back
@@ -234,13 +233,12 @@ unnamed members ms x e = second (is_held members x) (list_any (λ (y : Master). 
     second false b k = k
     second true b k = absurd (false≢true (sym k))
 
--- one that came last
-pub unnamed_yet : (ms : List Master) (z : Master) → AllByRecursion (λ (x : Master). x.step_number < z.step_number) ms → Older ms → z.lessor ≡ None → list_any (λ (y : Master). is_option z.step_number y.lessor) (ms ++ z ∷ []) ≡ false
-unnamed_yet ms z newest older top =
-    none_any (λ (y : Master). is_option z.step_number y.lessor) (ms ++ z ∷ [])
-    (all_append (λ (y : Master). is_option z.step_number y.lessor ≡ false) ms (z ∷ []) (all_both (HasOlderLessor ms) (λ (y : Master). y.step_number < z.step_number) (λ (y : Master). is_option z.step_number y.lessor ≡ false) (λ y h lt. by_lessor y h lt y.lessor refl) ms older newest)
-    (ap (is_option z.step_number) top, tt))
+-- one that came
+pub unnamed_yet : (ms : List Master) (z : Master) → IsFresh ms z.step_number → Older ms → z.lessor ≡ None → list_any (λ (y : Master). is_option z.step_number y.lessor) (placed master_before z ms) ≡ false
+unnamed_yet ms z fresh older top =
+    none_any (λ (y : Master). is_option z.step_number y.lessor) (placed master_before z ms)
+    (all_placed (λ (y : Master). is_option z.step_number y.lessor ≡ false) (λ (x : Master). master_before x z) z ms (ap (is_option z.step_number) top) (all_weaker (HasOlderLessor ms) (λ (y : Master). is_option z.step_number y.lessor ≡ false) (λ y h. by_lessor y h y.lessor refl) ms older))
   where
-    by_lessor : (y : Master) → HasOlderLessor ms y → y.step_number < z.step_number → (r : Option ℕ) → y.lessor ≡ r → is_option z.step_number r ≡ false
-    by_lessor y h lt None e = refl
-    by_lessor y h lt (Some l) e = let less = (h l e).1 in ne_eqb l z.step_number (λ same. omega (arith, less, lt, same))
+    by_lessor : (y : Master) → HasOlderLessor ms y → (r : Option ℕ) → y.lessor ≡ r → is_option z.step_number r ≡ false
+    by_lessor y h None e = refl
+    by_lessor y h (Some l) e = there_apart ms z fresh l (h l e).0

@@ -1,22 +1,24 @@
 -- What stays so as a master comes, or is kept or not: lessors, and which masters stay.
 use Rattle.std.proofs.Common.{◌≡◌, ℕ, ◌<◌, ◌==◌, Bool, true, false, not, cond, ◌&&◌, List, [], ◌∷◌, ◌++◌, map, filter, find, Option, None, Some, refl, sym, ap, subst, ◌∙◌, eq-eqb, arith}
 use Rattle.std.specs.Prelude.{if◌then◌else◌}
-use Rattle.std.specs.List.{AllByRecursion}
+use Rattle.std.specs.List.{list_any, AllByRecursion}
 use Rattle.std.specs.Option.{is_some, option_map, option_and_then}
+use Rattle.drm_index_array.specs.Rows.{placed}
 use Rattle.drm_lists.specs.Orders.{InOrder}
-use Rattle.std.proofs.lemmas.Bool.{eqb-true, or_left, and_parts, and_from}
+use Rattle.std.proofs.lemmas.Bool.{eqb-true, ne_eqb, false≢true, or_left, or_right, and_parts, and_from}
 use Rattle.drm_lists.specs.Chains.{is_under}
-use Rattle.drm_lists.proofs.Lists.{all_weaker, all_each, all_append, all_mapped, list_any-map, list_any_left, list_any_right}
-use Rattle.drm_lists.proofs.Found.{is_some-find, is_some-map, find-map, find-same, find_last}
-use Rattle.drm_lists.proofs.Numbers.{less-differ, flipped}
+use Rattle.drm_lists.proofs.Lists.{all_weaker, all_each, all_mapped, list_any-map}
+use Rattle.drm_lists.proofs.Found.{is_some-find, is_some-map, find-map, find-same}
+use Rattle.drm_lists.proofs.Numbers.{flipped}
+use Rattle.drm_lists.proofs.Placed.{any_placed, all_placed, find_placed, find_other, placed_back, rise_placed}
 use Rattle.drm_lists.proofs.Chains.{itself, same_chain}
-use Rattle.drm_lists.proofs.Rising.{found, any_more, find_more, all_found_apart, in_order_kept}
+use Rattle.drm_lists.proofs.Rising.{found, any_more, all_found_apart, in_order_kept}
 use Rattle.drm_lists.specs.Numbers.{is_among}
 use Rattle.drm_masters.specs.declared.rows.Member.{Member}
 use Rattle.drm_masters.specs.declared.rows.Master.{Master}
-use Rattle.drm_masters.specs.Masters.{is_step_number, is_key, IsKeyOf, master_at, lessor_of, owner_of, is_held, is_living, HasOlderLessor}
+use Rattle.drm_masters.specs.Masters.{is_step_number, master_before, is_key, IsKeyOf, master_at, lessor_of, owner_of, is_held, is_living, HasOlderLessor}
 use Rattle.drm_masters.specs.Calls.{kept_as}
-use Rattle.drm_masters.proofs.Living.{Rise, Older, falls}
+use Rattle.drm_masters.proofs.Living.{Rise, IsFresh, others_apart, Older, lessor_there}
 use Rattle.drm_masters.proofs.Flagged.{owner_stays}
 
 -- the masters with those of a step number kept, or not
@@ -118,65 +120,79 @@ same_used members others ms held h = all_weaker (λ (x : Master). is_living memb
         let w = and_parts (is_held members y) (is_under (lessor_of ms) x.step_number y.step_number) t in
         and_from (is_held others y) (is_under (lessor_of ms) x.step_number y.step_number) (held y w.0) w.1) ms (all_each (λ _. Unit {0}) (λ _. tt) ms) e
 
-module _ (ms : List Master) (y : Master) (newest : AllByRecursion (λ (x : Master). x.step_number < y.step_number) ms) where
-  pub there_too : (n : ℕ) → is_some (master_at ms n) ≡ true → is_some (master_at (ms ++ y ∷ []) n) ≡ true
-  there_too n h = is_some-find (is_step_number n) (ms ++ y ∷ []) ∙ list_any_left (is_step_number n) ms (y ∷ []) (sym (is_some-find (is_step_number n) ms) ∙ h)
+module _ (ms : List Master) (y : Master) (fresh : IsFresh ms y.step_number) where
+  pub there_too : (n : ℕ) → is_some (master_at ms n) ≡ true → is_some (master_at (placed master_before y ms) n) ≡ true
+  there_too n h = is_some-find (is_step_number n) (placed master_before y ms) ∙ any_placed (is_step_number n) (λ x. master_before x y) y ms ∙ or_right (is_step_number n y) (list_any (is_step_number n) ms) (sym (is_some-find (is_step_number n) ms) ∙ h)
 
-  pub new_there : is_some (master_at (ms ++ y ∷ []) y.step_number) ≡ true
-  new_there = is_some-find (is_step_number y.step_number) (ms ++ y ∷ []) ∙ list_any_right (is_step_number y.step_number) ms (y ∷ []) (or_left (y.step_number == y.step_number) false (eq-eqb y.step_number y.step_number refl))
+  pub new_there : is_some (master_at (placed master_before y ms) y.step_number) ≡ true
+  new_there = is_some-find (is_step_number y.step_number) (placed master_before y ms) ∙ any_placed (is_step_number y.step_number) (λ x. master_before x y) y ms ∙ or_left (y.step_number == y.step_number) (list_any (is_step_number y.step_number) ms) (eq-eqb y.step_number y.step_number refl)
 
-  older_lessors : (n : ℕ) → n < y.step_number → lessor_of (ms ++ y ∷ []) n ≡ lessor_of ms n
-  older_lessors n lt = ap (option_and_then (λ (x : Master). x.lessor)) (find_more (λ (x : Master). x.step_number) y n (flipped n y.step_number (less-differ n y.step_number lt)) ms)
+  -- a master that is there has another birth
+  pub there_apart : (n : ℕ) → is_some (master_at ms n) ≡ true → (n == y.step_number) ≡ false
+  there_apart n h = ne_eqb n y.step_number (λ same. false≢true (sym fresh.1 ∙ ap (λ k. is_some (master_at ms k)) (sym same) ∙ h))
+
+  pub others_at : (n : ℕ) → (n == y.step_number) ≡ false → master_at (placed master_before y ms) n ≡ master_at ms n
+  others_at n differs = find_other (λ (x : Master). x.step_number) y ms fresh.0 (is_step_number n) (flipped n y.step_number differs)
+
+  pub other_lessors : (n : ℕ) → (n == y.step_number) ≡ false → lessor_of (placed master_before y ms) n ≡ lessor_of ms n
+  other_lessors n differs = ap (option_and_then (λ (x : Master). x.lessor)) (others_at n differs)
 
   -- the new one is found
-  pub new_lessor : lessor_of (ms ++ y ∷ []) y.step_number ≡ y.lessor
-  new_lessor = ap (option_and_then (λ (x : Master). x.lessor)) (find_last (is_step_number y.step_number) y (eq-eqb y.step_number y.step_number refl) ms (all_weaker (λ (x : Master). x.step_number < y.step_number) (λ (x : Master). is_step_number y.step_number x ≡ false) (λ x lt. less-differ x.step_number y.step_number lt) ms newest))
+  pub new_at : master_at (placed master_before y ms) y.step_number ≡ Some y
+  new_at = find_placed (is_step_number y.step_number) (λ x. master_before x y) y ms (eq-eqb y.step_number y.step_number refl) (others_apart ms y.step_number fresh)
 
-  pub step_number_below : (l : ℕ) → is_some (master_at ms l) ≡ true → l < y.step_number
-  step_number_below l h = by_row (master_at ms l) refl h
-    where
-      by_row : (o : Option Master) → master_at ms l ≡ o → is_some o ≡ true → l < y.step_number
-      by_row None e k = absurd (let n : false ≡ true = k in cc)
-      by_row (Some x) e k = let w = found (is_step_number l) (λ (z : Master). z.step_number < y.step_number) x ms newest e in subst (λ n. n < y.step_number) (eqb-true x.step_number l w.0) w.1
+  pub new_lessor : lessor_of (placed master_before y ms) y.step_number ≡ y.lessor
+  new_lessor = ap (option_and_then (λ (x : Master). x.lessor)) new_at
+
+  -- a lessor has another birth too
+  lessors_apart : Older ms → (k l : ℕ) → (k == y.step_number) ≡ false → lessor_of ms k ≡ Some l → (l == y.step_number) ≡ false
+  lessors_apart older k l p e = there_apart l (lessor_there ms older k l e).0
 
   -- a master that is there has its owner yet
-  pub pushed_owner : Older ms → (n : ℕ) → is_some (master_at ms n) ≡ true → owner_of (ms ++ y ∷ []) n ≡ owner_of ms n
-  pushed_owner older n there = owner_stays (λ k. k < y.step_number) ms (ms ++ y ∷ []) older_lessors (λ k l p e. let less = falls ms older k l e in omega (arith, less, p)) n (step_number_below n there)
+  pub pushed_owner : Older ms → (n : ℕ) → is_some (master_at ms n) ≡ true → owner_of (placed master_before y ms) n ≡ owner_of ms n
+  pushed_owner older n there = owner_stays (λ k. (k == y.step_number) ≡ false) ms (placed master_before y ms) other_lessors (lessors_apart older) n (there_apart n there)
 
   -- a master that is there has its lessor yet
-  pub pushed_lessor : (n : ℕ) → is_some (master_at ms n) ≡ true → lessor_of (ms ++ y ∷ []) n ≡ lessor_of ms n
-  pushed_lessor n there = older_lessors n (step_number_below n there)
+  pub pushed_lessor : (n : ℕ) → is_some (master_at ms n) ≡ true → lessor_of (placed master_before y ms) n ≡ lessor_of ms n
+  pushed_lessor n there = other_lessors n (there_apart n there)
 
-  -- a new master has no lessor, or one that is there
-  pub pushed_older : ((l : ℕ) → y.lessor ≡ Some l → is_some (master_at ms l) ≡ true) → Older ms → Older (ms ++ y ∷ [])
-  pushed_older there older =
-      all_append (HasOlderLessor (ms ++ y ∷ [])) ms (y ∷ []) (all_weaker (HasOlderLessor ms) (HasOlderLessor (ms ++ y ∷ [])) (λ x h l e. let k = h l e in (there_too l k.0, k.1)) ms older)
-      ((λ l e. (there_too l (there l e), step_number_below l (there l e))), tt)
+  -- they rise with it
+  pub pushed_rise : Rise (placed master_before y ms)
+  pushed_rise = rise_placed (λ (x : Master). x.step_number) y ms fresh.0 (others_apart ms y.step_number fresh)
 
-  pub pushed_used : (members others : List Member) → Older ms → ((x : Master) → is_held members x ≡ true → is_held others x ≡ true) → is_held others y ≡ true → AllByRecursion (λ (x : Master). is_living members ms x.step_number ≡ true) ms → AllByRecursion (λ (x : Master). is_living others (ms ++ y ∷ []) x.step_number ≡ true) (ms ++ y ∷ [])
-  pushed_used members others older held new h =
-      all_append (λ (x : Master). is_living others (ms ++ y ∷ []) x.step_number ≡ true) ms (y ∷ []) (all_weaker (λ (x : Master). is_living members ms x.step_number ≡ true) (λ (x : Master). is_living others (ms ++ y ∷ []) x.step_number ≡ true) (λ x e. old x.step_number e) ms h) (new_living, tt)
+  -- a new master has no lessor, or one that is there and older
+  pub pushed_older : HasOlderLessor ms y → Older ms → Older (placed master_before y ms)
+  pushed_older new older =
+      all_placed (HasOlderLessor (placed master_before y ms)) (λ x. master_before x y) y ms (still y new) (all_weaker (HasOlderLessor ms) (HasOlderLessor (placed master_before y ms)) still ms older)
     where
-      under_new : ℕ → Master → Bool
-      under_new b x = is_held others x && is_under (lessor_of (ms ++ y ∷ [])) b x.step_number
+      still : (x : Master) → HasOlderLessor ms x → HasOlderLessor (placed master_before y ms) x
+      still x h l e = let k = h l e in (there_too l k.0, k.1)
 
-      new_living : is_living others (ms ++ y ∷ []) y.step_number ≡ true
-      new_living = list_any_right (λ (x : Master). is_held others x && is_under (lessor_of (ms ++ y ∷ [])) y.step_number x.step_number) ms (y ∷ []) (or_left (is_held others y && is_under (lessor_of (ms ++ y ∷ [])) y.step_number y.step_number) false (and_from (is_held others y) (is_under (lessor_of (ms ++ y ∷ [])) y.step_number y.step_number) new (itself (lessor_of (ms ++ y ∷ [])) y.step_number y.step_number)))
+  pub pushed_used : (members others : List Member) → Older ms → ((x : Master) → is_held members x ≡ true → is_held others x ≡ true) → is_held others y ≡ true → AllByRecursion (λ (x : Master). is_living members ms x.step_number ≡ true) ms → AllByRecursion (λ (x : Master). is_living others (placed master_before y ms) x.step_number ≡ true) (placed master_before y ms)
+  pushed_used members others older held new h =
+      all_placed (λ (x : Master). is_living others (placed master_before y ms) x.step_number ≡ true) (λ x. master_before x y) y ms new_living (all_weaker (λ (x : Master). is_living members ms x.step_number ≡ true) (λ (x : Master). is_living others (placed master_before y ms) x.step_number ≡ true) (λ x e. old x.step_number e) ms h)
+    where
+      held_under : ℕ → Master → Bool
+      held_under b x = is_held others x && is_under (lessor_of (placed master_before y ms)) b x.step_number
 
-      same_under : (b n : ℕ) → n < y.step_number → is_under (lessor_of (ms ++ y ∷ [])) b n ≡ is_under (lessor_of ms) b n
-      same_under b n lt = ap (λ l. is_among l b) (same_chain (λ k. k < y.step_number) (lessor_of ms) (lessor_of (ms ++ y ∷ [])) older_lessors (λ k l p e. let less = falls ms older k l e in omega (arith, less, p)) n n lt)
+      new_living : is_living others (placed master_before y ms) y.step_number ≡ true
+      new_living =
+          any_placed (held_under y.step_number) (λ x. master_before x y) y ms
+          ∙ or_left (held_under y.step_number y) (list_any (held_under y.step_number) ms) (and_from (is_held others y) (is_under (lessor_of (placed master_before y ms)) y.step_number y.step_number) new (itself (lessor_of (placed master_before y ms)) y.step_number y.step_number))
 
-      old : (b : ℕ) → is_living members ms b ≡ true → is_living others (ms ++ y ∷ []) b ≡ true
+      same_under : (b n : ℕ) → (n == y.step_number) ≡ false → is_under (lessor_of (placed master_before y ms)) b n ≡ is_under (lessor_of ms) b n
+      same_under b n differs = ap (λ l. is_among l b) (same_chain (λ k. (k == y.step_number) ≡ false) (lessor_of ms) (lessor_of (placed master_before y ms)) other_lessors (lessors_apart older) n n differs)
+
+      old : (b : ℕ) → is_living members ms b ≡ true → is_living others (placed master_before y ms) b ≡ true
       old b e =
-          list_any_left (λ (x : Master). is_held others x && is_under (lessor_of (ms ++ y ∷ [])) b x.step_number) ms (y ∷ [])
-          (any_more (λ (x : Master). x.step_number < y.step_number) (λ (x : Master). is_held members x && is_under (lessor_of ms) b x.step_number) (λ (x : Master). is_held others x && is_under (lessor_of (ms ++ y ∷ [])) b x.step_number) (λ x lt t.
+          any_placed (held_under b) (λ x. master_before x y) y ms
+          ∙ or_right (held_under b y) (list_any (held_under b) ms)
+          (any_more (λ (x : Master). is_step_number y.step_number x ≡ false) (λ (x : Master). is_held members x && is_under (lessor_of ms) b x.step_number) (held_under b) (λ x differs t.
           let w = and_parts (is_held members x) (is_under (lessor_of ms) b x.step_number) t in
-          and_from (is_held others x) (is_under (lessor_of (ms ++ y ∷ [])) b x.step_number) (held x w.0) (same_under b x.step_number lt ∙ w.1)) ms newest e)
+          and_from (is_held others x) (is_under (lessor_of (placed master_before y ms)) b x.step_number) (held x w.0) (same_under b x.step_number differs ∙ w.1)) ms (others_apart ms y.step_number fresh) e)
 
   -- it is taken back
-  pub taken_back : filter (λ (x : Master). not (is_step_number y.step_number x)) (ms ++ y ∷ []) ≡ ms
-  taken_back = back ms newest
-    where
-      back : (xs : List Master) → AllByRecursion (λ (x : Master). x.step_number < y.step_number) xs → filter (λ (x : Master). not (is_step_number y.step_number x)) (xs ++ y ∷ []) ≡ xs
-      back [] h = ap (λ b. cond (not b) (y ∷ []) []) (eq-eqb y.step_number y.step_number refl)
-      back (x ∷ xs) h = ap (λ b. cond (not b) (x ∷ filter (λ (z : Master). not (is_step_number y.step_number z)) (xs ++ y ∷ [])) (filter (λ (z : Master). not (is_step_number y.step_number z)) (xs ++ y ∷ []))) (less-differ x.step_number y.step_number h.0) ∙ ap (λ l. x ∷ l) (back xs h.1)
+  pub taken_back : filter (λ (x : Master). not (is_step_number y.step_number x)) (placed master_before y ms) ≡ ms
+  taken_back =
+      placed_back (λ (x : Master). x.step_number) y ms fresh.0 (λ (x : Master). not (is_step_number y.step_number x)) (ap not (eq-eqb y.step_number y.step_number refl))
+      (all_weaker (λ (x : Master). is_step_number y.step_number x ≡ false) (λ (x : Master). not (is_step_number y.step_number x) ≡ true) (λ x e. ap not e) ms (others_apart ms y.step_number fresh))

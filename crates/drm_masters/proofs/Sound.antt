@@ -13,17 +13,19 @@ use Rattle.drm_lists.specs.Chains.{is_under}
 use Rattle.drm_lists.proofs.Lists.{all_weaker, all_both, all_each, all_append, all_filter, all_mapped, filter-shorter, list_any-map, list_any_agree, list_any_left, some_passing}
 use Rattle.drm_lists.proofs.Found.{is_some-find, none_found}
 use Rattle.drm_lists.proofs.Orders.{in_order_append, in_order_filter}
+use Rattle.drm_lists.proofs.Numbers.{flipped}
 use Rattle.drm_lists.proofs.Placed.{any_placed, length_placed, all_placed, in_order_placed, rise_placed}
 use Rattle.drm_lists.proofs.Rising.{found, any_found, any_more, any_left, all_found, all_found_apart, in_order_kept, in_order_mapped, in_order_both, each_is_there}
 use Rattle.drm_masters.specs.declared.rows.Magic.{Magic}
 use Rattle.drm_masters.specs.declared.rows.Member.{Member}
 use Rattle.drm_masters.specs.declared.rows.Master.{Master}
-use Rattle.drm_masters.specs.Masters.{MasterSet, AreMasters, HaveOtherMagics, HasOlderLessor, is_client, member_before, is_step_number, is_key, is_option, IsKeyOf, step_number_at, member_of, master_at, lessor_of, owner_of, is_held, is_used, is_living, is_current, has_magic, has_open_magic, swept}
+use Rattle.drm_masters.specs.Masters.{MasterSet, AreMasters, HaveOtherMagics, HasOlderLessor, is_client, member_before, master_before, is_step_number, is_key, is_option, IsKeyOf, step_number_at, member_of, master_at, lessor_of, owner_of, is_held, is_used, is_living, is_current, has_magic, has_open_magic, swept}
 use Rattle.drm_masters.specs.declared.masters.Masters.TheInside.{Inside}
 use Rattle.drm_masters.specs.Fields.{set_of, IsSound}
 use Rattle.drm_masters.specs.Calls.{with_member, with_master, with_device, without_member, changed_member, with_kept, with_magic, closed_own}
-use Rattle.drm_masters.proofs.Pushed.{step_number_stays, lessor_stays, kept_at, kept_there, kept_rise, kept_older, kept_used, same_used, there_too, new_there, pushed_older, pushed_used, over_there, over_lessors, over_rise, over_older, over_keyed, kept_lessors, pushed_owner, pushed_lessor, new_lessor}
+use Rattle.drm_masters.proofs.Pushed.{step_number_stays, lessor_stays, kept_at, kept_there, kept_rise, kept_older, kept_used, same_used, there_too, new_there, pushed_rise, pushed_older, pushed_used, over_there, over_lessors, over_rise, over_older, over_keyed, kept_lessors, pushed_owner, pushed_lessor, new_lessor}
 use Rattle.drm_masters.proofs.Released.{marked, marked_step_number, marked_lessor, marked_key}
+use Rattle.drm_masters.proofs.Living.{Rise, IsFresh}
 use Rattle.drm_masters.proofs.Upward.{OthersUsed, all_living_used}
 use Rattle.drm_masters.proofs.Flagged.{same_owners, under_same, others_apart, one_more}
 use Rattle.drm_masters.proofs.Swept.{none_left, swept_older, swept_used, swept_owner, named_lives, named_there}
@@ -62,13 +64,13 @@ IsNonMaster ms x = x.is_master ≡ false → lessor_of ms x.master ≡ None
 guests_over : (ms others : List Master) → ((n : ℕ) → lessor_of others n ≡ lessor_of ms n) → (xs : List Member) → AllByRecursion (IsNonMaster ms) xs → AllByRecursion (IsNonMaster others) xs
 guests_over ms others same xs h = all_weaker (IsNonMaster ms) (IsNonMaster others) (λ x g own. same x.master ∙ g own) xs h
 
-guests_pushed : (ms : List Master) (z : Master) → AllByRecursion (λ (x : Master). x.step_number < z.step_number) ms → (xs : List Member) → AllByRecursion (λ (x : Member). is_some (master_at ms x.master) ≡ true) xs → AllByRecursion (IsNonMaster ms) xs →
-    AllByRecursion (IsNonMaster (ms ++ z ∷ [])) xs
-guests_pushed ms z newest xs there h = all_both (λ (x : Member). is_some (master_at ms x.master) ≡ true) (IsNonMaster ms) (IsNonMaster (ms ++ z ∷ [])) (λ x t g own. pushed_lessor ms z newest x.master t ∙ g own) xs there h
+guests_pushed : (ms : List Master) (z : Master) → IsFresh ms z.step_number → (xs : List Member) → AllByRecursion (λ (x : Member). is_some (master_at ms x.master) ≡ true) xs → AllByRecursion (IsNonMaster ms) xs →
+    AllByRecursion (IsNonMaster (placed master_before z ms)) xs
+guests_pushed ms z fresh xs there h = all_both (λ (x : Member). is_some (master_at ms x.master) ≡ true) (IsNonMaster ms) (IsNonMaster (placed master_before z ms)) (λ x t g own. pushed_lessor ms z fresh x.master t ∙ g own) xs there h
 
 -- a new master without a lessor is the device's
-new_owner : (ms : List Master) (z : Master) → AllByRecursion (λ (x : Master). x.step_number < z.step_number) ms → z.lessor ≡ None → (m : ℕ) → Some z.step_number ≡ Some m → lessor_of (ms ++ z ∷ []) m ≡ None
-new_owner ms z newest top m e = subst (λ n. lessor_of (ms ++ z ∷ []) n ≡ None) (let s : z.step_number ≡ m = cc in s) (new_lessor ms z newest ∙ top)
+new_owner : (ms : List Master) (z : Master) → IsFresh ms z.step_number → z.lessor ≡ None → (m : ℕ) → Some z.step_number ≡ Some m → lessor_of (placed master_before z ms) m ≡ None
+new_owner ms z fresh top m e = subst (λ n. lessor_of (placed master_before z ms) n ≡ None) (let s : z.step_number ≡ m = cc in s) (new_lessor ms z fresh ∙ top)
 
 -- a sweep makes each used
 pub swept_are : (v : MasterSet) → AreTied v → AreMasters (swept v)
@@ -147,19 +149,19 @@ module _ (v : MasterSet) (a : AreMasters v) where
       few_ids = a.few_ids;
     }
 
-    pub opener_are : (z : Master) → z.lessor ≡ None → y.master ≡ z.step_number → y.is_master ≡ true → AllByRecursion (λ (x : Master). x.step_number < z.step_number) v.masters → AreMasters (with_device (Some z.step_number) (with_member y (with_master z v)))
-    opener_are z top own is_own newest = record {
+    pub opener_are : (z : Master) → z.lessor ≡ None → y.master ≡ z.step_number → y.is_master ≡ true → IsFresh v.masters z.step_number → AreMasters (with_device (Some z.step_number) (with_member y (with_master z v)))
+    opener_are z top own is_own fresh = record {
       members_rise = come_rise;
-      masters_rise = in_order_append (λ (x u : Master). x.step_number < u.step_number) v.masters z a.masters_rise newest;
-      lessors_older = pushed_older v.masters z newest (λ l e. absurd (let n : None ≡ Some l = sym top ∙ e in cc)) a.lessors_older;
+      masters_rise = pushed_rise v.masters z fresh;
+      lessors_older = pushed_older v.masters z fresh (λ l e. absurd (let n : None ≡ Some l = sym top ∙ e in cc)) a.lessors_older;
       masters_there =
-          all_come (λ (x : Member). is_some (master_at (v.masters ++ z ∷ []) x.master) ≡ true) v.members y
-          (all_weaker (λ (x : Member). is_some (master_at v.masters x.master) ≡ true) (λ (x : Member). is_some (master_at (v.masters ++ z ∷ []) x.master) ≡ true) (λ x e. there_too v.masters z newest x.master e) v.members a.masters_there)
-          (ap (λ n. is_some (master_at (v.masters ++ z ∷ []) n)) own ∙ new_there v.masters z newest);
+          all_come (λ (x : Member). is_some (master_at (placed master_before z v.masters) x.master) ≡ true) v.members y
+          (all_weaker (λ (x : Member). is_some (master_at v.masters x.master) ≡ true) (λ (x : Member). is_some (master_at (placed master_before z v.masters) x.master) ≡ true) (λ x e. there_too v.masters z fresh x.master e) v.members a.masters_there)
+          (ap (λ n. is_some (master_at (placed master_before z v.masters) n)) own ∙ new_there v.masters z fresh);
       device_own = λ m e. any_placed (λ (x : Member). x.is_master && (x.master == m)) (λ x. member_before x y) y v.members ∙ or_left (y.is_master && (y.master == m)) (list_any (λ (x : Member). x.is_master && (x.master == m)) v.members) (and_from y.is_master (y.master == m) is_own (eq-eqb y.master m (own ∙ (let s : Some z.step_number ≡ Some m = e in cc))));
-      device_owner = new_owner v.masters z newest top;
-      guests_of_owners = all_come (IsNonMaster (v.masters ++ z ∷ [])) v.members y (guests_pushed v.masters z newest v.members a.masters_there a.guests_of_owners) (λ g. absurd (let j : true ≡ false = sym is_own ∙ g in cc));
-      used = pushed_used v.masters z newest v.members (placed member_before y v.members) a.lessors_older (held_more v.members y) (or_right z.kept (list_any (λ (x : Member). x.master == z.step_number) (placed member_before y v.members)) (names_new v.members y z.step_number own)) a.used;
+      device_owner = new_owner v.masters z fresh top;
+      guests_of_owners = all_come (IsNonMaster (placed master_before z v.masters)) v.members y (guests_pushed v.masters z fresh v.members a.masters_there a.guests_of_owners) (λ g. absurd (let j : true ≡ false = sym is_own ∙ g in cc));
+      used = pushed_used v.masters z fresh v.members (placed member_before y v.members) a.lessors_older (held_more v.members y) (or_right z.kept (list_any (λ (x : Member). x.master == z.step_number) (placed member_before y v.members)) (names_new v.members y z.step_number own)) a.used;
       magics_differ = come_differ;
       few = few_more v.members y v.last_magic room;
       few_ids = a.few_ids;
@@ -196,16 +198,16 @@ module _ (v : MasterSet) (a : AreMasters v) where
   device_are d own top = record { members_rise = a.members_rise; masters_rise = a.masters_rise; lessors_older = a.lessors_older; masters_there = a.masters_there; device_own = own; device_owner = top; guests_of_owners = a.guests_of_owners; used = a.used; magics_differ = a.magics_differ; few = a.few; few_ids = a.few_ids }
 
   -- a new master that is kept
-  pub lessee_are : (z : Master) → z.kept ≡ true → ((l : ℕ) → z.lessor ≡ Some l → is_some (master_at v.masters l) ≡ true) → AllByRecursion (λ (x : Master). x.step_number < z.step_number) v.masters → AreMasters (with_master z v)
-  lessee_are z kept there newest = record {
+  pub lessee_are : (z : Master) → z.kept ≡ true → HasOlderLessor v.masters z → IsFresh v.masters z.step_number → AreMasters (with_master z v)
+  lessee_are z kept there fresh = record {
     members_rise = a.members_rise;
-    masters_rise = in_order_append (λ (x u : Master). x.step_number < u.step_number) v.masters z a.masters_rise newest;
-    lessors_older = pushed_older v.masters z newest there a.lessors_older;
-    masters_there = all_weaker (λ (x : Member). is_some (master_at v.masters x.master) ≡ true) (λ (x : Member). is_some (master_at (v.masters ++ z ∷ []) x.master) ≡ true) (λ x e. there_too v.masters z newest x.master e) v.members a.masters_there;
+    masters_rise = pushed_rise v.masters z fresh;
+    lessors_older = pushed_older v.masters z fresh there a.lessors_older;
+    masters_there = all_weaker (λ (x : Member). is_some (master_at v.masters x.master) ≡ true) (λ (x : Member). is_some (master_at (placed master_before z v.masters) x.master) ≡ true) (λ x e. there_too v.masters z fresh x.master e) v.members a.masters_there;
     device_own = a.device_own;
-    device_owner = λ m e. pushed_lessor v.masters z newest m (device_there m e) ∙ a.device_owner m e;
-    guests_of_owners = guests_pushed v.masters z newest v.members a.masters_there a.guests_of_owners;
-    used = pushed_used v.masters z newest v.members v.members a.lessors_older (λ x h. h) (or_left z.kept (list_any (λ (x : Member). x.master == z.step_number) v.members) kept) a.used;
+    device_owner = λ m e. pushed_lessor v.masters z fresh m (device_there m e) ∙ a.device_owner m e;
+    guests_of_owners = guests_pushed v.masters z fresh v.members a.masters_there a.guests_of_owners;
+    used = pushed_used v.masters z fresh v.members v.members a.lessors_older (λ x h. h) (or_left z.kept (list_any (λ (x : Member). x.master == z.step_number) v.members) kept) a.used;
     magics_differ = a.magics_differ;
     few = a.few;
     few_ids = a.few_ids;
@@ -400,21 +402,21 @@ module _ (v : MasterSet) (a : AreMasters v) where
     }
 
     -- of a new master of its own
-    pub remade_ties : (z : Master) → z.lessor ≡ None → y.master ≡ z.step_number → y.is_master ≡ true → y.magic ≡ None → AllByRecursion (λ (u : Master). u.step_number < z.step_number) v.masters → AreTied (with_device (Some z.step_number) (changed_member y (with_master z v)))
-    remade_ties z top own is_own none newest = record {
+    pub remade_ties : (z : Master) → z.lessor ≡ None → y.master ≡ z.step_number → y.is_master ≡ true → y.magic ≡ None → IsFresh v.masters z.step_number → AreTied (with_device (Some z.step_number) (changed_member y (with_master z v)))
+    remade_ties z top own is_own none fresh = record {
       members_rise = put_rise;
-      masters_rise = in_order_append (λ (u w : Master). u.step_number < w.step_number) v.masters z a.masters_rise newest;
-      lessors_older = pushed_older v.masters z newest (λ l e. absurd (let n : None ≡ Some l = sym top ∙ e in cc)) a.lessors_older;
+      masters_rise = pushed_rise v.masters z fresh;
+      lessors_older = pushed_older v.masters z fresh (λ l e. absurd (let n : None ≡ Some l = sym top ∙ e in cc)) a.lessors_older;
       masters_there =
-          all_mapped (λ (u : Member). is_some (master_at (v.masters ++ z ∷ []) u.master) ≡ true) put v.members
-          (all_both (λ (u : Member). member_of v.members u.client ≡ Some u) (λ (u : Member). is_some (master_at v.masters u.master) ≡ true) (λ u. is_some (master_at (v.masters ++ z ∷ []) (put u).master) ≡ true)
-          (λ u at there. by_row (λ w. is_some (master_at (v.masters ++ z ∷ []) w.master) ≡ true) u at (λ ux. ap (λ n. is_some (master_at (v.masters ++ z ∷ []) n)) own ∙ new_there v.masters z newest) (there_too v.masters z newest u.master there)) v.members clients_found a.masters_there);
+          all_mapped (λ (u : Member). is_some (master_at (placed master_before z v.masters) u.master) ≡ true) put v.members
+          (all_both (λ (u : Member). member_of v.members u.client ≡ Some u) (λ (u : Member). is_some (master_at v.masters u.master) ≡ true) (λ u. is_some (master_at (placed master_before z v.masters) (put u).master) ≡ true)
+          (λ u at there. by_row (λ w. is_some (master_at (placed master_before z v.masters) w.master) ≡ true) u at (λ ux. ap (λ n. is_some (master_at (placed master_before z v.masters) n)) own ∙ new_there v.masters z fresh) (there_too v.masters z fresh u.master there)) v.members clients_found a.masters_there);
       device_own = λ m e. is_device m (let s : Some z.step_number ≡ Some m = e in cc);
-      device_owner = new_owner v.masters z newest top;
+      device_owner = new_owner v.masters z fresh top;
       guests_of_owners =
-          all_mapped (IsNonMaster (v.masters ++ z ∷ [])) put v.members
-          (all_both (λ (u : Member). member_of v.members u.client ≡ Some u) (IsNonMaster (v.masters ++ z ∷ [])) (λ u. IsNonMaster (v.masters ++ z ∷ []) (put u))
-          (λ u at h. by_row (IsNonMaster (v.masters ++ z ∷ [])) u at (λ ux g. absurd (let j : true ≡ false = sym is_own ∙ g in cc)) h) v.members clients_found (guests_pushed v.masters z newest v.members a.masters_there a.guests_of_owners));
+          all_mapped (IsNonMaster (placed master_before z v.masters)) put v.members
+          (all_both (λ (u : Member). member_of v.members u.client ≡ Some u) (IsNonMaster (placed master_before z v.masters)) (λ u. IsNonMaster (placed master_before z v.masters) (put u))
+          (λ u at h. by_row (IsNonMaster (placed master_before z v.masters)) u at (λ ux g. absurd (let j : true ≡ false = sym is_own ∙ g in cc)) h) v.members clients_found (guests_pushed v.masters z fresh v.members a.masters_there a.guests_of_owners));
       magics_differ = in_order_mapped (λ (u : Member). member_of v.members u.client ≡ Some u) HaveOtherMagics HaveOtherMagics put (λ u w at au h. differ u w at au h) v.members clients_found a.magics_differ;
       few = few_put;
       few_ids = a.few_ids;
@@ -432,11 +434,11 @@ module _ (v : MasterSet) (a : AreMasters v) where
             (by_row (λ b. HaveOtherMagics u b) w aw (λ wx. other_none y none u) h)
 
     -- all are used then but the master that it had
-    pub remade_used : (z : Master) → y.master ≡ z.step_number → OthersUsed (map put v.members) (v.masters ++ z ∷ []) x.master
+    pub remade_used : (z : Master) → y.master ≡ z.step_number → OthersUsed (map put v.members) (placed master_before z v.masters) x.master
     remade_used z own =
-        all_append (λ (u : Master). (u.step_number == x.master) ≡ false → is_used (map put v.members) (v.masters ++ z ∷ []) u ≡ true) v.masters (z ∷ [])
-        (all_weaker (λ (u : Master). is_used v.members v.masters u ≡ true) (λ (u : Master). (u.step_number == x.master) ≡ false → is_used (map put v.members) (v.masters ++ z ∷ []) u ≡ true) each v.masters (all_living_used v.members v.masters a.masters_rise a.lessors_older a.used))
-        ((λ _. or_left (is_held (map put v.members) z) (list_any (λ (w : Master). is_option z.step_number w.lessor) (v.masters ++ z ∷ [])) (or_right z.kept (list_any (λ (u : Member). u.master == z.step_number) (map put v.members)) named)), tt)
+        all_placed (λ (u : Master). (u.step_number == x.master) ≡ false → is_used (map put v.members) (placed master_before z v.masters) u ≡ true) (λ (u : Master). master_before u z) z v.masters
+        (λ _. or_left (is_held (map put v.members) z) (list_any (λ (w : Master). is_option z.step_number w.lessor) (placed master_before z v.masters)) (or_right z.kept (list_any (λ (u : Member). u.master == z.step_number) (map put v.members)) named))
+        (all_weaker (λ (u : Master). is_used v.members v.masters u ≡ true) (λ (u : Master). (u.step_number == x.master) ≡ false → is_used (map put v.members) (placed master_before z v.masters) u ≡ true) each v.masters (all_living_used v.members v.masters a.masters_rise a.lessors_older a.used))
       where
         named : list_any (λ (u : Member). u.master == z.step_number) (map put v.members) ≡ true
         named =
@@ -448,10 +450,10 @@ module _ (v : MasterSet) (a : AreMasters v) where
         either false true c d e f g h = or_left d e (f refl)
         either false false c d e f g h = or_right d e (g h)
 
-        each : (u : Master) → is_used v.members v.masters u ≡ true → (u.step_number == x.master) ≡ false → is_used (map put v.members) (v.masters ++ z ∷ []) u ≡ true
+        each : (u : Master) → is_used v.members v.masters u ≡ true → (u.step_number == x.master) ≡ false → is_used (map put v.members) (placed master_before z v.masters) u ≡ true
         each u used differs =
-            either u.kept (list_any (λ (w : Member). w.master == u.step_number) v.members) (list_any (λ (w : Master). is_option u.step_number w.lessor) v.masters) (list_any (λ (w : Member). w.master == u.step_number) (map put v.members)) (list_any (λ (w : Master). is_option u.step_number w.lessor) (v.masters ++ z ∷ []))
-            still (list_any_left (λ (w : Master). is_option u.step_number w.lessor) v.masters (z ∷ [])) used
+            either u.kept (list_any (λ (w : Member). w.master == u.step_number) v.members) (list_any (λ (w : Master). is_option u.step_number w.lessor) v.masters) (list_any (λ (w : Member). w.master == u.step_number) (map put v.members)) (list_any (λ (w : Master). is_option u.step_number w.lessor) (placed master_before z v.masters))
+            still (λ h. any_placed (λ (w : Master). is_option u.step_number w.lessor) (λ w. master_before w z) z v.masters ∙ or_right (is_option u.step_number z.lessor) (list_any (λ (w : Master). is_option u.step_number w.lessor) v.masters) h) used
           where
             still : list_any (λ (w : Member). w.master == u.step_number) v.members ≡ true → list_any (λ (w : Member). w.master == u.step_number) (map put v.members) ≡ true
             still h =
@@ -554,10 +556,10 @@ swept_same v t =
     (λ x there named. swept_owner v.members v.masters t.masters_rise t.lessors_older x.master (named_lives v.members v.masters t.masters_rise t.lessors_older x there named)) v.members t.masters_there (each_is_there (λ (x : Member). x.master) v.members))
 
 -- nor does a new master
-pub pushed_same : (v : MasterSet) → AreMasters v → (z : Master) → AllByRecursion (λ (x : Master). x.step_number < z.step_number) v.masters → (c : ℕ) → is_current (with_master z v) c ≡ is_current v c
-pushed_same v a z newest =
-    same_owners v.members v.masters (v.masters ++ z ∷ []) v.device_master
-    (all_weaker (λ (x : Member). is_some (master_at v.masters x.master) ≡ true) (λ (x : Member). owner_of (v.masters ++ z ∷ []) x.master ≡ owner_of v.masters x.master) (λ x there. pushed_owner v.masters z newest a.lessors_older x.master there) v.members a.masters_there)
+pub pushed_same : (v : MasterSet) → AreMasters v → (z : Master) → IsFresh v.masters z.step_number → (c : ℕ) → is_current (with_master z v) c ≡ is_current v c
+pushed_same v a z fresh =
+    same_owners v.members v.masters (placed master_before z v.masters) v.device_master
+    (all_weaker (λ (x : Member). is_some (master_at v.masters x.master) ≡ true) (λ (x : Member). owner_of (placed master_before z v.masters) x.master ≡ owner_of v.masters x.master) (λ x there. pushed_owner v.masters z fresh a.lessors_older x.master there) v.members a.masters_there)
 
 -- nor whether masters are kept
 pub kept_same : (v : MasterSet) (m : ℕ) (kept : Bool) → (c : ℕ) → is_current (with_kept m kept v) c ≡ is_current v c
@@ -600,8 +602,12 @@ keyed_each ms keyed p None e = tt
 keyed_each ms keyed p (Some x) e = ap (option_map (λ (y : Master). y.step_number)) (found p (λ (y : Master). find (is_key y.key) ms ≡ Some y) x ms (each_keyed ms keyed) (sym e)).1
 
 -- a master comes under a key that none has
-pub keyed_more : (ms : List Master) (z : Master) (k : ℕ) → Keyed ms → find (is_key k) ms ≡ None → z.key ≡ k → Keyed (ms ++ z ∷ [])
-keyed_more ms z k keyed free is = in_order_append (λ (x y : Master). (x.key == y.key) ≡ false) ms z keyed (all_weaker (λ (x : Master). is_key k x ≡ false) (λ (x : Master). (x.key == z.key) ≡ false) (λ x e. ap (λ n. x.key == n) is ∙ e) ms (none_found (is_key k) ms free))
+pub keyed_more : (ms : List Master) (z : Master) (k : ℕ) → Rise ms → Keyed ms → find (is_key k) ms ≡ None → z.key ≡ k → Keyed (placed master_before z ms)
+keyed_more ms z k rise keyed free is =
+    let others = none_found (is_key k) ms free in
+    in_order_placed (λ (x : Master). x.step_number) z ms rise (λ (x y : Master). (x.key == y.key) ≡ false) keyed
+    (all_weaker (λ (x : Master). is_key k x ≡ false) (λ (x : Master). x.step_number < z.step_number → (x.key == z.key) ≡ false) (λ x e lt. ap (λ n. x.key == n) is ∙ e) ms others)
+    (all_weaker (λ (x : Master). is_key k x ≡ false) (λ (x : Master). nat_lt x.step_number z.step_number ≡ false → (z.key == x.key) ≡ false) (λ x e lt. flipped x.key z.key (ap (λ n. x.key == n) is ∙ e)) ms others)
 
 pub keyed_fewer : (ms : List Master) (p : Master → Bool) → Keyed ms → Keyed (filter p ms)
 keyed_fewer ms p keyed = in_order_filter (λ (x y : Master). (x.key == y.key) ≡ false) p ms keyed

@@ -16,7 +16,7 @@ use Rattle.drm_masters.specs.declared.rows.Magic.{Magic}
 use Rattle.drm_masters.specs.declared.rows.Master.{Master}
 use Rattle.drm_masters.specs.declared.rows.Member.{Member}
 use Rattle.drm_lists.specs.Chains.{is_under}
-use Rattle.drm_masters.specs.Masters.{MasterSet, is_client, member_before, is_step_number, is_key, is_option, IsKeyOf, lessor_of, is_lessee, is_below, is_current_member, has_open_magic, free_magic, free_lessee, swept}
+use Rattle.drm_masters.specs.Masters.{MasterSet, is_client, member_before, master_before, is_step_number, is_key, is_option, IsKeyOf, lessor_of, is_lessee, is_below, is_current_member, has_open_magic, free_magic, free_lessee, swept}
 
 -- each client that is there is older
 abbrev pub IsNewClient : MasterSet → ℕ → Type 0
@@ -59,8 +59,9 @@ keyed_as key x = record x { key = key }
 abbrev pub with_member : Member → MasterSet → MasterSet
 with_member x v = record v { members = placed member_before x v.members }
 
+-- one more master, at its place
 abbrev pub with_master : Master → MasterSet → MasterSet
-with_master x v = record v { masters = v.masters ++ x ∷ [] }
+with_master x v = record v { masters = placed master_before x v.masters }
 
 abbrev pub with_device : Option ℕ → MasterSet → MasterSet
 with_device m v = record v { device_master = m }

@@ -45,6 +45,10 @@ is_step_number m x = x.step_number == m
 abbrev pub is_key : ℕ → Master → Bool
 is_key key x = x.key == key
 
+-- the order of the masters
+abbrev pub master_before : Master → Master → Bool
+master_before x y = nat_lt x.step_number y.step_number
+
 abbrev pub master_at : List Master → ℕ → Option Master
 master_at masters m = find (is_step_number m) masters
 

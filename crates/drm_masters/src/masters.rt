@@ -223,7 +223,7 @@ impl Masters {
         self.members.is_flagged(client)
     }
 
-    /// Adds a client that opened the primary node. No client has this number yet.
+    /// Adds a client that opened the primary node. No client has this number yet, and no master this birth.
     ///
     /// If the device has no master, the client owns a new one with this birth, which becomes the device's: true.
     /// Otherwise the client belongs to the device's master and is no master itself: false.
@@ -238,7 +238,7 @@ impl Masters {
     pub fn on_open(&mut self, client: u32, birth: u32) -> Result<bool, NoMemory>
         requires new_client { is_some (sets.member_of self.old.members client) ≡ false }
         requires room { length self.old.members < self.old.last_magic }
-        requires new_step_number { calls.IsNewStepNumber self.old birth }
+        requires new_step_number { is_some (sets.master_at self.old.masters birth) ≡ false }
         ensures made { IfOk result (λ made. made ≡ not (is_some self.old.device_master)) }
         ensures ok { OnOk result (calls.Opened self.old client birth self.old.device_master self.new) }
         ensures err { OnErr result (self.new ≡ self.old) }
@@ -297,8 +297,8 @@ impl Masters {
 
     /// SET_MASTER (drm-uapi), in order: a client that was never a master and isn't root is refused (26); one that is
     /// current is done; while the device has a master others are refused (27); a client that is no master gets a new one,
-    /// made by the step of this number, and loses its magic; a lessee is refused (29); any other has its own set again.
-    /// A refusal changes nothing.
+    /// with this birth, and loses its magic; a lessee is refused (29); any other has its own set again. A refusal
+    /// changes nothing. No master has this birth yet.
     ///
     /// ```rust
     /// if masters.member(1).is_some() {
@@ -308,7 +308,7 @@ impl Masters {
     #[tactic(auto, unfolding(crate::specs::Calls::set_checks))]
     pub fn set(&mut self, client: u32, root: bool, birth: u32) -> Result<SetDone, SetFault>
         requires open_client { is_some (sets.member_of self.old.members client) ≡ true }
-        requires new_step_number { calls.IsNewStepNumber self.old birth }
+        requires new_step_number { is_some (sets.master_at self.old.masters birth) ≡ false }
         ensures set { IfSome (sets.member_of self.old.members client) (λ x. calls.SetOf self.old x root birth result self.new) }
         ensures err { OnErr result (self.new ≡ self.old) }
     {
@@ -607,7 +607,7 @@ impl Masters {
     // a new master of a client that is no master, under this key; the device has none
     fn found(&mut self, client: u32, step_number: u32) -> Result<MasterKey, NoMemory>
         requires none { self.old.device_master ≡ None }
-        requires new_step_number { calls.IsNewStepNumber self.old step_number }
+        requires new_step_number { is_some (sets.master_at self.old.masters step_number) ≡ false }
         requires open_client { is_some (sets.member_of self.old.members client) ≡ true }
         ensures ok { IfOk result (λ key. self.new ≡ calls.remade client key step_number self.old) }
         ensures free { IfOk result (λ key. calls.IsFreeKey self.old key) }

@@ -6,6 +6,7 @@ ghost use Rattle.std.specs.Option.{is_some, option_map_or};
 ghost use Rattle.std.specs.FinMap as map;
 ghost use Rattle.drm_index_array.specs.Indexed.{with_item};
 ghost use Rattle.drm_index_array.specs.Least.{least};
+ghost use Rattle.drm_index_array.specs.Rows.{placed};
 ghost use Rattle.drm_id_alloc.specs.Groups.{has};
 ghost use Rattle.drm_masters.specs.Masters as sets;
 ghost use Rattle.drm_masters.specs.Calls as calls;
@@ -94,11 +95,11 @@ impl MasterTable {
     /// Adds a master under a key of its own, which is given back; a lessee has an id that no other of its owner has. Without memory
     /// nothing changes.
     pub fn insert(&mut self, master: Master) -> Result<MasterKey, NoMemory>
-        requires newest { AllByRecursion (λ x. x.step_number < master.step_number) self.old.items }
+        requires absent { is_some (sets.master_at self.old.items master.step_number) ≡ false }
         requires older { AllByRecursion (sets.HasOlderLessor self.old.items) self.old.items }
-        requires there { (l : ℕ) → master.lessor ≡ Some l → is_some (sets.master_at self.old.items l) ≡ true }
+        requires there { sets.HasOlderLessor self.old.items master }
         requires other_id { (l : ℕ) → master.lessor ≡ Some l → list_any (sets.is_lessee_of self.old.items (sets.owner_of self.old.items l) master.lessee_id) self.old.items ≡ false }
-        ensures ok { IfOk result (λ key. self.new.items ≡ self.old.items ++ calls.keyed_as key master ∷ []) }
+        ensures ok { IfOk result (λ key. self.new.items ≡ placed sets.master_before (calls.keyed_as key master) self.old.items) }
         ensures free { IfOk result (λ key. find (sets.is_key key) self.old.items ≡ None) }
         ensures err { OnErr result (self.new ≡ self.old) }
     {

@@ -161,7 +161,7 @@ fn opened(masters: &mut Masters, client: u32, birth: u32) -> Told
     requires { masters.old.last_magic ≡ 4 }
     ensures { masters.new.last_magic ≡ 4 }
 {
-    if !is_new_client(masters, client) || !is_new_step_number(masters, birth) {
+    if !is_new_client(masters, client) || masters.master(birth).is_some() {
         return Told::Unasked;
     }
     match masters.on_open(client, birth) {
@@ -191,7 +191,7 @@ fn set(masters: &mut Masters, client: u32, root: bool, step_number: u32) -> Told
     requires { masters.old.last_magic ≡ 4 }
     ensures { masters.new.last_magic ≡ 4 }
 {
-    if masters.member(client).is_none() || !is_new_step_number(masters, step_number) {
+    if masters.member(client).is_none() || masters.master(step_number).is_some() {
         return Told::Unasked;
     }
     match masters.set(client, root, step_number) {

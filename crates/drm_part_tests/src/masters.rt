@@ -400,10 +400,37 @@ const UNORDERED: [Case; 12] = [
     (Ask::IsCurrent(3), Told::Whether(true)),
 ];
 
+const OF_BIRTH_4: Told = Told::Master {
+    step_number: 4,
+    lessor: None,
+    lessee_id: 0,
+    kept: false,
+};
+
+const OF_BIRTH_9: Told = Told::Master {
+    step_number: 9,
+    lessor: None,
+    lessee_id: 0,
+    kept: false,
+};
+
+/// Births do not rise from one founded master to the next. Masters are listed by their births.
+const UNORDERED_BIRTHS: [Case; 8] = [
+    (Ask::OpenBy(1, 9), Told::Whether(true)),
+    (Ask::Drop(1), Told::Done),
+    (Ask::OpenBy(2, 4), Told::Whether(true)),
+    (Ask::OpenBy(3, 9), Told::Unasked),
+    (Ask::NthMaster(0), OF_BIRTH_4),
+    (Ask::NthMaster(1), OF_BIRTH_9),
+    (Ask::NthMaster(2), Told::Nothing),
+    (Ask::DeviceMaster, Told::Number(4)),
+];
+
 #[test]
 fn rows_in_the_order_of_step_numbers(rt: HostRuntime) {
     check_new(&rt, rt.alloc(), &ROWS);
     check_new(&rt, rt.alloc(), &UNORDERED);
+    check_new(&rt, rt.alloc(), &UNORDERED_BIRTHS);
 }
 
 /// What is there after a client that was refused, which then opens.

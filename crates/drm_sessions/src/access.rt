@@ -13,7 +13,7 @@ use drm_table::{Answer, Apart, Event};
 /// let Some(topology) = Topology::new(2, &[1, 2], &[3, 2], &[5, 6]) else { return };
 /// let Ok(mut device) = Device::new(alloc, topology, Limits::PROGRAM) else { return };
 /// let opening = Event::Open(Opening::Render);
-/// let opened = Alone { device: &mut device }.call(opening);
+/// let opened = Alone(&mut device).call(opening);
 /// assert!(opened == Ok(Answer::Opened { client: 1 }));
 /// ```
 pub trait Access {

@@ -17,23 +17,20 @@ use drm_table::{Answer, Apart, Event};
 ///
 /// ```rust
 /// let mut source = FromRead::new(hello.as_slice());
-/// let mut alone = Alone { device: &mut device };
+/// let mut alone = Alone(&mut device);
 /// let session = serve_lent(&mut alone, &mut gate, card, &mut source, &mut sink, 1000);
 /// assert!(session.steps == 2);
 /// ```
 #[derive(Drop)]
-pub struct Alone<'a> {
-    /// The device that it was lent.
-    pub device: &'a mut Device,
-}
+pub struct Alone<'a>(pub &'a mut Device);
 
 impl Access for Alone<'_> {
     // The access stays at the device that it was lent.
-    ghost answers = { λ a event outcome b. (b.device.ghost_name ≡ a.device.ghost_name)
-        × DeviceSteps a.device.now event outcome b.device.now };
+    ghost answers = { λ a event outcome b. (b.0.ghost_name ≡ a.0.ghost_name)
+        × DeviceSteps a.0.now event outcome b.0.now };
 
     fn call(&mut self, event: Event) -> Result<Answer, Apart> {
-        self.device.step(event)
+        self.0.step(event)
     }
 }
 
@@ -43,7 +40,7 @@ impl Access for Alone<'_> {
 ///
 /// ```rust
 /// let mut source = FromRead::new(hello.as_slice());
-/// let mut alone = Alone { device: &mut device };
+/// let mut alone = Alone(&mut device);
 /// let session = serve_lent(&mut alone, &mut gate, card, &mut source, &mut sink, 1000);
 /// assert!(session.end == SessionEnd::Ended);
 /// ```
@@ -57,8 +54,8 @@ pub fn serve_lent<G: Gate, S: Source, K: Sink>(
 ) -> Session
     requires source { (S.trace source.old).counts.calls + turns < 2 ^ 48 }
     requires sink { (K.trace sink.old).counts.calls + turns < 2 ^ 48 }
-    ensures same { alone.new.device.ghost_name ≡ alone.old.device.ghost_name }
-    ensures serves { ServesAlone G.passes class gate.old gate.new alone.old.device.now alone.new.device.now
+    ensures same { alone.new.0.ghost_name ≡ alone.old.0.ghost_name }
+    ensures serves { ServesAlone G.passes class gate.old gate.new alone.old.0.now alone.new.0.now
         (S.trace source.old) (S.trace source.new) (K.trace sink.old) (K.trace sink.new)
         result }
     ensures costs { Costs (S.trace source.old) (S.trace source.new)
@@ -92,6 +89,6 @@ pub fn serve_alone<G: Gate, S: Source, K: Sink>(
     ensures costs { Costs (S.trace source.old) (S.trace source.new)
         (K.trace sink.old) (K.trace sink.new) turns result.end }
 {
-    let mut alone = Alone { device };
+    let mut alone = Alone(device);
     serve_lent(&mut alone, gate, class, source, sink, turns)
 }

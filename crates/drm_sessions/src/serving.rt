@@ -145,7 +145,7 @@ fn run_session<A: Access, G: Gate, S: Source, K: Sink>(
 ///
 /// ```rust
 /// let mut source = FromRead::new(hello.as_slice());
-/// let mut alone = Alone { device: &mut device };
+/// let mut alone = Alone(&mut device);
 /// let session = serve(&mut alone, &mut gate, card, &mut source, &mut sink, 1000);
 /// assert!(session.end == SessionEnd::Ended);
 /// ```

@@ -5,6 +5,7 @@ use drm_frames::{
     call_of, decode, encode_answer, encode_call, encode_hello, hello_of,
 };
 use drm_table::{Answer, Apart, Call};
+use std::io::{Read, Write};
 
 /// The functions.
 pub fn functions() {

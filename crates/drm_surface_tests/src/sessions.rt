@@ -1,9 +1,12 @@
 //! The surface of `drm_sessions`.
 
+ghost use Rattle.std.specs.Prelude.{◌≡◌};
+
+use drm_device::Device;
 use drm_frames::{Sink, Source};
 use drm_sessions::{
-    Access, Alone, Class, Finished, Gate, Job, ManyFault, NoGate, Session, SessionEnd, Through, serve,
-    serve_many,
+    Access, Alone, Class, Finished, Gate, Job, ManyFault, NoGate, Session, SessionEnd, Through,
+    serve, serve_many,
 };
 use drm_table::{Answer, Apart, Event, Rule};
 use drm_turns::{Seat, SharedDevice};
@@ -18,11 +21,38 @@ pub fn serving<A: Access, G: Gate, S: Source, K: Sink>() {
     let _before: fn(&mut G, u32) = G::before;
 }
 
-/// The accesses: a device that one session has alone, and one that is shared.
-pub fn accesses<R: Wait>(alone: &mut Alone<'_>) {
-    let _alone: fn(&mut Alone<'_>, Event) -> Result<Answer, Apart> = Alone::call;
-    let _device = &alone.device;
-    let _none: fn(&mut NoGate, u32) = NoGate::before;
+/// Takes any access.
+fn access<A: Access>(_access: &mut A) {}
+
+/// A device that one session has alone is an access.
+pub fn alone(device: &mut Device) {
+    access(&mut Alone(device));
+    let _before: fn(&mut NoGate, u32) = NoGate::before;
+}
+
+/// A shared device is an access through a seat of it, which keeps the runtime that it waits by.
+pub fn through<'a, R: Wait>(rt: &'a R, shared: &'a SharedDevice, seat: Seat) -> Through<'a, R>
+    requires own { seat.table ≡ shared.now }
+{
+    let mut through = Through::new(rt, shared, seat);
+    access(&mut through);
+    through
+}
+
+/// Sessions in threads.
+pub fn many<
+    R: Wait + Threads + Sync,
+    G: Gate + Send + Drop,
+    S: Source + Send + Drop,
+    K: Sink + Send + Drop,
+>() {
+    let _serve_many: fn(
+        &R,
+        Global,
+        &SharedDevice,
+        &mut Seat,
+        Vec<Job<G, S, K>>,
+    ) -> Result<Vec<Finished<S, K>>, ManyFault> = serve_many;
 }
 
 /// The classes of a connection.

@@ -1,8 +1,8 @@
 //! The surface of `drm_table`.
 
 use drm_table::{
-    Answer, Apart, AuditKind, AuditPage, AuditRow, Call, Event, IdList, Opening, Row, RowFlags, Rule,
-    ShownList, Standing, permit, row,
+    Answer, Apart, AuditKind, AuditPage, AuditRow, Call, Event, IdList, Opening, Row, RowFlags,
+    Rule, ShownList, Standing, permit, row,
 };
 
 /// The functions.
@@ -87,7 +87,12 @@ pub fn lists(answer: Answer) -> [ShownList; 4] {
             framebuffers,
         } => [crtcs, connectors, encoders, framebuffers],
         Answer::List { list } => [list, ShownList::new(), ShownList::new(), ShownList::new()],
-        _ => [ShownList::new(), ShownList::new(), ShownList::new(), ShownList::new()],
+        _ => [
+            ShownList::new(),
+            ShownList::new(),
+            ShownList::new(),
+            ShownList::new(),
+        ],
     }
 }
 

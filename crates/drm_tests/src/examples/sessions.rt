@@ -19,10 +19,7 @@ fn values(rt: HostRuntime) {
         panic!(rt; "refused")
     };
     let opening = Event::Open(Opening::Render);
-    let opened = Alone {
-        device: &mut device,
-    }
-    .call(opening);
+    let opened = Alone(&mut device).call(opening);
     assert!(rt; opened == Ok(Answer::Opened { client: 1 }));
     let mut gate = NoGate;
     gate.before(1);
@@ -33,15 +30,11 @@ fn values(rt: HostRuntime) {
     let session = serve_alone(&mut device, &mut NoGate, card, &mut source, &mut sink, 1000);
     assert!(rt; session.end == SessionEnd::Ended);
     let mut source = FromRead::new(hello.as_slice());
-    let mut alone = Alone {
-        device: &mut device,
-    };
+    let mut alone = Alone(&mut device);
     let session = serve_lent(&mut alone, &mut gate, card, &mut source, &mut sink, 1000);
     assert!(rt; session.steps == 2);
     let mut source = FromRead::new(hello.as_slice());
-    let mut alone = Alone {
-        device: &mut device,
-    };
+    let mut alone = Alone(&mut device);
     let session = serve_lent(&mut alone, &mut gate, card, &mut source, &mut sink, 1000);
     assert!(rt; session.end == SessionEnd::Ended);
     let mut source = FromRead::new(hello.as_slice());
@@ -51,51 +44,15 @@ fn values(rt: HostRuntime) {
     let root = Class::Root;
     let session = serve_alone(&mut device, &mut gate, root, &mut source, &mut sink, 1000);
     assert!(rt; session.end == SessionEnd::Ended);
-}
-
-#[test]
-fn values_from_session_end(rt: HostRuntime) {
-    let alloc = rt.alloc();
-    let Some(topology) = Topology::new(2, &[1, 2], &[3, 2], &[5, 6]) else {
-        panic!(rt; "refused")
-    };
-    let Ok(mut device) = Device::new(alloc, topology, Limits::PROGRAM) else {
-        panic!(rt; "refused")
-    };
-    let mut gate = NoGate;
-    gate.before(1);
-    let hello = [14, 0, 0, 0, 0, 1, 1, 0, 0, 0, 0, 0, 0, 0, 0, 0, 0, 0];
-    let mut sink = ToWrite::new(Vec::new(alloc));
-    let card = Class::Card;
     let mut source = FromRead::new(&hello[..4]);
     let session = serve_alone(&mut device, &mut gate, card, &mut source, &mut sink, 1000);
     assert!(rt; session.end == SessionEnd::Truncated);
     let Session { client, steps, .. } = session;
     assert!(rt; client == 0 && steps == 0);
-    let Some(topology) = Topology::new(2, &[1, 2], &[3, 2], &[5, 6]) else {
-        panic!(rt; "refused")
-    };
-    let Ok(fresh) = Device::new(alloc, topology, Limits::PROGRAM) else {
-        panic!(rt; "refused")
-    };
-    let Ok((shared, mut participant)) = SharedDevice::new(alloc, fresh) else {
-        panic!(rt; "refused")
-    };
-    let (from, into) = (
-        FromRead::new(hello.as_slice()),
-        ToWrite::new(Vec::new(alloc)),
-    );
-    let job = Job {
-        gate: NoGate,
-        class: card,
-        source: from,
-        sink: into,
-        turns: 1000,
-    };
 }
 
 #[test]
-fn values_from_finished(rt: HostRuntime) {
+fn values_from_job(rt: HostRuntime) {
     let alloc = rt.alloc();
     let hello = [14, 0, 0, 0, 0, 1, 1, 0, 0, 0, 0, 0, 0, 0, 0, 0, 0, 0];
     let card = Class::Card;
@@ -163,9 +120,7 @@ fn values_from_serve_many(rt: HostRuntime) {
     let jobs: Vec<Job<NoGate, FromRead<&[u8]>, ToWrite<Vec<u8>>>> = Vec::new(alloc);
     assert!(rt; serve_many(&rt, alloc, &shared, &mut participant, jobs).is_ok());
     let mut source = FromRead::new(hello.as_slice());
-    let mut alone = Alone {
-        device: &mut device,
-    };
+    let mut alone = Alone(&mut device);
     let session = serve(&mut alone, &mut gate, card, &mut source, &mut sink, 1000);
     assert!(rt; session.end == SessionEnd::Ended);
 }

@@ -12,7 +12,7 @@ use Rattle.drm_model.specs.Change.{changed}
 use Rattle.drm_model.specs.Reply.{answer_of}
 use Rattle.drm_masters.specs.Masters.{MasterSet, AreMasters}
 use Rattle.drm_masters.specs.Calls as masters
-use Rattle.drm_masters.proofs.Newest.{newest_absent, newest_last}
+use Rattle.drm_masters.proofs.Newest.{newest_absent, newest_unused, newest_last, newest_master, with_last_member, with_last_master}
 use Rattle.drm_state.specs.Refinement.{Refines, Represents}
 use Rattle.std.specs.Prelude.{if◌then◌else◌}
 use Rattle.std.specs.Option.{is_none, is_some}
@@ -24,7 +24,7 @@ use Rattle.drm_leases.specs.Agreed.{AreAgreed}
 use Rattle.drm_leases.proofs.Agreeing.{agreed_joined, agreed_more}
 use Rattle.drm_state.proofs.Represented.{device_master_is, leases_so, tokens_of_lessees, kept_have_tokens, leases_agree}
 use Rattle.drm_state.proofs.Ended.{fresh_token, kept_more, of_lessees_more}
-use Rattle.drm_client_calls.proofs.Opened.{not_full, newer, room_for, back, closed_again, joined, with_newest, joined_invariants, non_master_represents, opener_represents}
+use Rattle.drm_client_calls.proofs.Opened.{not_full, newer, room_for, back, closed_again, joined, joined_invariants, non_master_represents, opener_represents}
 use Rattle.drm_state.proofs.Refinements.{denied, carried_on, refused, opening_verdict, client_room}
 use Rattle.drm_client_calls.proofs.openings.open_primary.Goals as goal
 
@@ -56,6 +56,9 @@ returns-in_err-open_file-clause-refines c = λ w s.
 pub on_open-requires-clause-new_client : goal.on_open-requires-clause-new_client
 on_open-requires-clause-new_client c = newest_absent c.args.state.now.masters c.args.step_number (newer c.args.state.now c.args.step_number c.requires.invariants c.requires.later)
 
+pub on_open-requires-clause-new_step_number : goal.on_open-requires-clause-new_step_number
+on_open-requires-clause-new_step_number c = newest_unused c.args.state.now.masters.masters c.args.step_number c.requires.later.masters
+
 pub on_open-requires-clause-room : goal.on_open-requires-clause-room
 on_open-requires-clause-room c = room_for c.args.state.now c.requires.invariants (not_full c.args.state.now.files.limit (length c.args.state.now.files.clients) (sym c.is_full.ensures.full ∙ c.if-is_full.false))
 
@@ -76,16 +79,18 @@ returns-in-Err-clause-refines c = λ w s.
     (c.close-rest.ensures.closed ∙ ap (λ l. without_client l c.args.step_number) c.in_ok-open_file.ensures.ok ∙ closed_again c.args.state.now.files c.args.step_number (flags c.args.root c.args.universal c.is_none-opener.result) c.is_full.ensures.lists c.requires.later.clients) c.in-Err.ensures.err s.rows)
 
 -- the newest client is the last
-new_opener : (v new : MasterSet) (b key : ℕ) → masters.IsNewClient v b → new ≡ masters.with_device (Some b) (masters.with_member (masters.owner b b) (masters.with_master (masters.founded_master key b) v)) → new ≡ masters.with_device (Some b) (with_newest (masters.owner b b) (masters.with_master (masters.founded_master key b) v))
-new_opener v new b key newest e = e ∙ ap (masters.with_device (Some b)) (newest_last (masters.with_master (masters.founded_master key b) v) (masters.owner b b) newest)
+new_opener : (v new : MasterSet) (b key : ℕ) → masters.IsNewClient v b → masters.IsNewStepNumber v b → new ≡ masters.with_device (Some b) (masters.with_member (masters.owner b b) (masters.with_master (masters.founded_master key b) v)) → new ≡ masters.with_device (Some b) (with_last_member (masters.owner b b) (with_last_master (masters.founded_master key b) v))
+new_opener v new b key newest last e =
+    let z = masters.founded_master key b in
+    e ∙ ap (masters.with_device (Some b)) (newest_last (masters.with_master z v) (masters.owner b b) newest ∙ ap (with_last_member (masters.owner b b)) (newest_master v z last))
 
-new_guest : (v new : MasterSet) (b m : ℕ) → masters.IsNewClient v b → new ≡ masters.with_member (masters.non_master b m) v → new ≡ with_newest (masters.non_master b m) v
+new_guest : (v new : MasterSet) (b m : ℕ) → masters.IsNewClient v b → new ≡ masters.with_member (masters.non_master b m) v → new ≡ with_last_member (masters.non_master b m) v
 new_guest v new b m newest e = e ∙ newest_last v (masters.non_master b m) newest
 
 -- what an opening leaves of masters meets the invariants
 invariants_by : (s : State) (b : ℕ) (g : FileFlags) (new : MasterSet) (d : Option ℕ) → MeetsInvariants s → IsLater s b → AreMasters new → masters.Opened s.masters b b d new → MeetsInvariants (joined s b g new s.leases)
 invariants_by s b g new None t later are h =
-    let is = new_opener s.masters new b h.0 (newer s b t later) h.2 in
+    let is = new_opener s.masters new b h.0 (newer s b t later) later.masters h.2 in
     joined_invariants s g (masters.owner b b) new s.leases t (ap (λ (v : MasterSet). v.members) is) are (leases_so s t)
     (subst (λ (v : MasterSet). AreOfLessees s.leases.tokens v.masters) (sym is) (of_lessees_more s.leases.tokens s.masters.masters (masters.founded_master h.0 b) (tokens_of_lessees s t)))
     (subst (λ (v : MasterSet). AreKeptBy s.leases.tokens v.masters) (sym is) (kept_more s.leases.tokens s.masters.masters (masters.founded_master h.0 b) (kept_have_tokens s t) refl later.leases.tokens))
@@ -111,7 +116,7 @@ rows_by s w b root universal opener new None t later is f h r =
     let row : ClientRow = record { client = step_number w; render = false; root = root; authenticated = true; once_master = true; is_master = true; master = Some (step_number w); universal = universal } in
     let master : MasterRow = record { master = step_number w; lessor = None; lessee_id = 0; lease_token = None } in
     subst (λ n. Represents (joined s b (flags root universal n) new s.leases) (opened_primary w root universal None)) (sym f)
-    (subst (λ v. Represents (joined s b (flags root universal true) v s.leases) (opened_primary w root universal None)) (sym (new_opener s.masters new b h.0 (newer s b t later) h.2))
+    (subst (λ v. Represents (joined s b (flags root universal true) v s.leases) (opened_primary w root universal None)) (sym (new_opener s.masters new b h.0 (newer s b t later) later.masters h.2))
     (opener_represents s w (flags root universal true) (masters.owner b b) (masters.founded_master h.0 b) row master t later refl (ap (λ n. record row { client = n; master = Some n }) (sym is)) (λ i. record { master = sym is i; lessor = None; lessee_id = 0; lease_token = fresh_token b s.leases.tokens later.leases.tokens i }) r))
 rows_by s w b root universal opener new (Some m) t later is f h r =
     let row : ClientRow = record { client = step_number w; render = false; root = root; authenticated = root; once_master = false; is_master = false; master = Some m; universal = universal } in

@@ -7,6 +7,8 @@ use Rattle.drm_lists.specs.Orders.{SameRows}
 use Rattle.drm_modes.specs.Topology.{object_count}
 use Rattle.drm_masters.specs.declared.rows.Member.{Member}
 use Rattle.drm_masters.specs.Masters.{MasterSet, AreMasters}
+use Rattle.drm_masters.specs.Calls.{lessee}
+use Rattle.drm_masters.proofs.Newest.{newest_master}
 use Rattle.drm_leases.specs.declared.faults.LeaseFault.{LeaseFault}
 use Rattle.drm_leases.specs.declared.rows.Leased.{Leased}
 use Rattle.drm_leases.specs.Leases.{LeaseSet, AreLeases}
@@ -59,8 +61,8 @@ returns-in-Ok-clause-invariants c =
     let objects = listed_objects s.modes.topology (leased s.leases s.masters s.modes x.master c.args.caller.flags.universal ids) in
     let by = came s x step c.create.new.self c.create.new.masters (sym c.requires.caller.member ∙ c.in-Some.is) c.in-Ok.is c.ids.ensures.ids refl c.create.ensures.created in
     subst (λ (l : LeaseSet). MeetsInvariants (record s { masters = c.create.new.masters; leases = l })) (sym by.3)
-    (subst (λ (v : MasterSet). MeetsInvariants (record s { masters = v; leases = with_lease made.token step x.master objects s.leases })) (sym by.4.2)
-    (leased_invariants s by.4.0 step x.master made.id made.token objects c.requires.precondition.later.masters c.requires.precondition.later.leases c.requires.precondition.invariants (subst AreMasters by.4.2 c.laws.ensures) (subst AreLeases by.3 c.laws-in-Ok.ensures)))
+    (subst (λ (v : MasterSet). MeetsInvariants (record s { masters = v; leases = with_lease made.token step x.master objects s.leases })) (sym (by.4.2 ∙ newest_master s.masters (lessee by.4.0 step x.master made.id) c.requires.precondition.later.masters))
+    (leased_invariants s by.4.0 step x.master made.id made.token objects c.requires.precondition.later.masters c.requires.precondition.later.leases c.requires.precondition.invariants (subst AreMasters (by.4.2 ∙ newest_master s.masters (lessee by.4.0 step x.master made.id) c.requires.precondition.later.masters) c.laws.ensures) (subst AreLeases by.3 c.laws-in-Ok.ensures)))
 
 pub returns-in-Ok-clause-refines : goal.returns-in-Ok-clause-refines
 unfolding RefinesCall meaning changed answer_of
@@ -87,7 +89,7 @@ returns-in-Ok-clause-refines c = λ w r admitted.
     carried_on new w (Ask client (CreateLease ids)) (Lease made.id made.token) (returns-in-Ok-clause-invariants c) none (λ i. Lease (sym id_is i) (sym token_is i))
     (subst (Represents new) (sym (λ i. leased_rows w (own i) (r.step_number_is i) (id_is i) (token_is i) all))
     (subst (λ (l : LeaseSet). Represents (record s { masters = c.create.new.masters; leases = l }) (leased_rows w x.master step made.id made.token all)) (sym by.3)
-    (subst (λ (v : MasterSet). Represents (record s { masters = v; leases = with_lease made.token step x.master objects s.leases }) (leased_rows w x.master step made.id made.token all)) (sym by.4.2)
+    (subst (λ (v : MasterSet). Represents (record s { masters = v; leases = with_lease made.token step x.master objects s.leases }) (leased_rows w x.master step made.id made.token all)) (sym (by.4.2 ∙ newest_master s.masters (lessee by.4.0 step x.master made.id) c.requires.precondition.later.masters))
     (leased_represents s by.4.0 step x.master made.id made.token objects c.requires.precondition.later.masters c.requires.precondition.later.leases w h all same))))
 
 pub returns-in-Err-Denied-clause-refines : goal.returns-in-Err-Denied-clause-refines

@@ -9,6 +9,7 @@ use Rattle.drm_masters.specs.declared.faults.SetFault.{SetFault}
 use Rattle.drm_masters.specs.declared.rows.Member.{Member}
 use Rattle.drm_state.specs.declared.state.State.{State}
 use Rattle.drm_masters.specs.Calls.{SetOf}
+use Rattle.drm_masters.proofs.Newest.{newest_unused}
 use Rattle.drm_model.specs.Rows.{step_number}
 use Rattle.drm_model.specs.Magics.{is_current, is_master, mastered}
 use Rattle.drm_model.specs.Masters.{new_master}
@@ -23,7 +24,7 @@ use Rattle.drm_state.proofs.Callers.{caller_root, caller_file, caller_open, same
 use Rattle.drm_master_calls.proofs.Callers.{set_verdict, current_is, master_is}
 use Rattle.drm_master_calls.proofs.Changed.{device_invariants, device_represents}
 use Rattle.drm_master_calls.proofs.Flags.{set_master_flags}
-use Rattle.drm_master_calls.proofs.Remade.{own_rows, remade_invariants, remade_represents}
+use Rattle.drm_master_calls.proofs.Remade.{own_rows, last_remade, remade_invariants, remade_represents}
 use Rattle.drm_files.specs.Files.{with_authenticated}
 use Rattle.drm_master_calls.proofs.owners.set_master.Goals as goal
 
@@ -34,6 +35,9 @@ came {r = r} s x root step new look is h = subst (λ v. SetOf s.masters x root s
 pub returns-in_default-clause-refines : goal.returns-in_default-clause-refines
 unfolding RefinesCall
 returns-in_default-clause-refines c = λ w r admitted. absurd (never_admitted c.args.state.now w c.args.caller.client SetMaster c.requires.precondition.invariants (caller_open c.args.state.now c.args.caller c.requires.caller) r.rows set_master_flags (sym c.requires.caller.member ∙ c.in_default.is) admitted)
+
+pub set-requires-clause-new_step_number : goal.set-requires-clause-new_step_number
+set-requires-clause-new_step_number c = newest_unused c.args.state.now.masters.masters c.args.step_number c.requires.precondition.later.masters
 
 pub returns-in-Ok-Already-clause-invariants : goal.returns-in-Ok-Already-clause-invariants
 returns-in-Ok-Already-clause-invariants c =
@@ -89,8 +93,8 @@ returns-in-Ok-Made-clause-invariants c =
     let by = came s x c.args.caller.flags.root c.args.step_number c.set.new.self look (c.in-Ok-Made.is ∙ ap Ok c.in-Ok-Made.field-0-is) c.set.ensures.set in
     let same = same_client s.masters.members c.args.caller.client x look in
     subst (λ fs. MeetsInvariants (record s { files = fs; masters = c.set.new.self })) (sym (c.set_authenticated.ensures ∙ ap (with_authenticated s.files) (sym same.0)))
-    (subst (λ v. MeetsInvariants (record s { files = with_authenticated s.files x.client; masters = v })) (sym by.1.2.2)
-    (remade_invariants s x by.1.2.0 c.args.step_number c.requires.precondition.invariants c.requires.precondition.later.leases.tokens (subst AreMasters by.1.2.2 c.laws.ensures) same.1 by.1.1))
+    (subst (λ v. MeetsInvariants (record s { files = with_authenticated s.files x.client; masters = v })) (sym (by.1.2.2 ∙ last_remade x.client by.1.2.0 c.args.step_number s.masters c.requires.precondition.later.masters))
+    (remade_invariants s x by.1.2.0 c.args.step_number c.requires.precondition.invariants c.requires.precondition.later.leases.tokens (subst AreMasters (by.1.2.2 ∙ last_remade x.client by.1.2.0 c.args.step_number s.masters c.requires.precondition.later.masters) c.laws.ensures) same.1 by.1.1))
 
 pub returns-in-Ok-Made-clause-refines : goal.returns-in-Ok-Made-clause-refines
 unfolding RefinesCall meaning changed answer_of
@@ -111,8 +115,8 @@ returns-in-Ok-Made-clause-refines c = λ w r admitted.
     (subst (λ n. Represents new (swept (own_rows w c.args.caller.client n))) (sym r.step_number_is)
     (subst (λ fs. Represents (record s { files = fs; masters = c.set.new.self }) (swept (own_rows w c.args.caller.client c.args.step_number))) (sym c.set_authenticated.ensures)
     (subst (λ n. Represents (record s { files = with_authenticated s.files n; masters = c.set.new.self }) (swept (own_rows w n c.args.step_number))) same.0
-    (subst (λ v. Represents (record s { files = with_authenticated s.files x.client; masters = v }) (swept (own_rows w x.client c.args.step_number))) (sym by.1.2.2)
-    (remade_represents s x by.1.2.0 c.args.step_number c.requires.precondition.invariants c.requires.precondition.later.leases.tokens (subst AreMasters by.1.2.2 c.laws.ensures) same.1 by.1.1 w r.rows)))))))
+    (subst (λ v. Represents (record s { files = with_authenticated s.files x.client; masters = v }) (swept (own_rows w x.client c.args.step_number))) (sym (by.1.2.2 ∙ last_remade x.client by.1.2.0 c.args.step_number s.masters c.requires.precondition.later.masters))
+    (remade_represents s x by.1.2.0 c.args.step_number c.requires.precondition.invariants c.requires.precondition.later.leases.tokens (subst AreMasters (by.1.2.2 ∙ last_remade x.client by.1.2.0 c.args.step_number s.masters c.requires.precondition.later.masters) c.laws.ensures) same.1 by.1.1 w r.rows)))))))
 
 pub returns-in-Err-Denied-clause-invariants : goal.returns-in-Err-Denied-clause-invariants
 returns-in-Err-Denied-clause-invariants c =

@@ -5,7 +5,8 @@ use Rattle.drm_masters.specs.declared.faults.LesseeFault.{LesseeFault}
 use Rattle.drm_masters.specs.declared.faults.LesseeFault.TheVariants.{Full, NoMemory as LesseeNoMemory}
 use Rattle.drm_masters.specs.declared.rows.Member.{Member}
 use Rattle.drm_masters.specs.Masters.{MasterSet, member_of, step_number_at}
-use Rattle.drm_masters.specs.Calls.{MadeLessee}
+use Rattle.drm_masters.specs.Calls.{MadeLessee, lessee}
+use Rattle.drm_masters.proofs.Newest.{newest_master}
 use Rattle.drm_leases.specs.declared.faults.LeaseFault.TheVariants.{NoMemory}
 use Rattle.drm_table.specs.Permit.{first_failing}
 use Rattle.drm_leases.specs.declared.rows.Grant.{Grant}
@@ -165,5 +166,5 @@ returns-clause-agreed c =
     let key_is : step_number_at v.masters c.in-Some-master.lessor.key ≡ lessor = keyed_step_number v.masters lessor c.in-Some-master.lessor.key c.in-Some-master.ensures.keyed in
     let made = subst (λ k. MadeLessee v k m (Ok c.in-Ok.made) c.make_lessee.new.self) key_is c.in-Ok.ensures.made in
     subst (λ xs. AllByRecursion (IsAgreed c.make_lessee.new.self.members c.make_lessee.new.self.masters) xs) (sym lendings)
-    (subst (λ (w : MasterSet). AllByRecursion (IsAgreed w.members w.masters) (c.args.self.now.lendings ++ lending m lessor ∷ [])) (sym made.2)
+    (subst (λ (w : MasterSet). AllByRecursion (IsAgreed w.members w.masters) (c.args.self.now.lendings ++ lending m lessor ∷ [])) (sym (made.2 ∙ newest_master v (lessee c.in-Ok.made.0 m lessor c.in-Ok.made.1) c.requires.new_step_number))
     (agreed_lent v.members v.masters c.in-Ok.made.0 m lessor c.in-Ok.made.1 c.args.self.now.lendings c.requires.new_step_number c.requires.agreed))

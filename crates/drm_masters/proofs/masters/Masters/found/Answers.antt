@@ -4,17 +4,17 @@ use Rattle.std.specs.FinSet as set
 use Rattle.std.specs.List.{list_any, AllByRecursion}
 use Rattle.std.specs.Option.{is_some, option_map_or}
 use Rattle.std.proofs.lemmas.Bool.{false≢true}
-use Rattle.drm_lists.proofs.Numbers.{less-differ}
+use Rattle.drm_index_array.specs.Rows.{placed}
 use Rattle.drm_lists.specs.Orders.{InOrder}
 use Rattle.drm_masters.specs.declared.rows.Master.{Master}
 use Rattle.drm_masters.specs.declared.rows.Member.{Member}
 use Rattle.drm_masters.specs.Fields.{set_of}
-use Rattle.drm_masters.specs.Masters.{MasterSet, AreMasters, HasOlderLessor, member_of, is_step_number, is_client, is_option, is_key, is_living, is_current, swept}
+use Rattle.drm_masters.specs.Masters.{MasterSet, AreMasters, HasOlderLessor, master_before, member_of, is_step_number, is_client, is_option, is_key, is_living, is_current, swept}
 use Rattle.drm_masters.specs.Calls as calls
 use Rattle.drm_masters.specs.Tables.{MemberRows}
 use Rattle.drm_masters.proofs.Upward.{OthersUsed}
-use Rattle.drm_masters.proofs.Pushed.{step_number_below, pushed_older, taken_back}
-use Rattle.drm_masters.proofs.Living.{Older}
+use Rattle.drm_masters.proofs.Pushed.{there_apart, pushed_older, taken_back}
+use Rattle.drm_masters.proofs.Living.{IsFresh, Older}
 use Rattle.drm_masters.proofs.Owned.{unnamed_yet}
 use Rattle.drm_masters.proofs.Flagged.{current_in, no_device}
 use Rattle.drm_masters.proofs.Sound.{Keyed, sound, swept_are, remade_ties, remade_used, client_found, master_there, keyed_more, keyed_fewer}
@@ -27,29 +27,31 @@ remake-requires c =
     let x = c.in-Some.old in
     let at : member_of v.members c.args.client ≡ Some x = sym (ap (λ (u : MasterSet). member_of u.members c.args.client) c.self.view_is) ∙ sym c.get.ensures ∙ c.in-Some.is in
     let b = c.args.step_number in
-    let lt = step_number_below v.masters (calls.founded_master 0 b) c.requires.new_step_number x.master (master_there v are c.args.client x at) in
+    let apart = there_apart v.masters (calls.founded_master 0 b) (are.masters_rise, c.requires.new_step_number) x.master (master_there v are c.args.client x at) in
     let look : member_of c.self.inside.members.items c.args.client ≡ Some x = ap (λ (u : MasterSet). member_of u.members c.args.client) c.self.view_is ∙ at in
     record {
       moves =
           subst (λ (u : Member). option_map_or (λ (y : Member). not (y.master == u.master)) (member_of c.self.inside.members.items u.client) false ≡ true) (sym c.owner.ensures)
-          (ap (λ o. option_map_or (λ (y : Member). not (y.master == b)) o false) look ∙ ap not (less-differ x.master b lt));
+          (ap (λ o. option_map_or (λ (y : Member). not (y.master == b)) o false) look ∙ ap not apart);
     }
 
 pub remove-requires-clause-older : goal.remove-requires-clause-older
 remove-requires-clause-older c =
     let z = calls.founded_master c.in-Ok.key c.args.step_number in
     let ms = c.self.inside.masters.items in
-    let newest = rw (← c.self.view_is) at c.requires.new_step_number in
-    let masters : c.insert.new.self.items ≡ ms ++ z ∷ [] = c.in-Ok.ensures.ok ∙ ap (λ (x : Master). ms ++ calls.keyed_as c.in-Ok.key x ∷ []) c.founded_master.ensures in
-    subst Older (sym masters) (pushed_older ms z newest (λ l e. absurd (false≢true (ap is_some e))) c.self.invariant.are.lessors_older)
+    let unused = rw (← c.self.view_is) at c.requires.new_step_number in
+    let fresh : IsFresh c.self.inside.masters.items c.args.step_number = (c.self.invariant.are.masters_rise, unused) in
+    let masters : c.insert.new.self.items ≡ placed master_before z ms = c.in-Ok.ensures.ok ∙ ap (λ (x : Master). placed master_before (calls.keyed_as c.in-Ok.key x) ms) c.founded_master.ensures in
+    subst Older (sym masters) (pushed_older ms z fresh (λ l e. absurd (false≢true (ap is_some e))) c.self.invariant.are.lessors_older)
 
 pub remove-requires-clause-no_lessee : goal.remove-requires-clause-no_lessee
 remove-requires-clause-no_lessee c =
     let z = calls.founded_master c.in-Ok.key c.args.step_number in
     let ms = c.self.inside.masters.items in
-    let newest = rw (← c.self.view_is) at c.requires.new_step_number in
-    let masters : c.insert.new.self.items ≡ ms ++ z ∷ [] = c.in-Ok.ensures.ok ∙ ap (λ (x : Master). ms ++ calls.keyed_as c.in-Ok.key x ∷ []) c.founded_master.ensures in
-    subst (λ l. list_any (λ (y : Master). is_option c.args.step_number y.lessor) l ≡ false) (sym masters) (unnamed_yet ms z newest c.self.invariant.are.lessors_older refl)
+    let unused = rw (← c.self.view_is) at c.requires.new_step_number in
+    let fresh : IsFresh c.self.inside.masters.items c.args.step_number = (c.self.invariant.are.masters_rise, unused) in
+    let masters : c.insert.new.self.items ≡ placed master_before z ms = c.in-Ok.ensures.ok ∙ ap (λ (x : Master). placed master_before (calls.keyed_as c.in-Ok.key x) ms) c.founded_master.ensures in
+    subst (λ l. list_any (λ (y : Master). is_option c.args.step_number y.lessor) l ≡ false) (sym masters) (unnamed_yet ms z fresh c.self.invariant.are.lessors_older refl)
 
 pub invariant_of-self-in-Err-remake : goal.invariant_of-self-in-Err-remake
 invariant_of-self-in-Err-remake c =
@@ -58,18 +60,20 @@ invariant_of-self-in-Err-remake c =
     let keyed : Keyed v.masters = subst (λ (w : MasterSet). Keyed w.masters) c.self.view_is c.self.invariant.keyed in
     let old : (k : ℕ) → set.contains c.self.inside.members.flags k ≡ is_current v k = λ k. c.self.invariant.flagged k ∙ ap (λ (w : MasterSet). is_current w k) c.self.view_is in
     let z = calls.founded_master c.in-Ok.key c.args.step_number in
-    let newest = rw (← c.self.view_is) at c.requires.new_step_number in
-    let masters : c.insert.new.self.items ≡ c.self.inside.masters.items ++ z ∷ [] = c.in-Ok.ensures.ok ∙ ap (λ (x : Master). c.self.inside.masters.items ++ calls.keyed_as c.in-Ok.key x ∷ []) c.founded_master.ensures in
-    let back : c.remove.new.self.items ≡ c.self.inside.masters.items = c.remove.ensures ∙ ap (filter (λ (x : Master). not (is_step_number c.args.step_number x))) masters ∙ taken_back c.self.inside.masters.items z newest in
+    let unused = rw (← c.self.view_is) at c.requires.new_step_number in
+    let fresh : IsFresh c.self.inside.masters.items c.args.step_number = (c.self.invariant.are.masters_rise, unused) in
+    let masters : c.insert.new.self.items ≡ placed master_before z c.self.inside.masters.items = c.in-Ok.ensures.ok ∙ ap (λ (x : Master). placed master_before (calls.keyed_as c.in-Ok.key x) c.self.inside.masters.items) c.founded_master.ensures in
+    let back : c.remove.new.self.items ≡ c.self.inside.masters.items = c.remove.ensures ∙ ap (filter (λ (x : Master). not (is_step_number c.args.step_number x))) masters ∙ taken_back c.self.inside.masters.items z fresh in
     let path = (λ i. record (set_of c.self.inside) { members = (c.in-Err-remake.ensures.err i).items; masters = back i }) ∙ c.self.view_is in
     sound _ v path are keyed (λ k. ap (λ (m : MemberRows). set.contains m.flags k) c.in-Err-remake.ensures.err ∙ old k)
 
 pub returns-in-Err-remake-clause-err : goal.returns-in-Err-remake-clause-err
 returns-in-Err-remake-clause-err c =
     let z = calls.founded_master c.in-Ok.key c.args.step_number in
-    let newest = rw (← c.self.view_is) at c.requires.new_step_number in
-    let masters : c.insert.new.self.items ≡ c.self.inside.masters.items ++ z ∷ [] = c.in-Ok.ensures.ok ∙ ap (λ (x : Master). c.self.inside.masters.items ++ calls.keyed_as c.in-Ok.key x ∷ []) c.founded_master.ensures in
-    let back : c.remove.new.self.items ≡ c.self.inside.masters.items = c.remove.ensures ∙ ap (filter (λ (x : Master). not (is_step_number c.args.step_number x))) masters ∙ taken_back c.self.inside.masters.items z newest in
+    let unused = rw (← c.self.view_is) at c.requires.new_step_number in
+    let fresh : IsFresh c.self.inside.masters.items c.args.step_number = (c.self.invariant.are.masters_rise, unused) in
+    let masters : c.insert.new.self.items ≡ placed master_before z c.self.inside.masters.items = c.in-Ok.ensures.ok ∙ ap (λ (x : Master). placed master_before (calls.keyed_as c.in-Ok.key x) c.self.inside.masters.items) c.founded_master.ensures in
+    let back : c.remove.new.self.items ≡ c.self.inside.masters.items = c.remove.ensures ∙ ap (filter (λ (x : Master). not (is_step_number c.args.step_number x))) masters ∙ taken_back c.self.inside.masters.items z fresh in
     let path = (λ i. record (set_of c.self.inside) { members = (c.in-Err-remake.ensures.err i).items; masters = back i }) ∙ c.self.view_is in
     path
 
@@ -84,9 +88,9 @@ sweep_up-requires-clause-rise c =
     let key = c.in-Ok.key in
     let y = calls.owner c.args.client b in
     let z = calls.founded_master key b in
-    let t = remade_ties v are x y is.1 (sym is.0) z refl refl refl refl c.requires.new_step_number in
-    let masters : c.insert.new.self.items ≡ c.self.inside.masters.items ++ z ∷ [] = c.in-Ok.ensures.ok ∙ ap (λ (u : Master). c.self.inside.masters.items ++ calls.keyed_as key u ∷ []) c.founded_master.ensures in
-    subst (λ l. InOrder (λ (u v : Master). u.step_number < v.step_number) l) (sym (masters ∙ ap (λ (u : MasterSet). u.masters ++ z ∷ []) c.self.view_is)) t.masters_rise
+    let t = remade_ties v are x y is.1 (sym is.0) z refl refl refl refl (are.masters_rise, c.requires.new_step_number) in
+    let masters : c.insert.new.self.items ≡ placed master_before z c.self.inside.masters.items = c.in-Ok.ensures.ok ∙ ap (λ (u : Master). placed master_before (calls.keyed_as key u) c.self.inside.masters.items) c.founded_master.ensures in
+    subst (λ l. InOrder (λ (u v : Master). u.step_number < v.step_number) l) (sym (masters ∙ ap (λ (u : MasterSet). placed master_before z u.masters) c.self.view_is)) t.masters_rise
 
 pub sweep_up-requires-clause-older : goal.sweep_up-requires-clause-older
 sweep_up-requires-clause-older c =
@@ -99,9 +103,9 @@ sweep_up-requires-clause-older c =
     let key = c.in-Ok.key in
     let y = calls.owner c.args.client b in
     let z = calls.founded_master key b in
-    let t = remade_ties v are x y is.1 (sym is.0) z refl refl refl refl c.requires.new_step_number in
-    let masters : c.insert.new.self.items ≡ c.self.inside.masters.items ++ z ∷ [] = c.in-Ok.ensures.ok ∙ ap (λ (u : Master). c.self.inside.masters.items ++ calls.keyed_as key u ∷ []) c.founded_master.ensures in
-    subst (λ l. AllByRecursion (HasOlderLessor l) l) (sym (masters ∙ ap (λ (u : MasterSet). u.masters ++ z ∷ []) c.self.view_is)) t.lessors_older
+    let t = remade_ties v are x y is.1 (sym is.0) z refl refl refl refl (are.masters_rise, c.requires.new_step_number) in
+    let masters : c.insert.new.self.items ≡ placed master_before z c.self.inside.masters.items = c.in-Ok.ensures.ok ∙ ap (λ (u : Master). placed master_before (calls.keyed_as key u) c.self.inside.masters.items) c.founded_master.ensures in
+    subst (λ l. AllByRecursion (HasOlderLessor l) l) (sym (masters ∙ ap (λ (u : MasterSet). placed master_before z u.masters) c.self.view_is)) t.lessors_older
 
 pub sweep_up-requires-clause-others : goal.sweep_up-requires-clause-others
 sweep_up-requires-clause-others c =
@@ -115,10 +119,10 @@ sweep_up-requires-clause-others c =
     let y = calls.owner c.args.client b in
     let z = calls.founded_master key b in
     let items : c.remake.new.self.items ≡ map (λ (u : Member). if is_client y.client u then y else u) c.self.inside.members.items = c.in_default-remake.ensures.rows ∙ ap (λ (z : Member). map (λ (u : Member). if is_client z.client u then z else u) c.self.inside.members.items) c.owner.ensures in
-    let masters : c.insert.new.self.items ≡ c.self.inside.masters.items ++ z ∷ [] = c.in-Ok.ensures.ok ∙ ap (λ (u : Master). c.self.inside.masters.items ++ calls.keyed_as key u ∷ []) c.founded_master.ensures in
+    let masters : c.insert.new.self.items ≡ placed master_before z c.self.inside.masters.items = c.in-Ok.ensures.ok ∙ ap (λ (u : Master). placed master_before (calls.keyed_as key u) c.self.inside.masters.items) c.founded_master.ensures in
     let Used = λ (m : List Member) (l : List Master). OthersUsed m l x.master in
     let members : c.remake.new.self.items ≡ (calls.changed_member y v).members = items ∙ ap (λ (u : MasterSet). (calls.changed_member y u).members) c.self.view_is in
-    let rows : c.insert.new.self.items ≡ v.masters ++ z ∷ [] = masters ∙ ap (λ (u : MasterSet). u.masters ++ z ∷ []) c.self.view_is in
+    let rows : c.insert.new.self.items ≡ placed master_before z v.masters = masters ∙ ap (λ (u : MasterSet). placed master_before z u.masters) c.self.view_is in
     subst (λ m. Used m c.insert.new.self.items) (sym members) (subst (Used (calls.changed_member y v).members) (sym rows) (remade_used v are x y is.1 (sym is.0) z refl))
 
 pub flag_current-requires-clause-older : goal.flag_current-requires-clause-older
@@ -132,9 +136,9 @@ flag_current-requires-clause-older c =
     let key = c.in-Ok.key in
     let y = calls.owner c.args.client b in
     let z = calls.founded_master key b in
-    let t = remade_ties v are x y is.1 (sym is.0) z refl refl refl refl c.requires.new_step_number in
+    let t = remade_ties v are x y is.1 (sym is.0) z refl refl refl refl (are.masters_rise, c.requires.new_step_number) in
     let items : c.remake.new.self.items ≡ map (λ (u : Member). if is_client y.client u then y else u) c.self.inside.members.items = c.in_default-remake.ensures.rows ∙ ap (λ (z : Member). map (λ (u : Member). if is_client z.client u then z else u) c.self.inside.members.items) c.owner.ensures in
-    let masters : c.insert.new.self.items ≡ c.self.inside.masters.items ++ z ∷ [] = c.in-Ok.ensures.ok ∙ ap (λ (u : Master). c.self.inside.masters.items ++ calls.keyed_as key u ∷ []) c.founded_master.ensures in
+    let masters : c.insert.new.self.items ≡ placed master_before z c.self.inside.masters.items = c.in-Ok.ensures.ok ∙ ap (λ (u : Master). placed master_before (calls.keyed_as key u) c.self.inside.masters.items) c.founded_master.ensures in
     let new = calls.with_device (Some b) (calls.changed_member y (calls.with_master z v)) in
     let mem = c.remake.new.self.items in
     let left = λ (l : List Member) (ms : List Master). let r : MasterSet = record { members = l; masters = filter (λ (u : Master). is_living l ms u.step_number) ms; device_master = Some b; last_magic = c.self.inside.last_magic; last_lessee = c.self.inside.last_lessee } in r in
@@ -152,7 +156,7 @@ flag_current-requires-clause-rise c =
     let key = c.in-Ok.key in
     let y = calls.owner c.args.client b in
     let z = calls.founded_master key b in
-    let t = remade_ties v are x y is.1 (sym is.0) z refl refl refl refl c.requires.new_step_number in
+    let t = remade_ties v are x y is.1 (sym is.0) z refl refl refl refl (are.masters_rise, c.requires.new_step_number) in
     let items : c.remake.new.self.items ≡ map (λ (u : Member). if is_client y.client u then y else u) c.self.inside.members.items = c.in_default-remake.ensures.rows ∙ ap (λ (z : Member). map (λ (u : Member). if is_client z.client u then z else u) c.self.inside.members.items) c.owner.ensures in
     let new = calls.with_device (Some b) (calls.changed_member y (calls.with_master z v)) in
     subst (λ (l : List Member). InOrder (λ (u v : Member). u.client < v.client) l) (sym (items ∙ ap (λ (u : MasterSet). (calls.changed_member y u).members) c.self.view_is)) (swept_are new t).members_rise
@@ -175,9 +179,9 @@ invariant_of-self-2 c =
     let key = c.in-Ok.key in
     let y = calls.owner c.args.client b in
     let z = calls.founded_master key b in
-    let t = remade_ties v are x y is.1 (sym is.0) z refl refl refl refl c.requires.new_step_number in
+    let t = remade_ties v are x y is.1 (sym is.0) z refl refl refl refl (are.masters_rise, c.requires.new_step_number) in
     let items : c.remake.new.self.items ≡ map (λ (u : Member). if is_client y.client u then y else u) c.self.inside.members.items = c.in_default-remake.ensures.rows ∙ ap (λ (z : Member). map (λ (u : Member). if is_client z.client u then z else u) c.self.inside.members.items) c.owner.ensures in
-    let masters : c.insert.new.self.items ≡ c.self.inside.masters.items ++ z ∷ [] = c.in-Ok.ensures.ok ∙ ap (λ (u : Master). c.self.inside.masters.items ++ calls.keyed_as key u ∷ []) c.founded_master.ensures in
+    let masters : c.insert.new.self.items ≡ placed master_before z c.self.inside.masters.items = c.in-Ok.ensures.ok ∙ ap (λ (u : Master). placed master_before (calls.keyed_as key u) c.self.inside.masters.items) c.founded_master.ensures in
     let new = calls.with_device (Some b) (calls.changed_member y (calls.with_master z v)) in
     let mem = c.remake.new.self.items in
     let left = λ (l : List Member) (ms : List Master). let r : MasterSet = record { members = l; masters = filter (λ (u : Master). is_living l ms u.step_number) ms; device_master = Some b; last_magic = c.self.inside.last_magic; last_lessee = c.self.inside.last_lessee } in r in
@@ -186,5 +190,5 @@ invariant_of-self-2 c =
     sound _ (swept new)
     ((λ i. record (set_of c.self.inside) { members = (c.flag_current.ensures.rows i); masters = c.sweep_up.ensures i; device_master = Some b }) ∙ path)
     (swept_are new t)
-    (keyed_fewer new.masters (λ (u : Master). is_living new.members new.masters u.step_number) (keyed_more v.masters z key keyed (ap (λ (w : MasterSet). find (is_key key) w.masters) (sym c.self.view_is) ∙ c.in-Ok.ensures.free) refl))
+    (keyed_fewer new.masters (λ (u : Master). is_living new.members new.masters u.step_number) (keyed_more v.masters z key are.masters_rise keyed (ap (λ (w : MasterSet). find (is_key key) w.masters) (sym c.self.view_is) ∙ c.in-Ok.ensures.free) refl))
     (λ k. c.flag_current.ensures.flags k ∙ (λ i. current_in mem (c.sweep_up.ensures i) (Some b) k) ∙ ap (λ (u : MasterSet). is_current u k) path)

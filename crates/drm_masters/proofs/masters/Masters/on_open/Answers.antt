@@ -10,10 +10,10 @@ use Rattle.drm_masters.specs.Tables.{MemberRows}
 use Rattle.drm_masters.specs.declared.rows.Master.{Master}
 use Rattle.drm_masters.specs.declared.rows.Member.{Member}
 use Rattle.drm_masters.specs.Fields.{set_of}
-use Rattle.drm_masters.specs.Masters.{MasterSet, AreMasters, HasOlderLessor, member_of, member_before, is_key, is_step_number, is_option, master_at, owner_of, is_lessee_of, is_current}
+use Rattle.drm_masters.specs.Masters.{MasterSet, AreMasters, HasOlderLessor, member_of, member_before, master_before, is_key, is_step_number, is_option, master_at, owner_of, is_lessee_of, is_current}
 use Rattle.drm_masters.specs.Calls as calls
 use Rattle.drm_masters.proofs.Flagged.{current_in, no_device, others_apart}
-use Rattle.drm_masters.proofs.Living.{Older}
+use Rattle.drm_masters.proofs.Living.{IsFresh, Older}
 use Rattle.drm_masters.proofs.Owned.{unnamed_yet}
 use Rattle.drm_masters.proofs.Pushed.{pushed_older, taken_back}
 use Rattle.drm_masters.proofs.Sound.{Keyed, sound, device_there, non_master_are, opener_are, keyed_more, non_master_same}
@@ -34,12 +34,13 @@ invariant_of-self-in-Some c =
 
 pub insert-requires : goal.insert-requires
 insert-requires c =
-    let newest = rw (← c.self.view_is) at c.requires.new_step_number in
+    let unused = rw (← c.self.view_is) at c.requires.new_step_number in
+    let fresh : IsFresh c.self.inside.masters.items c.args.birth = (c.self.invariant.are.masters_rise, unused) in
     let ms = c.self.inside.masters.items in
     record {
-      newest = subst (λ (u : Master). AllByRecursion (λ (x : Master). x.step_number < u.step_number) ms) (sym c.founded_master.ensures) newest;
+      absent = subst (λ (u : Master). is_some (master_at ms u.step_number) ≡ false) (sym c.founded_master.ensures) unused;
       older = c.self.invariant.are.lessors_older;
-      there = subst (λ (u : Master). (l : ℕ) → u.lessor ≡ Some l → is_some (master_at ms l) ≡ true) (sym c.founded_master.ensures) (λ l e. absurd (false≢true (ap is_some e)));
+      there = subst (HasOlderLessor ms) (sym c.founded_master.ensures) (λ l e. absurd (false≢true (ap is_some e)));
       other_id = subst (λ (u : Master). (l : ℕ) → u.lessor ≡ Some l → list_any (is_lessee_of ms (owner_of ms l) u.lessee_id) ms ≡ false) (sym c.founded_master.ensures) (λ l e. absurd (false≢true (ap is_some e)));
     }
 
@@ -47,17 +48,19 @@ pub remove-requires-clause-older : goal.remove-requires-clause-older
 remove-requires-clause-older c =
     let z = calls.founded_master c.in_default-insert.field-0 c.args.birth in
     let ms = c.self.inside.masters.items in
-    let newest = rw (← c.self.view_is) at c.requires.new_step_number in
-    let masters : c.insert.new.self.items ≡ ms ++ z ∷ [] = c.in_default-insert.ensures.ok ∙ ap (λ (x : Master). ms ++ calls.keyed_as c.in_default-insert.field-0 x ∷ []) c.founded_master.ensures in
-    subst Older (sym masters) (pushed_older ms z newest (λ l e. absurd (false≢true (ap is_some e))) c.self.invariant.are.lessors_older)
+    let unused = rw (← c.self.view_is) at c.requires.new_step_number in
+    let fresh : IsFresh c.self.inside.masters.items c.args.birth = (c.self.invariant.are.masters_rise, unused) in
+    let masters : c.insert.new.self.items ≡ placed master_before z ms = c.in_default-insert.ensures.ok ∙ ap (λ (x : Master). placed master_before (calls.keyed_as c.in_default-insert.field-0 x) ms) c.founded_master.ensures in
+    subst Older (sym masters) (pushed_older ms z fresh (λ l e. absurd (false≢true (ap is_some e))) c.self.invariant.are.lessors_older)
 
 pub remove-requires-clause-no_lessee : goal.remove-requires-clause-no_lessee
 remove-requires-clause-no_lessee c =
     let z = calls.founded_master c.in_default-insert.field-0 c.args.birth in
     let ms = c.self.inside.masters.items in
-    let newest = rw (← c.self.view_is) at c.requires.new_step_number in
-    let masters : c.insert.new.self.items ≡ ms ++ z ∷ [] = c.in_default-insert.ensures.ok ∙ ap (λ (x : Master). ms ++ calls.keyed_as c.in_default-insert.field-0 x ∷ []) c.founded_master.ensures in
-    subst (λ l. list_any (λ (y : Master). is_option c.args.birth y.lessor) l ≡ false) (sym masters) (unnamed_yet ms z newest c.self.invariant.are.lessors_older refl)
+    let unused = rw (← c.self.view_is) at c.requires.new_step_number in
+    let fresh : IsFresh c.self.inside.masters.items c.args.birth = (c.self.invariant.are.masters_rise, unused) in
+    let masters : c.insert.new.self.items ≡ placed master_before z ms = c.in_default-insert.ensures.ok ∙ ap (λ (x : Master). placed master_before (calls.keyed_as c.in_default-insert.field-0 x) ms) c.founded_master.ensures in
+    subst (λ l. list_any (λ (y : Master). is_option c.args.birth y.lessor) l ≡ false) (sym masters) (unnamed_yet ms z fresh c.self.invariant.are.lessors_older refl)
 
 pub add-requires-2 : goal.add-requires-2
 add-requires-2 c =
@@ -71,18 +74,20 @@ invariant_of-self-in-Err-add c =
     let keyed : Keyed v.masters = subst (λ (w : MasterSet). Keyed w.masters) c.self.view_is c.self.invariant.keyed in
     let old : (k : ℕ) → set.contains c.self.inside.members.flags k ≡ is_current v k = λ k. c.self.invariant.flagged k ∙ ap (λ (w : MasterSet). is_current w k) c.self.view_is in
     let z = calls.founded_master c.in_default-insert.field-0 c.args.birth in
-    let newest = rw (← c.self.view_is) at c.requires.new_step_number in
-    let masters : c.insert.new.self.items ≡ c.self.inside.masters.items ++ z ∷ [] = c.in_default-insert.ensures.ok ∙ ap (λ (x : Master). c.self.inside.masters.items ++ calls.keyed_as c.in_default-insert.field-0 x ∷ []) c.founded_master.ensures in
-    let back : c.remove.new.self.items ≡ c.self.inside.masters.items = c.remove.ensures ∙ ap (filter (λ (x : Master). not (is_step_number c.args.birth x))) masters ∙ taken_back c.self.inside.masters.items z newest in
+    let unused = rw (← c.self.view_is) at c.requires.new_step_number in
+    let fresh : IsFresh c.self.inside.masters.items c.args.birth = (c.self.invariant.are.masters_rise, unused) in
+    let masters : c.insert.new.self.items ≡ placed master_before z c.self.inside.masters.items = c.in_default-insert.ensures.ok ∙ ap (λ (x : Master). placed master_before (calls.keyed_as c.in_default-insert.field-0 x) c.self.inside.masters.items) c.founded_master.ensures in
+    let back : c.remove.new.self.items ≡ c.self.inside.masters.items = c.remove.ensures ∙ ap (filter (λ (x : Master). not (is_step_number c.args.birth x))) masters ∙ taken_back c.self.inside.masters.items z fresh in
     let path = (λ i. record (set_of c.self.inside) { members = (c.in-Err-add.ensures.err i).items; masters = back i }) ∙ c.self.view_is in
     sound _ v path are keyed (λ k. ap (λ (m : MemberRows). set.contains m.flags k) c.in-Err-add.ensures.err ∙ old k)
 
 pub returns-in-Err-add-clause-err : goal.returns-in-Err-add-clause-err
 returns-in-Err-add-clause-err c =
     let z = calls.founded_master c.in_default-insert.field-0 c.args.birth in
-    let newest = rw (← c.self.view_is) at c.requires.new_step_number in
-    let masters : c.insert.new.self.items ≡ c.self.inside.masters.items ++ z ∷ [] = c.in_default-insert.ensures.ok ∙ ap (λ (x : Master). c.self.inside.masters.items ++ calls.keyed_as c.in_default-insert.field-0 x ∷ []) c.founded_master.ensures in
-    let back : c.remove.new.self.items ≡ c.self.inside.masters.items = c.remove.ensures ∙ ap (filter (λ (x : Master). not (is_step_number c.args.birth x))) masters ∙ taken_back c.self.inside.masters.items z newest in
+    let unused = rw (← c.self.view_is) at c.requires.new_step_number in
+    let fresh : IsFresh c.self.inside.masters.items c.args.birth = (c.self.invariant.are.masters_rise, unused) in
+    let masters : c.insert.new.self.items ≡ placed master_before z c.self.inside.masters.items = c.in_default-insert.ensures.ok ∙ ap (λ (x : Master). placed master_before (calls.keyed_as c.in_default-insert.field-0 x) c.self.inside.masters.items) c.founded_master.ensures in
+    let back : c.remove.new.self.items ≡ c.self.inside.masters.items = c.remove.ensures ∙ ap (filter (λ (x : Master). not (is_step_number c.args.birth x))) masters ∙ taken_back c.self.inside.masters.items z fresh in
     let path = (λ i. record (set_of c.self.inside) { members = (c.in-Err-add.ensures.err i).items; masters = back i }) ∙ c.self.view_is in
     path
 
@@ -96,8 +101,8 @@ flag_current-requires-clause-older c =
     let key = c.in_default-insert.field-0 in
     let y = calls.owner c.args.client b in
     let z = calls.founded_master key b in
-    let masters : c.insert.new.self.items ≡ c.self.inside.masters.items ++ z ∷ [] = c.in_default-insert.ensures.ok ∙ ap (λ (x : Master). c.self.inside.masters.items ++ calls.keyed_as key x ∷ []) c.founded_master.ensures in
-    subst (λ l. AllByRecursion (HasOlderLessor l) l) (sym (masters ∙ ap (λ (u : MasterSet). u.masters ++ z ∷ []) c.self.view_is)) (pushed_older v.masters z c.requires.new_step_number (λ l e. absurd (let n : None ≡ Some l = e in cc)) are.lessors_older)
+    let masters : c.insert.new.self.items ≡ placed master_before z c.self.inside.masters.items = c.in_default-insert.ensures.ok ∙ ap (λ (x : Master). placed master_before (calls.keyed_as key x) c.self.inside.masters.items) c.founded_master.ensures in
+    subst (λ l. AllByRecursion (HasOlderLessor l) l) (sym (masters ∙ ap (λ (u : MasterSet). placed master_before z u.masters) c.self.view_is)) (pushed_older v.masters z (are.masters_rise, c.requires.new_step_number) (λ l e. absurd (let n : None ≡ Some l = e in cc)) are.lessors_older)
 
 pub flag_current-requires-clause-rise : goal.flag_current-requires-clause-rise
 flag_current-requires-clause-rise c =
@@ -127,11 +132,11 @@ invariant_of-self-2 c =
     let key = c.in_default-insert.field-0 in
     let y = calls.owner c.args.client b in
     let z = calls.founded_master key b in
-    let masters : c.insert.new.self.items ≡ c.self.inside.masters.items ++ z ∷ [] = c.in_default-insert.ensures.ok ∙ ap (λ (x : Master). c.self.inside.masters.items ++ calls.keyed_as key x ∷ []) c.founded_master.ensures in
+    let masters : c.insert.new.self.items ≡ placed master_before z c.self.inside.masters.items = c.in_default-insert.ensures.ok ∙ ap (λ (x : Master). placed master_before (calls.keyed_as key x) c.self.inside.masters.items) c.founded_master.ensures in
     let items : c.add-2.new.self.items ≡ placed member_before y c.self.inside.members.items = c.in_default-add-2.ensures.ok ∙ ap (λ (x : Member). placed member_before x c.self.inside.members.items) c.owner.ensures in
     let rows : c.flag_current.new.members.items ≡ placed member_before y c.self.inside.members.items = c.flag_current.ensures.rows ∙ items in
     let path = ap (founded c.args.client key b) c.self.view_is in
     sound _ (founded c.args.client key b v) ((λ i. record (set_of c.self.inside) { members = rows i; masters = masters i; device_master = Some b }) ∙ path)
-    (opener_are v are y c.requires.new_client c.requires.room refl z refl refl refl c.requires.new_step_number)
-    (keyed_more v.masters z key keyed (ap (λ (w : MasterSet). find (is_key key) w.masters) (sym c.self.view_is) ∙ c.in_default-insert.ensures.free) refl)
+    (opener_are v are y c.requires.new_client c.requires.room refl z refl refl refl (are.masters_rise, c.requires.new_step_number))
+    (keyed_more v.masters z key are.masters_rise keyed (ap (λ (w : MasterSet). find (is_key key) w.masters) (sym c.self.view_is) ∙ c.in_default-insert.ensures.free) refl)
     (λ k. c.flag_current.ensures.flags k ∙ (λ i. current_in (items i) (masters i) (Some b) k) ∙ ap (λ (u : MasterSet). is_current u k) path)
