@@ -20,17 +20,17 @@ push_reserved-requires c =
     let room = not-true _ (sym c.has_room.ensures ∙ c.if-not-has_room.false) in
     has_room_for c.self.inside c.args.event c.self.invariant (rw (ap rows_of c.self.view_is) room)
 
-pub invariant_of-self : goal.invariant_of-self
+pub invariant_of-self-2 : goal.invariant_of-self-2
 unfolding Refines
-invariant_of-self c =
+invariant_of-self-2 c =
     let room = not-true _ (sym c.has_room.ensures ∙ c.if-not-has_room.false) in
     let out = c.in-Ok.ensures.refines (rows_of (value_of c.self.inside)) (stands c.self.inside c.len.result c.self.invariant c.len.ensures) in
     next_device c.self.inside c.args.event c.push_reserved.new.self c.advance.new.state c.self.invariant (rw (ap rows_of c.self.view_is) room)
     c.push_reserved.ensures.items c.push_reserved.ensures.len c.push_reserved.ensures.capacity c.in-Ok.ensures.invariants out.1
 
-pub invariant_of-self-in_default : goal.invariant_of-self-in_default
+pub invariant_of-self : goal.invariant_of-self
 unfolding Refines
-invariant_of-self-in_default c =
+invariant_of-self c =
     let out = c.in_default.ensures.refines (rows_of (value_of c.self.inside)) (stands c.self.inside c.len.result c.self.invariant c.len.ensures) in
     same_device c.self.inside c.advance.new.state c.self.invariant c.in_default.ensures.invariants out.1
 
@@ -68,7 +68,7 @@ returns-in_default-clause-err c =
     same_history c.self.inside c.advance.new.state (topology_same c.self.inside c.advance.new.state (rows_of (value_of c.self.inside)) out.1 refl) ∙ c.self.view_is
 
 pub returns-in_default-clause-found_room : goal.returns-in_default-clause-found_room
-returns-in_default-clause-found_room c = (invariant_of-self-in_default c).found_room
+returns-in_default-clause-found_room c = (invariant_of-self c).found_room
 
 pub returns-clause-within : goal.returns-clause-within
 returns-clause-within c =
@@ -76,4 +76,4 @@ returns-clause-within c =
     within_after c.self.inside c.args.event c.push_reserved.new.self c.self.invariant (rw (ap rows_of c.self.view_is) room) c.push_reserved.ensures.len
 
 pub returns-clause-found_room : goal.returns-clause-found_room
-returns-clause-found_room c = (invariant_of-self c).found_room
+returns-clause-found_room c = (invariant_of-self-2 c).found_room
