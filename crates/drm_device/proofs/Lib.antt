@@ -2,3 +2,4 @@ pub mod Devices
 pub mod AuditRows
 pub mod Crossing
 pub mod Unadmitted
+mod Places

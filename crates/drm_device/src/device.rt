@@ -7,7 +7,7 @@ ghost use Rattle.drm_model.specs.Audit.{audit_page, audit_rows, rising_rows};
 ghost use Rattle.drm_model.specs.Run.{Step, FoundRoom, no_room, journaled_in, rows_of, start_of};
 
 use crate::audits::page_of;
-use crate::events::advance;
+use crate::events::advance_at;
 use drm_files::Files;
 use drm_gem::Objects;
 use drm_leases::Leases;
@@ -128,16 +128,40 @@ impl Device {
         ensures within { length self.new.journal ≤ self.new.limits.journal }
         ensures bounded { self.new.limits.journal ≤ 100000 }
     {
+        let mut outcome = Ok(Answer::Done);
+        self.step_at(event, &mut outcome);
+        outcome
+    }
+
+    /// Answers one event as [`step`](Device::step) does, and writes what came of it to a place of the caller's, so that an answer is
+    /// moved less.
+    ///
+    /// ```rust
+    /// let mut outcome = Ok(Answer::Done);
+    /// device.step_at(Event::Ask(1, Call::Version), &mut outcome);
+    /// assert!(outcome == Ok(Answer::Version { major: 1, minor: 0, patch: 0 }));
+    /// ```
+    pub fn step_at(&mut self, event: Event, outcome: &mut Result<Answer, Apart>)
+        ensures step { Step (rows_of self.old) event outcome.new (rows_of self.new) }
+        ensures few { FitsOneFrame outcome.new }
+        ensures ok { OnOk outcome.new (self.new ≡ journaled_in self.old event) }
+        ensures err { OnErr outcome.new (self.new ≡ self.old) }
+        ensures in_range { are_in_range self.new.limits ≡ true }
+        ensures found_room { FoundRoom (start_of self.new) self.new.journal }
+        ensures within { length self.new.journal ≤ self.new.limits.journal }
+        ensures bounded { self.new.limits.journal ≤ 100000 }
+    {
         if !self.has_room(&event) {
-            return Err(Apart::JournalFull);
+            *outcome = Err(Apart::JournalFull);
+            return;
         }
         let step_number = self.journal.len() as u32 + 1;
-        let mut answer = Answer::Done;
-        let Ok(()) = advance(&mut self.state, step_number, &event, &mut answer) else {
-            return Err(Apart::NoMemory);
+        *outcome = Ok(Answer::Done);
+        let Ok(()) = advance_at(&mut self.state, step_number, &event, outcome) else {
+            *outcome = Err(Apart::NoMemory);
+            return;
         };
         self.journal.push_reserved(event);
-        Ok(answer)
     }
 
     /// Whether the journal has a place for the event beside those kept for closings.

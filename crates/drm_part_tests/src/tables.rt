@@ -4,8 +4,8 @@ use crate::asking::same;
 use crate::lists::{named, row as audit_row};
 use bitflags::Flags;
 use drm_table::{
-    Apart, AuditKind, AuditPage, Call, CallKind, Standing, Event, Field, IdList, Limits,
-    RowFlags, Rule, ShownList, are_in_range, permit, row,
+    Apart, AuditKind, AuditPage, Call, CallKind, Event, Field, IdList, Limits, RowFlags, Rule,
+    ShownList, Standing, are_in_range, permit, row,
 };
 use std::alloc::AllocError;
 use std::process::Abort;

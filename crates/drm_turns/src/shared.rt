@@ -261,7 +261,7 @@ impl SharedDevice {
         let shared = &self.table.shared;
         let mut device = shared.exchange(place, 0, None).unwrap().into_box();
         let journaled = Snapshot::of(&event);
-        *outcome = device.step(event);
+        device.step_at(event, outcome);
         match &*outcome {
             Ok(answer) => self.count::<Brand>(place, &journaled, answer),
             Err(_) => {}

@@ -50,6 +50,16 @@ fn device(rt: HostRuntime) {
     };
     assert!(rt; device.step(Event::Open(opening)) == Ok(Answer::Opened { client: 1 }));
     assert!(rt; device.step(Event::Ask(1, Call::SetMaster)) == Ok(Answer::Done));
+    let mut outcome = Ok(Answer::Done);
+    device.step_at(Event::Ask(1, Call::Version), &mut outcome);
+    assert!(rt;
+        outcome
+            == Ok(Answer::Version {
+                major: 1,
+                minor: 0,
+                patch: 0
+            })
+    );
     assert!(rt;
         device.journal() == [Event::Open(opening), Event::Ask(1, Call::SetMaster)].as_slice()
     );
