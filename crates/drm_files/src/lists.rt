@@ -14,6 +14,7 @@ use drm_table::ShownList;
 
 /// The numbers of an audit's rows of clients and of handles (own).
 const CLIENT_KIND: u32 = 1;
+
 const HOLD_KIND: u32 = 6;
 
 impl Files {

@@ -22,6 +22,7 @@ use std::marker::Model;
 
 /// The numbers of an audit's rows of framebuffers, and of what is shown (own).
 const FRAMEBUFFER_KIND: u32 = 8;
+
 const SHOWN_KIND: u32 = 9;
 
 /// The fixed mode objects, the framebuffers, and what CRTCs and planes show (drm-uapi, mode setting). Contracts see the
