@@ -5,10 +5,11 @@ use Rattle.std.specs.List.{AllByRecursion}
 use Rattle.std.specs.Option.{is_some, option_map, option_map_or}
 use Rattle.drm_lists.specs.Chains.{is_under}
 use Rattle.drm_lists.proofs.Lists.{all_weaker, all_append, all_filter, all_mapped, all_each}
+use Rattle.drm_lists.proofs.Placed.{all_placed}
 use Rattle.drm_lists.proofs.Rising.{found, all_found}
 use Rattle.drm_modes.specs.Modes.{ModeSet}
 use Rattle.drm_masters.specs.declared.rows.Master.{Master}
-use Rattle.drm_masters.specs.Masters.{MasterSet, AreMasters, is_key, is_step_number, master_at, lessor_of, is_below, is_living, swept, IsKeyOf}
+use Rattle.drm_masters.specs.Masters.{MasterSet, AreMasters, is_key, is_step_number, master_at, master_before, lessor_of, is_below, is_living, swept, IsKeyOf}
 use Rattle.drm_masters.specs.Calls as masters_calls
 use Rattle.drm_leases.specs.declared.faults.LeaseFault.{LeaseFault}
 use Rattle.drm_leases.specs.declared.faults.LeaseFault.TheVariants.{Denied, NoMemory}
@@ -43,6 +44,19 @@ module _ (l : LeaseSet) (v : MasterSet) (s : ModeSet) (m : ℕ) (universal : Boo
       })
   created_lessees (Err (Denied rule)) l2 v2 h c = subst (λ (w : LeaseSet). IsNewLessee w (step_number + 1)) (sym c.1) (later_lessees l step_number h)
   created_lessees (Err NoMemory) l2 v2 h c = subst (λ (w : LeaseSet). IsNewLessee w (step_number + 1)) (sym c.1) (later_lessees l step_number h)
+
+  -- a lessee is as old as the step, and the others are older
+  pub created_before : (result : Result Leased LeaseFault) (l2 : LeaseSet) (v2 : MasterSet) → IsBefore v step_number → Created l v s m universal ids step_number result l2 v2 → IsBefore v2 (step_number + 1)
+  created_before (Ok made) l2 v2 h c =
+      let k = later v step_number h in
+      let y = masters_calls.lessee c.4.0 step_number m made.id in
+      subst (λ (w : MasterSet). IsBefore w (step_number + 1)) (sym c.4.2)
+      (record {
+        step_numbers = all_placed (λ (x : Master). x.step_number < step_number + 1) (λ (x : Master). master_before x y) y v.masters (omega arith) k.step_numbers;
+        four = k.four;
+      })
+  created_before (Err (Denied rule)) l2 v2 h c = subst (λ (w : MasterSet). IsBefore w (step_number + 1)) (sym c.2) (later v step_number h)
+  created_before (Err NoMemory) l2 v2 h c = subst (λ (w : MasterSet). IsBefore w (step_number + 1)) (sym c.2) (later v step_number h)
 
 -- what is so of a client that is there
 pub of_some : {X : Type 0} (o : Option X) (P : X → Type 0) (Q : Type 0) → is_some o ≡ true → IfSome o P → ((x : X) → P x → Q) → Q

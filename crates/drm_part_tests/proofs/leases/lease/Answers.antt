@@ -2,7 +2,8 @@ use Rattle.std.proofs.Common.{◌+◌, rules}
 use Rattle.drm_masters.specs.Masters.{member_of}
 use Rattle.drm_masters.specs.declared.rows.Member.{Member}
 use Rattle.drm_leases.specs.Calls.{IsNewLessee, Created}
-use Rattle.drm_part_tests.proofs.Older.{created_lessees, of_some}
+use Rattle.drm_part_tests.specs.Older.{IsBefore}
+use Rattle.drm_part_tests.proofs.Older.{created_before, created_lessees, of_some}
 use Rattle.drm_part_tests.proofs.leases.lease.Goals as goal
 
 pub returns-clause-lessees : goal.returns-clause-lessees
@@ -10,3 +11,9 @@ returns-clause-lessees c =
     of_some (member_of c.args.masters.now.members c.args.client) (λ (x : Member). Created c.args.leases.now c.args.masters.now c.args.modes.now x.master c.args.universal c.args.ids.now c.args.step_number c.create.result c.create.new.self c.create.new.masters) (IsNewLessee c.create.new.self (c.args.step_number + 1))
     (search rules) c.create.ensures.created
     (λ x made. created_lessees c.args.leases.now c.args.masters.now c.args.modes.now x.master c.args.universal c.args.ids.now c.args.step_number c.create.result c.create.new.self c.create.new.masters c.requires.lessees made)
+
+pub returns-clause-before : goal.returns-clause-before
+returns-clause-before c =
+    of_some (member_of c.args.masters.now.members c.args.client) (λ (x : Member). Created c.args.leases.now c.args.masters.now c.args.modes.now x.master c.args.universal c.args.ids.now c.args.step_number c.create.result c.create.new.self c.create.new.masters) (IsBefore c.create.new.masters (c.args.step_number + 1))
+    (search rules) c.create.ensures.created
+    (λ x made. created_before c.args.leases.now c.args.masters.now c.args.modes.now x.master c.args.universal c.args.ids.now c.args.step_number c.create.result c.create.new.self c.create.new.masters c.requires.before made)
