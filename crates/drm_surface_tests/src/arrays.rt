@@ -5,24 +5,27 @@ use drm_index_array::{IndexArray, InsertFault, Mark};
 use std::alloc::Global;
 
 /// The calls of `IndexArray` that change it.
-pub fn index_array_changes() {
-    let _new: fn(Global) -> IndexArray<u64> = IndexArray::new;
-    let _insert: fn(&mut IndexArray<u64>, u32, u64) -> Result<(), InsertFault<u64>> =
-        IndexArray::insert;
-    let _get_mut: fn(&mut IndexArray<u64>, u32) -> Option<&mut u64> = IndexArray::get_mut;
-    let _remove: fn(&mut IndexArray<u64>, u32) -> Option<u64> = IndexArray::remove;
-    let _set_mark: fn(&mut IndexArray<u64>, u32, Mark) -> bool = IndexArray::set_mark;
-    let _clear_mark: fn(&mut IndexArray<u64>, u32, Mark) -> bool = IndexArray::clear_mark;
+pub fn index_array_changes(alloc: Global, index: u32, mark: Mark) {
+    let mut array: IndexArray<u64> = IndexArray::new(alloc);
+    let _inserted: Result<(), InsertFault<u64>> = array.insert(index, 7);
+    let _marked: bool = array.set_mark(index, mark);
+    let _cleared: bool = array.clear_mark(index, mark);
+    let _removed: Option<u64> = array.remove(index);
+}
+
+/// The call of `IndexArray` that lends a value for writing.
+pub fn index_array_write(array: &mut IndexArray<u64>, index: u32) -> Option<&mut u64> {
+    array.get_mut(index)
 }
 
 /// The calls of `IndexArray` that read it.
-pub fn index_array_reads() {
-    let _get: fn(&IndexArray<u64>, u32) -> Option<&u64> = IndexArray::get;
-    let _marked: fn(&IndexArray<u64>, u32, Mark) -> bool = IndexArray::marked;
-    let _next: fn(&IndexArray<u64>, u32) -> Option<u32> = IndexArray::next;
-    let _next_marked: fn(&IndexArray<u64>, u32, Mark) -> Option<u32> = IndexArray::next_marked;
-    let _next_vacant: fn(&IndexArray<u64>, u32) -> Option<u32> = IndexArray::next_vacant;
-    let _len: fn(&IndexArray<u64>) -> usize = IndexArray::len;
+pub fn index_array_reads(array: &IndexArray<u64>, index: u32, mark: Mark) {
+    let _value: Option<&u64> = array.get(index);
+    let _marked: bool = array.marked(index, mark);
+    let _next: Option<u32> = array.next(index);
+    let _next_marked: Option<u32> = array.next_marked(index, mark);
+    let _next_vacant: Option<u32> = array.next_vacant(index);
+    let _len: usize = array.len();
 }
 
 /// The marks.
@@ -43,16 +46,16 @@ pub fn insert_faults(fault: InsertFault<u64>) -> u64 {
 }
 
 /// The calls of `IdTable`.
-pub fn id_table() {
-    let _new: fn(Global, u32, u32) -> IdTable<u64> = IdTable::new;
-    let _add: fn(&mut IdTable<u64>, u64) -> Result<u32, AddFault<u64>> = IdTable::add;
-    let _add_cyclic: fn(&mut IdTable<u64>, u64) -> Result<u32, AddFault<u64>> = IdTable::add_cyclic;
-    let _get: fn(&IdTable<u64>, u32) -> Option<&u64> = IdTable::get;
-    let _replace: fn(&mut IdTable<u64>, u32, u64) -> Result<u64, u64> = IdTable::replace;
-    let _remove: fn(&mut IdTable<u64>, u32) -> Option<u64> = IdTable::remove;
-    let _next: fn(&IdTable<u64>, u32) -> Option<u32> = IdTable::next;
-    let _is_full: fn(&IdTable<u64>) -> bool = IdTable::is_full;
-    let _last_given: fn(&IdTable<u64>) -> Option<u32> = IdTable::last_given;
+pub fn id_table(alloc: Global, id: u32) {
+    let mut table: IdTable<u64> = IdTable::new(alloc, 1, 9);
+    let _added: Result<u32, AddFault<u64>> = table.add(7);
+    let _cyclic: Result<u32, AddFault<u64>> = table.add_cyclic(7);
+    let _replaced: Result<u64, u64> = table.replace(id, 7);
+    let _value: Option<&u64> = table.get(id);
+    let _next: Option<u32> = table.next(id);
+    let _is_full: bool = table.is_full();
+    let _last_given: Option<u32> = table.last_given();
+    let _removed: Option<u64> = table.remove(id);
 }
 
 /// The reasons that a value got no number.

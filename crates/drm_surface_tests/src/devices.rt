@@ -8,10 +8,23 @@ use std::alloc::Global;
 pub fn calls() {
     let _new: fn(Global, Topology, Limits) -> Result<Device, NewFault> = Device::new;
     let _step: fn(&mut Device, Event) -> Result<Answer, Apart> = Device::step;
-    let _replay: fn(Global, Topology, Limits, &[Event]) -> Result<Device, ReplayFault> = replay;
-    let _journal: fn(&Device) -> &[Event] = Device::journal;
     let _journal_left: fn(&Device) -> u32 = Device::journal_left;
     let _audit: fn(&Device, AuditKind, u32) -> AuditPage = Device::audit;
+}
+
+/// The events that are journaled.
+pub fn journal(device: &Device) -> &[Event] {
+    device.journal()
+}
+
+/// A device that answers the events of a journal.
+pub fn replayed(
+    alloc: Global,
+    topology: Topology,
+    limits: Limits,
+    events: &[Event],
+) -> Result<Device, ReplayFault> {
+    replay(alloc, topology, limits, events)
 }
 
 /// The limits, in their order.

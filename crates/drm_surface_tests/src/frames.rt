@@ -7,15 +7,21 @@ use drm_frames::{
 use drm_table::{Answer, Apart, Call};
 use std::io::{Read, Write};
 
-/// The functions.
-pub fn functions() {
-    let _decode: fn(&[u8]) -> Decoded<'_> = decode;
-    let _call_of: fn(&Frame<'_>) -> Call = call_of;
-    let _hello_of: fn(&Frame<'_>) -> Option<Hello> = hello_of;
+/// The functions that write.
+pub fn writers() {
     let _encode_call: fn(&Call) -> FrameBytes = encode_call;
     let _encode_hello: fn(Hello) -> FrameBytes = encode_hello;
     let _encode_answer: fn(&Result<Answer, Apart>) -> FrameBytes = encode_answer;
-    let _answer_of: fn(&Frame<'_>) -> Option<Result<Answer, Apart>> = answer_of;
+}
+
+/// The first frame of some bytes.
+pub fn first(bytes: &[u8]) -> Decoded<'_> {
+    decode(bytes)
+}
+
+/// What a frame requests, greets with, or answers.
+pub fn read(frame: &Frame<'_>) -> (Call, Option<Hello>, Option<Result<Answer, Apart>>) {
+    (call_of(frame), hello_of(frame), answer_of(frame))
 }
 
 /// A hello.

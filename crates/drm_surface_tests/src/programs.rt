@@ -1,5 +1,7 @@
 //! The surface of `drm_server`.
 
+ghost use Rattle.std.specs.Prelude.{◌+◌, ◌^◌, ◌<◌};
+
 use drm_device::Device;
 use drm_frames::{Sink, Source};
 use drm_server::{
@@ -13,11 +15,29 @@ use std::os::unix::net::UnixListener;
 use std::sync::Wait;
 use std::thread::Threads;
 
-/// The functions over a source and a sink.
-pub fn functions<S: Source, K: Sink>() {
-    let _run_script: fn(Global, &mut S, &mut K, u64) -> ScriptEnd = run_script;
-    let _outcome_of: fn(&ScriptEnd) -> Outcome = outcome_of;
-    let _list_audit: fn(&Device, &mut K, u64) -> ListEnd = list_audit;
+/// A script from a source to a sink.
+pub fn script<S: Source, K: Sink>(
+    alloc: Global,
+    source: &mut S,
+    sink: &mut K,
+    turns: u64,
+) -> ScriptEnd
+    requires source_calls { (S.trace source.old).counts.calls + turns < 2 ^ 48 }
+    requires sink_calls { (K.trace sink.old).counts.calls + turns < 2 ^ 48 }
+{
+    run_script(alloc, source, sink, turns)
+}
+
+/// The exit status and the fault line of a script.
+pub fn outcome(end: &ScriptEnd) -> Outcome {
+    outcome_of(end)
+}
+
+/// The listing of a device.
+pub fn listing<K: Sink>(device: &Device, sink: &mut K, turns: u64) -> ListEnd
+    requires { (K.trace sink.old).counts.calls + turns < 2 ^ 48 }
+{
+    list_audit(device, sink, turns)
 }
 
 /// The ends of a script.
@@ -47,17 +67,17 @@ pub fn list_ends(end: ListEnd) -> bool {
     }
 }
 
-/// Serving three listeners.
-pub fn serving<R: Wait + Threads + Log + Sync>() {
-    let _serve_all: fn(
-        &R,
-        Global,
-        Device,
-        UnixListener,
-        UnixListener,
-        UnixListener,
-        Counts,
-    ) -> Result<(Device, Vec<Session>), ServeFault> = serve_all;
+/// A server on three listeners.
+pub fn serving<R: Wait + Threads + Log + Sync>(
+    rt: &R,
+    alloc: Global,
+    device: Device,
+    card: UnixListener,
+    render: UnixListener,
+    root: UnixListener,
+    counts: Counts,
+) -> Result<(Device, Vec<Session>), ServeFault> {
+    serve_all(rt, alloc, device, card, render, root, counts)
 }
 
 /// The numbers of connections.

@@ -1,6 +1,7 @@
 //! The surface of `drm_sessions`.
 
-ghost use Rattle.std.specs.Prelude.{◌≡◌};
+ghost use Rattle.std.specs.Prelude.{◌≡◌, ◌+◌, ◌^◌, ◌<◌, All};
+ghost use Rattle.drm_sessions.specs.Jobs.{HasTurns};
 
 use drm_device::Device;
 use drm_frames::{Sink, Source};
@@ -15,10 +16,29 @@ use std::sync::Wait;
 use std::thread::Threads;
 
 /// A session over any access, gate, source and sink.
-pub fn serving<A: Access, G: Gate, S: Source, K: Sink>() {
-    let _serve: fn(&mut A, &mut G, Class, &mut S, &mut K, u64) -> Session = serve;
-    let _call: fn(&mut A, Event) -> Result<Answer, Apart> = A::call;
-    let _before: fn(&mut G, u32) = G::before;
+pub fn serving<A: Access, G: Gate, S: Source, K: Sink>(
+    access: &mut A,
+    gate: &mut G,
+    class: Class,
+    source: &mut S,
+    sink: &mut K,
+    turns: u64,
+) -> Session
+    requires source { (S.trace source.old).counts.calls + turns < 2 ^ 48 }
+    requires sink { (K.trace sink.old).counts.calls + turns < 2 ^ 48 }
+{
+    serve(access, gate, class, source, sink, turns)
+}
+
+/// The call of an access, and that of a gate.
+pub fn asked<A: Access, G: Gate>(
+    access: &mut A,
+    gate: &mut G,
+    client: u32,
+    event: Event,
+) -> Result<Answer, Apart> {
+    gate.before(client);
+    access.call(event)
 }
 
 /// Takes any access.
@@ -45,14 +65,17 @@ pub fn many<
     G: Gate + Send + Drop,
     S: Source + Send + Drop,
     K: Sink + Send + Drop,
->() {
-    let _serve_many: fn(
-        &R,
-        Global,
-        &SharedDevice,
-        &mut Seat,
-        Vec<Job<G, S, K>>,
-    ) -> Result<Vec<Finished<S, K>>, ManyFault> = serve_many;
+>(
+    rt: &R,
+    alloc: Global,
+    shared: &SharedDevice,
+    seat: &mut Seat,
+    jobs: Vec<Job<G, S, K>>,
+) -> Result<Vec<Finished<S, K>>, ManyFault>
+    requires turns { All (λ job. HasTurns S.trace K.trace job) jobs.items }
+    requires own { seat.old.table ≡ shared.now }
+{
+    serve_many(rt, alloc, shared, seat, jobs)
 }
 
 /// The classes of a connection.

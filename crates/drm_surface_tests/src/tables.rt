@@ -5,16 +5,29 @@ use drm_table::{
     Rule, ShownList, Standing, permit, row,
 };
 
-/// The functions.
-pub fn functions() {
-    let _row: fn(u16) -> Option<Row> = row;
-    let _permit: fn(RowFlags, Standing) -> Option<Rule> = permit;
-    let _number: fn(Rule) -> u32 = Rule::number;
-    let _errno: fn(Rule) -> u32 = Rule::errno;
-    let _name: fn(Rule) -> &'static str = Rule::name;
-    let _ids: fn(&IdList) -> &[u32] = IdList::ids;
-    let _shown: fn(&ShownList) -> &[u32] = ShownList::ids;
-    let _rows: fn(&AuditPage) -> &[AuditRow] = AuditPage::rows;
+/// The look-up of a row, and the tests of its flags.
+pub fn look_ups(number: u16, flags: RowFlags, standing: Standing) -> (Option<Row>, Option<Rule>) {
+    (row(number), permit(flags, standing))
+}
+
+/// The number, the errno and the name of a rule.
+pub fn rules(rule: Rule) -> (u32, u32, &'static str) {
+    (rule.number(), rule.errno(), rule.name())
+}
+
+/// The ids of a request.
+pub fn named(list: &IdList) -> &[u32] {
+    list.ids()
+}
+
+/// The ids of an answer.
+pub fn shown(list: &ShownList) -> &[u32] {
+    list.ids()
+}
+
+/// The rows of a page.
+pub fn page(page: &AuditPage) -> &[AuditRow] {
+    page.rows()
 }
 
 /// A row of the table of calls.

@@ -1,5 +1,7 @@
 //! The surface of `drm_turns`.
 
+ghost use Rattle.std.specs.Prelude.{◌≡◌};
+
 use drm_device::Device;
 use drm_table::{Answer, Apart, Event};
 use drm_turns::{NoMemory, Note, Seat, SharedDevice, TurnOut};
@@ -19,7 +21,13 @@ pub fn calls() {
 }
 
 /// The call that waits.
-pub fn waiting<R: Wait>() {
-    let _call: fn(&SharedDevice, &R, &mut Seat, Event) -> Result<Answer, Apart> =
-        SharedDevice::call;
+pub fn waiting<R: Wait>(
+    rt: &R,
+    shared: &SharedDevice,
+    seat: &mut Seat,
+    event: Event,
+) -> Result<Answer, Apart>
+    requires own { seat.old.table ≡ shared.now }
+{
+    shared.call(rt, seat, event)
 }
