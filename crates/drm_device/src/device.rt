@@ -182,7 +182,7 @@ impl Device {
     /// The events that were carried out or denied, the oldest first.
     ///
     /// ```rust
-    /// assert!(device.journal() == [Event::Open(opening), Event::Ask(1, Call::SetMaster)].as_slice());
+    /// assert!(device.journal() == [Event::Open(opening), Event::Ask(1, Call::SetMaster), Event::Ask(1, Call::Version)].as_slice());
     /// ```
     pub fn journal(&self) -> &[Event]
         ensures events { result.now ≡ self.now.journal }

@@ -61,7 +61,13 @@ fn device(rt: HostRuntime) {
             })
     );
     assert!(rt;
-        device.journal() == [Event::Open(opening), Event::Ask(1, Call::SetMaster)].as_slice()
+        device.journal()
+            == [
+                Event::Open(opening),
+                Event::Ask(1, Call::SetMaster),
+                Event::Ask(1, Call::Version)
+            ]
+            .as_slice()
     );
     assert!(rt; device.audit(AuditKind::Client, 0).rows().len() == 1);
     assert!(rt; device.journal_left() < Limits::PROGRAM.journal);
