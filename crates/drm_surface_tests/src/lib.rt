@@ -1,4 +1,4 @@
-//! The public surface as a table: each item by its name and its types, so that a renamed item or another type does not compile.
+//! The public surface as a table: types and calls by their names and types, so that a renamed item or another type does not compile.
 #![tactic(auto)]
 
 mod arrays;
