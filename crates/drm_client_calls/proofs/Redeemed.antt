@@ -36,8 +36,8 @@ use Rattle.std.proofs.lemmas.Option.{same_Some}
 abbrev Differ : List LeaseToken → Type 0
 Differ tokens = InOrder (λ (x y : LeaseToken). (x.token == y.token) ≡ false) tokens
 
-abbrev Rise : List LeaseToken → Type 0
-Rise tokens = InOrder (λ (x y : LeaseToken). x.master < y.master) tokens
+abbrev Apart : List LeaseToken → Type 0
+Apart tokens = InOrder (λ (x y : LeaseToken). (x.master == y.master) ≡ false) tokens
 
 -- the row of a master by the token that it has open
 leased_by : (w : Rows) (tokens : List LeaseToken) (ms : List Master) (t : ℕ) → w.masters ≡ map (master_row_of tokens) ms → lease_master w t ≡ option_map (master_row_of tokens) (find (λ (x : Master). is_option t (token_of tokens x.step_number)) ms)
@@ -55,12 +55,12 @@ not_leased w tokens ms t are none =
         by_row None e = refl
         by_row (Some row) e = (found (is_token_of m) (λ (r : LeaseToken). is_token t r ≡ false) row tokens (none_found (is_token t) tokens none) e).1
 
-module _ (tokens : List LeaseToken) (t : ℕ) (row : LeaseToken) (is : find (is_token t) tokens ≡ Some row) (differ : Differ tokens) (rise : Rise tokens) where
+module _ (tokens : List LeaseToken) (t : ℕ) (row : LeaseToken) (is : find (is_token t) tokens ≡ Some row) (differ : Differ tokens) (apart : Apart tokens) where
   its_token : row.token ≡ t
   its_token = eqb-true row.token t (found (is_token t) (λ _. Unit {0}) row tokens (all_each (λ _. Unit {0}) (λ _. tt) tokens) is).0
 
   by_master : AllByRecursion (λ (r : LeaseToken). find (is_token_of r.master) tokens ≡ Some r) tokens
-  by_master = all_found (λ (r : LeaseToken). r.master) tokens rise
+  by_master = all_found_apart (λ (r : LeaseToken). r.master) tokens apart
 
   of_its_master : find (is_token_of row.master) tokens ≡ Some row
   of_its_master = (found (is_token t) (λ (r : LeaseToken). find (is_token_of r.master) tokens ≡ Some r) row tokens by_master is).1
@@ -183,10 +183,10 @@ module _ (s : State) (t m : ℕ) (invariants : MeetsInvariants s) (is : token_ma
   lessee_is = of_lessee s.leases.tokens s.masters.masters t m (tokens_of_lessees s invariants) is
 
   pub opens : is_some (token_of s.leases.tokens m) ≡ true
-  opens = ap (λ n. is_some (token_of s.leases.tokens n)) (sym its_master) ∙ ap is_some (its_open s.leases.tokens t row found_row (leases_so s invariants).tokens_differ (leases_so s invariants).tokens_rise)
+  opens = ap (λ n. is_some (token_of s.leases.tokens n)) (sym its_master) ∙ ap is_some (its_open s.leases.tokens t row found_row (leases_so s invariants).tokens_differ (leases_so s invariants).lessees_differ)
 
   spent_is : filter (λ (r : LeaseToken). not (is_token t r)) s.leases.tokens ≡ filter (λ (r : LeaseToken). not (r.master == m)) s.leases.tokens
-  spent_is = spent s.leases.tokens t row found_row (leases_so s invariants).tokens_differ (leases_so s invariants).tokens_rise ∙ (λ i. filter (λ (r : LeaseToken). not (r.master == its_master i)) s.leases.tokens)
+  spent_is = spent s.leases.tokens t row found_row (leases_so s invariants).tokens_differ (leases_so s invariants).lessees_differ ∙ (λ i. filter (λ (r : LeaseToken). not (r.master == its_master i)) s.leases.tokens)
 
   pub redeemed_invariants : (b : ℕ) (root universal : Bool) → IsNewClient s.masters b → AreMasters (redeemed_last b m s.masters) → AreLeases (without_token t s.leases) → MeetsInvariants (with_lease_client s b t m root universal)
   redeemed_invariants b root universal newest are leases =
@@ -199,7 +199,7 @@ module _ (s : State) (t m : ℕ) (invariants : MeetsInvariants s) (is : token_ma
   module _ (w : Rows) (x : Master) (there : master_at s.masters.masters m ≡ Some x) (h : Represents s w) where
     pub its_row : lease_master w t ≡ Some (master_row_of s.leases.tokens x)
     its_row =
-        leased_is s.leases.tokens t row found_row (leases_so s invariants).tokens_differ (leases_so s invariants).tokens_rise w s.masters.masters (masters_are s w h)
+        leased_is s.leases.tokens t row found_row (leases_so s invariants).tokens_differ (leases_so s invariants).lessees_differ w s.masters.masters (masters_are s w h)
         ∙ ap (λ n. option_map (master_row_of s.leases.tokens) (master_at s.masters.masters n)) its_master ∙ ap (option_map (master_row_of s.leases.tokens)) there
 
     number : x.step_number ≡ m
@@ -214,7 +214,7 @@ module _ (s : State) (t m : ℕ) (invariants : MeetsInvariants s) (is : token_ma
     masters_now : map (λ (r : MasterRow). if is_option t r.lease_token then record r { lease_token = None } else r) w.masters ≡ map (master_row_of (without_token t s.leases).tokens) (released (λ n. n == m) s.masters.masters)
     masters_now =
         ap (map (λ (r : MasterRow). if is_option t r.lease_token then record r { lease_token = None } else r)) (masters_are s w h)
-        ∙ rows_spent s.leases.tokens t row found_row (leases_so s invariants).tokens_differ (leases_so s invariants).tokens_rise s.masters.masters
+        ∙ rows_spent s.leases.tokens t row found_row (leases_so s invariants).tokens_differ (leases_so s invariants).lessees_differ s.masters.masters
         ∙ (λ i. map (master_row_of (without_token t s.leases).tokens) (released (λ n. n == its_master i) s.masters.masters))
 
     pub redeemed_represents : (b : ℕ) (root universal : Bool) → IsLater s b → w.steps + 1 ≡ b → (part : Part) → represents_part part (with_lease_client s b t m root universal) (opened_lease w t root universal)

@@ -9,7 +9,7 @@ use Rattle.drm_index_array.specs.Least.{least}
 use Rattle.drm_lists.specs.Chains.{top_of, depth_of}
 use Rattle.drm_lists.proofs.Lists.{all_each, all_both, list_any-map, list_any_gives, some_passing}
 use Rattle.drm_lists.proofs.Orders.{same-any}
-use Rattle.drm_lists.proofs.Rising.{found, any_found, all_found}
+use Rattle.drm_lists.proofs.Rising.{found, any_found, all_found_apart}
 use Rattle.drm_table.specs.declared.calls.Call.TheVariants.{CreateLease}
 use Rattle.drm_table.specs.declared.events.Event.TheVariants.{Ask}
 use Rattle.drm_table.specs.Permit.{first_failing}
@@ -83,7 +83,7 @@ module _ (s : State) (w : Rows) (t : MeetsInvariants s) (h : Represents s w) whe
   free_is token =
       ap (λ rows. not (list_any (λ (row : MasterRow). is_option token row.lease_token) rows)) (masters_are s w h)
       ∙ ap not (list_any-map (λ (row : MasterRow). is_option token row.lease_token) (master_row_of s.leases.tokens) ms
-      ∙ token_open s.leases.tokens ms (tokens_of_lessees s t) (all_found (λ (row : LeaseToken). row.master) s.leases.tokens (leases_so s t).tokens_rise) token)
+      ∙ token_open s.leases.tokens ms (tokens_of_lessees s t) (all_found_apart (λ (row : LeaseToken). row.master) s.leases.tokens (leases_so s t).lessees_differ) token)
 
   pub next_is : model.next_lease_token w ≡ leases.next_token s.leases
   next_is =

@@ -16,8 +16,9 @@ use Rattle.drm_masters.proofs.Newest.{with_last_master}
 use Rattle.drm_leases.specs.declared.rows.LeaseToken.{LeaseToken}
 use Rattle.drm_leases.specs.Leases.{AreLeases, is_token_of, token_of}
 use Rattle.drm_leases.specs.Calls as leases
-use Rattle.drm_leases.proofs.Agreeing.{agreed_lent}
-use Rattle.drm_leases.specs.Calls.{IsNewLessee, lease_token, with_lease}
+use Rattle.drm_leases.specs.Agreed.{AreAgreed}
+use Rattle.drm_leases.specs.Calls.{IsNewLessee, lease_token}
+use Rattle.drm_leases.proofs.Newest.{with_last_lease}
 use Rattle.drm_model.specs.Rows.{Rows}
 use Rattle.drm_model.specs.Leases as model
 use Rattle.drm_model.specs.Parts.{Part, Masters, Grants, LastLeaseToken}
@@ -41,7 +42,7 @@ same_append xs ys us vs h k = λ test. length-filter_append test xs us ∙ (λ i
 
 module _ (s : State) (key b m id token : ℕ) (objects : List ℕ) where
   abbrev pub leased : State
-  leased = record s { masters = with_last_master (lessee key b m id) s.masters; leases = with_lease token b m objects s.leases }
+  leased = record s { masters = with_last_master (lessee key b m id) s.masters; leases = with_last_lease token b m objects s.leases }
 
   abbrev tokens_now : List LeaseToken
   tokens_now = s.leases.tokens ++ lease_token token b ∷ []
@@ -61,19 +62,19 @@ module _ (s : State) (key b m id token : ℕ) (objects : List ℕ) where
         ap (λ o. is_some (option_and_then (λ (x : Master). x.lessor) o))
         (find_last (is_step_number b) (lessee key b m id) (eq-eqb b b refl) s.masters.masters (all_weaker (λ (x : Master). x.step_number < b) (λ (x : Master). is_step_number b x ≡ false) (λ x lt. less-differ x.step_number b lt) s.masters.masters new))
 
-    pub leased_invariants : MeetsInvariants s → AreMasters leased.masters → AreLeases leased.leases → (invariant : Invariant) → meets_invariant invariant leased
+    pub leased_invariants : MeetsInvariants s → AreMasters leased.masters → AreLeases leased.leases → AreAgreed leased.leases leased.masters → (invariant : Invariant) → meets_invariant invariant leased
     unfolding meets_invariant
-    leased_invariants t are leases_are MastersAre = are
-    leased_invariants t are leases_are LeasesAre = leases_are
-    leased_invariants t are leases_are TokensOfLessees =
+    leased_invariants t are leases_are agreed MastersAre = are
+    leased_invariants t are leases_are agreed LeasesAre = leases_are
+    leased_invariants t are leases_are agreed TokensOfLessees =
         all_append (λ (row : LeaseToken). is_lessee leased.masters.masters row.master ≡ true) s.leases.tokens (lease_token token b ∷ []) (of_lessees_more s.leases.tokens s.masters.masters (lessee key b m id) (tokens_of_lessees s t)) (its_lessor, tt)
-    leased_invariants t are leases_are KeptHaveTokens =
+    leased_invariants t are leases_are agreed KeptHaveTokens =
         all_append (λ (x : Master). x.kept ≡ is_some (token_of tokens_now x.step_number)) s.masters.masters (lessee key b m id ∷ [])
         (all_both (λ (x : Master). x.step_number < b) (λ (x : Master). x.kept ≡ is_some (token_of s.leases.tokens x.step_number)) (λ (x : Master). x.kept ≡ is_some (token_of tokens_now x.step_number))
         (λ x lt e. e ∙ sym (ap is_some (token_yet x.step_number (flipped x.step_number b (less-differ x.step_number b lt))))) s.masters.masters new (kept_have_tokens s t))
         (sym (ap is_some its_token), tt)
-    leased_invariants t are leases_are LeasesAgree = agreed_lent s.masters.members s.masters.masters key b m id s.leases.lendings new (leases_agree s t)
-    leased_invariants t are leases_are invariant = t invariant
+    leased_invariants t are leases_are agreed LeasesAgree = agreed
+    leased_invariants t are leases_are agreed invariant = t invariant
 
     rows_yet : (ms : List Master) → AllByRecursion (λ (x : Master). x.step_number < b) ms → map (master_row_of s.leases.tokens) ms ≡ map (master_row_of tokens_now) ms
     rows_yet [] h = refl

@@ -1,28 +1,29 @@
 -- Leases agree with masters after each change of these.
-use Rattle.std.proofs.Common.{◌≡◌, ℕ, ◌<◌, ◌==◌, Bool, true, false, cond, not, ◌&&◌, ◌||◌, List, [], ◌∷◌, ◌++◌, map, filter, find, Option, None, Some, refl, sym, ap, subst, ◌∙◌, eq-eqb}
+use Rattle.std.proofs.Common.{◌≡◌, ℕ, ◌<◌, ◌==◌, nat_lt, Bool, true, false, cond, not, ◌&&◌, ◌||◌, List, [], ◌∷◌, ◌++◌, map, filter, find, Option, None, Some, refl, sym, ap, subst, ◌∙◌, eq-eqb}
 use Rattle.std.specs.Prelude.{if◌then◌else◌}
 use Rattle.std.specs.List.{list_any, AllByRecursion}
-use Rattle.std.specs.Option.{option_map, option_map_or, option_and_then}
+use Rattle.std.specs.Option.{is_some, option_map, option_map_or, option_and_then}
 use Rattle.std.proofs.lemmas.Bool.{eqb-true, false≢true, or_left, or_right}
 use Rattle.drm_index_array.specs.Rows.{placed}
 use Rattle.drm_lists.specs.Orders.{InOrder}
 use Rattle.drm_lists.specs.Chains.{is_under}
 use Rattle.drm_lists.proofs.Chains.{itself}
-use Rattle.drm_lists.proofs.Lists.{list_any_left, all_each, all_weaker, all_append, list_any-map}
-use Rattle.drm_lists.proofs.Found.{find-map, find_last}
-use Rattle.drm_lists.proofs.Numbers.{less-differ}
-use Rattle.drm_lists.proofs.Placed.{any_placed}
+use Rattle.drm_lists.proofs.Lists.{list_any_left, all_each, all_weaker, list_any-map}
+use Rattle.drm_lists.proofs.Found.{find-map}
+use Rattle.drm_lists.proofs.Placed.{any_placed, all_placed}
 use Rattle.drm_lists.proofs.Rising.{found, find_where, any_found, any_left, all_found}
 use Rattle.drm_masters.specs.declared.rows.Master.{Master}
 use Rattle.drm_masters.specs.declared.rows.Member.{Member}
-use Rattle.drm_masters.specs.Masters.{MasterSet, is_client, member_before, is_step_number, is_option, member_of, master_at, lessor_of, is_held, is_living}
+use Rattle.drm_masters.specs.Masters.{MasterSet, is_client, member_before, master_before, is_step_number, is_option, member_of, master_at, lessor_of, is_held, is_living}
 use Rattle.drm_masters.specs.Calls.{lessee, lease_client, kept_as, closed_own, redeemed}
 use Rattle.drm_leases.specs.declared.rows.Grant.{Grant}
 use Rattle.drm_leases.specs.declared.rows.Lease.{Lease}
 use Rattle.drm_leases.specs.Leases.{Lending, is_leased_out}
 use Rattle.drm_leases.specs.Masks.{has_object, grants_in, lendings_in, is_lent}
 use Rattle.drm_leases.proofs.Granting.{any_with}
-use Rattle.drm_leases.specs.Calls.{lending}
+use Rattle.drm_masters.proofs.Living.{IsFresh}
+use Rattle.drm_masters.proofs.Pushed.{there_apart, others_at, new_at}
+use Rattle.drm_leases.specs.Calls.{lending, put_in}
 use Rattle.drm_leases.specs.Agreed.{is_owned, IsAgreed}
 
 -- whether it is a client of that master of its own
@@ -49,9 +50,13 @@ found_more : (p : Master → Bool) (y x : Master) → (ms : List Master) → fin
 found_more p y x [] e = absurd (let n : None ≡ Some x = e in cc)
 found_more p y x (z ∷ zs) e = elim (p z) as (λ b. cond b (Some z) (find p zs) ≡ Some x → cond b (Some z) (find p (zs ++ y ∷ [])) ≡ Some x) [ true ↦ λ k. k | false ↦ λ k. found_more p y x zs k ] e
 
--- one more master
+-- one more master, the newest
 one_more : (members : List Member) (ms : List Master) (z : Master) (x : Lending) → IsAgreed members ms x → IsAgreed members (ms ++ z ∷ []) x
 one_more members ms z x = still_agreed members members ms (ms ++ z ∷ []) x (λ y e is k. (y, found_more (is_step_number x.lessee) z y ms e, refl, k))
+
+-- one more master, at its place
+one_put : (members : List Member) (ms : List Master) (z : Master) → IsFresh ms z.step_number → (x : Lending) → IsAgreed members ms x → IsAgreed members (placed master_before z ms) x
+one_put members ms z fresh x = still_agreed members members ms (placed master_before z ms) x (λ y e is k. (y, others_at ms z fresh x.lessee (there_apart ms z fresh x.lessee (ap is_some e)) ∙ e, refl, k))
 
 owned_yet : (members members2 : List Member) (y : Master) → (list_any (owns y.step_number) members ≡ true → list_any (owns y.step_number) members2 ≡ true) → is_owned members y ≡ true → is_owned members2 y ≡ true
 owned_yet members members2 y own k =
@@ -120,17 +125,17 @@ agreed_released below members ms (x ∷ xs) h =
       | false ↦ λ e. (after_sweep members now x (unreleased below members ms x e h.0), more)
     ] refl
 
--- one more master
+-- one more master, the newest
 pub agreed_more : (members : List Member) (ms : List Master) (z : Master) (xs : List Lending) → AllByRecursion (IsAgreed members ms) xs → AllByRecursion (IsAgreed members (ms ++ z ∷ [])) xs
 agreed_more members ms z xs h = each xs (one_more members ms z) h
 
 -- one more lease
-pub agreed_lent : (members : List Member) (ms : List Master) (key step_number m id : ℕ) (xs : List Lending) → AllByRecursion (λ (y : Master). y.step_number < step_number) ms → AllByRecursion (IsAgreed members ms) xs → AllByRecursion (IsAgreed members (ms ++ lessee key step_number m id ∷ [])) (xs ++ lending step_number m ∷ [])
-agreed_lent members ms key step_number m id xs newest h =
+pub agreed_lent : (members : List Member) (ms : List Master) (key step_number m id : ℕ) → IsFresh ms step_number → (xs : List Lending) → AllByRecursion (IsAgreed members ms) xs → AllByRecursion (IsAgreed members (placed master_before (lessee key step_number m id) ms)) (put_in (λ (x : Lending). x.lessee) step_number (lending step_number m ∷ []) xs)
+agreed_lent members ms key step_number m id fresh xs h =
     let z = lessee key step_number m id in
-    let at : master_at (ms ++ z ∷ []) step_number ≡ Some z = find_last (is_step_number step_number) z (eq-eqb step_number step_number refl) ms (all_weaker (λ (y : Master). y.step_number < step_number) (λ (y : Master). is_step_number step_number y ≡ false) (λ y lt. less-differ y.step_number step_number lt) ms newest) in
-    all_append (IsAgreed members (ms ++ z ∷ [])) xs (lending step_number m ∷ []) (agreed_more members ms z xs h)
-    ((ap (option_and_then (λ (y : Master). y.lessor)) at, ap (λ o. option_map_or (is_owned members) o false) at), tt)
+    let at = new_at ms z fresh in
+    all_placed (IsAgreed members (placed master_before z ms)) (λ (x : Lending). nat_lt x.lessee step_number) (lending step_number m) xs
+    (ap (option_and_then (λ (y : Master). y.lessor)) at, ap (λ o. option_map_or (is_owned members) o false) at) (each xs (one_put members ms z fresh) h)
 
 -- a sweep
 pub agreed_swept : (members : List Member) (ms : List Master) (xs : List Lending) → AllByRecursion (IsAgreed members ms) xs → AllByRecursion (IsAgreed members (filter (λ (y : Master). is_living members ms y.step_number) ms)) xs

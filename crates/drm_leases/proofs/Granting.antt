@@ -1,24 +1,27 @@
 -- The leases as a list of grants, and how it changes.
-use Rattle.std.proofs.Common.{◌≡◌, ℕ, zero, suc, ◌-◌, ◌<◌, ◌≤◌, ◌==◌, nat_lt, Bool, true, false, not, cond, ◌&&◌, ◌||◌, T, List, [], ◌∷◌, ◌++◌, map, filter, find as find_row, length, slice_get, Option, Some, None, option_map, option_and_then, is_some, refl, sym, ap, ◌∙◌, arith, append_assoc, append-nil, nat_cmp, is_lt, Greater}
+use Rattle.std.proofs.Common.{◌≡◌, ℕ, zero, suc, ◌-◌, ◌<◌, ◌≤◌, ◌==◌, nat_lt, Bool, true, false, not, cond, ◌&&◌, ◌||◌, T, List, [], ◌∷◌, ◌++◌, map, filter, find as find_row, length, slice_get, Option, Some, None, option_map, option_and_then, is_some, refl, sym, ap, ◌∙◌, arith, append_assoc, append-nil, nat_cmp, is_lt}
 use Rattle.std.specs.List.{list_any, AllByRecursion}
 use Rattle.std.specs.Option.{option_map_or}
 use Rattle.std.specs.Ordering.{eq_by_cmp}
 use Rattle.std.specs.Cmp.{nat_cmp_total}
 use Rattle.std.specs.FinMap as fin
-use Rattle.std.specs.FinMap.Entries.{put, by_order, is_sorted, below_all}
+use Rattle.std.specs.FinMap.Entries.{is_sorted, below_all}
 use Rattle.std.proofs.Math.Bool.{and-false}
 use Rattle.std.proofs.lemmas.Bool.{eqb-true, false≢true}
 use Rattle.std.proofs.lemmas.Bool.Decides.{nat_tests}
 use Rattle.std.proofs.lemmas.List.Folds.{list_any-append}
+use Rattle.drm_index_array.specs.Rows.{placed}
 use Rattle.drm_lists.specs.Orders.{InOrder}
 use Rattle.drm_lists.specs.Numbers.{is_among}
 use Rattle.drm_lists.proofs.Lists.{list_any-map}
-use Rattle.drm_index_array.proofs.Keyed.{left, right, rows_where, find_rows, row_at, rows_length, entries_removed}
+use Rattle.drm_index_array.proofs.Entries.{same_test, before_test, less_of}
+use Rattle.drm_index_array.proofs.Keyed.{left, right, rows_put, rows_where, find_rows, row_at, rows_length, entries_removed}
 use Rattle.drm_leases.specs.declared.rows.Lease.{Lease}
 use Rattle.drm_leases.specs.declared.rows.LeaseRecord.{LeaseRecord}
 use Rattle.drm_leases.specs.declared.rows.Grant.{Grant}
 use Rattle.drm_leases.specs.Leases.{Lending, is_grant_of, is_granted, granted_objects}
-use Rattle.drm_leases.specs.Masks.{has_object, objects_in, is_empty, lease_row, leases_in, grants_of, grants_in, lending_of, lendings_in, IsFull}
+use Rattle.drm_leases.specs.Masks.{has_object, objects_in, is_empty, lease_before, lease_row, leases_in, grants_of, grants_in, lending_of, lendings_in, IsFull}
+use Rattle.drm_leases.specs.Calls.{put_in}
 use Rattle.drm_leases.proofs.Bits.{among_objects}
 
 abbrev pub Kept : Type 0
@@ -26,15 +29,6 @@ Kept = fin.FinMap nat_cmp LeaseRecord
 
 abbrev pub is_of : ℕ → Lease → Bool
 is_of m x = x.lessee == m
-
-same_test : (c k : ℕ) → (k == c) ≡ eq_by_cmp nat_cmp c k
-same_test c k = grind (arith, nat_tests)
-
-less_of : (a b : ℕ) → T (is_lt (nat_cmp a b)) → a < b
-less_of a b h = grind (arith, nat_tests)
-
-greater : (a b : ℕ) → b < a → nat_cmp a b ≡ Greater
-greater a b lt = grind (arith, nat_tests)
 
 apart : (a b : ℕ) → a < b → (b == a) ≡ false
 apart a b lt = grind (arith, nat_tests)
@@ -195,19 +189,34 @@ lendings_where t (x ∷ xs) = elim (t x.lessee) as (λ b. lendings_in (cond b (x
   | false ↦ lendings_where t xs
 ]
 
--- each lessee is older than a new one, where all grants' are
-pub all_older : (m : ℕ) → (xs : List Lease) → AllByRecursion IsFull xs → AllByRecursion (λ (g : Grant). g.master < m) (grants_in xs) → AllByRecursion (λ (x : Lease). x.lessee < m) xs
-all_older m [] full h = tt
-all_older m (x ∷ xs) full h = (first (objects_in x.objects) full.0 h, all_older m xs full.1 (behind (objects_in x.objects) h))
+-- a lease at its place
+pub grants_put : (new : Lease) (xs : List Lease) → grants_in (placed lease_before new xs) ≡ put_in (λ (g : Grant). g.master) new.lessee (grants_of new) (grants_in xs)
+grants_put new xs =
+    let m = new.lessee in
+    let fore = filter (λ (x : Lease). lease_before x new) xs in
+    let behind = filter (λ (x : Lease). not (lease_before x new)) xs in
+    grants_both fore (new ∷ behind) ∙ (λ i. grants_where (λ n. nat_lt n m) xs i ++ (grants_of new ++ grants_where (λ n. not (nat_lt n m)) xs i))
+
+pub lendings_put : (new : Lease) (xs : List Lease) → lendings_in (placed lease_before new xs) ≡ put_in (λ (x : Lending). x.lessee) new.lessee (lending_of new ∷ []) (lendings_in xs)
+lendings_put new xs =
+    let m = new.lessee in
+    let fore = filter (λ (x : Lease). lease_before x new) xs in
+    let behind = filter (λ (x : Lease). not (lease_before x new)) xs in
+    lendings_both fore (new ∷ behind) ∙ (λ i. lendings_where (λ n. nat_lt n m) xs i ++ lending_of new ∷ lendings_where (λ n. not (nat_lt n m)) xs i)
+
+-- no lease is of a lessee of whom no grant is
+pub all_unused : (m : ℕ) → (xs : List Lease) → AllByRecursion IsFull xs → AllByRecursion (λ (g : Grant). (g.master == m) ≡ false) (grants_in xs) → AllByRecursion (λ (x : Lease). is_of m x ≡ false) xs
+all_unused m [] full h = tt
+all_unused m (x ∷ xs) full h = (first (objects_in x.objects) full.0 h, all_unused m xs full.1 (behind (objects_in x.objects) h))
   where
     rows : List ℕ → List Grant
     rows ids = map (λ id. record { master = x.lessee; mode_object = id }) ids
 
-    first : (ids : List ℕ) → is_empty ids ≡ false → AllByRecursion (λ (g : Grant). g.master < m) (map (λ id. record { master = x.lessee; mode_object = id }) ids ++ grants_in xs) → x.lessee < m
+    first : (ids : List ℕ) → is_empty ids ≡ false → AllByRecursion (λ (g : Grant). (g.master == m) ≡ false) (map (λ id. record { master = x.lessee; mode_object = id }) ids ++ grants_in xs) → (x.lessee == m) ≡ false
     first [] e k = absurd (false≢true (sym e))
     first (id ∷ ids) e k = k.0
 
-    behind : (ids : List ℕ) → AllByRecursion (λ (g : Grant). g.master < m) (map (λ id. record { master = x.lessee; mode_object = id }) ids ++ grants_in xs) → AllByRecursion (λ (g : Grant). g.master < m) (grants_in xs)
+    behind : (ids : List ℕ) → AllByRecursion (λ (g : Grant). (g.master == m) ≡ false) (map (λ id. record { master = x.lessee; mode_object = id }) ids ++ grants_in xs) → AllByRecursion (λ (g : Grant). (g.master == m) ≡ false) (grants_in xs)
     behind [] k = k
     behind (id ∷ ids) k = behind ids k.1
 
@@ -279,14 +288,10 @@ module _ (kept : Kept) where
   lease_at i = row_at kept 0 lease_row i
 
   -- a lease comes
-  pub lease_added : (m : ℕ) (v : LeaseRecord) → AllByRecursion (λ (x : Lease). x.lessee < m) rows → leases_in (fin.insert kept m v) ≡ rows ++ lease_row (m, v) ∷ []
-  lease_added m v newest = ap (map lease_row) (fin.entries-insert nat_cmp_total kept m v) ∙ last (fin.entries kept) newest
-    where
-      last : (es : List (ℕ × LeaseRecord)) → AllByRecursion (λ (x : Lease). x.lessee < m) (map lease_row es) → map lease_row (put nat_cmp m v es) ≡ map lease_row es ++ lease_row (m, v) ∷ []
-      last [] h = refl
-      last (e ∷ es) h =
-          ap (λ r. map lease_row (by_order r ((m, v) ∷ e ∷ es) ((e.0, v) ∷ es) (e ∷ put nat_cmp m v es))) (greater m e.0 h.0)
-          ∙ ap (λ l. lease_row e ∷ l) (last es h.1)
+  pub lease_added : (m : ℕ) (v : LeaseRecord) → fin.get kept m ≡ None → leases_in (fin.insert kept m v) ≡ placed lease_before (lease_row (m, v)) rows
+  lease_added m v absent =
+      ap (map lease_row) (fin.entries-insert nat_cmp_total kept m v)
+      ∙ rows_put nat_cmp nat_cmp_total lease_row lease_before (λ e f. before_test e.0 f.0) m v (fin.entries kept) (fin.entries_sorted kept) (sym (fin.get-entries kept m) ∙ absent)
 
   -- a lease goes
   pub lease_removed : (m : ℕ) → leases_in (fin.remove kept m) ≡ filter (λ (x : Lease). not (x.lessee == m)) rows

@@ -1,30 +1,37 @@
 -- What lessors have lent, as leases come and go.
-use Rattle.std.proofs.Common.{◌≡◌, ℕ, ◌<◌, ◌==◌, eqb, Bool, true, false, cond, not, ◌&&◌, ◌||◌, List, [], ◌∷◌, ◌++◌, filter, find, Some, None, refl, sym, ap, subst, ◌∙◌, nat_cmp, eq-eqb}
+use Rattle.std.proofs.Common.{◌≡◌, ℕ, ◌<◌, ◌==◌, nat_lt, eqb, Bool, true, false, cond, not, ◌&&◌, ◌||◌, List, [], ◌∷◌, ◌++◌, filter, find, Some, None, refl, sym, ap, subst, ◌∙◌, nat_cmp, eq-eqb}
 use Rattle.std.specs.Prelude.{unwrap_or, if◌then◌else◌}
 use Rattle.std.specs.FinMap as fin
 use Rattle.std.specs.List.{AllByRecursion}
 use Rattle.std.proofs.lemmas.Bool.{eqb-true, false≢true}
-use Rattle.std.proofs.lemmas.List.Folds.{list_any-append}
 use Rattle.drm_lists.specs.Orders.{InOrder}
-use Rattle.drm_lists.proofs.Orders.{in_order_append, in_order_filter}
+use Rattle.drm_index_array.specs.Rows.{placed}
+use Rattle.drm_lists.proofs.Lists.{all_weaker}
+use Rattle.drm_lists.proofs.Orders.{in_order_filter}
+use Rattle.drm_lists.proofs.Placed.{any_placed, in_order_placed}
 use Rattle.drm_leases.specs.declared.rows.Lease.{Lease}
 use Rattle.drm_index_array.proofs.MarkedLemmas.{get-insert, get-remove}
-use Rattle.drm_leases.specs.Masks.{has_object, lends, is_lent, AreApart, mask_at}
+use Rattle.drm_leases.specs.Masks.{has_object, lease_before, lends, is_lent, AreApart, mask_at}
 use Rattle.drm_leases.proofs.Bits.{empty_mask}
 use Rattle.drm_leases.proofs.Granting.{Rise, is_of, absent_behind}
 
-or_false : (b : Bool) → (b || false) ≡ b
-or_false true = refl
-or_false false = refl
-
 -- ---- a lease comes
 
-pub lent_added : (rows : List Lease) (a : Lease) (m x : ℕ) → is_lent (rows ++ a ∷ []) m x ≡ (is_lent rows m x || lends m x a)
-lent_added rows a m x = list_any-append (lends m x) rows (a ∷ []) ∙ ap (λ b. is_lent rows m x || b) (or_false (lends m x a))
+pub lent_added : (rows : List Lease) (a : Lease) (m x : ℕ) → is_lent (placed lease_before a rows) m x ≡ (is_lent rows m x || lends m x a)
+lent_added rows a m x = any_placed (lends m x) (λ (b : Lease). lease_before b a) a rows ∙ turned (lends m x a) (is_lent rows m x)
+  where
+    turned : (b c : Bool) → (b || c) ≡ (c || b)
+    turned true true = refl
+    turned true false = refl
+    turned false true = refl
+    turned false false = refl
 
 -- a lease of what its lessor hasn't lent is apart from all
-pub apart_added : (rows : List Lease) (a : Lease) → InOrder AreApart rows → ((x : ℕ) → has_object a.objects x ≡ true → is_lent rows a.lessor x ≡ false) → InOrder AreApart (rows ++ a ∷ [])
-apart_added rows a apart unlent = in_order_append AreApart rows a apart (each rows unlent)
+pub apart_added : (rows : List Lease) (a : Lease) → Rise rows → InOrder AreApart rows → ((x : ℕ) → has_object a.objects x ≡ true → is_lent rows a.lessor x ≡ false) → InOrder AreApart (placed lease_before a rows)
+apart_added rows a rise apart unlent =
+    in_order_placed (λ (x : Lease). x.lessee) a rows rise AreApart apart
+    (all_weaker (λ (b : Lease). AreApart b a) (λ (b : Lease). b.lessee < a.lessee → AreApart b a) (λ b h lt. h) rows (each rows unlent))
+    (all_weaker (λ (b : Lease). AreApart b a) (λ (b : Lease). nat_lt b.lessee a.lessee ≡ false → AreApart a b) (λ b h e. turned b h) rows (each rows unlent))
   where
     test : (b : Bool) → (b ≡ true → false ≡ true) → b ≡ false
     test true f = absurd (false≢true (f refl))
@@ -37,6 +44,9 @@ apart_added rows a apart unlent = in_order_append AreApart rows a apart (each ro
     or_none : (b c : Bool) → (b || c) ≡ false → (b ≡ false) × (c ≡ false)
     or_none true c e = absurd (false≢true (sym e))
     or_none false c e = (refl, e)
+
+    turned : (b : Lease) → AreApart b a → AreApart a b
+    turned b h m x lent = test (lends m x b) (λ e. sym (h m x e) ∙ lent)
 
     each : (bs : List Lease) → ((x : ℕ) → has_object a.objects x ≡ true → is_lent bs a.lessor x ≡ false) → AllByRecursion (λ (b : Lease). AreApart b a) bs
     each [] h = tt

@@ -10,3 +10,4 @@ pub mod Agreeing
 pub mod Crossing
 pub mod Keyed
 pub mod Listed
+pub mod Newest

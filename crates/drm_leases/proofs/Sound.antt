@@ -1,22 +1,25 @@
 -- What is so of the leases at all times is so after each change.
-use Rattle.std.proofs.Common.{◌≡◌, ℕ, ◌+◌, ◌<◌, ◌≤◌, ◌==◌, inl, inr, Bool, true, false, cond, not, ◌||◌, List, [], ◌∷◌, ◌++◌, map, filter, find, length, Option, None, Some, refl, sym, ap, subst, ◌∙◌, arith, eq-eqb}
+use Rattle.std.proofs.Common.{◌≡◌, ℕ, ◌+◌, ◌<◌, ◌≤◌, ◌==◌, nat_lt, inl, inr, Bool, true, false, cond, not, ◌||◌, List, [], ◌∷◌, ◌++◌, map, filter, find, length, Option, None, Some, refl, sym, ap, subst, ◌∙◌, arith, eq-eqb}
 use Rattle.std.specs.Prelude.{unwrap_or, IfNone}
 use Rattle.std.specs.Option.{option_map}
 use Rattle.std.specs.List.{list_any, AllByRecursion}
 use Rattle.std.proofs.lemmas.List.{length-map}
 use Rattle.std.proofs.lemmas.Bool.{eqb-true}
+use Rattle.std.proofs.lemmas.Bool.Decides.{nat_tests}
 use Rattle.drm_index_array.specs.Least.{least}
+use Rattle.drm_index_array.specs.Rows.{placed}
 use Rattle.drm_index_array.proofs.Least.{least_some}
 use Rattle.drm_id_alloc.specs.Table.{or_else}
 use Rattle.drm_lists.specs.Orders.{InOrder}
-use Rattle.drm_lists.proofs.Lists.{all_weaker, all_each, all_append, all_filter, all_mapped, filter-shorter, length-filter_append}
-use Rattle.drm_lists.proofs.Numbers.{less-differ}
-use Rattle.drm_lists.proofs.Orders.{in_order_filter, in_order_append, in_order_map, in_order_weaker}
+use Rattle.drm_lists.proofs.Lists.{all_weaker, all_both, all_each, all_append, all_filter, all_mapped, filter_true, filter-shorter, length-filter_append}
+use Rattle.drm_lists.proofs.Placed.{placed_back}
+use Rattle.drm_lists.proofs.Orders.{same_parts, in_order_filter, in_order_append, in_order_map, in_order_weaker}
 use Rattle.drm_leases.specs.declared.rows.Grant.{Grant}
 use Rattle.drm_leases.specs.declared.rows.Lease.{Lease}
 use Rattle.drm_leases.specs.declared.rows.LeaseToken.{LeaseToken}
+use Rattle.drm_leases.specs.Masks.{lease_before}
 use Rattle.drm_leases.specs.Leases.{LeaseSet, Lending, AreLeases, is_token, is_free, is_grant_of, grant_before, next_token, token_master}
-use Rattle.drm_leases.specs.Calls.{IsNewLessee, grant, lease_token, with_lease, without_token}
+use Rattle.drm_leases.specs.Calls.{IsUnusedLessee, put_in, grant, lease_token, with_lease, without_token}
 
 -- ---- rows go
 
@@ -37,7 +40,7 @@ module _ (l : LeaseSet) (a : AreLeases l) where
     given_high = a.given_high;
     tokens_low = all_filter (λ (row : LeaseToken). 1 ≤ row.token) p l.tokens a.tokens_low;
     tokens_differ = in_order_filter (λ (x y : LeaseToken). (x.token == y.token) ≡ false) p l.tokens a.tokens_differ;
-    tokens_rise = in_order_filter (λ (x y : LeaseToken). x.master < y.master) p l.tokens a.tokens_rise;
+    lessees_differ = in_order_filter (λ (x y : LeaseToken). (x.master == y.master) ≡ false) p l.tokens a.lessees_differ;
     grants_rise = a.grants_rise;
     few = a.few;
   }
@@ -48,7 +51,7 @@ module _ (l : LeaseSet) (a : AreLeases l) where
     given_high = a.given_high;
     tokens_low = a.tokens_low;
     tokens_differ = a.tokens_differ;
-    tokens_rise = a.tokens_rise;
+    lessees_differ = a.lessees_differ;
     grants_rise = in_order_filter grant_before p l.grants a.grants_rise;
     few = λ m.
         let object = λ (g : Grant). g.mode_object in
@@ -93,21 +96,42 @@ none_pass p (x ∷ xs) h = ap (λ b. length (cond b (x ∷ filter p xs) (filter 
 its_grants : (m k : ℕ) (objects : List ℕ) → length (filter (is_grant_of k) (map (grant m) objects)) ≤ length objects
 its_grants m k objects = let less = filter-shorter (is_grant_of k) (map (grant m) objects) in let e = length-map objects (grant m) in omega (arith, less, e)
 
-module _ (l : LeaseSet) (a : AreLeases l) (t m lessor : ℕ) (objects : List ℕ) (new : IsNewLessee l m) (next : next_token l ≡ Some t) (rise : InOrder (λ x y. x < y) objects) (few : length objects ≤ 64) where
+module _ (l : LeaseSet) (a : AreLeases l) (t m lessor : ℕ) (objects : List ℕ) (new : IsUnusedLessee l m) (next : next_token l ≡ Some t) (rise : InOrder (λ x y. x < y) objects) (few : length objects ≤ 64) where
   abbrev grants : List Grant
   grants = map (grant m) objects
 
   is : (1 ≤ t) × (t ≤ l.last) × (is_free l.tokens t ≡ true)
   is = next_is l t next
 
-  few_of : (k : ℕ) (b : Bool) → (k == m) ≡ b → length (filter (is_grant_of k) (l.grants ++ grants)) ≤ 64
+  abbrev is_fore : Grant → Bool
+  is_fore g = nat_lt g.master m
+
+  abbrev fore : List Grant
+  fore = filter is_fore l.grants
+
+  abbrev behind : List Grant
+  behind = filter (λ g. not (is_fore g)) l.grants
+
+  abbrev all : List Grant
+  all = fore ++ (grants ++ behind)
+
+  -- those of a lessee are those that it had, and the new ones
+  parts_of : (k : ℕ) → length (filter (is_grant_of k) all) ≡ length (filter (is_grant_of k) l.grants) + length (filter (is_grant_of k) grants)
+  parts_of k =
+      let one = length-filter_append (is_grant_of k) fore (grants ++ behind) in
+      let two = length-filter_append (is_grant_of k) grants behind in
+      let old = same_parts is_fore l.grants (is_grant_of k) in
+      let both = length-filter_append (is_grant_of k) fore behind in
+      omega (arith, one, two, old, both)
+
+  few_of : (k : ℕ) (b : Bool) → (k == m) ≡ b → length (filter (is_grant_of k) all) ≤ 64
   few_of k true e =
-      let parts = length-filter_append (is_grant_of k) l.grants grants in
-      let old = none_pass (is_grant_of k) l.grants (all_weaker (λ (g : Grant). g.master < m) (λ g. is_grant_of k g ≡ false) (λ g lt. less-differ g.master k (subst (λ n. g.master < n) (sym (eqb-true k m e)) lt)) l.grants new.grants) in
+      let parts = parts_of k in
+      let old = none_pass (is_grant_of k) l.grants (subst (λ n. AllByRecursion (λ (g : Grant). (g.master == n) ≡ false) l.grants) (sym (eqb-true k m e)) new.grants) in
       let less = its_grants m k objects in
       omega (arith, parts, old, less, few)
   few_of k false e =
-      let parts = length-filter_append (is_grant_of k) l.grants grants in
+      let parts = parts_of k in
       let none = none_pass (is_grant_of k) grants (all_mapped (λ (g : Grant). is_grant_of k g ≡ false) (grant m) objects (all_each (λ x. is_grant_of k (grant m x) ≡ false) (λ x. other k m e) objects)) in
       let old = a.few k in
       let e2 = length-map (filter (is_grant_of k) l.grants) (λ (g : Grant). g.mode_object) in
@@ -116,25 +140,42 @@ module _ (l : LeaseSet) (a : AreLeases l) (t m lessor : ℕ) (objects : List ℕ
       other : (k m : ℕ) → (k == m) ≡ false → (m == k) ≡ false
       other k m e = (elim (m == k) as (λ b. (m == k) ≡ b → b ≡ false) [ true ↦ λ h. absurd (let j : false ≡ true = sym e ∙ eq-eqb k m (sym (eqb-true m k h)) in cc) | false ↦ λ h. refl ]) refl
 
+  below : AllByRecursion (λ (g : Grant). g.master < m) fore
+  below = all_weaker (λ (g : Grant). is_fore g ≡ true) (λ (g : Grant). g.master < m) (λ g e. less g.master e) fore (filter_true is_fore l.grants)
+    where
+      less : (n : ℕ) → nat_lt n m ≡ true → n < m
+      less n e = grind (arith, nat_tests)
+
+  above : AllByRecursion (λ (g : Grant). m < g.master) behind
+  above =
+      all_both (λ (g : Grant). not (is_fore g) ≡ true) (λ (g : Grant). (g.master == m) ≡ false) (λ (g : Grant). m < g.master) (λ g e other. more g.master e other) behind (filter_true (λ g. not (is_fore g)) l.grants)
+      (all_filter (λ (g : Grant). (g.master == m) ≡ false) (λ g. not (is_fore g)) l.grants new.grants)
+    where
+      more : (n : ℕ) → not (nat_lt n m) ≡ true → (n == m) ≡ false → m < n
+      more n e other = grind (arith, nat_tests)
+
+  new_rise : InOrder grant_before grants
+  new_rise = in_order_map grant_before (grant m) objects (in_order_weaker (λ x y. x < y) (λ x y. grant_before (grant m x) (grant m y)) (λ x y lt. inr (refl, lt)) objects rise)
+
   pub lease_are : AreLeases (with_lease t m lessor objects l)
   lease_are = record {
     last_high = a.last_high;
     given_high = is.1;
     tokens_low = all_append (λ (row : LeaseToken). 1 ≤ row.token) l.tokens (lease_token t m ∷ []) a.tokens_low (is.0, tt);
     tokens_differ = in_order_append (λ (x y : LeaseToken). (x.token == y.token) ≡ false) l.tokens (lease_token t m) a.tokens_differ (not_passing (is_token t) l.tokens is.2);
-    tokens_rise = in_order_append (λ (x y : LeaseToken). x.master < y.master) l.tokens (lease_token t m) a.tokens_rise new.tokens;
+    lessees_differ = in_order_append (λ (x y : LeaseToken). (x.master == y.master) ≡ false) l.tokens (lease_token t m) a.lessees_differ new.tokens;
     grants_rise =
-        in_order_both grant_before l.grants grants a.grants_rise (in_order_map grant_before (grant m) objects (in_order_weaker (λ x y. x < y) (λ x y. grant_before (grant m x) (grant m y)) (λ x y lt. inr (refl, lt)) objects rise))
-        (all_weaker (λ (g : Grant). g.master < m) (λ g. AllByRecursion (grant_before g) grants) (λ g lt. all_mapped (grant_before g) (grant m) objects (all_each (λ x. grant_before g (grant m x)) (λ x. inl lt) objects)) l.grants new.grants);
-    few = λ k. let e = length-map (filter (is_grant_of k) (l.grants ++ grants)) (λ (g : Grant). g.mode_object) in let less = few_of k (k == m) refl in omega (arith, e, less);
+        in_order_both grant_before fore (grants ++ behind) (in_order_filter grant_before is_fore l.grants a.grants_rise)
+        (in_order_both grant_before grants behind new_rise (in_order_filter grant_before (λ g. not (is_fore g)) l.grants a.grants_rise) (all_mapped (λ (g : Grant). AllByRecursion (grant_before g) behind) (grant m) objects (all_each (λ x. AllByRecursion (grant_before (grant m x)) behind) (λ x. all_weaker (λ (g : Grant). m < g.master) (grant_before (grant m x)) (λ g lt. inl lt) behind above) objects)))
+        (all_weaker (λ (g : Grant). g.master < m) (λ (g : Grant). AllByRecursion (grant_before g) (grants ++ behind)) (λ g lt. all_append (grant_before g) grants behind (all_mapped (grant_before g) (grant m) objects (all_each (λ x. grant_before g (grant m x)) (λ x. inl lt) objects)) (all_weaker (λ (h : Grant). m < h.master) (grant_before g) (λ h more. inl (omega (arith, lt, more))) behind above)) fore below);
+    few = λ k. let e = length-map (filter (is_grant_of k) all) (λ (g : Grant). g.mode_object) in let less = few_of k (k == m) refl in omega (arith, e, less);
   }
 
 -- a lease that is taken back
-pub taken_back : (rows : List Lease) (new : Lease) → AllByRecursion (λ (x : Lease). x.lessee < new.lessee) rows → filter (λ (x : Lease). not (x.lessee == new.lessee)) (rows ++ new ∷ []) ≡ rows
-taken_back [] new h = ap (λ b. cond (not b) (new ∷ []) []) (eq-eqb new.lessee new.lessee refl)
-taken_back (x ∷ xs) new h =
-    ap (λ b. cond (not b) (x ∷ filter (λ (x : Lease). not (x.lessee == new.lessee)) (xs ++ new ∷ [])) (filter (λ (x : Lease). not (x.lessee == new.lessee)) (xs ++ new ∷ []))) (less-differ x.lessee new.lessee h.0)
-    ∙ ap (λ l. x ∷ l) (taken_back xs new h.1)
+pub taken_back : (rows : List Lease) (new : Lease) → InOrder (λ (x y : Lease). x.lessee < y.lessee) rows → AllByRecursion (λ (x : Lease). (x.lessee == new.lessee) ≡ false) rows → filter (λ (x : Lease). not (x.lessee == new.lessee)) (placed lease_before new rows) ≡ rows
+taken_back rows new rise others =
+    placed_back (λ (x : Lease). x.lessee) new rows rise (λ (x : Lease). not (x.lessee == new.lessee)) (ap not (eq-eqb new.lessee new.lessee refl))
+    (all_weaker (λ (x : Lease). (x.lessee == new.lessee) ≡ false) (λ (x : Lease). not (x.lessee == new.lessee) ≡ true) (λ x e. ap not e) rows others)
 
 -- a token that isn't open is none that goes
 pub none_spent : (l new : LeaseSet) (t : ℕ) (o : Option ℕ) → new ≡ without_token t l → o ≡ token_master l.tokens t → IfNone o (new ≡ l)

@@ -1,5 +1,5 @@
 -- What each call does.
-use Rattle.std.specs.Prelude.{◌≡◌, ℕ, ◌<◌, not, Bool, List, [], ◌∷◌, ◌++◌, None, Some, Result, Ok, Err, map, filter}
+use Rattle.std.specs.Prelude.{◌≡◌, ℕ, ◌==◌, ◌<◌, nat_lt, false, not, Bool, List, [], ◌∷◌, ◌++◌, None, Some, Result, Ok, Err, map, filter}
 use Rattle.std.specs.List.{AllByRecursion}
 use Rattle.drm_lists.specs.Chains.{is_under}
 use Rattle.drm_lists.specs.Numbers.{is_among}
@@ -23,6 +23,11 @@ pub record IsNewLessee (l : LeaseSet) (step_number : ℕ) : Type 0 where
   pub tokens : AllByRecursion (λ (row : LeaseToken). row.master < step_number) l.tokens
   pub grants : AllByRecursion (λ (g : Grant). g.master < step_number) l.grants
 
+-- no lessee that has a token or a grant has this number
+pub record IsUnusedLessee (l : LeaseSet) (step_number : ℕ) : Type 0 where
+  pub tokens : AllByRecursion (λ (row : LeaseToken). (row.master == step_number) ≡ false) l.tokens
+  pub grants : AllByRecursion (λ (g : Grant). (g.master == step_number) ≡ false) l.grants
+
 abbrev pub grant : ℕ → ℕ → Grant
 grant m x = record { master = m; mode_object = x }
 
@@ -36,13 +41,17 @@ listed_objects t ids = filter (is_among ids) (numbers_from 1 (object_count t))
 abbrev pub lending : ℕ → ℕ → Lending
 lending m lessor = record { lessee = m; lessor = lessor }
 
+-- the rows of a lessee at their place: behind those of older lessees
+abbrev pub put_in : {X : Type 0} → (X → ℕ) → ℕ → List X → List X → List X
+put_in lessee m rows all = filter (λ x. nat_lt (lessee x) m) all ++ (rows ++ filter (λ x. not (nat_lt (lessee x) m)) all)
+
 -- a lease of these objects by a lessor, with an open token
 abbrev pub with_lease : ℕ → ℕ → ℕ → List ℕ → LeaseSet → LeaseSet
 with_lease t m lessor objects l = record l {
   last_given = Some t;
   tokens = l.tokens ++ lease_token t m ∷ [];
-  grants = l.grants ++ map (grant m) objects;
-  lendings = l.lendings ++ lending m lessor ∷ [];
+  grants = put_in (λ (g : Grant). g.master) m (map (grant m) objects) l.grants;
+  lendings = put_in (λ (x : Lending). x.lessee) m (lending m lessor ∷ []) l.lendings;
 }
 
 abbrev pub without_token : ℕ → LeaseSet → LeaseSet

@@ -16,8 +16,8 @@ pub record Lending : Type 0 where
   pub lessee : ℕ
   pub lessor : ℕ
 
--- tokens run from 1 to `last`, of which `last_given` is the last one given, if any was. A lessee is named by its step number; tokens,
--- grants and leases stand in the order of their lessees
+-- tokens run from 1 to `last`, of which `last_given` is the last one given, if any was. A lessee is named by its step number. Tokens
+-- are in the order in which they were given, grants and leases in the order of their lessees
 pub record LeaseSet : Type 0 where
   pub last : ℕ
   pub last_given : Option ℕ
@@ -102,6 +102,6 @@ pub record AreLeases (l : LeaseSet) : Type 0 where
   pub given_high : IfSome l.last_given (λ t. t ≤ l.last)
   pub tokens_low : AllByRecursion (λ (row : LeaseToken). 1 ≤ row.token) l.tokens
   pub tokens_differ : InOrder (λ (x y : LeaseToken). (x.token == y.token) ≡ false) l.tokens
-  pub tokens_rise : InOrder (λ (x y : LeaseToken). x.master < y.master) l.tokens
+  pub lessees_differ : InOrder (λ (x y : LeaseToken). (x.master == y.master) ≡ false) l.tokens
   pub grants_rise : InOrder grant_before l.grants
   pub few : (m : ℕ) → length (granted_objects l.grants m) ≤ 64

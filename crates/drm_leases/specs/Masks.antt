@@ -1,5 +1,5 @@
 -- Sets of fixed mode objects as words, and the leases that they stand for.
-use Rattle.std.specs.Prelude.{◌≡◌, ℕ, ◌≤◌, ◌-◌, ◌==◌, nat_le, Bool, true, false, ◌&&◌, List, [], ◌∷◌, map as list_map, filter, flat_map, unwrap_or}
+use Rattle.std.specs.Prelude.{◌≡◌, ℕ, ◌≤◌, ◌-◌, ◌==◌, nat_le, nat_lt, Bool, true, false, ◌&&◌, List, [], ◌∷◌, map as list_map, filter, flat_map, unwrap_or}
 use Rattle.std.specs.List.{list_any}
 use Rattle.std.specs.Ordering.{nat_cmp}
 use Rattle.std.specs.FinMap as map
@@ -33,6 +33,10 @@ pub record LeaseRows : Type 0 where
 
 abbrev pub lease : ℕ → ℕ → ℕ → Lease
 lease lessee lessor objects = record { lessee = lessee; lessor = lessor; objects = objects }
+
+-- the order of the leases
+abbrev pub lease_before : Lease → Lease → Bool
+lease_before x y = nat_lt x.lessee y.lessee
 
 abbrev pub lease_row : ℕ × LeaseRecord → Lease
 lease_row e = lease e.0 e.1.lessor e.1.objects

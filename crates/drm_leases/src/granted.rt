@@ -1,10 +1,11 @@
 //! What lessees control and what lessors have lent, a mask for each.
 
-ghost use Rattle.std.specs.Prelude.{◌≡◌, ℕ, ◌<◌, ◌==◌, ◌++◌, ◌∷◌, [], not, length, filter, slice_get, OnOk, OnErr, true, false};
+ghost use Rattle.std.specs.Prelude.{◌≡◌, ℕ, ◌<◌, ◌==◌, [], not, length, filter, slice_get, OnOk, OnErr, true, false};
 ghost use Rattle.std.specs.List.{AllByRecursion};
+ghost use Rattle.drm_index_array.specs.Rows.{placed};
 ghost use Rattle.drm_lists.specs.Orders.{InOrder};
 ghost use Rattle.drm_leases.specs.Leases as sets;
-ghost use Rattle.drm_leases.specs.Masks.{has_object, grants_in, is_lent, IsFull, lease};
+ghost use Rattle.drm_leases.specs.Masks.{has_object, grants_in, is_lent, IsFull, lease, lease_before};
 
 use crate::lent::Lent;
 use crate::masks;
@@ -97,12 +98,11 @@ impl Granted {
         self.lent.mask(lessor)
     }
 
-    /// Adds the lease of a lessee that is younger than all. Without memory nothing changes.
+    /// Adds the lease of a lessee that has none. If memory is refused, nothing changes.
     pub fn add(&mut self, lessee: u32, lessor: u32, objects: u64) -> Result<(), NoMemory>
-        requires newest { AllByRecursion (λ x. x.lessee < lessee) self.old.rows }
         requires some { IsFull (lease lessee lessor objects) }
         requires unlent { (x : ℕ) → has_object objects x ≡ true → is_lent self.old.rows lessor x ≡ false }
-        ensures ok { OnOk result (self.new.rows ≡ self.old.rows ++ lease lessee lessor objects ∷ []) }
+        ensures ok { OnOk result (self.new.rows ≡ placed lease_before (lease lessee lessor objects) self.old.rows) }
         ensures err { OnErr result (self.new ≡ self.old) }
     {
         if let Err(NoMemory) = self.lent.lend(lessor, objects) {

@@ -1,6 +1,6 @@
 //! The leases.
 
-ghost use Rattle.std.specs.Prelude.{◌≡◌, ◌≤◌, ◌<◌, true, None, find, slice_get, length, IfSome, IfNone, OnErr};
+ghost use Rattle.std.specs.Prelude.{◌≡◌, ◌≤◌, ◌<◌, true, false, None, find, slice_get, length, IfSome, IfNone, OnErr};
 ghost use Rattle.std.specs.Option.{is_some, option_map, option_map_or};
 ghost use Rattle.drm_masters.specs.Masters as masters_sets;
 ghost use Rattle.drm_masters.specs.Calls as masters_calls;
@@ -97,10 +97,15 @@ impl Leases {
         let _ = &self.tokens;
     }
 
-    /// CREATE_LEASE (drm-uapi, leases): makes a lessee of a client's master, by the step of this number, a lease of the listed
-    /// mode objects, and the token that opens it. Where the client has universal planes off, each listed CRTC brings along its
-    /// primary and its cursor plane, if the master controls it (own). Rules deny it in the order 35, 30 to 34, 43, each over all
-    /// ids, and 34 over what comes along too. A refusal changes nothing.
+    /// Creates a lessee of a client's master, a lease of the listed mode objects, and the token that opens it (drm-uapi,
+    /// CREATE_LEASE). If the client has universal planes off, each listed CRTC brings along its primary and its cursor plane,
+    /// if the master controls it (own). No master, grant or open token has this birth yet, and that of the client's master is
+    /// lower: the step that made the lessor came before.
+    ///
+    /// # Errors
+    ///
+    /// Both leave everything unchanged. [`LeaseFault::Denied`]: the first failing rule, in the order 35, 30 to 34, 43, each
+    /// over all ids, and 34 over what comes along too. [`LeaseFault::NoMemory`]: no rule denies it, and memory was refused.
     ///
     /// ```rust
     /// assert!(leased.id == 1 && leased.token == 1);
@@ -115,8 +120,9 @@ impl Leases {
         birth: u32,
     ) -> Result<Leased, LeaseFault>
         requires open_client { is_some (masters_sets.member_of masters.old.members client) ≡ true }
-        requires new_step_number { masters_calls.IsNewStepNumber masters.old birth }
-        requires new_lessee { calls.IsNewLessee self.old birth }
+        requires new_step_number { is_some (masters_sets.master_at masters.old.masters birth) ≡ false }
+        requires new_lessee { calls.IsUnusedLessee self.old birth }
+        requires later { IfSome (masters_sets.member_of masters.old.members client) (λ x. x.master < birth) }
         requires agreed { AreAgreed self.old masters.old }
         ensures created { IfSome (masters_sets.member_of masters.old.members client) (λ x. calls.Created self.old masters.old modes.now x.master universal ids.now birth result self.new masters.new) }
         ensures err { OnErr result ((self.new ≡ self.old) × (masters.new ≡ masters.old)) }

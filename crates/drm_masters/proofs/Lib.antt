@@ -4,13 +4,13 @@ mod IdLemmas
 mod Lessees
 mod Named
 mod Kept
-mod Living
+pub mod Living
 pub mod Rewritten
 mod Settled
 mod Upward
 mod Below
 mod SweptBelow
-mod Pushed
+pub mod Pushed
 mod Released
 mod Owned
 mod Swept

@@ -1,16 +1,17 @@
 -- A client or a master with a greater number than all others.
 use Rattle.std.proofs.Common.{◌≡◌, ℕ, ◌<◌, true, false, List, [], ◌∷◌, ◌++◌, is_some, ap, subst, ◌∙◌}
+use Rattle.std.specs.Prelude.{IfSome}
 use Rattle.std.specs.List.{AllByRecursion}
 use Rattle.std.proofs.lemmas.Bool.{eqb-true, lt-ltb}
 use Rattle.drm_lists.proofs.Lists.{all_weaker}
-use Rattle.drm_lists.proofs.Found.{is_some-find}
+use Rattle.drm_lists.proofs.Found.{is_some-find, all_found}
 use Rattle.drm_lists.proofs.Each.{none_passes, some_found}
 use Rattle.drm_lists.proofs.Numbers.{less-differ}
 use Rattle.drm_lists.proofs.Placed.{placed_last}
 use Rattle.drm_lists.proofs.Rising.{found}
 use Rattle.drm_masters.specs.declared.rows.Master.{Master}
 use Rattle.drm_masters.specs.declared.rows.Member.{Member}
-use Rattle.drm_masters.specs.Masters.{MasterSet, is_client, is_step_number, member_of, master_at, member_before, master_before}
+use Rattle.drm_masters.specs.Masters.{MasterSet, AreMasters, is_client, is_step_number, member_of, master_at, member_before, master_before}
 use Rattle.drm_masters.specs.Calls.{IsNewClient, IsNewStepNumber, with_member, with_master}
 
 -- ---- a client
@@ -40,6 +41,12 @@ newest_older ms birth newest m there =
     let x = some_found (master_at ms m) there in
     let is = found (is_step_number m) (λ (y : Master). y.step_number < birth) x.0 ms newest x.1 in
     subst (λ n. n < birth) (eqb-true x.0.step_number m is.0) is.1
+
+-- the master of a client is older
+pub member_older : (v : MasterSet) → AreMasters v → (birth : ℕ) → AllByRecursion (λ (x : Master). x.step_number < birth) v.masters → (c : ℕ) → IfSome (member_of v.members c) (λ (x : Member). x.master < birth)
+member_older v are birth newest c =
+    all_found (λ (x : Member). x.master < birth) (is_client c) v.members
+    (all_weaker (λ (x : Member). is_some (master_at v.masters x.master) ≡ true) (λ (x : Member). x.master < birth) (λ x there. newest_older v.masters birth newest x.master there) v.members are.masters_there)
 
 abbrev pub with_last_master : Master → MasterSet → MasterSet
 with_last_master y v = record v { masters = v.masters ++ y ∷ [] }

@@ -445,9 +445,14 @@ impl Masters {
         Some(master.key)
     }
 
-    /// Makes a lessee of a master, by the step of this number, with the least id that is free below the master's owner
-    /// (drm-uapi, leases; ids own). It stays until it is redeemed or released. A refusal changes nothing: `Full` exactly
-    /// where no id is free, `NoMemory` where memory was refused.
+    /// Creates a lessee of a master with the lowest id that is free under the master's owner (drm-uapi, leases; ids
+    /// own), and returns its key and its id. The lessee stays until it is redeemed or released. No master has this birth
+    /// yet, and the lessor's is lower: the step that made the lessor came before.
+    ///
+    /// # Errors
+    ///
+    /// Both leave everything unchanged. [`LesseeFault::Full`]: each id from 1 to the last is taken under the owner.
+    /// [`LesseeFault::NoMemory`]: memory was refused.
     ///
     /// ```rust
     /// let mut masters = Masters::new(alloc, 4, 4);
@@ -462,7 +467,8 @@ impl Masters {
         birth: u32,
     ) -> Result<(MasterKey, u32), LesseeFault>
         requires there { sets.is_there self.old.masters master ≡ true }
-        requires new_step_number { calls.IsNewStepNumber self.old birth }
+        requires new_step_number { is_some (sets.master_at self.old.masters birth) ≡ false }
+        requires later { sets.step_number_at self.old.masters master < birth }
         ensures made { calls.MadeLessee self.old (sets.step_number_at self.old.masters master) birth result self.new }
         ensures err { OnErr result (self.new ≡ self.old) }
     {

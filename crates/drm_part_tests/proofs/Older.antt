@@ -18,6 +18,7 @@ use Rattle.drm_leases.specs.declared.rows.LeaseToken.{LeaseToken}
 use Rattle.drm_leases.specs.declared.rows.Leased.{Leased}
 use Rattle.drm_leases.specs.Leases.{LeaseSet, Lending, is_token}
 use Rattle.drm_leases.specs.Rules.{leased}
+use Rattle.drm_leases.proofs.Newest.{newest_last}
 use Rattle.drm_leases.specs.Calls.{IsNewLessee, Created, grant, lease_token, listed_objects, without_token, ended, ended_below}
 use Rattle.drm_part_tests.specs.Older.{IsBefore}
 
@@ -37,7 +38,7 @@ module _ (l : LeaseSet) (v : MasterSet) (s : ModeSet) (m : ℕ) (universal : Boo
   created_lessees (Ok made) l2 v2 h c =
       let k = later_lessees l step_number h in
       let objects = listed_objects s.topology (leased l v s m universal ids) in
-      subst (λ (w : LeaseSet). IsNewLessee w (step_number + 1)) (sym c.3)
+      subst (λ (w : LeaseSet). IsNewLessee w (step_number + 1)) (sym (c.3 ∙ newest_last made.token step_number m objects l h))
       (record {
         tokens = all_append (λ (row : LeaseToken). row.master < step_number + 1) l.tokens (lease_token made.token step_number ∷ []) k.tokens (omega arith, tt);
         grants = all_append (λ (g : Grant). g.master < step_number + 1) l.grants (map (grant step_number) objects) k.grants (all_mapped (λ (g : Grant). g.master < step_number + 1) (grant step_number) objects (all_each (λ x. (grant step_number x).master < step_number + 1) (λ x. omega arith) objects));

@@ -2,7 +2,6 @@
 
 ghost use Rattle.std.specs.Prelude.{◌≡◌, ◌<◌, true, false, length, IfSome};
 ghost use Rattle.std.specs.Option.{is_some};
-ghost use Rattle.drm_masters.specs.Calls.{IsNewStepNumber};
 ghost use Rattle.drm_masters.specs.Masters.{is_there, member_of};
 
 use drm_masters::{LesseeFault, Master, MasterKey, Masters, Member, SetDone, SetFault};
@@ -68,15 +67,6 @@ pub(crate) enum Told {
     },
 }
 
-fn is_older(row: Option<Master>, step_number: u32) -> bool
-    ensures { result ≡ true → IfSome row (λ x. x.step_number < step_number) }
-{
-    match row {
-        Some(row) => row.step_number < step_number,
-        None => true,
-    }
-}
-
 /// Returns whether a client may open: no client has its number, and there are three at most.
 fn is_new_client(masters: &Masters, client: u32) -> bool
     ensures new { result ≡ true → is_some (member_of masters.now.members client) ≡ false }
@@ -85,17 +75,6 @@ fn is_new_client(masters: &Masters, client: u32) -> bool
     let is_new = masters.member(client).is_none();
     let is_last = masters.nth_member(3).is_none();
     is_last && is_new
-}
-
-/// Whether a step may make a master: there are three at most, which are older.
-fn is_new_step_number(masters: &Masters, step_number: u32) -> bool
-    ensures { result ≡ true → IsNewStepNumber masters.now step_number }
-{
-    let is_first = is_older(masters.nth_master(0), step_number);
-    let is_second = is_older(masters.nth_master(1), step_number);
-    let is_third = is_older(masters.nth_master(2), step_number);
-    let is_last = masters.nth_master(3).is_none();
-    is_last && is_first && is_second && is_third
 }
 
 /// The key of a master that is there.
@@ -252,13 +231,13 @@ fn lent(masters: &mut Masters, lessor: u32, step_number: u32) -> Told
     requires { masters.old.last_magic ≡ 4 }
     ensures { masters.new.last_magic ≡ 4 }
 {
-    if !is_new_step_number(masters, step_number) {
-        return Told::Unasked;
-    }
-    let Some(key) = key_of(masters, lessor) else {
+    let Some(row) = masters.master(lessor) else {
         return Told::Unasked;
     };
-    match masters.make_lessee(key, step_number) {
+    if masters.master(step_number).is_some() || lessor >= step_number {
+        return Told::Unasked;
+    }
+    match masters.make_lessee(row.key, step_number) {
         Ok((key, id)) => match step_number_of(masters, key) {
             Some(step_number) => Told::Lent(step_number, id),
             None => Told::Nothing,

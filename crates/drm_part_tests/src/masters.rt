@@ -256,6 +256,32 @@ const REDEEMED: [Case; 6] = [
     (Ask::IsCurrent(5), Told::Whether(false)),
 ];
 
+/// A lessee that nobody redeemed.
+const fn lent_by(lessor: u32, step_number: u32, lessee_id: u32) -> Told {
+    Told::Master {
+        step_number,
+        lessor: Some(lessor),
+        lessee_id,
+        kept: true,
+    }
+}
+
+/// A birth is new, and need not be the greatest: masters are listed by birth, ids are given in the order of the calls.
+const BORN_IN_ANY_ORDER: [Case; 12] = [
+    (Ask::Open(1), Told::Whether(true)),
+    (Ask::Lend(1, 9), Told::Lent(9, 1)),
+    (Ask::Lend(1, 5), Told::Lent(5, 2)),
+    (Ask::Lend(5, 7), Told::Lent(7, 3)),
+    (Ask::NthMaster(0), OWNER),
+    (Ask::NthMaster(1), lent_by(1, 5, 2)),
+    (Ask::NthMaster(2), lent_by(5, 7, 3)),
+    (Ask::NthMaster(3), lent_by(1, 9, 1)),
+    (Ask::NthMaster(4), Told::Nothing),
+    (Ask::Depth(7), Told::Number(2)),
+    (Ask::IsUnder(5, 7), Told::Whether(true)),
+    (Ask::IsUnder(9, 7), Told::Whether(false)),
+];
+
 #[test]
 fn lessees_of_a_master(rt: HostRuntime) {
     let mut masters = Masters::new(rt.alloc(), 4, 0);
@@ -263,6 +289,7 @@ fn lessees_of_a_master(rt: HostRuntime) {
     check_new(&rt, rt.alloc(), &SET_AND_LENT);
     check_new(&rt, rt.alloc(), &LENT);
     check_new(&rt, rt.alloc(), &REDEEMED);
+    check_new(&rt, rt.alloc(), &BORN_IN_ANY_ORDER);
 }
 
 /// A lessee that is released goes.

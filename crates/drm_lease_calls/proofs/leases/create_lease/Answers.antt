@@ -8,11 +8,13 @@ use Rattle.drm_modes.specs.Topology.{object_count}
 use Rattle.drm_masters.specs.declared.rows.Member.{Member}
 use Rattle.drm_masters.specs.Masters.{MasterSet, AreMasters}
 use Rattle.drm_masters.specs.Calls.{lessee}
-use Rattle.drm_masters.proofs.Newest.{newest_master}
+use Rattle.drm_masters.proofs.Newest.{newest_master, newest_unused, member_older}
 use Rattle.drm_leases.specs.declared.faults.LeaseFault.{LeaseFault}
 use Rattle.drm_leases.specs.declared.rows.Leased.{Leased}
 use Rattle.drm_leases.specs.Leases.{LeaseSet, AreLeases}
-use Rattle.drm_leases.specs.Calls.{Created, listed_objects, with_lease}
+use Rattle.drm_leases.specs.Agreed.{AreAgreed}
+use Rattle.drm_leases.specs.Calls.{Created, listed_objects}
+use Rattle.drm_leases.proofs.Newest.{newest_last, with_last_lease, newest_unused as newest_lessee}
 use Rattle.drm_leases.specs.Rules.{leased}
 use Rattle.drm_model.specs.Magics.{caller_master}
 use Rattle.drm_model.specs.Leases as model
@@ -24,7 +26,7 @@ use Rattle.drm_model.proofs.Leased.{leased_within, leased_once}
 use Rattle.drm_state.specs.declared.state.State.{State}
 use Rattle.drm_state.specs.Invariants.{MeetsInvariants}
 use Rattle.drm_state.specs.Refinement.{RefinesCall, Represents}
-use Rattle.drm_state.proofs.Represented.{leases_agree}
+use Rattle.drm_state.proofs.Represented.{masters_so, leases_agree}
 use Rattle.drm_state.proofs.Refinements.{denied, refused, carried_on}
 use Rattle.drm_state.proofs.Seeing.{topology_is}
 use Rattle.drm_state.proofs.Callers.{caller_file, caller_open, never_admitted, own_master_is}
@@ -48,6 +50,16 @@ unfolding RefinesCall
 returns-in_default-clause-refines c = λ w r admitted.
     absurd (never_admitted c.args.state.now w c.args.caller.client (CreateLease c.args.ids.now) c.requires.precondition.invariants (caller_open c.args.state.now c.args.caller c.requires.caller) r.rows (create_lease_flags c.args.ids.now) (sym c.requires.caller.member ∙ c.in_default.is) admitted)
 
+pub create-requires-clause-new_step_number : goal.create-requires-clause-new_step_number
+create-requires-clause-new_step_number c = newest_unused c.args.state.now.masters.masters c.args.step_number c.requires.precondition.later.masters
+
+pub create-requires-clause-new_lessee : goal.create-requires-clause-new_lessee
+create-requires-clause-new_lessee c = newest_lessee c.args.state.now.leases c.args.step_number c.requires.precondition.later.leases
+
+-- the client's master is older
+pub create-requires-clause-later : goal.create-requires-clause-later
+create-requires-clause-later c = member_older c.args.state.now.masters (masters_so c.args.state.now c.requires.precondition.invariants) c.args.step_number c.requires.precondition.later.masters c.args.caller.client
+
 pub create-requires-clause-agreed : goal.create-requires-clause-agreed
 create-requires-clause-agreed c = leases_agree c.args.state.now c.requires.precondition.invariants
 
@@ -60,9 +72,13 @@ returns-in-Ok-clause-invariants c =
     let made = c.in-Ok.made in
     let objects = listed_objects s.modes.topology (leased s.leases s.masters s.modes x.master c.args.caller.flags.universal ids) in
     let by = came s x step c.create.new.self c.create.new.masters (sym c.requires.caller.member ∙ c.in-Some.is) c.in-Ok.is c.ids.ensures.ids refl c.create.ensures.created in
-    subst (λ (l : LeaseSet). MeetsInvariants (record s { masters = c.create.new.masters; leases = l })) (sym by.3)
-    (subst (λ (v : MasterSet). MeetsInvariants (record s { masters = v; leases = with_lease made.token step x.master objects s.leases })) (sym (by.4.2 ∙ newest_master s.masters (lessee by.4.0 step x.master made.id) c.requires.precondition.later.masters))
-    (leased_invariants s by.4.0 step x.master made.id made.token objects c.requires.precondition.later.masters c.requires.precondition.later.leases c.requires.precondition.invariants (subst AreMasters (by.4.2 ∙ newest_master s.masters (lessee by.4.0 step x.master made.id) c.requires.precondition.later.masters) c.laws.ensures) (subst AreLeases by.3 c.laws-in-Ok.ensures)))
+    let later = c.requires.precondition.later in
+    let masters_are_now = by.4.2 ∙ newest_master s.masters (lessee by.4.0 step x.master made.id) later.masters in
+    let leases_are_now = by.3 ∙ newest_last made.token step x.master objects s.leases later.leases in
+    subst (λ (l : LeaseSet). MeetsInvariants (record s { masters = c.create.new.masters; leases = l })) (sym leases_are_now)
+    (subst (λ (v : MasterSet). MeetsInvariants (record s { masters = v; leases = with_last_lease made.token step x.master objects s.leases })) (sym masters_are_now)
+    (leased_invariants s by.4.0 step x.master made.id made.token objects later.masters later.leases c.requires.precondition.invariants (subst AreMasters masters_are_now c.laws.ensures) (subst AreLeases leases_are_now c.laws-in-Ok.ensures)
+    (subst (AreAgreed (with_last_lease made.token step x.master objects s.leases)) masters_are_now (subst (λ (l : LeaseSet). AreAgreed l c.create.new.masters) leases_are_now c.create.ensures.agreed))))
 
 pub returns-in-Ok-clause-refines : goal.returns-in-Ok-clause-refines
 unfolding RefinesCall meaning changed answer_of
@@ -88,8 +104,8 @@ returns-in-Ok-clause-refines c = λ w r admitted.
     let new = record s { masters = c.create.new.masters; leases = c.create.new.self } in
     carried_on new w (Ask client (CreateLease ids)) (Lease made.id made.token) (returns-in-Ok-clause-invariants c) none (λ i. Lease (sym id_is i) (sym token_is i))
     (subst (Represents new) (sym (λ i. leased_rows w (own i) (r.step_number_is i) (id_is i) (token_is i) all))
-    (subst (λ (l : LeaseSet). Represents (record s { masters = c.create.new.masters; leases = l }) (leased_rows w x.master step made.id made.token all)) (sym by.3)
-    (subst (λ (v : MasterSet). Represents (record s { masters = v; leases = with_lease made.token step x.master objects s.leases }) (leased_rows w x.master step made.id made.token all)) (sym (by.4.2 ∙ newest_master s.masters (lessee by.4.0 step x.master made.id) c.requires.precondition.later.masters))
+    (subst (λ (l : LeaseSet). Represents (record s { masters = c.create.new.masters; leases = l }) (leased_rows w x.master step made.id made.token all)) (sym (by.3 ∙ newest_last made.token step x.master objects s.leases c.requires.precondition.later.leases))
+    (subst (λ (v : MasterSet). Represents (record s { masters = v; leases = with_last_lease made.token step x.master objects s.leases }) (leased_rows w x.master step made.id made.token all)) (sym (by.4.2 ∙ newest_master s.masters (lessee by.4.0 step x.master made.id) c.requires.precondition.later.masters))
     (leased_represents s by.4.0 step x.master made.id made.token objects c.requires.precondition.later.masters c.requires.precondition.later.leases w h all same))))
 
 pub returns-in-Err-Denied-clause-refines : goal.returns-in-Err-Denied-clause-refines

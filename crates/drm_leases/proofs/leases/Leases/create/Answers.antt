@@ -1,4 +1,4 @@
-use Rattle.std.proofs.Common.{◌≡◌, ℕ, ◌<◌, ◌≤◌, ◌==◌, not, [], ◌∷◌, ◌++◌, map, filter, length, None, Some, refl, sym, ap, subst, ◌∙◌, append-nil}
+use Rattle.std.proofs.Common.{◌≡◌, ℕ, ◌<◌, ◌≤◌, false, ◌==◌, not, [], ◌∷◌, ◌++◌, map, filter, length, None, Some, refl, sym, ap, subst, ◌∙◌}
 use Rattle.std.specs.Prelude.{IfSome, Ok, Err}
 use Rattle.std.specs.List.{AllByRecursion}
 use Rattle.drm_masters.specs.declared.faults.LesseeFault.{LesseeFault}
@@ -6,23 +6,22 @@ use Rattle.drm_masters.specs.declared.faults.LesseeFault.TheVariants.{Full, NoMe
 use Rattle.drm_masters.specs.declared.rows.Member.{Member}
 use Rattle.drm_masters.specs.Masters.{MasterSet, member_of, step_number_at}
 use Rattle.drm_masters.specs.Calls.{MadeLessee, lessee}
-use Rattle.drm_masters.proofs.Newest.{newest_master}
 use Rattle.drm_leases.specs.declared.faults.LeaseFault.TheVariants.{NoMemory}
 use Rattle.drm_table.specs.Permit.{first_failing}
 use Rattle.drm_leases.specs.declared.rows.Grant.{Grant}
 use Rattle.drm_leases.specs.Fields.{set_of}
-use Rattle.drm_leases.specs.Leases.{LeaseSet, is_leased_out, AreLeases, next_token}
+use Rattle.drm_leases.specs.Leases.{LeaseSet, Lending, is_leased_out, AreLeases, next_token}
 use Rattle.drm_leases.specs.Rules.{lease_checks, leased}
 use Rattle.drm_leases.specs.declared.rows.Lease.{Lease}
-use Rattle.drm_leases.specs.Calls.{Created, grant, lending, lease_token, with_lease, listed_objects}
-use Rattle.drm_leases.specs.Masks.{is_empty, objects_in, lease, grants_of, grants_in, lendings_in}
+use Rattle.drm_leases.specs.Calls.{Created, put_in, grant, lending, lease_token, with_lease, listed_objects}
+use Rattle.drm_leases.specs.Masks.{is_empty, objects_in, lease, grants_in, lendings_in}
 use Rattle.drm_leases.specs.Agreed.{IsAgreed, AreAgreed}
 use Rattle.drm_leases.specs.declared.rows.Leased.{Leased}
 use Rattle.drm_leases.proofs.Bits.{few_objects}
 use Rattle.drm_leases.proofs.Keyed.{keyed_step_number}
 use Rattle.drm_leases.proofs.Denied.{passed, unlent, shaped, lease_filled, some_none, master_there}
 use Rattle.drm_leases.proofs.Sound.{still, lease_are, taken_back}
-use Rattle.drm_leases.proofs.Granting.{all_older, grants_both, lendings_both}
+use Rattle.drm_leases.proofs.Granting.{all_unused, grants_put, lendings_put}
 use Rattle.drm_leases.proofs.Agreeing.{agreed_lent, leased_out_is}
 use Rattle.drm_leases.proofs.Listed.{objects_rise}
 use Rattle.drm_leases.proofs.leases.Leases.create.Goals as goal
@@ -36,11 +35,6 @@ unreachable-requires-in_default-next_token c =
 
 pub unreachable-requires-in_default-master : goal.unreachable-requires-in_default-master
 unreachable-requires-in_default-master c = some_none _ (master_there c.args.masters.now c.member.ensures.are c.args.client c.in-Some.member (sym c.member.ensures.member ∙ c.in-Some.is)) (sym c.master.ensures.master ∙ c.in_default-master.is)
-
-pub add-requires-clause-newest : goal.add-requires-clause-newest
-add-requires-clause-newest c =
-    let grants = subst (λ (v : LeaseSet). AllByRecursion (λ (g : Grant). g.master < c.args.birth) v.grants) (sym c.self.view_is) c.requires.new_lessee.grants in
-    all_older c.args.birth c.self.inside.granted.rows c.laws.ensures.full grants
 
 pub add-requires-clause-some : goal.add-requires-clause-some
 add-requires-clause-some c =
@@ -76,8 +70,8 @@ invariant_of-self-2 c =
     let tokens : c.push_reserved.new.self.items ≡ c.self.inside.tokens.items ++ lease_token token m ∷ [] = c.push_reserved.ensures.items ∙ ap (λ l. l ++ lease_token token m ∷ []) c.reserve.ensures.items in
     let new = lease m lessor c.listed_mask-objects.result in
     let old = c.self.inside.granted.rows in
-    let grants : grants_in c.add.new.self.rows ≡ grants_in old ++ map (grant m) objects = ap grants_in c.in_default-add.ensures.ok ∙ grants_both old (new ∷ []) ∙ ap (λ l. grants_in old ++ l) (append-nil (grants_of new) ∙ ap (map (grant m)) listed) in
-    let lendings : lendings_in c.add.new.self.rows ≡ lendings_in old ++ lending m lessor ∷ [] = ap lendings_in c.in_default-add.ensures.ok ∙ lendings_both old (new ∷ []) in
+    let grants : grants_in c.add.new.self.rows ≡ put_in (λ (g : Grant). g.master) m (map (grant m) objects) (grants_in old) = ap grants_in c.in_default-add.ensures.ok ∙ grants_put new old ∙ ap (λ l. put_in (λ (g : Grant). g.master) m (map (grant m) l) (grants_in old)) listed in
+    let lendings : lendings_in c.add.new.self.rows ≡ put_in (λ (x : Lending). x.lessee) m (lending m lessor ∷ []) (lendings_in old) = ap lendings_in c.in_default-add.ensures.ok ∙ lendings_put new old in
     let now = (λ i. record (set_of c.self.inside) { tokens = tokens i; grants = grants i; lendings = lendings i; last_given = Some token }) ∙ ap (with_lease token m lessor objects) c.self.view_is in
     still _ (with_lease token m lessor objects c.args.self.now) now
     (lease_are c.args.self.now are token m lessor objects c.requires.new_lessee next (objects_rise c.args.modes.now.topology all) few)
@@ -89,19 +83,19 @@ not_made v new m step_number LesseeNoMemory h = h.1
 pub invariant_of-self-in_default-make_lessee : goal.invariant_of-self-in_default-make_lessee
 invariant_of-self-in_default-make_lessee c =
     let are : AreLeases c.args.self.now = subst AreLeases c.self.view_is c.self.invariant in
-    let grants = subst (λ (v : LeaseSet). AllByRecursion (λ (g : Grant). g.master < c.args.birth) v.grants) (sym c.self.view_is) c.requires.new_lessee.grants in
+    let grants = subst (λ (v : LeaseSet). AllByRecursion (λ (g : Grant). (g.master == c.args.birth) ≡ false) v.grants) (sym c.self.view_is) c.requires.new_lessee.grants in
     let old = c.self.inside.granted.rows in
     let back : c.remove.new.self.rows ≡ old =
-    c.remove.ensures ∙ ap (filter (λ (x : Lease). not (x.lessee == c.args.birth))) c.in_default-add.ensures.ok ∙ taken_back old (lease c.args.birth c.in-Some.member.master c.listed_mask-objects.result) (all_older c.args.birth old c.laws.ensures.full grants) in
+    c.remove.ensures ∙ ap (filter (λ (x : Lease). not (x.lessee == c.args.birth))) c.in_default-add.ensures.ok ∙ taken_back old (lease c.args.birth c.in-Some.member.master c.listed_mask-objects.result) c.laws.ensures.rise (all_unused c.args.birth old c.laws.ensures.full grants) in
     still _ c.args.self.now ((λ i. record (set_of c.self.inside) { tokens = c.reserve.ensures.items i; grants = grants_in (back i); lendings = lendings_in (back i) }) ∙ c.self.view_is) are
 
 pub returns-in_default-make_lessee-clause-created : goal.returns-in_default-make_lessee-clause-created
 returns-in_default-make_lessee-clause-created c =
     let v = c.args.self.now in
-    let grants = subst (λ (v : LeaseSet). AllByRecursion (λ (g : Grant). g.master < c.args.birth) v.grants) (sym c.self.view_is) c.requires.new_lessee.grants in
+    let grants = subst (λ (v : LeaseSet). AllByRecursion (λ (g : Grant). (g.master == c.args.birth) ≡ false) v.grants) (sym c.self.view_is) c.requires.new_lessee.grants in
     let old = c.self.inside.granted.rows in
     let back : c.remove.new.self.rows ≡ old =
-    c.remove.ensures ∙ ap (filter (λ (x : Lease). not (x.lessee == c.args.birth))) c.in_default-add.ensures.ok ∙ taken_back old (lease c.args.birth c.in-Some.member.master c.listed_mask-objects.result) (all_older c.args.birth old c.laws.ensures.full grants) in
+    c.remove.ensures ∙ ap (filter (λ (x : Lease). not (x.lessee == c.args.birth))) c.in_default-add.ensures.ok ∙ taken_back old (lease c.args.birth c.in-Some.member.master c.listed_mask-objects.result) c.laws.ensures.rise (all_unused c.args.birth old c.laws.ensures.full grants) in
     let none : first_failing (lease_checks v c.args.masters.now c.args.modes.now c.in-Some.member.master c.args.universal c.args.ids.now) ≡ None = sym c.denied.ensures ∙ c.in_default-denied.is in
     let look : member_of c.args.masters.now.members c.args.client ≡ Some c.in-Some.member = sym c.member.ensures.member ∙ c.in-Some.is in
     let new : LeaseSet = record (set_of c.self.inside) { tokens = c.reserve.new.self.items; grants = grants_in c.remove.new.self.rows; lendings = lendings_in c.remove.new.self.rows } in
@@ -111,19 +105,19 @@ returns-in_default-make_lessee-clause-created c =
 pub returns-in_default-make_lessee-clause-err : goal.returns-in_default-make_lessee-clause-err
 returns-in_default-make_lessee-clause-err c =
     let v = c.args.self.now in
-    let grants = subst (λ (v : LeaseSet). AllByRecursion (λ (g : Grant). g.master < c.args.birth) v.grants) (sym c.self.view_is) c.requires.new_lessee.grants in
+    let grants = subst (λ (v : LeaseSet). AllByRecursion (λ (g : Grant). (g.master == c.args.birth) ≡ false) v.grants) (sym c.self.view_is) c.requires.new_lessee.grants in
     let old = c.self.inside.granted.rows in
     let back : c.remove.new.self.rows ≡ old =
-    c.remove.ensures ∙ ap (filter (λ (x : Lease). not (x.lessee == c.args.birth))) c.in_default-add.ensures.ok ∙ taken_back old (lease c.args.birth c.in-Some.member.master c.listed_mask-objects.result) (all_older c.args.birth old c.laws.ensures.full grants) in
+    c.remove.ensures ∙ ap (filter (λ (x : Lease). not (x.lessee == c.args.birth))) c.in_default-add.ensures.ok ∙ taken_back old (lease c.args.birth c.in-Some.member.master c.listed_mask-objects.result) c.laws.ensures.rise (all_unused c.args.birth old c.laws.ensures.full grants) in
     ((λ i. record (set_of c.self.inside) { tokens = c.reserve.ensures.items i; grants = grants_in (back i); lendings = lendings_in (back i) }) ∙ c.self.view_is, c.in_default-make_lessee.ensures.err)
 
 pub returns-in_default-make_lessee-clause-agreed : goal.returns-in_default-make_lessee-clause-agreed
 returns-in_default-make_lessee-clause-agreed c =
     let v = c.args.masters.now in
-    let grants = subst (λ (v : LeaseSet). AllByRecursion (λ (g : Grant). g.master < c.args.birth) v.grants) (sym c.self.view_is) c.requires.new_lessee.grants in
+    let grants = subst (λ (v : LeaseSet). AllByRecursion (λ (g : Grant). (g.master == c.args.birth) ≡ false) v.grants) (sym c.self.view_is) c.requires.new_lessee.grants in
     let old = c.self.inside.granted.rows in
     let back : c.remove.new.self.rows ≡ old =
-    c.remove.ensures ∙ ap (filter (λ (x : Lease). not (x.lessee == c.args.birth))) c.in_default-add.ensures.ok ∙ taken_back old (lease c.args.birth c.in-Some.member.master c.listed_mask-objects.result) (all_older c.args.birth old c.laws.ensures.full grants) in
+    c.remove.ensures ∙ ap (filter (λ (x : Lease). not (x.lessee == c.args.birth))) c.in_default-add.ensures.ok ∙ taken_back old (lease c.args.birth c.in-Some.member.master c.listed_mask-objects.result) c.laws.ensures.rise (all_unused c.args.birth old c.laws.ensures.full grants) in
     let lendings : lendings_in c.remove.new.self.rows ≡ c.args.self.now.lendings = ap lendings_in back ∙ ap (λ (a : LeaseSet). a.lendings) c.self.view_is in
     subst (λ xs. AllByRecursion (IsAgreed c.make_lessee.new.self.members c.make_lessee.new.self.masters) xs) (sym lendings)
     (subst (λ (w : MasterSet). AreAgreed c.args.self.now w) (sym (not_made v c.make_lessee.new.self _ c.args.birth c.in_default-make_lessee.field-0 c.in_default-make_lessee.ensures.made)) c.requires.agreed)
@@ -143,8 +137,8 @@ returns-clause-created c =
     let tokens : c.push_reserved.new.self.items ≡ c.self.inside.tokens.items ++ lease_token token m ∷ [] = c.push_reserved.ensures.items ∙ ap (λ l. l ++ lease_token token m ∷ []) c.reserve.ensures.items in
     let new = lease m lessor c.listed_mask-objects.result in
     let old = c.self.inside.granted.rows in
-    let grants : grants_in c.add.new.self.rows ≡ grants_in old ++ map (grant m) objects = ap grants_in c.in_default-add.ensures.ok ∙ grants_both old (new ∷ []) ∙ ap (λ l. grants_in old ++ l) (append-nil (grants_of new) ∙ ap (map (grant m)) listed) in
-    let lendings : lendings_in c.add.new.self.rows ≡ lendings_in old ++ lending m lessor ∷ [] = ap lendings_in c.in_default-add.ensures.ok ∙ lendings_both old (new ∷ []) in
+    let grants : grants_in c.add.new.self.rows ≡ put_in (λ (g : Grant). g.master) m (map (grant m) objects) (grants_in old) = ap grants_in c.in_default-add.ensures.ok ∙ grants_put new old ∙ ap (λ l. put_in (λ (g : Grant). g.master) m (map (grant m) l) (grants_in old)) listed in
+    let lendings : lendings_in c.add.new.self.rows ≡ put_in (λ (x : Lending). x.lessee) m (lending m lessor ∷ []) (lendings_in old) = ap lendings_in c.in_default-add.ensures.ok ∙ lendings_put new old in
     let now = (λ i. record (set_of c.self.inside) { tokens = tokens i; grants = grants i; lendings = lendings i; last_given = Some token }) ∙ ap (with_lease token m lessor objects) c.self.view_is in
     let key_is : step_number_at v.masters c.in-Some-master.lessor.key ≡ lessor = keyed_step_number v.masters lessor c.in-Some-master.lessor.key c.in-Some-master.ensures.keyed in
     let made = subst (λ k. MadeLessee v k m (Ok c.in-Ok.made) c.make_lessee.new.self) key_is c.in-Ok.ensures.made in
@@ -162,9 +156,18 @@ returns-clause-agreed c =
     let v = c.args.masters.now in
     let old = c.self.inside.granted.rows in
     let new = lease m lessor c.listed_mask-objects.result in
-    let lendings : lendings_in c.add.new.self.rows ≡ c.args.self.now.lendings ++ lending m lessor ∷ [] = ap lendings_in c.in_default-add.ensures.ok ∙ lendings_both old (new ∷ []) ∙ ap (λ (a : LeaseSet). a.lendings ++ lending m lessor ∷ []) c.self.view_is in
+    let lendings : lendings_in c.add.new.self.rows ≡ put_in (λ (x : Lending). x.lessee) m (lending m lessor ∷ []) c.args.self.now.lendings = ap lendings_in c.in_default-add.ensures.ok ∙ lendings_put new old ∙ ap (λ (a : LeaseSet). put_in (λ (x : Lending). x.lessee) m (lending m lessor ∷ []) a.lendings) c.self.view_is in
     let key_is : step_number_at v.masters c.in-Some-master.lessor.key ≡ lessor = keyed_step_number v.masters lessor c.in-Some-master.lessor.key c.in-Some-master.ensures.keyed in
     let made = subst (λ k. MadeLessee v k m (Ok c.in-Ok.made) c.make_lessee.new.self) key_is c.in-Ok.ensures.made in
     subst (λ xs. AllByRecursion (IsAgreed c.make_lessee.new.self.members c.make_lessee.new.self.masters) xs) (sym lendings)
-    (subst (λ (w : MasterSet). AllByRecursion (IsAgreed w.members w.masters) (c.args.self.now.lendings ++ lending m lessor ∷ [])) (sym (made.2 ∙ newest_master v (lessee c.in-Ok.made.0 m lessor c.in-Ok.made.1) c.requires.new_step_number))
-    (agreed_lent v.members v.masters c.in-Ok.made.0 m lessor c.in-Ok.made.1 c.args.self.now.lendings c.requires.new_step_number c.requires.agreed))
+    (subst (λ (w : MasterSet). AllByRecursion (IsAgreed w.members w.masters) (put_in (λ (x : Lending). x.lessee) m (lending m lessor ∷ []) c.args.self.now.lendings)) (sym made.2)
+    (agreed_lent v.members v.masters c.in-Ok.made.0 m lessor c.in-Ok.made.1 (c.member.ensures.are.masters_rise, c.requires.new_step_number) c.args.self.now.lendings c.requires.agreed))
+
+-- the lessor is older
+pub make_lessee-requires-clause-later : goal.make_lessee-requires-clause-later
+make_lessee-requires-clause-later c =
+    let v = c.args.masters.now in
+    let lessor = c.in-Some.member.master in
+    let key_is : step_number_at v.masters c.in-Some-master.lessor.key ≡ lessor = keyed_step_number v.masters lessor c.in-Some-master.lessor.key c.in-Some-master.ensures.keyed in
+    let look : member_of v.members c.args.client ≡ Some c.in-Some.member = sym c.member.ensures.member ∙ c.in-Some.is in
+    subst (λ n. n < c.args.birth) (sym key_is) (subst (λ o. IfSome o (λ (x : Member). x.master < c.args.birth)) look c.requires.later)

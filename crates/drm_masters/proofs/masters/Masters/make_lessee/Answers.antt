@@ -8,7 +8,6 @@ use Rattle.drm_masters.specs.Fields.{set_of}
 use Rattle.drm_masters.specs.Masters.{MasterSet, AreMasters, HasOlderLessor, master_before, master_at, step_number_at, is_key, is_current, owner_of, is_lessee_of, free_lessee}
 use Rattle.drm_masters.specs.Calls as calls
 use Rattle.drm_masters.proofs.Living.{IsFresh}
-use Rattle.drm_masters.proofs.Newest.{newest_unused, newest_older}
 use Rattle.drm_masters.proofs.Sound.{Keyed, sound, lessee_are, keyed_more, pushed_same, of_key}
 use Rattle.std.specs.FinSet as set
 use Rattle.drm_masters.proofs.masters.Masters.make_lessee.Goals as goal
@@ -18,16 +17,16 @@ pub insert-requires-clause-there : goal.insert-requires-clause-there
 insert-requires-clause-there c =
     let ms = c.self.inside.masters.items in
     let m = c.in-Some.lessor.step_number in
-    let there = (of_key ms c.args.master c.in-Some.lessor (sym c.of_key.ensures ∙ c.in-Some.is)).1 in
-    let newest = rw (← c.self.view_is) at c.requires.new_step_number in
+    let its = of_key ms c.args.master c.in-Some.lessor (sym c.of_key.ensures ∙ c.in-Some.is) in
+    let later = rw (← c.self.view_is) at c.requires.later in
     subst (HasOlderLessor ms) (sym c.lessee.ensures)
-    (λ l e. subst (λ n. (is_some (master_at ms n) ≡ true) × (n < c.args.birth)) (let s : Some m ≡ Some l = e in let t : m ≡ l = cc in t) (there, newest_older ms c.args.birth newest m there))
+    (λ l e. subst (λ n. (is_some (master_at ms n) ≡ true) × (n < c.args.birth)) (let s : Some m ≡ Some l = e in let t : m ≡ l = cc in t) (its.1, subst (λ n. n < c.args.birth) its.0 later))
 
 pub insert-requires-clause-absent : goal.insert-requires-clause-absent
 insert-requires-clause-absent c =
     let ms = c.self.inside.masters.items in
-    let newest = rw (← c.self.view_is) at c.requires.new_step_number in
-    subst (λ (u : Master). is_some (master_at ms u.step_number) ≡ false) (sym c.lessee.ensures) (newest_unused ms c.args.birth newest)
+    let unused = rw (← c.self.view_is) at c.requires.new_step_number in
+    subst (λ (u : Master). is_some (master_at ms u.step_number) ≡ false) (sym c.lessee.ensures) unused
 
 pub insert-requires-clause-other_id : goal.insert-requires-clause-other_id
 insert-requires-clause-other_id c =
@@ -44,14 +43,14 @@ invariant_of-self-2 c =
     let are : AreMasters c.args.self.now = subst AreMasters c.self.view_is c.self.invariant.are in
     let keyed : Keyed c.args.self.now.masters = subst (λ (w : MasterSet). Keyed w.masters) c.self.view_is c.self.invariant.keyed in
     let old : (k : ℕ) → set.contains c.self.inside.members.flags k ≡ is_current c.args.self.now k = λ k. c.self.invariant.flagged k ∙ ap (λ (w : MasterSet). is_current w k) c.self.view_is in
-    let fresh : IsFresh c.args.self.now.masters c.args.birth = (are.masters_rise, newest_unused c.args.self.now.masters c.args.birth c.requires.new_step_number) in
+    let fresh : IsFresh c.args.self.now.masters c.args.birth = (are.masters_rise, c.requires.new_step_number) in
     let m = c.in-Some.lessor.step_number in
     let z = calls.lessee c.in-Ok.key c.args.birth m c.in-Some-free_lessee.id in
     let found : find (is_key c.args.master) c.args.self.now.masters ≡ Some c.in-Some.lessor = sym (ap (λ (w : MasterSet). find (is_key c.args.master) w.masters) c.self.view_is) ∙ sym c.of_key.ensures ∙ c.in-Some.is in
     let masters : c.insert.new.self.items ≡ placed master_before z c.self.inside.masters.items = c.in-Ok.ensures.ok ∙ ap (λ (x : Master). placed master_before (calls.keyed_as c.in-Ok.key x) c.self.inside.masters.items) c.lessee.ensures in
-    let there = (of_key c.args.self.now.masters c.args.master c.in-Some.lessor found).1 in
+    let its = of_key c.args.self.now.masters c.args.master c.in-Some.lessor found in
     sound _ (calls.with_master z c.args.self.now) ((λ i. record (set_of c.self.inside) { masters = masters i }) ∙ ap (calls.with_master z) c.self.view_is)
-    (lessee_are c.args.self.now are z refl (λ l e. subst (λ n. (is_some (master_at c.args.self.now.masters n) ≡ true) × (n < c.args.birth)) (let s : Some m ≡ Some l = e in let t : m ≡ l = cc in t) (there, newest_older c.args.self.now.masters c.args.birth c.requires.new_step_number m there)) fresh)
+    (lessee_are c.args.self.now are z refl (λ l e. subst (λ n. (is_some (master_at c.args.self.now.masters n) ≡ true) × (n < c.args.birth)) (let s : Some m ≡ Some l = e in let t : m ≡ l = cc in t) (its.1, subst (λ n. n < c.args.birth) its.0 c.requires.later)) fresh)
     (keyed_more c.args.self.now.masters z c.in-Ok.key are.masters_rise keyed (ap (λ (w : MasterSet). find (is_key c.in-Ok.key) w.masters) (sym c.self.view_is) ∙ c.in-Ok.ensures.free) refl)
     (λ k. old k ∙ sym (pushed_same c.args.self.now are z fresh k))
 
