@@ -256,16 +256,6 @@ const REDEEMED: [Case; 6] = [
     (Ask::IsCurrent(5), Told::Whether(false)),
 ];
 
-/// A lessee that nobody redeemed.
-const fn lent_by(lessor: u32, step_number: u32, lessee_id: u32) -> Told {
-    Told::Master {
-        step_number,
-        lessor: Some(lessor),
-        lessee_id,
-        kept: true,
-    }
-}
-
 /// A birth is new, and need not be the greatest: masters are listed by birth, ids are given in the order of the calls.
 const BORN_IN_ANY_ORDER: [Case; 12] = [
     (Ask::Open(1), Told::Whether(true)),
@@ -273,9 +263,33 @@ const BORN_IN_ANY_ORDER: [Case; 12] = [
     (Ask::Lend(1, 5), Told::Lent(5, 2)),
     (Ask::Lend(5, 7), Told::Lent(7, 3)),
     (Ask::NthMaster(0), OWNER),
-    (Ask::NthMaster(1), lent_by(1, 5, 2)),
-    (Ask::NthMaster(2), lent_by(5, 7, 3)),
-    (Ask::NthMaster(3), lent_by(1, 9, 1)),
+    (
+        Ask::NthMaster(1),
+        Told::Master {
+            step_number: 5,
+            lessor: Some(1),
+            lessee_id: 2,
+            kept: true,
+        },
+    ),
+    (
+        Ask::NthMaster(2),
+        Told::Master {
+            step_number: 7,
+            lessor: Some(5),
+            lessee_id: 3,
+            kept: true,
+        },
+    ),
+    (
+        Ask::NthMaster(3),
+        Told::Master {
+            step_number: 9,
+            lessor: Some(1),
+            lessee_id: 1,
+            kept: true,
+        },
+    ),
     (Ask::NthMaster(4), Told::Nothing),
     (Ask::Depth(7), Told::Number(2)),
     (Ask::IsUnder(5, 7), Told::Whether(true)),

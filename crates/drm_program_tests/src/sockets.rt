@@ -112,6 +112,21 @@ fn open_four<R: Net>(rt: &R, places: &Places) -> io::Result<()> {
     Ok(())
 }
 
+/// Opens three clients of each class, one after the other, which are all open before the last one opened goes first.
+fn open_nine<R: Net>(rt: &R, alloc: Global, places: &Places) -> io::Result<()> {
+    let card = places.card.as_str();
+    let render = places.render.as_str();
+    let root = places.root.as_str();
+    let mut opened = Vec::new(alloc);
+    for path in [card, render, root, root, render, card, render, card, root] {
+        opened.push(open(rt, path)?)?;
+    }
+    for stream in opened.iter().rev() {
+        stream.shutdown(Shutdown::Both)?;
+    }
+    Ok(())
+}
+
 /// Opens two clients, of which the second ends while the first is open, and gives what the second then reads. Where it
 /// reads no end, the read times out.
 fn end_second_first<R: Net>(rt: &R, alloc: Global, path: &str) -> io::Result<Vec<u8>> {
@@ -205,6 +220,8 @@ enum Scenario {
     Once,
     /// Four are open at once.
     Four,
+    /// Nine are open at once, and go in the order opposite to that of their openings.
+    Nine,
     /// The second ends first.
     SecondFirst,
     /// One asks a thousand times.
@@ -228,6 +245,7 @@ fn talk<R: Net + Clock>(
     match scenario {
         Scenario::Once => return ask(rt, alloc, places.card.as_str(), &HELLO_VERSION),
         Scenario::Four => open_four(rt, places)?,
+        Scenario::Nine => open_nine(rt, alloc, places)?,
         Scenario::SecondFirst => return end_second_first(rt, alloc, places.card.as_str()),
         Scenario::Thousand => ask_in_turn(rt, places.render.as_str(), 1_000)?,
         Scenario::Refused => heard.push(refusal(rt, places.card.as_str())? as u8)?,
@@ -248,7 +266,7 @@ struct Scene {
     broken: usize,
 }
 
-const SCENES: [Scene; 7] = [
+const SCENES: [Scene; 8] = [
     Scene {
         scenario: Scenario::Once,
         counts: [1, 0, 0],
@@ -261,6 +279,24 @@ const SCENES: [Scene; 7] = [
         counts: [2, 1, 1],
         heard: b"",
         sessions: &[(3, 2), (4, 2), (2, 2), (1, 2)],
+        broken: 0,
+    },
+    // by class, and in each as accepted
+    Scene {
+        scenario: Scenario::Nine,
+        counts: [3, 3, 3],
+        heard: b"",
+        sessions: &[
+            (1, 2),
+            (6, 2),
+            (8, 2),
+            (2, 2),
+            (5, 2),
+            (7, 2),
+            (3, 2),
+            (4, 2),
+            (9, 2),
+        ],
         broken: 0,
     },
     Scene {
