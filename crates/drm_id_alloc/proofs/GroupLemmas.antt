@@ -3,7 +3,7 @@ use Rattle.std.proofs.Common.{◌≡◌, ℕ, ◌==◌, ◌&&◌, ◌||◌, Bool
 use Rattle.std.specs.Option.{option_map_or}
 use Rattle.std.specs.FinMap as fin
 use Rattle.std.proofs.lemmas.Bool.{false≢true, eqb-true, ne_eqb}
-use Rattle.drm_index_array.proofs.MarkedLemmas.{get-insert, get-remove, insert_same}
+use Rattle.drm_index_array.proofs.MarkedLemmas.{get-insert, get-remove}
 use Rattle.drm_id_alloc.specs.Groups.{Groups, AreSame, IsAdded, IsTaken, groups_in, AreGroupsOf}
 use Rattle.std.proofs.Math.Bool.{and-false}
 use Rattle.drm_lists.proofs.Numbers.{same_either}

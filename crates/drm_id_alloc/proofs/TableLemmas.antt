@@ -1,13 +1,13 @@
 -- How the entries of a table stay within its range.
-use Rattle.std.proofs.Common.{◌≡◌, ℕ, ◌+◌, ◌<◌, ◌≤◌, Bool, true, false, not, eqb, Option, Some, None, is_some, IsTrue, refl, sym, inl, inr, arith}
+use Rattle.std.proofs.Common.{◌≡◌, ℕ, ◌+◌, ◌<◌, ◌≤◌, Bool, true, false, not, cond, eqb, Option, Some, None, is_some, IsTrue, refl, sym, ap, ◌∙◌, inl, inr, arith}
 use Rattle.std.specs.Ordering.{nat_cmp}
 use Rattle.std.specs.FinMap as map
-use Rattle.std.proofs.lemmas.Bool.{cases_eq, false≢true}
+use Rattle.std.proofs.lemmas.Bool.{cases_eq, false≢true, eqb-true}
 use Rattle.std.proofs.lemmas.Bool.Decides.{nat_tests}
-use Rattle.drm_index_array.proofs.MarkedLemmas.{get-insert, get-remove}
+use Rattle.drm_index_array.proofs.MarkedLemmas.{get-insert, get-remove, same_by_gets}
 use Rattle.drm_index_array.specs.Least.{least}
 use Rattle.drm_index_array.proofs.Least.{least_is, least_is_none, least_some, least_none}
-use Rattle.drm_id_alloc.specs.Table.{Table, IsWithin, is_free, least_free, next_cyclic}
+use Rattle.drm_id_alloc.specs.Table.{Table, IsWithin, is_free, least_free, next_cyclic, with_entry, without_entry}
 
 -- a number that is there after an insertion is the new one, or was there
 contains-insert : {X : Type 0} (m : map.FinMap nat_cmp X) (k : ℕ) (v : X) (q : ℕ) → (q ≡ k → ⊥) → IsTrue (map.contains_key (map.insert m k v) q) → IsTrue (map.contains_key m q)
@@ -56,6 +56,17 @@ IsWithin-empty {X = X} first last le fits = record {
   where
     none : (id : ℕ) → IsTrue (map.contains_key (map.empty {X = X} {R = nat_cmp}) id) → ⊥
     none id there = false≢true (rw (map.get-empty nat_cmp id) at there)
+
+-- an entry that is added and taken back
+pub taken_back : {X : Type 0} (t : Table X) (n : ℕ) (v : X) → map.get t.slots n ≡ None → without_entry (with_entry t n v) n ≡ t
+taken_back t n v none = λ i. record t { slots = same_by_gets (map.remove (map.insert t.slots n v) n) t.slots at i }
+  where
+    inside : (q : ℕ) (b : Bool) → eqb q n ≡ b → cond b None (cond b (Some v) (map.get t.slots q)) ≡ map.get t.slots q
+    inside q true same = sym none ∙ ap (map.get t.slots) (sym (eqb-true q n same))
+    inside q false other = refl
+
+    at : (q : ℕ) → map.get (map.remove (map.insert t.slots n v) n) q ≡ map.get t.slots q
+    at q = get-remove (map.insert t.slots n v) n q ∙ ap (cond (eqb q n) None) (get-insert t.slots n v q) ∙ inside q (eqb q n) refl
 
 -- what a search that goes past the range says of the range
 module _ (p : ℕ → Bool) (from last to : ℕ) (le : last ≤ to) where

@@ -1,4 +1,3 @@
 mod NameFacts
 mod TokenFacts
-mod Owners
 pub mod Crossing

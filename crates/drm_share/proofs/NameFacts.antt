@@ -6,7 +6,7 @@ use Rattle.std.proofs.lemmas.Option.{none-some, same_Some}
 use Rattle.drm_lists.proofs.Lists.{filter_all, filter-same, all_weaker}
 use Rattle.drm_lists.proofs.Found.{none_found as found_none}
 use Rattle.drm_index_array.specs.Least.{least}
-use Rattle.drm_index_array.proofs.MarkedLemmas.{get-insert, get-remove, same_by_gets}
+use Rattle.drm_index_array.proofs.MarkedLemmas.{get-insert, get-remove}
 use Rattle.drm_id_alloc.specs.Table.{Table, is_free, least_free, with_entry, without_entry}
 use Rattle.drm_id_alloc.proofs.TableLemmas.{IsWithin-empty, IsWithin-insert, IsWithin-remove}
 use Rattle.drm_share.specs.declared.rows.SharedName.{SharedName}
@@ -33,17 +33,6 @@ module _ (t : Table ℕ) where
 
   pub name_given : (n k : ℕ) → fin.get t.slots n ≡ None → name_list (with_entry t n k) ≡ with_name (name_list t) n k
   name_given n k none = λ i. record { last = t.last; names = rows_added name_row name_in (λ e. refl) t.slots n k none i }
-
-  -- an entry that is added and taken back
-  pub taken_back : (n k : ℕ) → fin.get t.slots n ≡ None → without_entry (with_entry t n k) n ≡ t
-  taken_back n k none = λ i. record t { slots = same_by_gets (fin.remove (fin.insert t.slots n k) n) t.slots at i }
-    where
-      inside : (q : ℕ) (b : Bool) → eqb q n ≡ b → cond b None (cond b (Some k) (fin.get t.slots q)) ≡ fin.get t.slots q
-      inside q true same = sym none ∙ ap (fin.get t.slots) (sym (eqb-true q n same))
-      inside q false other = refl
-
-      at : (q : ℕ) → fin.get (fin.remove (fin.insert t.slots n k) n) q ≡ fin.get t.slots q
-      at q = get-remove (fin.insert t.slots n k) n q ∙ ap (cond (eqb q n) None) (get-insert t.slots n k q) ∙ inside q (eqb q n) refl
 
 module _ (t : Table ℕ) (names : fin.FinMap nat_cmp ℕ) (has : HasNames t names) where
   one_each : (a b k : ℕ) → fin.get t.slots a ≡ Some k → fin.get t.slots b ≡ Some k → a ≡ b

@@ -1,10 +1,11 @@
 use Rattle.std.proofs.Common.{◌≡◌, ap, sym, ◌∙◌, arith}
 use Rattle.std.specs.FinMap as fin
 use Rattle.drm_id_alloc.specs.Table.{without_entry}
+use Rattle.drm_id_alloc.proofs.TableLemmas.{taken_back}
 use Rattle.drm_share.specs.Names.{NameList, with_name}
 use Rattle.drm_share.specs.Tables.{name_list}
 use Rattle.std.proofs.lemmas.Option.{none-some}
-use Rattle.drm_share.proofs.NameFacts.{free_name_is, name_given, taken_back, has-given}
+use Rattle.drm_share.proofs.NameFacts.{free_name_is, name_given, has-given}
 use Rattle.drm_share.proofs.names.Names.give.Goals as goal
 
 pub returns-in-Err-Full-clause-full : goal.returns-in-Err-Full-clause-full

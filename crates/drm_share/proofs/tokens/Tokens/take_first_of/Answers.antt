@@ -1,16 +1,18 @@
-use Rattle.std.proofs.Common.{ap, sym, ◌∙◌, find, option_map}
+use Rattle.std.proofs.Common.{refl, ap, sym, ◌∙◌, find, option_map, arith}
 use Rattle.drm_id_alloc.proofs.GroupLemmas.{grouped_fewer}
+use Rattle.drm_id_alloc.proofs.Grouped.{least_there, least_of_group, no_row_of_group, first_row_of_group}
 use Rattle.drm_share.specs.declared.tokens.Export.{Export}
 use Rattle.drm_id_alloc.specs.Groups.{has}
 use Rattle.drm_share.specs.Tokens.{TokenList, is_exported_by, without_token}
-use Rattle.drm_share.specs.Tables.{token_list}
+use Rattle.drm_share.specs.Tables.{token_list, token_row}
 use Rattle.drm_share.proofs.TokenFacts.{token_closed, is-closed, tokens_are}
-use Rattle.drm_share.proofs.Owners.{none_own, own_there, own_is, first_own}
 use Rattle.drm_share.proofs.tokens.Tokens.take_first_of.Goals as goal
 
 pub returns-in_err-token-clause-first : goal.returns-in_err-token-clause-first
 returns-in_err-token-clause-first c =
-    let none = none_own c.self.inside.exports c.self.inside.owned c.self.invariant c.args.client (sym c.in_err-token.ensures.least) in
+    let within = c.self.invariant.numbered.within in
+    let none =
+    no_row_of_group (λ (x : Export). x.client) c.self.inside.exports.slots (has c.self.inside.owned) c.self.invariant.owners c.args.client token_row (is_exported_by c.args.client) (λ e. refl) (λ k there. omega (arith, within.high k there, within.fits)) (sym c.in_err-token.ensures.least) in
     c.from_residual.ensures
     ∙ ap (option_map (λ row. (row.token, row.object))) (sym none)
     ∙ ap (λ (l : TokenList). option_map (λ row. (row.token, row.object)) (find (is_exported_by c.args.client) l.tokens)) c.self.view_is
@@ -19,14 +21,15 @@ pub returns-in_err-token-clause-tokens : goal.returns-in_err-token-clause-tokens
 returns-in_err-token-clause-tokens c = rw (← c.self.view_is) (tokens_are c.self.inside.exports c.self.invariant.numbered)
 
 pub unreachable-requires : goal.unreachable-requires
-unreachable-requires c = own_there c.self.inside.exports c.self.inside.owned c.self.invariant c.args.client c.in_ok-token.token (sym c.in_ok-token.ensures.least) (sym c.in_default.ensures.value)
+unreachable-requires c =
+    least_there (λ (x : Export). x.client) c.self.inside.exports.slots (has c.self.inside.owned) c.self.invariant.owners c.args.client c.in_ok-token.token (sym c.in_ok-token.ensures.least) (sym c.in_default.ensures.value)
 
 pub invariant_of-self : goal.invariant_of-self
 invariant_of-self c =
     let t = c.self.inside.exports in
     let m = c.self.inside.owned in
     let at = sym c.in-Some.ensures.value in
-    let mine = own_is t m c.self.invariant c.args.client c.in_ok-token.token c.in-Some.export (sym c.in_ok-token.ensures.least) at in
+    let mine = least_of_group (λ (x : Export). x.client) t.slots (has m) c.self.invariant.owners c.args.client c.in_ok-token.token c.in-Some.export (sym c.in_ok-token.ensures.least) at in
     rw c.in-Some.ensures.after (record {
       numbered = is-closed t c.self.invariant.numbered c.in_ok-token.token;
       owners = grouped_fewer (λ (x : Export). x.client) t.slots (has m) (has c.forget.new.self) c.self.invariant.owners c.in_ok-token.token c.in-Some.export c.args.client at mine c.forget.ensures;
@@ -34,7 +37,8 @@ invariant_of-self c =
 
 pub returns-clause-first : goal.returns-clause-first
 returns-clause-first c =
-    let first = first_own c.self.inside.exports c.self.inside.owned c.self.invariant c.args.client c.in_ok-token.token c.in-Some.export (sym c.in_ok-token.ensures.least) (sym c.in-Some.ensures.value) in
+    let first =
+    first_row_of_group (λ (x : Export). x.client) c.self.inside.exports.slots (has c.self.inside.owned) c.self.invariant.owners c.args.client token_row (is_exported_by c.args.client) (λ e. refl) c.in_ok-token.token c.in-Some.export (sym c.in_ok-token.ensures.least) (sym c.in-Some.ensures.value) in
     ap (option_map (λ row. (row.token, row.object))) (sym first)
     ∙ ap (λ (l : TokenList). option_map (λ row. (row.token, row.object)) (find (is_exported_by c.args.client) l.tokens)) c.self.view_is
 
