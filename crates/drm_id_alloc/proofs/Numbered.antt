@@ -1,16 +1,16 @@
 -- The rows of a table of numbers.
-use Rattle.std.proofs.Common.{◌≡◌, ℕ, ◌+◌, ◌<◌, ◌≤◌, ◌==◌, ◌&&◌, ◌||◌, nat_lt, Bool, true, false, not, cond, T, List, [], ◌∷◌, map, filter, find as find_row, length, is_some, Some, None, option_map, option_and_then, refl, sym, ap, ◌∙◌, inl, inr, arith, nat_cmp, is_lt, Less, eq-eqb}
+use Rattle.std.proofs.Common.{◌≡◌, ℕ, ◌<◌, ◌==◌, ◌&&◌, ◌||◌, nat_lt, Bool, true, false, not, cond, T, List, [], ◌∷◌, map, filter, find as find_row, length, Some, None, option_map, option_and_then, refl, sym, ap, ◌∙◌, inl, inr, arith, nat_cmp, is_lt, Less, eq-eqb}
 use Rattle.std.specs.List.{AllByRecursion, list_any}
 use Rattle.std.specs.Ordering.{eq_by_cmp}
 use Rattle.std.specs.Cmp.{nat_cmp_total}
 use Rattle.std.specs.FinMap as fin
 use Rattle.std.specs.FinMap.Entries.{find, is_sorted}
-use Rattle.std.proofs.lemmas.Bool.{cases_lt, cases_eq, false≢true, ne_eqb}
+use Rattle.std.proofs.lemmas.Bool.{cases_lt, cases_eq, ne_eqb}
 use Rattle.std.proofs.lemmas.Bool.Decides.{nat_tests}
 use Rattle.std.proofs.lemmas.Option.{none-some, same_Some}
 use Rattle.drm_lists.specs.Numbers.{is_among}
 use Rattle.drm_lists.proofs.Found.{find_none}
-use Rattle.drm_index_array.specs.Least.{least, IsLeast}
+use Rattle.drm_index_array.specs.Least.{least}
 use Rattle.drm_index_array.specs.Rows.{placed, InOrder}
 use Rattle.drm_index_array.proofs.Least.{least-same}
 use Rattle.drm_index_array.proofs.MarkedLemmas.{eq_by_cmp-nat_cmp}
@@ -151,30 +151,3 @@ module _ {X Y : Type 0} (row : ℕ × X → Y) where
       pub first_found : (n : ℕ) (v : X) → fin.get m n ≡ Some v → p (row (n, v)) ≡ true → FailBelow n → find_row p (map row (fin.entries m)) ≡ Some (row (n, v))
       first_found n v found passes below =
           first_in p (fin.entries m) (fin.entries_sorted m) n v (sym (fin.get-entries m n) ∙ found) passes (λ k w less at. below k w less (fin.get-entries m k ∙ at))
-
-      -- from one number in use to the next
-      pub fail_to : (from to h : ℕ) → IsLeast (fin.contains_key m) from to h → FailBelow from → FailBelow h
-      fail_to from to h is below k v less at =
-          elim (cases_lt k from) [
-            | inl lower ↦ below k v lower at
-            | inr above ↦ absurd (false≢true (sym (is.none_below k above less) ∙ ap is_some at))
-          ]
-
-      -- past a number whose row fails
-      pub fail_past : (h : ℕ) (w : X) → fin.get m h ≡ Some w → p (row (h, w)) ≡ false → FailBelow h → FailBelow (h + 1)
-      fail_past h w found fails below k v less at =
-          elim (cases_lt k h) [
-            | inl lower ↦ below k v lower at
-            | inr above ↦
-                let same : k ≡ h = omega (arith, less, above) in
-                let value : v ≡ w = same_Some v w (sym at ∙ ap (fin.get m) same ∙ found) in
-                (λ i. p (row (same i, value i))) ∙ fails
-          ]
-
-      -- where no number in use is left
-      pub none_left : (from : ℕ) → ((k : ℕ) → from ≤ k → fin.contains_key m k ≡ false) → FailBelow from → find_row p (map row (fin.entries m)) ≡ None
-      none_left from none below = none_found (λ k v at.
-          elim (cases_lt k from) [
-            | inl lower ↦ below k v lower at
-            | inr above ↦ absurd (false≢true (sym (none k above) ∙ ap is_some at))
-          ])

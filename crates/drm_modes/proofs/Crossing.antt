@@ -2,7 +2,7 @@
 use denote.Struct.Declared.{shape}
 use denote.Param.Send.{IsSend, sendable, view_send, recorded_send, struct_send}
 use Rattle.arrayvec.proofs.array_vec.ArrayVec.TheSendSync as list
-use Rattle.drm_id_alloc.proofs.Crossing.{table_send}
+use Rattle.drm_id_alloc.proofs.Crossing.{groups_send, table_send}
 use Rattle.drm_modes.specs.contracts.topologies.Topology as topology
 use Rattle.drm_modes.specs.contracts.topologies.Topology.TheInside as topology_inside
 use Rattle.drm_modes.specs.contracts.rows.Fb as pixels
@@ -23,7 +23,7 @@ pixels_send =
 modes_inside_send : IsSend modes_inside.the_row
 modes_inside_send =
     recorded_send modes_inside.the_field.row _ _ modes_inside.the_type.to_one
-    (struct_send (shape modes_inside.the_type) (topology_send, (search (table_send, pixels_send, sendable) depth 20, (search (list.the_send, sendable) depth 20, tt))))
+    (struct_send (shape modes_inside.the_type) (topology_send, (search (table_send, pixels_send, sendable) depth 20, (groups_send, (search (list.the_send, sendable) depth 20, tt)))))
 
 pub modes_send : IsSend modes.the_row
 modes_send = view_send modes_inside.the_row _ _ _ _ modes_inside_send

@@ -1,5 +1,6 @@
 -- The lists that the table and the scanouts stand for, and how they change.
-use Rattle.std.proofs.Common.{◌≡◌, ℕ, zero, suc, ◌+◌, ◌≤◌, ◌<◌, ◌==◌, eqb, nat_lt, length, Bool, true, false, cond, ◌||◌, find, is_some, List, [], ◌∷◌, replicate, map, set, Option, Some, None, option_map, option_and_then, refl, sym, ap, ◌∙◌, arith, nat_cmp}
+use Rattle.std.proofs.Common.{◌≡◌, ℕ, zero, suc, ◌+◌, ◌≤◌, ◌<◌, ◌==◌, eqb, nat_lt, length, Bool, true, false, cond, ◌||◌, find, is_some, List, [], ◌∷◌, replicate, map, set, Option, Some, None, option_map, option_and_then, refl, sym, ap, ◌∙◌, eq-eqb, arith, nat_cmp}
+use Rattle.std.proofs.lemmas.Bool.{false≢true, eqb-true}
 use Rattle.std.proofs.lemmas.List.{length-map, length-set, length-replicate}
 use Rattle.std.specs.List.{AllByRecursion, list_any}
 use Rattle.std.specs.FinMap as fin
@@ -8,7 +9,9 @@ use Rattle.drm_lists.proofs.Found.{is_some-find, is_some-map}
 use Rattle.drm_index_array.specs.Least.{least}
 use Rattle.drm_index_array.proofs.MarkedLemmas.{get-insert, get-remove}
 use Rattle.drm_id_alloc.specs.Table.{Table, empty_table, is_free as is_free_in, least_free, with_entry, without_entry}
+use Rattle.drm_id_alloc.specs.Groups.{GroupMap, has as in_group, IsAdded, IsTaken}
 use Rattle.drm_id_alloc.proofs.TableLemmas.{IsWithin-empty, IsWithin-insert, IsWithin-remove}
+use Rattle.drm_id_alloc.proofs.GroupLemmas.{grouped_empty, grouped_more, grouped_fewer}
 use Rattle.drm_modes.specs.declared.rows.Framebuffer.{Framebuffer}
 use Rattle.drm_modes.specs.declared.rows.Fb.{Fb}
 use Rattle.drm_modes.specs.Topology.{Topology, IsTopology, object_count}
@@ -20,6 +23,9 @@ use Rattle.drm_id_alloc.proofs.Numbered.{find_number, find_also, rows_added, row
 
 abbrev number : Framebuffer → ℕ
 number row = row.framebuffer
+
+abbrev pub client_of : Fb → ℕ
+client_of fb = fb.client
 
 -- the object of what a client removes
 abbrev pub removes : ℕ → ℕ → Option Fb → Option ℕ
@@ -88,6 +94,24 @@ module _ (t : Topology) (table : Table Fb) (scanouts : List ℕ) where
         ap (option_map (λ (row : Framebuffer). row.object)) (sym (found_of_is c f))
         ∙ ap (λ (set : ModeSet). option_map (λ (row : Framebuffer). row.object) (find (is_framebuffer_of c f) set.framebuffers)) is
 
+    -- a framebuffer of a client is there, and the client made it
+    pub made_by : (c f : ℕ) → is_some (find (is_framebuffer_of c f) seen.framebuffers) ≡ true → (v : Fb) × (fin.get table.slots f ≡ Some v) × (v.client ≡ c)
+    made_by c f made = by_cases (fin.get table.slots f) refl (ap is_some (sym (found_of_is c f) ∙ ap (λ (set : ModeSet). find (is_framebuffer_of c f) set.framebuffers) is) ∙ made)
+      where
+        by_client : (v : Fb) (b : Bool) → (v.client == c) ≡ b → is_some (cond b (Some (framebuffer_row (f, v))) None) ≡ true → v.client ≡ c
+        by_client v true same h = eqb-true v.client c same
+        by_client v false other h = absurd (false≢true h)
+
+        by_cases : (o : Option Fb) → fin.get table.slots f ≡ o → is_some (option_and_then (λ (v : Fb). cond (v.client == c) (Some (framebuffer_row (f, v))) None) o) ≡ true → (v : Fb) × (fin.get table.slots f ≡ Some v) × (v.client ≡ c)
+        by_cases None at h = absurd (false≢true h)
+        by_cases (Some v) at h = (v, at, by_client v (v.client == c) refl h)
+
+    pub is_made : (c f : ℕ) (v : Fb) → fin.get table.slots f ≡ Some v → v.client ≡ c → is_some (find (is_framebuffer_of c f) seen.framebuffers) ≡ true
+    is_made c f v at mine =
+        ap (λ (set : ModeSet). is_some (find (is_framebuffer_of c f) set.framebuffers)) (sym is)
+        ∙ ap is_some (found_of_is c f ∙ ap (option_and_then (λ (w : Fb). cond (w.client == c) (Some (framebuffer_row (f, w))) None)) at)
+        ∙ ap (λ b. is_some (cond b (Some (framebuffer_row (f, v))) None)) (eq-eqb v.client c mine)
+
   pub has_is : (f : ℕ) → list_any (is_framebuffer f) (framebuffers_in table.slots) ≡ fin.contains_key table.slots f
   has_is f = sym (is_some-find (is_framebuffer f) (framebuffers_in table.slots)) ∙ ap is_some (found_is f) ∙ is_some-map (λ v. framebuffer_row (f, v)) (fin.get table.slots f)
 
@@ -97,7 +121,7 @@ module _ (t : Topology) (table : Table Fb) (scanouts : List ℕ) where
   pub removed : (n : ℕ) → mode_set t (without_entry table n) (map (dark_of n) scanouts) ≡ without_framebuffer (mode_set t table scanouts) n
   removed n = λ i. record { topology = t; framebuffers = rows_removed framebuffer_row number (λ e. refl) table.slots n i; scanouts = map (dark_of n) scanouts; last = table.last }
 
-  module _ (has : HasModes t table scanouts) where
+  module _ {owned : GroupMap} (has : HasModes t table owned scanouts) where
     framebuffers_between : AllByRecursion (IsFramebufferFrom (first_framebuffer t) table.last) (framebuffers_in table.slots)
     framebuffers_between = rows_all framebuffer_row table.slots (IsFramebufferFrom (first_framebuffer t) table.last) (λ n v found. record {
       low = omega (arith, has.first_is, has.within.low n (ap is_some found));
@@ -121,12 +145,13 @@ module _ (t : Topology) (table : Table Fb) (scanouts : List ℕ) where
       scanouts_are = all_weaker (λ f. is_scanout table.slots f ≡ true) (λ f. ((f == 0) || list_any (is_framebuffer f) (framebuffers_in table.slots)) ≡ true) (λ f h. ap (λ b. (f == 0) || b) (has_is f) ∙ h) scanouts has.scanouts_are;
     }
 
-    pub has-added : (n : ℕ) (v : Fb) → table.first ≤ n → n ≤ table.last → HasModes t (with_entry table n v) scanouts
-    has-added n v low high = record {
+    pub has-added : (now : GroupMap) (n : ℕ) (v : Fb) → fin.get table.slots n ≡ None → table.first ≤ n → n ≤ table.last → IsAdded (in_group owned) v.client n (in_group now) → HasModes t (with_entry table n v) now scanouts
+    has-added now n v fresh low high noted = record {
       topology = has.topology;
       first_is = has.first_is;
       last_high = has.last_high;
       within = IsWithin-insert table.slots table.first table.last table.last_given has.within n v low high;
+      owners = grouped_more client_of table.slots (in_group owned) (in_group now) has.owners n v v.client fresh refl noted;
       each_has_a_scanout = has.each_has_a_scanout;
       scanouts_are = all_weaker (λ f. is_scanout table.slots f ≡ true) (λ f. is_scanout (fin.insert table.slots n v) f ≡ true)
           (λ f h. ap (λ o. (f == 0) || is_some o) (get-insert table.slots n v f) ∙ still_there (f == 0) (eqb f n) v (fin.get table.slots f) h) scanouts has.scanouts_are;
@@ -136,34 +161,37 @@ module _ (t : Topology) (table : Table Fb) (scanouts : List ℕ) where
     stays n f true same h = refl
     stays n f false other h = ap (λ o. (f == 0) || is_some o) (get-remove table.slots n f ∙ ap (λ b. cond b None (fin.get table.slots f)) other) ∙ h
 
-    pub has-removed : (n : ℕ) → HasModes t (without_entry table n) (map (dark_of n) scanouts)
-    has-removed n = record {
+    pub has-removed : (now : GroupMap) (n : ℕ) (v : Fb) (c : ℕ) → fin.get table.slots n ≡ Some v → v.client ≡ c → IsTaken (in_group owned) c n (in_group now) → HasModes t (without_entry table n) now (map (dark_of n) scanouts)
+    has-removed now n v c there mine taken = record {
       topology = has.topology;
       first_is = has.first_is;
       last_high = has.last_high;
       within = IsWithin-remove table.slots table.first table.last table.last_given has.within n;
+      owners = grouped_fewer client_of table.slots (in_group owned) (in_group now) has.owners n v c there mine taken;
       each_has_a_scanout = length-map scanouts (dark_of n) ∙ has.each_has_a_scanout;
       scanouts_are = all_mapped (λ f. is_scanout (fin.remove table.slots n) f ≡ true) (dark_of n) scanouts
           (all_weaker (λ f. is_scanout table.slots f ≡ true) (λ f. is_scanout (fin.remove table.slots n) (dark_of n f) ≡ true) (λ f h. stays n f (f == n) refl h) scanouts has.scanouts_are);
     }
 
-    pub has-shown : (i f : ℕ) → is_scanout table.slots f ≡ true → HasModes t table (set scanouts i f)
+    pub has-shown : (i f : ℕ) → is_scanout table.slots f ≡ true → HasModes t table owned (set scanouts i f)
     has-shown i f there = record {
       topology = has.topology;
       first_is = has.first_is;
       last_high = has.last_high;
       within = has.within;
+      owners = has.owners;
       each_has_a_scanout = length-set scanouts i f ∙ has.each_has_a_scanout;
       scanouts_are = all_set (λ f. is_scanout table.slots f ≡ true) f there scanouts i has.scanouts_are;
     }
 
 -- before the first framebuffer
-pub has-none : (t : Topology) (n : ℕ) → IsTopology t → 1 ≤ n → n ≤ 64 → HasModes t (empty_table (first_framebuffer t) (object_count t + n)) (replicate (scanout_count t) 0)
-has-none t n is some few = record {
+pub has-none : (t : Topology) (n : ℕ) (owned : GroupMap) → IsTopology t → 1 ≤ n → n ≤ 64 → ((c f : ℕ) → in_group owned c f ≡ false) → HasModes t (empty_table (first_framebuffer t) (object_count t + n)) owned (replicate (scanout_count t) 0)
+has-none t n owned is some few none = record {
   topology = is;
   first_is = refl;
   last_high = omega (arith, few);
   within = IsWithin-empty (first_framebuffer t) (object_count t + n) (omega (arith, some)) (omega (arith, few, is.few));
+  owners = grouped_empty client_of fin.empty (in_group owned) refl none;
   each_has_a_scanout = length-replicate (scanout_count t) 0;
   scanouts_are = all_dark fin.empty (scanout_count t);
 }

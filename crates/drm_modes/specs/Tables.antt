@@ -4,6 +4,7 @@ use Rattle.std.specs.List.{AllByRecursion}
 use Rattle.std.specs.Ordering.{nat_cmp}
 use Rattle.std.specs.FinMap as map
 use Rattle.drm_id_alloc.specs.Table.{Table, IsWithin}
+use Rattle.drm_id_alloc.specs.Groups.{GroupMap, has, AreGroupsOf}
 use Rattle.drm_modes.specs.declared.rows.Fb.{Fb}
 use Rattle.drm_modes.specs.declared.rows.Framebuffer.{Framebuffer}
 use Rattle.drm_modes.specs.Topology.{Topology, IsTopology, object_count}
@@ -22,11 +23,13 @@ mode_set t table scanouts = record { topology = t; framebuffers = framebuffers_i
 abbrev pub is_scanout : map.FinMap nat_cmp Fb → ℕ → Bool
 is_scanout slots f = (f == 0) || map.contains_key slots f
 
--- ids follow those of the fixed objects, each CRTC and plane has a scanout, and what they show is there
-pub record HasModes (t : Topology) (table : Table Fb) (scanouts : List ℕ) : Type 0 where
+-- ids follow those of the fixed objects, each framebuffer stands in the group of its client, each CRTC and plane has a
+-- scanout, and what they show is there
+pub record HasModes (t : Topology) (table : Table Fb) (owned : GroupMap) (scanouts : List ℕ) : Type 0 where
   pub topology : IsTopology t
   pub first_is : table.first ≡ first_framebuffer t
   pub last_high : table.last ≤ object_count t + 64
   pub within : IsWithin table.slots table.first table.last table.last_given
+  pub owners : AreGroupsOf (λ (fb : Fb). fb.client) table.slots (has owned)
   pub each_has_a_scanout : length scanouts ≡ scanout_count t
   pub scanouts_are : AllByRecursion (λ f. is_scanout table.slots f ≡ true) scanouts

@@ -6,7 +6,7 @@ ghost use Rattle.std.specs.Option.{option_map_or};
 ghost use Rattle.drm_modes.specs.Topology.{kind_of, ids_of_kind, is_of_kind, encoder_of, reaches, drives, possible_crtcs, plane_kind, crtc_of_plane, planes_of, mask_over, is_crtc, is_plane, is_encoder, object_count, AreCrtcs};
 ghost use Rattle.drm_modes.specs.Modes.{AreModes, empty_modes, fb_of, has_framebuffer, is_framebuffer, is_framebuffer_of, is_made_by, framebuffers_of, framebuffer, free_framebuffer, with_framebuffer, without_framebuffer, can_show, shown_by, with_shown, shown_rows, scanout_count, first_framebuffer, nth_row};
 ghost use Rattle.drm_modes.specs.AddFbFault.{IsFull};
-ghost use Rattle.drm_modes.specs.Tables.{framebuffer_row, framebuffers_in};
+ghost use Rattle.drm_modes.specs.Tables.{framebuffer_row};
 
 use crate::faults::AddFbFault;
 use crate::kinds::{Kind, PlaneKind};
@@ -15,7 +15,7 @@ use crate::scanouts;
 use crate::topologies::Topology;
 use arrayvec::ArrayVec;
 use drm_gem::ObjectKey;
-use drm_id_alloc::{AddFault, IdTable};
+use drm_id_alloc::{AddFault, Groups, IdTable};
 use drm_table::ShownList;
 use std::alloc::Global;
 use std::marker::Model;
@@ -39,6 +39,8 @@ const SHOWN_KIND: u32 = 9;
 pub struct Modes {
     topology: Topology,
     framebuffers: IdTable<Fb>,
+    // The framebuffers, by the clients that created them.
+    owned: Groups,
     // What each CRTC and then each plane shows, 0 where it is dark.
     scanouts: ArrayVec<u32, 64>,
 }
@@ -51,7 +53,7 @@ impl Model for Modes {
 
     ghost view = { λ modes. mode_set modes.topology modes.framebuffers modes.scanouts.items };
 
-    ghost invariant = { λ modes. HasModes modes.topology modes.framebuffers modes.scanouts.items };
+    ghost invariant = { λ modes. HasModes modes.topology modes.framebuffers modes.owned modes.scanouts.items };
 }
 
 impl Modes {
@@ -72,6 +74,7 @@ impl Modes {
         Modes {
             topology,
             framebuffers: IdTable::new(alloc, objects + 1, objects + framebuffers),
+            owned: Groups::new(alloc),
             scanouts: scanouts::dark(count),
         }
     }
@@ -252,6 +255,10 @@ impl Modes {
             Err(AddFault::Full(_)) => return Err(AddFbFault::Full),
             Err(AddFault::NoMemory(_)) => return Err(AddFbFault::NoMemory),
         };
+        if let Err(_fault) = self.owned.note(client, framebuffer) {
+            let _returned = self.framebuffers.remove(framebuffer);
+            return Err(AddFbFault::NoMemory);
+        }
         Ok(framebuffer)
     }
 
@@ -316,12 +323,13 @@ impl Modes {
         if pixels.client != client {
             return None;
         }
-        self.take_away(framebuffer);
+        self.take_away(client, framebuffer);
         Some(pixels.object)
     }
 
-    /// Removes the framebuffer with the least id of a client, and gives its id and its object. What shows it goes dark.
-    /// There is none exactly where the client has no framebuffer. It takes no memory, and goes through the framebuffers.
+    /// Removes the framebuffer of a client that has the lowest id, and returns its id and its object. What shows it becomes
+    /// dark. Returns none exactly if the client has no framebuffer. Looks at no framebuffer of another client. Does not
+    /// allocate.
     ///
     /// ```rust
     /// let Ok(framebuffer) = modes.addfb(1, shape, object) else { return };
@@ -332,15 +340,22 @@ impl Modes {
         ensures removed { IfSome result (λ taken. self.new ≡ without_framebuffer self.old taken.0) }
         ensures none { IfNone result (self.new ≡ self.old) }
     {
-        let first = first_of(&self.framebuffers, client)?;
-        self.take_away(first.framebuffer);
-        Some((first.framebuffer, first.object))
+        let first = self.owned.next(client, 0)?;
+        let Some(pixels) = self.framebuffers.get(first) else {
+            unreachable!();
+        };
+        let object = pixels.object;
+        self.take_away(client, first);
+        Some((first, object))
     }
 
-    fn take_away(&mut self, framebuffer: u32)
+    // Removes a framebuffer that the client created.
+    fn take_away(&mut self, client: u32, framebuffer: u32)
+        requires made { is_some (find (is_framebuffer_of client framebuffer) self.old.framebuffers) ≡ true }
         ensures { self.new ≡ without_framebuffer self.old framebuffer }
     {
         let _pixels = self.framebuffers.remove(framebuffer);
+        self.owned.forget(client, framebuffer);
         scanouts::darken(self.scanouts.as_mut_slice(), framebuffer);
     }
 
@@ -449,21 +464,4 @@ fn row(framebuffer: u32, fb: Fb) -> Framebuffer
         shape: fb.shape,
         object: fb.object,
     }
-}
-
-// The framebuffer of a client with the least id.
-fn first_of(framebuffers: &IdTable<Fb>, client: u32) -> Option<Framebuffer>
-    ensures { result ≡ find (is_made_by client) (framebuffers_in framebuffers.now.slots) }
-{
-    let mut from = 0;
-    while let Some(framebuffer) = framebuffers.next(from) {
-        let Some(pixels) = framebuffers.get(framebuffer) else {
-            unreachable!();
-        };
-        if pixels.client == client {
-            return Some(row(framebuffer, *pixels));
-        }
-        from = framebuffer.checked_add(1)?;
-    }
-    None
 }
