@@ -1,8 +1,8 @@
 //! The surface of `drm_table`.
 
 use drm_table::{
-    Answer, Apart, AuditKind, AuditPage, AuditRow, Call, Event, IdList, Opening, Row, RowFlags,
-    Rule, ShownList, Standing, permit, row,
+    Apart, AuditPage, AuditRow, Call, Event, IdList, Opening, Row, RowFlags, Rule, ShownList,
+    Standing, permit, row,
 };
 
 /// The look-up of a row, and the tests of its flags.
@@ -13,6 +13,16 @@ pub fn look_ups(number: u16, flags: RowFlags, standing: Standing) -> (Option<Row
 /// The number, the errno and the name of a rule.
 pub fn rules(rule: Rule) -> (u32, u32, &'static str) {
     (rule.number(), rule.errno(), rule.name())
+}
+
+/// The calls that fill the lists and the page.
+pub fn fillings() {
+    let _new_ids: fn() -> IdList = IdList::new;
+    let _push_id: fn(&mut IdList, u32) = IdList::push;
+    let _new_shown: fn() -> ShownList = ShownList::new;
+    let _push_shown: fn(&mut ShownList, u32) = ShownList::push;
+    let _new_page: fn() -> AuditPage = AuditPage::new;
+    let _push_row: fn(&mut AuditPage, AuditRow) = AuditPage::push;
 }
 
 /// The ids of a request.
@@ -76,56 +86,6 @@ pub fn events(event: Event) -> (Option<Opening>, Option<Call>, u32) {
         Event::Open(opening) => (Some(opening), None, 0),
         Event::Ask(client, call) => (None, Some(call), client),
         Event::Close(client) => (None, None, client),
-    }
-}
-
-/// The calls that hold a list or a kind, and those without a row.
-pub fn calls(call: Call) -> (Option<IdList>, Option<AuditKind>, u16) {
-    match call {
-        Call::Unknown(number) => (None, None, number),
-        Call::BadLayout(number) => (None, None, number),
-        Call::Audit { kind, .. } => (None, Some(kind), 0),
-        Call::CreateLease { ids } => (Some(ids), None, 0),
-        _ => (None, None, 0),
-    }
-}
-
-/// The answers with lists: resources have four lists of 32-bit ids.
-pub fn lists(answer: Answer) -> [ShownList; 4] {
-    match answer {
-        Answer::Resources {
-            crtcs,
-            connectors,
-            encoders,
-            framebuffers,
-        } => [crtcs, connectors, encoders, framebuffers],
-        Answer::List { list } => [list, ShownList::new(), ShownList::new(), ShownList::new()],
-        _ => [
-            ShownList::new(),
-            ShownList::new(),
-            ShownList::new(),
-            ShownList::new(),
-        ],
-    }
-}
-
-/// The other answers, by their numbers.
-pub fn numbers(answer: Answer) -> (u64, u32, u32) {
-    match answer {
-        Answer::Opened { client } => (0, client, 0),
-        Answer::Number { value } => (value, 0, 0),
-        Answer::Dumb {
-            handle,
-            pitch,
-            size,
-        } => (size, handle, pitch),
-        Answer::Buffer { handle, size } => (size, handle, 0),
-        Answer::Version { major, minor, .. } => (0, major, minor),
-        Answer::Plane { framebuffer, mask } => (0, framebuffer, mask),
-        Answer::Framebuffer { width, handle, .. } => (0, width, handle),
-        Answer::Lease { id, token } => (0, id, token),
-        Answer::Denied(rule) => (0, rule.number(), rule.errno()),
-        _ => (0, 0, 0),
     }
 }
 
