@@ -1,6 +1,6 @@
 //! The surface of `drm_files`.
 
-use drm_files::{FileFault, FileFlags, FileRest, FileRow, Files};
+use drm_files::{FileClient, FileFault, FileFlags, FileHandle, FileRest, FileRow, Files};
 use drm_gem::ObjectKey;
 use drm_table::ShownList;
 use std::alloc::Global;
@@ -38,6 +38,24 @@ pub fn flags(flags: FileFlags) -> (bool, bool, bool, bool) {
         universal,
     } = flags;
     (render, root, authenticated, universal)
+}
+
+/// The rows of an audit: an open client, and a handle.
+pub fn rows(
+    id: u32,
+    flags: FileFlags,
+    object: ObjectKey,
+    export_order: Option<u32>,
+) -> [FileRow; 2] {
+    [
+        FileRow::Client(FileClient { client: id, flags }),
+        FileRow::Hold(FileHandle {
+            client: id,
+            handle: id,
+            object,
+            export_order,
+        }),
+    ]
 }
 
 /// The reasons that a client was not opened, or got no handle.

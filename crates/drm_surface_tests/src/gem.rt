@@ -30,6 +30,19 @@ pub fn dead(dead: Dead) -> (u32, u64) {
     (birth, size)
 }
 
+/// The rows of an audit.
+pub fn rows(object: Object) -> (ObjectKey, [u32; 3], [u64; 2]) {
+    let Object {
+        key,
+        step_number,
+        size,
+        stamp,
+        holds,
+        refs,
+    } = object;
+    (key, [step_number, holds, refs], [size, stamp])
+}
+
 /// The reasons that no object was created.
 pub fn create_faults(fault: CreateFault) -> bool {
     match fault {

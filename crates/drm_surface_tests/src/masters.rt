@@ -1,6 +1,8 @@
 //! The surface of `drm_masters`.
 
-use drm_masters::{LesseeFault, MasterKey, MasterRow, Masters, NoMemory, SetDone, SetFault};
+use drm_masters::{
+    LesseeFault, Magic, Master, MasterKey, MasterRow, Masters, Member, NoMemory, SetDone, SetFault,
+};
 use drm_table::Rule;
 use std::alloc::Global;
 
@@ -27,6 +29,42 @@ pub fn reads() {
     let _nth: fn(&Masters, u32, usize) -> Option<MasterRow> = Masters::nth;
 }
 
+/// The rows of an audit: a client, and a master.
+pub fn rows(row: MasterRow) -> (Option<Member>, Option<Master>) {
+    match row {
+        MasterRow::Client(member) => (Some(member), None),
+        MasterRow::Master(master) => (None, Some(master)),
+    }
+}
+
+/// What a client is to masters.
+pub fn members(id: u32, once_master: bool, is_master: bool, magic: Option<Magic>) -> Member {
+    Member {
+        client: id,
+        once_master,
+        is_master,
+        master: id,
+        magic,
+    }
+}
+
+/// A master.
+pub fn masters(master: Master) -> (MasterKey, u32, bool) {
+    let Master {
+        key,
+        step_number,
+        kept,
+        ..
+    } = master;
+    (key, step_number, kept)
+}
+
+/// A magic.
+pub fn magics(magic: Magic) -> (u32, bool) {
+    let Magic { number, spent } = magic;
+    (number, spent)
+}
+
 /// What SET_MASTER did.
 pub fn set_done(done: SetDone) -> u32 {
     match done {
@@ -42,6 +80,11 @@ pub fn set_faults(fault: SetFault) -> Option<Rule> {
         SetFault::Denied(rule) => Some(rule),
         SetFault::NoMemory => None,
     }
+}
+
+/// The reason that a client was not noted, or got no magic.
+pub fn no_memory() -> NoMemory {
+    NoMemory
 }
 
 /// The reasons that no lessee was created.

@@ -1,7 +1,9 @@
 //! The surface of `drm_modes`.
 
 use drm_gem::ObjectKey;
-use drm_modes::{AddFbFault, Fb, Kind, ModeRow, Modes, PlaneKind, Shape, Topology};
+use drm_modes::{
+    AddFbFault, Fb, Framebuffer, Kind, ModeRow, Modes, PlaneKind, Shape, Shown, Topology,
+};
 use drm_table::ShownList;
 use std::alloc::Global;
 
@@ -37,6 +39,31 @@ pub fn kinds(kind: Kind) -> u32 {
         Kind::Encoder => 2,
         Kind::Connector => 3,
     }
+}
+
+/// What planes are for.
+pub fn plane_kinds(kind: PlaneKind) -> u32 {
+    match kind {
+        PlaneKind::Overlay => 0,
+        PlaneKind::Primary(crtc) => crtc,
+        PlaneKind::Cursor(crtc) => crtc,
+    }
+}
+
+/// The rows of an audit: a framebuffer, and what a CRTC or a plane shows.
+pub fn rows(id: u32, shape: Shape, object: ObjectKey) -> [ModeRow; 2] {
+    [
+        ModeRow::Framebuffer(Framebuffer {
+            framebuffer: id,
+            client: id,
+            shape,
+            object,
+        }),
+        ModeRow::Shown(Shown {
+            engine: id,
+            framebuffer: id,
+        }),
+    ]
 }
 
 /// A framebuffer, and the layout of its pixels.

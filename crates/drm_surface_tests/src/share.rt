@@ -25,6 +25,18 @@ pub fn tokens() {
     let _nth: fn(&Tokens, u32, usize) -> Option<SharedToken> = Tokens::nth;
 }
 
+/// The rows of an audit: a name, and a token.
+pub fn rows(id: u32, object: ObjectKey) -> (SharedName, SharedToken) {
+    (
+        SharedName { name: id, object },
+        SharedToken {
+            token: id,
+            client: id,
+            object,
+        },
+    )
+}
+
 /// The reasons that no name or token was given.
 pub fn share_faults(fault: ShareFault) -> bool {
     match fault {
