@@ -1,5 +1,7 @@
 //! The surface of `drm_frames`.
 
+ghost use Rattle.std.specs.Prelude.{◌-◌, ◌^◌, ◌<◌, length};
+
 use drm_frames::{
     Decoded, Frame, FrameBytes, FromRead, Hello, Put, Sink, Source, Taken, ToWrite, answer_of,
     call_of, decode, encode_answer, encode_call, encode_hello, hello_of,
@@ -39,6 +41,11 @@ pub fn decoded(decoded: Decoded<'_>) -> Option<(Frame<'_>, usize)> {
     }
 }
 
+/// The number and the fields of a frame, and the bytes of a whole one.
+pub fn bytes<'a>(frame: &Frame<'a>, text: &'a FrameBytes) -> (u16, &'a [u8], &'a [u8]) {
+    (frame.number(), frame.fields(), text.as_slice())
+}
+
 /// What a call of a source gives.
 pub fn taken(taken: Taken) -> usize {
     match taken {
@@ -56,6 +63,26 @@ pub fn put(put: Put) -> usize {
         Put::Interrupted => 0,
         Put::Fault => 0,
     }
+}
+
+/// The call of a source, and that of a sink.
+pub fn asked<S: Source, K: Sink>(
+    source: &mut S,
+    sink: &mut K,
+    buffer: &mut [u8],
+    text: &[u8],
+) -> (Taken, Put)
+    requires room { 0 < length buffer.old }
+    requires source_calls { (S.trace source.old).counts.calls < 2 ^ 64 - 1 }
+    requires sink_calls { (K.trace sink.old).counts.calls < 2 ^ 64 - 1 }
+{
+    let taken = source.take(buffer);
+    (taken, sink.put(text))
+}
+
+/// A source over any reader, and a sink over any writer.
+pub fn streams<R: Read, W: Write>(reader: R, writer: W) -> (FromRead<R>, ToWrite<W>) {
+    (FromRead::new(reader), ToWrite::new(writer))
 }
 
 /// The number of calls of a source over any reader, and of a sink over any writer.
