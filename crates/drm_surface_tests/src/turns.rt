@@ -20,6 +20,11 @@ pub fn calls() {
     let _peek_count: fn(&SharedDevice) -> u64 = SharedDevice::peek_count;
 }
 
+/// The reasons that no device is shared, or handed back.
+pub fn faults() -> (NoMemory, TurnOut) {
+    (NoMemory, TurnOut)
+}
+
 /// The call that waits.
 pub fn waiting<R: Wait>(
     rt: &R,
