@@ -2,4 +2,5 @@ pub mod Devices
 pub mod AuditRows
 pub mod Crossing
 pub mod Unadmitted
+mod Primaries
 mod Places

@@ -1,9 +1,11 @@
 //! The calls: who may make one, and which family carries it out.
 
-ghost use Rattle.std.specs.Prelude.{◌≡◌, None, Some, OnOk, IfOk, IfErr};
+ghost use Rattle.std.specs.Prelude.{◌≡◌, true, None, Some, OnOk, IfOk, IfErr};
 ghost use Rattle.drm_state.specs.Callers.{IsCaller};
 ghost use Rattle.drm_state.specs.Invariants.{MeetsInvariants, StepPrecondition};
 ghost use Rattle.drm_table.specs.declared.events.Event.TheVariants.{Ask};
+ghost use Rattle.drm_table.specs.Permit.{has_flag, render_allow};
+ghost use Rattle.drm_table.specs.Table.{flags_of};
 ghost use Rattle.drm_model.specs.Verdict as model;
 ghost use Rattle.drm_state.specs.Refinement.{Refines, RefinesCall, IsAdmission};
 ghost use Rattle.drm_device.specs.Places.{outcome};
@@ -42,6 +44,7 @@ fn admission(state: &State, client: u32, call: &Call) -> Result<Caller, Rule>
     ensures err { IfErr result (λ rule. IsAdmission state.now client call.now (Some rule)) }
     ensures client { IfOk result (λ caller. caller.client ≡ client) }
     ensures caller { IfOk result (λ caller. IsCaller state.now caller) }
+    ensures render { IfOk result (λ caller. caller.flags.render ≡ true → has_flag (flags_of call.now) render_allow ≡ true) }
 {
     if !is_known(call) {
         return Err(Rule::Unknown);
@@ -83,17 +86,24 @@ fn carry_out(
 ) -> Result<(), AllocError>
     requires precondition { StepPrecondition state.old step_number }
     requires caller { IsCaller state.old caller }
+    requires render { caller.flags.render ≡ true → has_flag (flags_of call.now) render_allow ≡ true }
     ensures refines { RefinesCall state.old step_number caller.client call.now (outcome result answer.new) state.new }
     ensures invariants { MeetsInvariants state.new }
 {
     match call.family() {
         Some(Family::Device) => device_call(state, step_number, caller.client, call, answer),
-        Some(Family::Masters) => master_call(state, step_number, caller, call, answer),
+        Some(Family::Masters) => master_call(state, step_number, caller.primary(), call, answer),
         Some(Family::Buffers) => buffer_call(state, step_number, caller.client, call, answer),
         Some(Family::Sharing) => share_call(state, step_number, caller.client, call, answer),
-        Some(Family::Modes) => mode_call(state, step_number, caller, call, answer),
-        Some(Family::Framebuffers) => framebuffer_call(state, step_number, caller, call, answer),
-        Some(Family::Leases) => lease_call(state, step_number, caller, call, answer),
+        Some(Family::Modes) => mode_call(state, step_number, caller.primary(), call, answer),
+        Some(Family::Framebuffers) => framebuffer_call(
+            state,
+            step_number,
+            caller.primary(),
+            call,
+            answer,
+        ),
+        Some(Family::Leases) => lease_call(state, step_number, caller.primary(), call, answer),
         None => {
             *answer = Answer::Denied(Rule::Unknown);
             Ok(())

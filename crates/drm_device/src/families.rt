@@ -2,7 +2,7 @@
 
 ghost use Rattle.std.specs.Prelude.{◌≡◌, Some, true};
 ghost use Rattle.drm_files.specs.Files.{is_open_client};
-ghost use Rattle.drm_state.specs.Callers.{IsCaller};
+ghost use Rattle.drm_state.specs.Callers.{IsPrimaryCaller};
 ghost use Rattle.drm_state.specs.Invariants.{MeetsInvariants, StepPrecondition};
 ghost use Rattle.drm_state.specs.Refinement.{RefinesCall};
 ghost use Rattle.drm_device.specs.Places.{outcome};
@@ -23,7 +23,7 @@ use drm_mode_calls::{
 };
 use drm_modes::Shape;
 use drm_share_calls::{gem_flink, gem_open, prime_export, prime_import, token_close};
-use drm_state::{Caller, State};
+use drm_state::{PrimaryCaller, State};
 use drm_table::{Answer, Call};
 use std::alloc::AllocError;
 
@@ -68,13 +68,13 @@ pub fn device_call(
 pub fn master_call(
     state: &mut State,
     step_number: u32,
-    caller: Caller,
+    caller: PrimaryCaller,
     call: &Call,
     answer: &mut Answer,
 ) -> Result<(), AllocError>
     requires master_call { family_of call.now ≡ Some Masters }
     requires precondition { StepPrecondition state.old step_number }
-    requires caller { IsCaller state.old caller }
+    requires caller { IsPrimaryCaller state.old caller }
     ensures refines { RefinesCall state.old step_number caller.client call.now (outcome result answer.new) state.new }
     ensures invariants { MeetsInvariants state.new }
 {
@@ -197,13 +197,13 @@ pub fn share_call(
 pub fn mode_call(
     state: &mut State,
     step_number: u32,
-    caller: Caller,
+    caller: PrimaryCaller,
     call: &Call,
     answer: &mut Answer,
 ) -> Result<(), AllocError>
     requires mode_call { family_of call.now ≡ Some Modes }
     requires precondition { StepPrecondition state.old step_number }
-    requires caller { IsCaller state.old caller }
+    requires caller { IsPrimaryCaller state.old caller }
     ensures refines { RefinesCall state.old step_number caller.client call.now (outcome result answer.new) state.new }
     ensures invariants { MeetsInvariants state.new }
 {
@@ -257,13 +257,13 @@ pub fn mode_call(
 pub fn framebuffer_call(
     state: &mut State,
     step_number: u32,
-    caller: Caller,
+    caller: PrimaryCaller,
     call: &Call,
     answer: &mut Answer,
 ) -> Result<(), AllocError>
     requires framebuffer_call { family_of call.now ≡ Some Framebuffers }
     requires precondition { StepPrecondition state.old step_number }
-    requires caller { IsCaller state.old caller }
+    requires caller { IsPrimaryCaller state.old caller }
     ensures refines { RefinesCall state.old step_number caller.client call.now (outcome result answer.new) state.new }
     ensures invariants { MeetsInvariants state.new }
 {
@@ -301,13 +301,13 @@ pub fn framebuffer_call(
 pub fn lease_call(
     state: &mut State,
     step_number: u32,
-    caller: Caller,
+    caller: PrimaryCaller,
     call: &Call,
     answer: &mut Answer,
 ) -> Result<(), AllocError>
     requires lease_call { family_of call.now ≡ Some Leases }
     requires precondition { StepPrecondition state.old step_number }
-    requires caller { IsCaller state.old caller }
+    requires caller { IsPrimaryCaller state.old caller }
     ensures refines { RefinesCall state.old step_number caller.client call.now (outcome result answer.new) state.new }
     ensures invariants { MeetsInvariants state.new }
 {

@@ -3,7 +3,7 @@ use Rattle.std.proofs.Common.{◌≡◌, ℕ, ◌+◌, ◌==◌, true, false, no
 use Rattle.std.specs.Prelude.{nat_lt, unwrap_or, if◌then◌else◌}
 use Rattle.std.specs.Cmp.{both_ways}
 use Rattle.std.specs.List.{list_any, list_all, AllByRecursion}
-use Rattle.std.specs.Option.{is_some, option_map, option_map_or, option_and_then, option_or}
+use Rattle.std.specs.Option.{is_some, option_map, option_and_then, option_or}
 use Rattle.std.proofs.lemmas.Bool.{eqb-true}
 use Rattle.drm_index_array.specs.Least.{least}
 use Rattle.drm_lists.specs.Chains.{top_of, depth_of}
@@ -15,9 +15,7 @@ use Rattle.drm_table.specs.declared.events.Event.TheVariants.{Ask}
 use Rattle.drm_table.specs.Permit.{first_failing}
 use Rattle.drm_modes.specs.LeaseRules.{last_depth, rules_in_order}
 use Rattle.drm_modes.specs.Topology.{is_encoder, kind_of, planes_of}
-use Rattle.drm_modes.specs.Modes.{has_framebuffer}
 use Rattle.drm_masters.specs.declared.rows.Master.{Master}
-use Rattle.drm_masters.specs.declared.rows.Member.{Member}
 use Rattle.drm_masters.specs.Masters as masters
 use Rattle.drm_masters.specs.Masters.{is_step_number, is_option}
 use Rattle.drm_leases.specs.declared.rows.Grant.{Grant}
@@ -30,12 +28,11 @@ use Rattle.drm_model.specs.Rows.{Rows, MasterRow, GrantRow}
 use Rattle.drm_model.specs.Masters.{lessor_of, owner_of}
 use Rattle.drm_model.specs.Magics.{caller_master}
 use Rattle.drm_model.specs.Leases as model
-use Rattle.drm_model.specs.Sees.{controls}
 use Rattle.drm_model.specs.Calls.{meaning}
 use Rattle.drm_model.specs.Verdict.{admission_checks, verdict}
 use Rattle.drm_state.specs.declared.state.State.{State}
-use Rattle.drm_state.specs.declared.caller.Caller.{Caller}
-use Rattle.drm_state.specs.Callers.{IsCaller}
+use Rattle.drm_state.specs.declared.caller.PrimaryCaller.{PrimaryCaller}
+use Rattle.drm_state.specs.Callers.{IsPrimaryCaller}
 use Rattle.drm_state.specs.Parts.{master_row_of, masters_of, grant_row_of, grants_of}
 use Rattle.drm_state.specs.Invariants.{MeetsInvariants, AreOfLessees}
 use Rattle.drm_state.specs.Refinement.{Represents}
@@ -113,18 +110,16 @@ module _ (s : State) (w : Rows) (t : MeetsInvariants s) (h : Represents s w) whe
 
   -- ---- the ids
 
-  module _ (caller : Caller) (x : Member) (is : IsCaller s caller) (look : caller.member ≡ Some x) where
-    seen_here : (k : ℕ) → model.is_seen w caller.client k ≡ rules.is_seen s.leases.grants ms s.modes x.master caller.flags.universal k
-    seen_here k =
-        (λ i. (is_some (kind_of (topology_is s w h i) k) && seen_is s w caller is h k i) || framebuffer_is s w t h k i)
-        ∙ ap (λ o. (is_some (kind_of s.modes.topology k) && (is_encoder s.modes.topology k || (option_map_or (λ (y : Member). leases.controls s.leases.grants ms y.master k) o false && rules.is_shown s.modes.topology caller.flags.universal k))) || has_framebuffer s.modes k) look
+  module _ (caller : PrimaryCaller) (is : IsPrimaryCaller s caller) where
+    abbrev own_master : ℕ
+    own_master = caller.member.master
 
-    controlled_here : (k : ℕ) → controls w caller.client k ≡ leases.controls s.leases.grants ms x.master k
-    controlled_here k = controls_is s w caller is h k ∙ ap (λ o. option_map_or (λ (y : Member). leases.controls s.leases.grants ms y.master k) o false) look
+    seen_here : (k : ℕ) → model.is_seen w caller.client k ≡ rules.is_seen s.leases.grants ms s.modes own_master caller.flags.universal k
+    seen_here k = λ i. (is_some (kind_of (topology_is s w h i) k) && seen_is s w caller is h k i) || framebuffer_is s w t h k i
 
     -- what is listed, and what comes along
-    pub leased_is : (ids : List ℕ) → model.leased w caller.client ids ≡ rules.leased s.leases s.masters s.modes x.master caller.flags.universal ids
-    leased_is ids = λ i. ids ++ (if universal_is s w caller is h i then [] else filter (λ k. controlled_here k i) (planes_of (topology_is s w h i) ids))
+    pub leased_is : (ids : List ℕ) → model.leased w caller.client ids ≡ rules.leased s.leases s.masters s.modes own_master caller.flags.universal ids
+    leased_is ids = λ i. ids ++ (if universal_is s w caller is h i then [] else filter (λ k. controls_is s w caller is h k i) (planes_of (topology_is s w h i) ids))
 
     leasable_is : (k : ℕ) → model.is_leasable w k ≡ rules.is_leasable s.modes k
     leasable_is k = λ i. not (is_encoder (topology_is s w h i) k || framebuffer_is s w t h k i)
@@ -137,18 +132,18 @@ module _ (s : State) (w : Rows) (t : MeetsInvariants s) (h : Represents s w) whe
         ∙ (λ i. list_any (λ (g : Grant). (g.mode_object == k) && is_option m (above_is s.leases.tokens ms i g.master)) s.leases.grants)
 
     -- what is asked of the caller and of the ids
-    pub create_verdict : (ids : List ℕ) → caller_master w caller.client ≡ x.master → first_failing (admission_checks w caller.client (CreateLease ids)) ≡ None →
-        verdict w (Ask caller.client (CreateLease ids)) ≡ first_failing (lease_checks s.leases s.masters s.modes x.master caller.flags.universal ids)
+    pub create_verdict : (ids : List ℕ) → caller_master w caller.client ≡ own_master → first_failing (admission_checks w caller.client (CreateLease ids)) ≡ None →
+        verdict w (Ask caller.client (CreateLease ids)) ≡ first_failing (lease_checks s.leases s.masters s.modes own_master caller.flags.universal ids)
     unfolding meaning lease_checks
     create_verdict ids own admitted =
         call_verdict w caller.client (CreateLease ids) admitted
         ∙ (λ i. first_failing (model.create_lease_of w caller.client (own i) ids).checks)
         ∙ (λ i. first_failing (
         rules_in_order
-        (may_lease_is x.master i)
+        (may_lease_is own_master i)
         (list_all (λ k. seen_here k i) ids)
         (list_all (λ k. leasable_is k i) ids)
         (list_all (rules.stands_once ids) ids)
         (rules.is_lease (topology_is s w h i) (universal_is s w caller is h i) ids)
-        (not (list_any (λ k. leased_out_is x.master k i) (leased_is ids i)))
-        (is_some (free_lessee_is x.master i) && is_some (next_is i))))
+        (not (list_any (λ k. leased_out_is own_master k i) (leased_is ids i)))
+        (is_some (free_lessee_is own_master i) && is_some (next_is i))))

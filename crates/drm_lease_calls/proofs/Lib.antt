@@ -1,4 +1,3 @@
-mod Flags
 mod Lessees
 mod Revoked
 mod Listed

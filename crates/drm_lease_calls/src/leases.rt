@@ -3,12 +3,12 @@
 ghost use Rattle.std.specs.Prelude.{◌≡◌, true};
 ghost use Rattle.drm_masters.specs.Masters.{is_option};
 ghost use Rattle.drm_table.specs.declared.calls.Call.TheVariants.{CreateLease, RevokeLease};
-ghost use Rattle.drm_state.specs.Callers.{IsCaller};
+ghost use Rattle.drm_state.specs.Callers.{IsPrimaryCaller};
 ghost use Rattle.drm_state.specs.Invariants.{MeetsInvariants, StepPrecondition};
 ghost use Rattle.drm_state.specs.Refinement.{RefinesCall, RefinesReply};
 
 use drm_leases::LeaseFault;
-use drm_state::{Caller, State};
+use drm_state::{PrimaryCaller, State};
 use drm_table::{Answer, IdList, Rule};
 use std::alloc::AllocError;
 
@@ -19,18 +19,14 @@ use std::alloc::AllocError;
 pub fn create_lease(
     state: &mut State,
     step_number: u32,
-    caller: Caller,
+    caller: PrimaryCaller,
     ids: &IdList,
 ) -> Result<Answer, AllocError>
     requires precondition { StepPrecondition state.old step_number }
-    requires caller { IsCaller state.old caller }
+    requires caller { IsPrimaryCaller state.old caller }
     ensures refines { RefinesCall state.old step_number caller.client (CreateLease ids.now) result state.new }
     ensures invariants { MeetsInvariants state.new }
 {
-    let Some(_member) = caller.member else {
-        // a render client, whose call is not admitted
-        return Ok(Answer::Denied(Rule::RenderAllow));
-    };
     match state.leases.create(
         &mut state.masters,
         &state.modes,
@@ -54,16 +50,13 @@ pub fn create_lease(
 
 /// MODE_REVOKE_LEASE (drm-uapi, leases; that a lessee which nobody redeemed goes is own): the lease of a direct lessee of the
 /// caller's master ends, and all that was lent from it. It takes no memory.
-pub fn revoke_lease(state: &mut State, caller: Caller, lessee: u32) -> Answer
+pub fn revoke_lease(state: &mut State, caller: PrimaryCaller, lessee: u32) -> Answer
     requires invariants { MeetsInvariants state.old }
-    requires caller { IsCaller state.old caller }
+    requires caller { IsPrimaryCaller state.old caller }
     ensures refines { RefinesReply state.old caller.client (RevokeLease lessee) result state.new }
     ensures invariants { MeetsInvariants state.new }
 {
-    let Some(member) = caller.member else {
-        // a render client, whose call is not admitted
-        return Answer::Denied(Rule::RenderAllow);
-    };
+    let member = caller.member;
     let Some(master) = state.masters.master(member.master) else {
         unreachable!()
     };

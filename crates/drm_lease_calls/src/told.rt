@@ -4,26 +4,23 @@ ghost use Rattle.std.specs.Prelude.{◌≡◌, ◌≤◌, ◌+◌, ◌++◌, tru
 ghost use Rattle.drm_masters.specs.Masters as sets;
 ghost use Rattle.drm_table.specs.declared.calls.Call.TheVariants.{ListLessees, GetLease};
 ghost use Rattle.drm_model.specs.Leases.{leasable_ids};
-ghost use Rattle.drm_state.specs.Callers.{IsCaller};
+ghost use Rattle.drm_state.specs.Callers.{IsPrimaryCaller};
 ghost use Rattle.drm_state.specs.Invariants.{MeetsInvariants};
 ghost use Rattle.drm_state.specs.Refinement.{RefinesReply};
 
 use drm_masters::Masters;
 use drm_modes::{Kind, Modes};
-use drm_state::{Caller, State};
-use drm_table::{Answer, Rule, ShownList};
+use drm_state::{PrimaryCaller, State};
+use drm_table::{Answer, ShownList};
 
 /// MODE_LIST_LESSEES (drm-uapi, leases; that they rise is own): the ids of the direct lessees of the caller's master whose
 /// lease isn't empty. It takes no memory.
-pub fn list_lessees(state: &State, caller: Caller) -> Answer
+pub fn list_lessees(state: &State, caller: PrimaryCaller) -> Answer
     requires invariants { MeetsInvariants state.now }
-    requires caller { IsCaller state.now caller }
+    requires caller { IsPrimaryCaller state.now caller }
     ensures { RefinesReply state.now caller.client ListLessees result state.now }
 {
-    let Some(member) = caller.member else {
-        // a render client, whose call is not admitted
-        return Answer::Denied(Rule::RenderAllow);
-    };
+    let member = caller.member;
     Answer::List {
         list: state.leases.list(&state.masters, member.master),
     }
@@ -31,15 +28,12 @@ pub fn list_lessees(state: &State, caller: Caller) -> Answer
 
 /// MODE_GET_LEASE (drm-uapi, leases; that an owner has a lease of all is own): the mode objects in the lease of the caller's
 /// master, rising; all CRTCs, planes and connectors where it is no lessee. It takes no memory.
-pub fn get_lease(state: &State, caller: Caller) -> Answer
+pub fn get_lease(state: &State, caller: PrimaryCaller) -> Answer
     requires invariants { MeetsInvariants state.now }
-    requires caller { IsCaller state.now caller }
+    requires caller { IsPrimaryCaller state.now caller }
     ensures { RefinesReply state.now caller.client GetLease result state.now }
 {
-    let Some(member) = caller.member else {
-        // a render client, whose call is not admitted
-        return Answer::Denied(Rule::RenderAllow);
-    };
+    let member = caller.member;
     let list = if is_lessee(&state.masters, member.master) {
         state.leases.objects_of(member.master)
     } else {

@@ -1,5 +1,4 @@
 mod Callers
-mod Flags
 mod Authenticated
 mod Changed
 mod Spent

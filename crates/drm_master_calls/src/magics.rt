@@ -2,24 +2,20 @@
 
 ghost use Rattle.std.specs.Prelude.{◌≡◌, true};
 ghost use Rattle.drm_table.specs.declared.calls.Call.TheVariants.{AuthMagic, GetMagic};
-ghost use Rattle.drm_state.specs.Callers.{IsCaller};
+ghost use Rattle.drm_state.specs.Callers.{IsPrimaryCaller};
 ghost use Rattle.drm_state.specs.Invariants.{MeetsInvariants};
 ghost use Rattle.drm_state.specs.Refinement.{RefinesReply};
 
-use drm_state::{Caller, State};
-use drm_table::{Answer, Rule};
+use drm_state::{PrimaryCaller, State};
+use drm_table::Answer;
 
 /// GET_MAGIC: the caller's number under its master, and where it has none the least free one. It takes no memory.
-pub fn get_magic(state: &mut State, caller: Caller) -> Answer
+pub fn get_magic(state: &mut State, caller: PrimaryCaller) -> Answer
     requires invariants { MeetsInvariants state.old }
-    requires caller { IsCaller state.old caller }
+    requires caller { IsPrimaryCaller state.old caller }
     ensures refines { RefinesReply state.old caller.client GetMagic result state.new }
     ensures invariants { MeetsInvariants state.new }
 {
-    let Some(_member) = caller.member else {
-        // a render client, whose call is not admitted
-        return Answer::Denied(Rule::RenderAllow);
-    };
     let Ok(number) = state.masters.magic(caller.client) else {
         unreachable!()
     };
@@ -31,16 +27,12 @@ pub fn get_magic(state: &mut State, caller: Caller) -> Answer
 
 /// AUTH_MAGIC: the client that has this number under the caller's master is authenticated, and the number is spent. It takes
 /// no memory.
-pub fn auth_magic(state: &mut State, caller: Caller, number: u32) -> Answer
+pub fn auth_magic(state: &mut State, caller: PrimaryCaller, number: u32) -> Answer
     requires invariants { MeetsInvariants state.old }
-    requires caller { IsCaller state.old caller }
+    requires caller { IsPrimaryCaller state.old caller }
     ensures refines { RefinesReply state.old caller.client (AuthMagic number) result state.new }
     ensures invariants { MeetsInvariants state.new }
 {
-    let Some(_member) = caller.member else {
-        // a render client, whose call is not admitted
-        return Answer::Denied(Rule::RenderAllow);
-    };
     match state.masters.auth(caller.client, number) {
         Ok(authenticated) => {
             state.files.set_authenticated(authenticated);

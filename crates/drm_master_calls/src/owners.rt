@@ -2,27 +2,27 @@
 
 ghost use Rattle.std.specs.Prelude.{◌≡◌, true};
 ghost use Rattle.drm_table.specs.declared.calls.Call.TheVariants.{DropMaster, SetMaster};
-ghost use Rattle.drm_state.specs.Callers.{IsCaller};
+ghost use Rattle.drm_state.specs.Callers.{IsPrimaryCaller};
 ghost use Rattle.drm_state.specs.Invariants.{MeetsInvariants, StepPrecondition};
 ghost use Rattle.drm_state.specs.Refinement.{RefinesCall, RefinesReply};
 
 use drm_masters::{SetDone, SetFault};
-use drm_state::{Caller, State};
-use drm_table::{Answer, Rule};
+use drm_state::{PrimaryCaller, State};
+use drm_table::Answer;
 use std::alloc::AllocError;
 
 /// SET_MASTER: who is current stays so, who is a master has its own set again, and any other gets a new one, which
 /// authenticates it. Where memory is refused nothing changes.
-pub fn set_master(state: &mut State, step_number: u32, caller: Caller) -> Result<Answer, AllocError>
+pub fn set_master(
+    state: &mut State,
+    step_number: u32,
+    caller: PrimaryCaller,
+) -> Result<Answer, AllocError>
     requires precondition { StepPrecondition state.old step_number }
-    requires caller { IsCaller state.old caller }
+    requires caller { IsPrimaryCaller state.old caller }
     ensures refines { RefinesCall state.old step_number caller.client SetMaster result state.new }
     ensures invariants { MeetsInvariants state.new }
 {
-    let Some(_member) = caller.member else {
-        // a render client, whose call is not admitted
-        return Ok(Answer::Denied(Rule::RenderAllow));
-    };
     match state
         .masters
         .set(caller.client, caller.flags.root, step_number)
@@ -43,16 +43,12 @@ pub fn set_master(state: &mut State, step_number: u32, caller: Caller) -> Result
 }
 
 /// DROP_MASTER: the device has no master, and the client's stays its own. It takes no memory.
-pub fn drop_master(state: &mut State, caller: Caller) -> Answer
+pub fn drop_master(state: &mut State, caller: PrimaryCaller) -> Answer
     requires invariants { MeetsInvariants state.old }
-    requires caller { IsCaller state.old caller }
+    requires caller { IsPrimaryCaller state.old caller }
     ensures refines { RefinesReply state.old caller.client DropMaster result state.new }
     ensures invariants { MeetsInvariants state.new }
 {
-    let Some(_member) = caller.member else {
-        // a render client, whose call is not admitted
-        return Answer::Denied(Rule::RenderAllow);
-    };
     match state.masters.drop_master(caller.client, caller.flags.root) {
         Ok(()) => {
             state.masters.laws();

@@ -12,8 +12,8 @@ use Rattle.drm_model.specs.Rows.{Rows}
 use Rattle.drm_model.specs.Calls.{meaning}
 use Rattle.drm_model.specs.Verdict.{verdict, admission_checks}
 use Rattle.drm_state.specs.declared.state.State.{State}
-use Rattle.drm_state.specs.declared.caller.Caller.{Caller}
-use Rattle.drm_state.specs.Callers.{IsCaller}
+use Rattle.drm_state.specs.declared.caller.PrimaryCaller.{PrimaryCaller}
+use Rattle.drm_state.specs.Callers.{IsPrimaryCaller}
 use Rattle.drm_state.specs.Invariants.{MeetsInvariants}
 use Rattle.drm_state.specs.Refinement.{Represents}
 use Rattle.drm_state.proofs.Represented.{modes_so}
@@ -24,7 +24,7 @@ use Rattle.drm_mode_calls.specs.Scanout.{refusal, sees_route, is_route, sees_pla
 
 -- ---- the first rule that fails
 
-module _ (s : State) (w : Rows) (k : Caller) (is : IsCaller s k) (h : Represents s w) where
+module _ (s : State) (w : Rows) (k : PrimaryCaller) (is : IsPrimaryCaller s k) (h : Represents s w) where
   pub crtc_verdict : (crtc f connector : ℕ) → first_failing (admission_checks w k.client (SetCrtc crtc f connector)) ≡ None →
       verdict w (Ask k.client (SetCrtc crtc f connector)) ≡ refusal (sees_route s k crtc connector) (can_show s.modes f) (is_route s crtc f connector)
   unfolding meaning

@@ -7,7 +7,7 @@ use Rattle.drm_modes.specs.declared.kinds.Kind.TheVariants.{Crtc, Plane, Connect
 use Rattle.drm_modes.specs.Topology as topology
 use Rattle.drm_modes.specs.Modes.{can_show}
 use Rattle.drm_state.specs.declared.state.State.{State}
-use Rattle.drm_state.specs.declared.caller.Caller.{Caller}
+use Rattle.drm_state.specs.declared.caller.PrimaryCaller.{PrimaryCaller}
 use Rattle.drm_state.specs.Seeing.{sees_object}
 
 -- the first rule that fails
@@ -15,7 +15,7 @@ abbrev pub refusal : Bool → Bool → Bool → Option Rule
 refusal seen there shows = first_failing (check NoModeObject seen ∷ check NoFb there ∷ check BadRoute shows ∷ [])
 
 -- whether the caller sees the CRTC, and the connector unless that is 0
-abbrev pub sees_route : State → Caller → ℕ → ℕ → Bool
+abbrev pub sees_route : State → PrimaryCaller → ℕ → ℕ → Bool
 sees_route s k crtc connector = sees_object s k Crtc crtc && ((connector == 0) || sees_object s k Connector connector)
 
 -- a framebuffer with a connector that the CRTC reaches, or neither
@@ -23,7 +23,7 @@ abbrev pub is_route : State → ℕ → ℕ → ℕ → Bool
 is_route s crtc f connector = topology.is_route s.modes.topology crtc f connector
 
 -- whether the caller sees the plane, and the CRTC unless the plane goes dark
-abbrev pub sees_plane_route : State → Caller → ℕ → ℕ → ℕ → Bool
+abbrev pub sees_plane_route : State → PrimaryCaller → ℕ → ℕ → ℕ → Bool
 sees_plane_route s k plane crtc f = sees_object s k Plane plane && ((f == 0) || sees_object s k Crtc crtc)
 
 -- whether the plane can be shown on the CRTC, or goes dark
@@ -31,8 +31,8 @@ abbrev pub is_plane_route : State → ℕ → ℕ → ℕ → Bool
 is_plane_route s plane crtc f = topology.is_plane_route s.modes.topology plane crtc f
 
 -- the first rule of SETCRTC that fails, and that of SETPLANE
-abbrev pub crtc_refusal : State → Caller → ℕ → ℕ → ℕ → Option Rule
+abbrev pub crtc_refusal : State → PrimaryCaller → ℕ → ℕ → ℕ → Option Rule
 crtc_refusal s k crtc f connector = refusal (sees_route s k crtc connector) (can_show s.modes f) (is_route s crtc f connector)
 
-abbrev pub plane_refusal : State → Caller → ℕ → ℕ → ℕ → Option Rule
+abbrev pub plane_refusal : State → PrimaryCaller → ℕ → ℕ → ℕ → Option Rule
 plane_refusal s k plane crtc f = refusal (sees_plane_route s k plane crtc f) (can_show s.modes f) (is_plane_route s plane crtc f)

@@ -6,12 +6,12 @@ ghost use Rattle.drm_table.specs.declared.answers.Answer.TheVariants.{Framebuffe
 ghost use Rattle.drm_table.specs.declared.calls.Call.TheVariants.{AddFb, GetFb, RmFb};
 ghost use Rattle.drm_model.specs.Buffers as buffers;
 ghost use Rattle.drm_model.specs.Modes as model;
-ghost use Rattle.drm_state.specs.Callers.{IsCaller};
+ghost use Rattle.drm_state.specs.Callers.{IsPrimaryCaller};
 ghost use Rattle.drm_state.specs.Invariants.{MeetsInvariants, StepPrecondition};
 ghost use Rattle.drm_state.specs.Refinement.{RefinesCall, RefinesReply};
 
 use drm_modes::{AddFbFault, Shape};
-use drm_state::{Caller, State, bytes_per_pixel, is_dumb_shape, new_handle};
+use drm_state::{PrimaryCaller, State, bytes_per_pixel, is_dumb_shape, new_handle};
 use drm_table::{Answer, Rule};
 use std::alloc::AllocError;
 
@@ -21,11 +21,11 @@ use std::alloc::AllocError;
 pub fn get_fb(
     state: &mut State,
     step_number: u32,
-    caller: Caller,
+    caller: PrimaryCaller,
     framebuffer: u32,
 ) -> Result<Answer, AllocError>
     requires precondition { StepPrecondition state.old step_number }
-    requires caller { IsCaller state.old caller }
+    requires caller { IsPrimaryCaller state.old caller }
     ensures refines { RefinesCall state.old step_number caller.client (GetFb framebuffer) result state.new }
     ensures invariants { MeetsInvariants state.new }
 {
@@ -91,7 +91,7 @@ pub fn rm_fb(state: &mut State, client: u32, framebuffer: u32) -> Answer
 }
 
 /// Whether the caller is told of a framebuffer with a handle, as a current one and a root one are (drm-uapi, mode setting).
-fn gives_handle(caller: Caller) -> bool
+fn gives_handle(caller: PrimaryCaller) -> bool
     ensures { result ≡ (caller.current || caller.flags.root) }
 {
     caller.current || caller.flags.root

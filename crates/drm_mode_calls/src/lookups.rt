@@ -2,20 +2,20 @@
 
 ghost use Rattle.std.specs.Prelude.{◌≡◌, true};
 ghost use Rattle.drm_table.specs.declared.calls.Call.TheVariants.{GetCrtc, GetEncoder, GetConnector, GetPlane};
-ghost use Rattle.drm_state.specs.Callers.{IsCaller};
+ghost use Rattle.drm_state.specs.Callers.{IsPrimaryCaller};
 ghost use Rattle.drm_state.specs.Invariants.{MeetsInvariants};
 ghost use Rattle.drm_state.specs.Refinement.{RefinesReply};
 
 use crate::seeing::{sees_object, visible_mask};
 use drm_modes::Kind;
-use drm_state::{Caller, State};
+use drm_state::{PrimaryCaller, State};
 use drm_table::{Answer, Rule};
 
 /// MODE_GETCRTC (drm-uapi, mode setting): the framebuffer that a CRTC shows, 0 where it is dark. It is denied where the
 /// caller sees no such CRTC, and takes no memory.
-pub fn get_crtc(state: &State, caller: Caller, crtc: u32) -> Answer
+pub fn get_crtc(state: &State, caller: PrimaryCaller, crtc: u32) -> Answer
     requires invariants { MeetsInvariants state.now }
-    requires caller { IsCaller state.now caller }
+    requires caller { IsPrimaryCaller state.now caller }
     ensures { RefinesReply state.now caller.client (GetCrtc crtc) result state.now }
 {
     if !sees_object(state, caller, Kind::Crtc, crtc) {
@@ -28,9 +28,9 @@ pub fn get_crtc(state: &State, caller: Caller, crtc: u32) -> Answer
 
 /// MODE_GETENCODER (drm-uapi, mode setting): the possible CRTCs of an encoder, as a mask over those that the caller sees. It
 /// is denied where there is no such encoder, and takes no memory.
-pub fn get_encoder(state: &State, caller: Caller, encoder: u32) -> Answer
+pub fn get_encoder(state: &State, caller: PrimaryCaller, encoder: u32) -> Answer
     requires invariants { MeetsInvariants state.now }
-    requires caller { IsCaller state.now caller }
+    requires caller { IsPrimaryCaller state.now caller }
     ensures { RefinesReply state.now caller.client (GetEncoder encoder) result state.now }
 {
     if !sees_object(state, caller, Kind::Encoder, encoder) {
@@ -43,9 +43,9 @@ pub fn get_encoder(state: &State, caller: Caller, encoder: u32) -> Answer
 
 /// MODE_GETCONNECTOR (drm-uapi, mode setting; that a connector has one encoder is own): the encoder of a connector. It is
 /// denied where the caller sees no such connector, and takes no memory.
-pub fn get_connector(state: &State, caller: Caller, connector: u32) -> Answer
+pub fn get_connector(state: &State, caller: PrimaryCaller, connector: u32) -> Answer
     requires invariants { MeetsInvariants state.now }
-    requires caller { IsCaller state.now caller }
+    requires caller { IsPrimaryCaller state.now caller }
     ensures { RefinesReply state.now caller.client (GetConnector connector) result state.now }
 {
     if !sees_object(state, caller, Kind::Connector, connector) {
@@ -58,9 +58,9 @@ pub fn get_connector(state: &State, caller: Caller, connector: u32) -> Answer
 
 /// MODE_GETPLANE (drm-uapi, mode setting): the framebuffer that a plane shows, 0 where it is dark, and its possible CRTCs, as
 /// a mask over those that the caller sees. It is denied where the caller sees no such plane, and takes no memory.
-pub fn get_plane(state: &State, caller: Caller, plane: u32) -> Answer
+pub fn get_plane(state: &State, caller: PrimaryCaller, plane: u32) -> Answer
     requires invariants { MeetsInvariants state.now }
-    requires caller { IsCaller state.now caller }
+    requires caller { IsPrimaryCaller state.now caller }
     ensures { RefinesReply state.now caller.client (GetPlane plane) result state.now }
 {
     if !sees_object(state, caller, Kind::Plane, plane) {

@@ -1,20 +1,20 @@
 //! What there is.
 
 ghost use Rattle.drm_table.specs.declared.calls.Call.TheVariants.{GetResources, GetPlaneResources};
-ghost use Rattle.drm_state.specs.Callers.{IsCaller};
+ghost use Rattle.drm_state.specs.Callers.{IsPrimaryCaller};
 ghost use Rattle.drm_state.specs.Invariants.{MeetsInvariants};
 ghost use Rattle.drm_state.specs.Refinement.{RefinesReply};
 
 use crate::seeing::visible;
 use drm_modes::Kind;
-use drm_state::{Caller, State};
+use drm_state::{PrimaryCaller, State};
 use drm_table::Answer;
 
 /// MODE_GETRESOURCES (drm-uapi, mode setting): the CRTCs and connectors that the caller sees, all encoders, and its own
 /// framebuffers, each list rising. It takes no memory.
-pub fn get_resources(state: &State, caller: Caller) -> Answer
+pub fn get_resources(state: &State, caller: PrimaryCaller) -> Answer
     requires invariants { MeetsInvariants state.now }
-    requires caller { IsCaller state.now caller }
+    requires caller { IsPrimaryCaller state.now caller }
     ensures { RefinesReply state.now caller.client GetResources result state.now }
 {
     Answer::Resources {
@@ -26,9 +26,9 @@ pub fn get_resources(state: &State, caller: Caller) -> Answer
 }
 
 /// MODE_GETPLANERESOURCES (drm-uapi, mode setting): the planes that the caller sees, rising. It takes no memory.
-pub fn get_plane_resources(state: &State, caller: Caller) -> Answer
+pub fn get_plane_resources(state: &State, caller: PrimaryCaller) -> Answer
     requires invariants { MeetsInvariants state.now }
-    requires caller { IsCaller state.now caller }
+    requires caller { IsPrimaryCaller state.now caller }
     ensures { RefinesReply state.now caller.client GetPlaneResources result state.now }
 {
     Answer::List {

@@ -3,14 +3,14 @@
 ghost use Rattle.std.specs.Prelude.{◌≡◌, true};
 ghost use Rattle.drm_table.specs.declared.calls.Call.TheVariants.{SetCrtc, SetPlane};
 ghost use Rattle.drm_modes.specs.Modes as shown;
-ghost use Rattle.drm_state.specs.Callers.{IsCaller};
+ghost use Rattle.drm_state.specs.Callers.{IsPrimaryCaller};
 ghost use Rattle.drm_state.specs.Invariants.{MeetsInvariants};
 ghost use Rattle.drm_state.specs.Refinement.{RefinesReply};
 ghost use Rattle.drm_mode_calls.specs.Scanout as scanned;
 
 use crate::seeing::sees_object;
 use drm_modes::Kind;
-use drm_state::{Caller, State};
+use drm_state::{PrimaryCaller, State};
 use drm_table::{Answer, Rule};
 
 /// MODE_SETCRTC (drm-uapi, mode setting; that one connector is named at most is own): a CRTC shows a framebuffer of any
@@ -19,13 +19,13 @@ use drm_table::{Answer, Rule};
 /// connector that the CRTC reaches, or a connector without a framebuffer. Then nothing changes. It takes no memory.
 pub fn set_crtc(
     state: &mut State,
-    caller: Caller,
+    caller: PrimaryCaller,
     crtc: u32,
     framebuffer: u32,
     connector: u32,
 ) -> Answer
     requires invariants { MeetsInvariants state.old }
-    requires caller { IsCaller state.old caller }
+    requires caller { IsPrimaryCaller state.old caller }
     ensures refines { RefinesReply state.old caller.client (SetCrtc crtc framebuffer connector) result state.new }
     ensures invariants { MeetsInvariants state.new }
 {
@@ -42,13 +42,13 @@ pub fn set_crtc(
 /// there is no such framebuffer, and where the plane can't be shown on the CRTC. Then nothing changes. It takes no memory.
 pub fn set_plane(
     state: &mut State,
-    caller: Caller,
+    caller: PrimaryCaller,
     plane: u32,
     crtc: u32,
     framebuffer: u32,
 ) -> Answer
     requires invariants { MeetsInvariants state.old }
-    requires caller { IsCaller state.old caller }
+    requires caller { IsPrimaryCaller state.old caller }
     ensures refines { RefinesReply state.old caller.client (SetPlane plane crtc framebuffer) result state.new }
     ensures invariants { MeetsInvariants state.new }
 {
@@ -63,7 +63,7 @@ pub fn set_plane(
 /// The first rule of MODE_SETCRTC that fails; what comes after it isn't looked up.
 fn crtc_refusal(
     state: &State,
-    caller: Caller,
+    caller: PrimaryCaller,
     crtc: u32,
     framebuffer: u32,
     connector: u32,
@@ -85,7 +85,7 @@ fn crtc_refusal(
 /// The first rule of MODE_SETPLANE that fails; what comes after it isn't looked up.
 fn plane_refusal(
     state: &State,
-    caller: Caller,
+    caller: PrimaryCaller,
     plane: u32,
     crtc: u32,
     framebuffer: u32,
@@ -105,7 +105,7 @@ fn plane_refusal(
 }
 
 /// Whether the client sees a CRTC, and a connector unless that is 0.
-fn sees_route(state: &State, caller: Caller, crtc: u32, connector: u32) -> bool
+fn sees_route(state: &State, caller: PrimaryCaller, crtc: u32, connector: u32) -> bool
     ensures { result ≡ scanned.sees_route state.now caller crtc connector }
 {
     sees_object(state, caller, Kind::Crtc, crtc)
@@ -123,7 +123,13 @@ fn is_route(state: &State, crtc: u32, framebuffer: u32, connector: u32) -> bool
 }
 
 /// Whether the client sees a plane, and a CRTC unless the plane goes dark.
-fn sees_plane_route(state: &State, caller: Caller, plane: u32, crtc: u32, framebuffer: u32) -> bool
+fn sees_plane_route(
+    state: &State,
+    caller: PrimaryCaller,
+    plane: u32,
+    crtc: u32,
+    framebuffer: u32,
+) -> bool
     ensures { result ≡ scanned.sees_plane_route state.now caller plane crtc framebuffer }
 {
     sees_object(state, caller, Kind::Plane, plane)

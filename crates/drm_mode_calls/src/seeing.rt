@@ -6,12 +6,12 @@ ghost use Rattle.drm_modes.specs.declared.kinds.Kind.TheVariants.{Crtc};
 ghost use Rattle.drm_state.specs.Seeing as views;
 
 use drm_modes::Kind;
-use drm_state::{Caller, State};
+use drm_state::{PrimaryCaller, State};
 use drm_table::ShownList;
 
 /// Whether a caller sees a fixed mode object (drm-uapi, leases and universal planes): all see an encoder, and of the rest a
 /// caller sees what it controls, but primary and cursor planes with universal planes on alone. It takes no memory.
-pub(crate) fn sees(state: &State, caller: Caller, id: u32) -> bool
+pub(crate) fn sees(state: &State, caller: PrimaryCaller, id: u32) -> bool
     ensures { result ≡ views.sees state.now caller id }
 {
     if state.modes.is_of_kind(Kind::Encoder, id) {
@@ -24,24 +24,23 @@ pub(crate) fn sees(state: &State, caller: Caller, id: u32) -> bool
 }
 
 /// Whether a caller's master controls a fixed mode object.
-fn controls(state: &State, caller: Caller, id: u32) -> bool
+fn controls(state: &State, caller: PrimaryCaller, id: u32) -> bool
     ensures { result ≡ views.controls state.now caller id }
 {
-    match caller.member {
-        Some(member) => state.leases.controls(&state.masters, member.master, id),
-        None => false,
-    }
+    state
+        .leases
+        .controls(&state.masters, caller.member.master, id)
 }
 
 /// Whether an id is that of an object of a kind that the caller sees. It takes no memory.
-pub(crate) fn sees_object(state: &State, caller: Caller, kind: Kind, id: u32) -> bool
+pub(crate) fn sees_object(state: &State, caller: PrimaryCaller, kind: Kind, id: u32) -> bool
     ensures { result ≡ views.sees_object state.now caller kind id }
 {
     state.modes.is_of_kind(kind, id) && sees(state, caller, id)
 }
 
 /// The objects of a kind that a caller sees, rising (drm-uapi, leases; that they rise is own). It takes no memory.
-pub(crate) fn visible(state: &State, caller: Caller, kind: Kind) -> ShownList
+pub(crate) fn visible(state: &State, caller: PrimaryCaller, kind: Kind) -> ShownList
     ensures { result ≡ views.visible state.now caller kind }
 {
     let ids = state.modes.ids(kind);
@@ -57,7 +56,7 @@ pub(crate) fn visible(state: &State, caller: Caller, kind: Kind) -> ShownList
 /// The possible CRTCs of a plane or an encoder, as a mask over those that the caller sees: bit i is the i-th of them
 /// (drm-uapi, leases; for planes own). It is 0 of anything else, and takes no memory.
 #[tactic(auto, using(drm_modes::proofs::Fixed::picked_crtcs))]
-pub(crate) fn visible_mask(state: &State, caller: Caller, id: u32) -> u32
+pub(crate) fn visible_mask(state: &State, caller: PrimaryCaller, id: u32) -> u32
     ensures { result ≡ mask_over state.now.modes.topology id (views.visible state.now caller Crtc) }
 {
     let crtcs = visible(state, caller, Kind::Crtc);

@@ -1,5 +1,5 @@
--- The caller of a call: its file, its row and its master, which it has where the call isn't for render clients.
-use Rattle.std.proofs.Common.{◌≡◌, ℕ, Bool, true, false, not, ◌||◌, List, find, Option, None, Some, refl, sym, ap, ◌∙◌}
+-- The caller of a call: its file, its row and its master, which it has unless it is a render client.
+use Rattle.std.proofs.Common.{◌≡◌, ℕ, true, false, ◌||◌, List, find, Option, None, Some, refl, sym, ap, ◌∙◌}
 use Rattle.std.specs.Prelude.{unwrap_or}
 use Rattle.std.specs.Option.{is_some, option_map, option_map_or, option_and_then}
 use Rattle.std.proofs.lemmas.Bool.{eqb-true}
@@ -8,16 +8,12 @@ use Rattle.drm_lists.proofs.Rising.{found}
 use Rattle.drm_files.specs.declared.rows.FileClient.{FileClient}
 use Rattle.drm_files.specs.declared.rows.FileFlags.{FileFlags}
 use Rattle.drm_files.specs.Files as files
-use Rattle.drm_table.specs.declared.calls.Call.{Call}
-use Rattle.drm_table.specs.Permit.{first_failing, has_flag, render_allow}
-use Rattle.drm_table.specs.Table.{flags_of}
 use Rattle.drm_masters.specs.declared.rows.Member.{Member}
 use Rattle.drm_masters.specs.Masters as masters
 use Rattle.drm_masters.specs.Masters.{member_of}
 use Rattle.drm_model.specs.Rows.{Rows, ClientRow, client_row}
-use Rattle.drm_model.specs.Masters.{credentials_of, credentials_in, master_of, lessor_of, is_lessee}
+use Rattle.drm_model.specs.Masters.{master_of, lessor_of, is_lessee}
 use Rattle.drm_model.specs.Magics.{caller_master}
-use Rattle.drm_model.specs.Verdict.{admission_checks}
 use Rattle.drm_state.specs.declared.state.State.{State}
 use Rattle.drm_state.specs.declared.caller.Caller.{Caller}
 use Rattle.drm_state.specs.Callers.{IsCaller}
@@ -27,7 +23,6 @@ use Rattle.drm_state.specs.Refinement.{Represents}
 use Rattle.drm_state.proofs.Represented.{clients_have, masters_are}
 use Rattle.drm_state.proofs.Living.{lessors_are}
 use Rattle.drm_state.proofs.Lookups.{client_row_is}
-use Rattle.drm_model.proofs.Leased.{all_hold}
 
 -- the file of a client that is open
 pub file_of : (s : State) (c : ℕ) → files.is_open_client s.files c ≡ true → (flags : FileFlags) × (find (files.is_client c) s.files.clients ≡ Some (record { client = c; flags = flags }))
@@ -42,25 +37,6 @@ file_of s c h = by_file (find (files.is_client c) s.files.clients) refl h
 -- its row
 pub row_is : (s : State) (w : Rows) (c : ℕ) (flags : FileFlags) → Represents s w → find (files.is_client c) s.files.clients ≡ Some (record { client = c; flags = flags }) → client_row w c ≡ Some (client_row_by (record { client = c; flags = flags }) (member_of s.masters.members c))
 row_is s w c flags h e = client_row_is s w h c flags (sym (ap (option_map (λ (f : FileClient). f.flags)) e))
-
--- a call that isn't for render clients is not admitted where the caller stands to no master
-pub never_admitted : (s : State) (w : Rows) (c : ℕ) (call : Call) → MeetsInvariants s → files.is_open_client s.files c ≡ true → Represents s w → has_flag (flags_of call) render_allow ≡ false → member_of s.masters.members c ≡ None → first_failing (admission_checks w c call) ≡ None → ⊥
-unfolding admission_checks
-never_admitted s w c call t there h flag none admitted =
-    let f = file_of s c there in
-    let has : (f.0.render || is_some (member_of s.masters.members c)) ≡ true = (found (files.is_client c) (HasMaster s.masters) (record { client = c; flags = f.0 }) s.files.clients (clients_have s t) f.1).1 in
-    let render : f.0.render ≡ true = no_member f.0.render (ap (λ o. f.0.render || is_some o) (sym none) ∙ has) in
-    let row = row_is s w c f.0 h f.1 in
-    let last = (all_hold (admission_checks w c call) admitted).1.1.1.1.1.1.0 in
-    let fails : (has_flag (flags_of call) render_allow || not (credentials_of w c).render) ≡ false = ap (λ o. has_flag (flags_of call) render_allow || not (credentials_in w o).render) row ∙ ap (λ b. has_flag (flags_of call) render_allow || not b) render ∙ ap (λ b. b || false) flag in
-    clash _ fails last
-  where
-    no_member : (b : Bool) → (b || false) ≡ true → b ≡ true
-    no_member true k = refl
-    no_member false k = absurd (let n : false ≡ true = k in cc)
-
-    clash : (b : Bool) → b ≡ false → b ≡ true → ⊥
-    clash b e k = cc
 
 -- who is found by a number has it
 pub same_client : (xs : List Member) (c : ℕ) (x : Member) → member_of xs c ≡ Some x → (x.client ≡ c) × (member_of xs x.client ≡ Some x)
@@ -86,6 +62,12 @@ module _ (s : State) (k : Caller) (is : IsCaller s k) where
 
   pub caller_root : k.flags.root ≡ root_of s k.client
   caller_root = sym (ap (λ o. option_map_or (λ (f : FileClient). f.flags.root) o false) caller_file)
+
+  -- unless it is a render client it stands to a master
+  pub caller_member : MeetsInvariants s → k.flags.render ≡ false → is_some k.member ≡ true
+  caller_member t render =
+      let has : (k.flags.render || is_some (member_of s.masters.members k.client)) ≡ true = (found (files.is_client k.client) (HasMaster s.masters) (record { client = k.client; flags = k.flags }) s.files.clients (clients_have s t) caller_file).1 in
+      ap is_some is.member ∙ ap (λ b. b || is_some (member_of s.masters.members k.client)) (sym render) ∙ has
 
 -- ---- a caller that stands to a master
 

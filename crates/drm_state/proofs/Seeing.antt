@@ -1,13 +1,12 @@
 -- What a client sees of the mode objects, by rows and by what the device keeps.
-use Rattle.std.proofs.Common.{◌≡◌, ℕ, ◌==◌, nat_lt, Bool, true, false, not, ◌&&◌, ◌||◌, List, [], ◌∷◌, map, filter, length, Option, None, Some, refl, sym, ap, ◌∙◌, arith}
+use Rattle.std.proofs.Common.{◌≡◌, ℕ, ◌==◌, nat_lt, Bool, true, false, not, ◌&&◌, ◌||◌, List, [], ◌∷◌, map, filter, length, Some, refl, sym, ap, ◌∙◌, arith}
 use Rattle.std.specs.Prelude.{nat_le}
-use Rattle.std.specs.Option.{is_some, option_map, option_map_or, option_and_then}
+use Rattle.std.specs.Option.{is_some, option_map_or, option_and_then}
 use Rattle.std.proofs.lemmas.Bool.Decides.{nat_tests}
 use Rattle.drm_index_array.specs.Rows as arrays
 use Rattle.drm_lists.specs.Orders.{InOrder}
 use Rattle.drm_lists.proofs.Lists.{all_weaker, filter-map, list_any-map, map-map}
 use Rattle.drm_lists.proofs.Orders.{RisesTo, in_order_filter, in_order_map, same-any, same-filter, same-map, sorted-same, order_of_numbers}
-use Rattle.drm_masters.specs.declared.rows.Member.{Member}
 use Rattle.drm_leases.specs.Leases as leases
 use Rattle.drm_modes.specs.declared.rows.Framebuffer.{Framebuffer}
 use Rattle.drm_modes.specs.declared.kinds.Kind.TheVariants.{Crtc, Plane, Connector}
@@ -18,8 +17,8 @@ use Rattle.drm_model.specs.Rows.{Rows, ClientRow, GrantRow, FramebufferRow, clie
 use Rattle.drm_model.specs.Masters.{master_of, lessor_of}
 use Rattle.drm_model.specs.Sees as model
 use Rattle.drm_state.specs.declared.state.State.{State}
-use Rattle.drm_state.specs.declared.caller.Caller.{Caller}
-use Rattle.drm_state.specs.Callers.{IsCaller}
+use Rattle.drm_state.specs.declared.caller.PrimaryCaller.{PrimaryCaller}
+use Rattle.drm_state.specs.Callers.{IsPrimaryCaller}
 use Rattle.drm_state.specs.Parts.{client_row_by, grant_row_of, grants_of, framebuffer_row_of, framebuffers_of}
 use Rattle.drm_state.specs.Invariants.{MeetsInvariants}
 use Rattle.drm_state.specs.Refinement.{Represents}
@@ -33,11 +32,11 @@ topology_is s w h = sym (bounds_are s w h).7
 
 -- ---- what a client sees
 
-module _ (s : State) (w : Rows) (k : Caller) (is : IsCaller s k) (h : Represents s w) where
-  row_here : client_row w k.client ≡ Some (client_row_by (record { client = k.client; flags = k.flags }) k.member)
+module _ (s : State) (w : Rows) (k : PrimaryCaller) (is : IsPrimaryCaller s k) (h : Represents s w) where
+  row_here : client_row w k.client ≡ Some (client_row_by (record { client = k.client; flags = k.flags }) (Some k.member))
   row_here = client_row_is s w h k.client k.flags is.flags ∙ ap (λ o. Some (client_row_by (record { client = k.client; flags = k.flags }) o)) (sym is.member)
 
-  master_is : master_of w k.client ≡ option_map (λ (y : Member). y.master) k.member
+  master_is : master_of w k.client ≡ Some k.member.master
   master_is = ap (option_and_then (λ (row : ClientRow). row.master)) row_here
 
   -- whether the lease of a master has the mode object
@@ -48,13 +47,10 @@ module _ (s : State) (w : Rows) (k : Caller) (is : IsCaller s k) (h : Represents
 
   pub controls_is : (x : ℕ) → model.controls w k.client x ≡ controls s k x
   unfolding model.controls
-  controls_is x = ap (λ m. model.master_controls w m x) master_is ∙ by_member k.member
-    where
-      by_member : (o : Option Member) → model.master_controls w (option_map (λ (y : Member). y.master) o) x ≡ option_map_or (λ (y : Member). leases.controls s.leases.grants s.masters.masters y.master x) o false
-      by_member None = refl
-      by_member (Some y) =
-          (λ i. not (is_some (lessor_of (masters_are s w h i) y.master)) || granted_is y.master x i)
-          ∙ ap (λ o. not (is_some o) || leases.is_granted s.leases.grants y.master x) (lessors_are s.leases.tokens s.masters.masters y.master)
+  controls_is x =
+      ap (λ m. model.master_controls w m x) master_is
+      ∙ (λ i. not (is_some (lessor_of (masters_are s w h i) k.member.master)) || granted_is k.member.master x i)
+      ∙ ap (λ o. not (is_some o) || leases.is_granted s.leases.grants k.member.master x) (lessors_are s.leases.tokens s.masters.masters k.member.master)
 
   pub universal_is : model.has_universal w k.client ≡ k.flags.universal
   universal_is = ap (λ o. option_map_or (λ (row : ClientRow). row.universal) o false) row_here
@@ -85,7 +81,7 @@ module _ (s : State) (w : Rows) (k : Caller) (is : IsCaller s k) (h : Represents
   mask_visible x = λ i. mask_over (topology_is s w h i) x (crtcs_visible i)
 
 -- an encoder is seen by all
-pub encoder_seen : (s : State) (w : Rows) (k : Caller) → Represents s w → (x : ℕ) → is_encoder w.topology x ≡ (is_encoder s.modes.topology x && sees s k x)
+pub encoder_seen : (s : State) (w : Rows) (k : PrimaryCaller) → Represents s w → (x : ℕ) → is_encoder w.topology x ≡ (is_encoder s.modes.topology x && sees s k x)
 encoder_seen s w k h x = ap (λ t. is_encoder t x) (topology_is s w h) ∙ itself (is_encoder s.modes.topology x) _
   where
     itself : (encoder other : Bool) → encoder ≡ (encoder && (encoder || other))

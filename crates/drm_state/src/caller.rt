@@ -1,8 +1,9 @@
 //! Who asks.
 
-ghost use Rattle.std.specs.Prelude.{◌≡◌, false, IfSome, IfNone};
+ghost use Rattle.std.specs.Prelude.{◌≡◌, false, true, IfSome, IfNone};
+ghost use Rattle.std.specs.Option.{is_some};
 ghost use Rattle.drm_files.specs.Files.{is_open_client};
-ghost use Rattle.drm_state.specs.Callers.{IsCaller};
+ghost use Rattle.drm_state.specs.Callers.{IsCaller, as_caller};
 
 use crate::state::State;
 use drm_files::FileFlags;
@@ -49,4 +50,34 @@ impl Caller {
             current: self.current,
         }
     }
+
+    /// Returns the caller with its master. Every caller has one, except a render client. Does not allocate.
+    pub fn primary(self) -> PrimaryCaller
+        requires { is_some self.member ≡ true }
+        ensures { as_caller result ≡ self }
+    {
+        let Some(member) = self.member else {
+            unreachable!()
+        };
+        PrimaryCaller {
+            client: self.client,
+            flags: self.flags,
+            member,
+            current: self.current,
+        }
+    }
+}
+
+/// A [`Caller`] that is not a render client (`drm_is_primary_client`). It opened a primary node or redeemed a lease token.
+/// Only such a caller can make a call whose row has no RENDER_ALLOW.
+#[derive(Clone, Copy)]
+pub struct PrimaryCaller {
+    /// The client's number, which is that of the step that opened it.
+    pub client: u32,
+    /// The flags of its file.
+    pub flags: FileFlags,
+    /// Its relation to masters.
+    pub member: Member,
+    /// Whether it is current (`drm_is_current_master`).
+    pub current: bool,
 }

@@ -7,7 +7,7 @@ mod releases;
 mod shapes;
 mod state;
 
-pub use caller::Caller;
+pub use caller::{Caller, PrimaryCaller};
 pub use handles::new_handle;
 pub use releases::release;
 pub use shapes::{bytes_per_pixel, is_dumb_shape};

@@ -11,6 +11,7 @@ use Rattle.drm_state.specs.Callers.{IsCaller}
 use Rattle.drm_state.specs.Refinement.{IsAdmission}
 use Rattle.drm_state.proofs.Refinements.{admitted_by_permit}
 use Rattle.drm_state.proofs.Lookups.{client_row_is, is_open_is, credentials_is}
+use Rattle.drm_device.proofs.Primaries.{permits_render}
 use Rattle.drm_device.proofs.calls.admission.Goals as goal
 
 pub returns-then-not-is_known-clause-err : goal.returns-then-not-is_known-clause-err
@@ -59,3 +60,8 @@ returns-in-None-clause-ok c =
     subst (λ n. IsAdmission c.args.state.now n call None) c.in-Some.ensures.client
     (permitted c.args.state.now c.in-Some.caller call None c.in-Some.ensures.caller known laid
     (sym c.in-None.is ∙ c.permit.ensures ∙ (λ i. first_failing (permit_checks (c.flags.ensures i) (c.credentials.ensures i)))))
+
+pub returns-in-None-clause-render : goal.returns-in-None-clause-render
+returns-in-None-clause-render c =
+    permits_render (flags_of c.args.call.now) (record { root = c.in-Some.caller.flags.root; render = c.in-Some.caller.flags.render; authenticated = c.in-Some.caller.flags.authenticated; current = c.in-Some.caller.current })
+    (sym (sym c.in-None.is ∙ c.permit.ensures ∙ (λ i. first_failing (permit_checks (c.flags.ensures i) (c.credentials.ensures i)))))

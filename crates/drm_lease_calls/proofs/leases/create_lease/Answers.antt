@@ -24,13 +24,13 @@ use Rattle.drm_model.specs.Change.{changed}
 use Rattle.drm_model.specs.Reply.{answer_of}
 use Rattle.drm_model.proofs.Leased.{leased_within, leased_once}
 use Rattle.drm_state.specs.declared.state.State.{State}
+use Rattle.drm_state.specs.Callers.{as_caller}
 use Rattle.drm_state.specs.Invariants.{MeetsInvariants}
 use Rattle.drm_state.specs.Refinement.{RefinesCall, Represents}
 use Rattle.drm_state.proofs.Represented.{masters_so, leases_agree}
 use Rattle.drm_state.proofs.Refinements.{denied, refused, carried_on}
 use Rattle.drm_state.proofs.Seeing.{topology_is}
-use Rattle.drm_state.proofs.Callers.{caller_file, caller_open, never_admitted, own_master_is}
-use Rattle.drm_lease_calls.proofs.Flags.{create_lease_flags}
+use Rattle.drm_state.proofs.Callers.{caller_file, own_master_is}
 use Rattle.drm_lease_calls.proofs.Asked.{create_verdict, free_lessee_is, leased_is, next_is}
 use Rattle.drm_lease_calls.proofs.Listed.{same_listed}
 use Rattle.drm_lease_calls.proofs.Leased.{leased_rows, leased_invariants, leased_represents}
@@ -44,11 +44,6 @@ came {r = r} {result = result} {given = given} {ids = ids} {on = on} s x step l 
     (subst (λ ids. Created s.leases s.masters s.modes x.master on ids step result l v) same
     (subst (λ r. Created s.leases s.masters s.modes x.master on given step r l v) is
     (subst (λ o. IfSome o (λ y. Created s.leases s.masters s.modes y.master on given step r l v)) look h)))
-
-pub returns-in_default-clause-refines : goal.returns-in_default-clause-refines
-unfolding RefinesCall
-returns-in_default-clause-refines c = λ w r admitted.
-    absurd (never_admitted c.args.state.now w c.args.caller.client (CreateLease c.args.ids.now) c.requires.precondition.invariants (caller_open c.args.state.now c.args.caller c.requires.caller) r.rows (create_lease_flags c.args.ids.now) (sym c.requires.caller.member ∙ c.in_default.is) admitted)
 
 pub create-requires-clause-new_step_number : goal.create-requires-clause-new_step_number
 create-requires-clause-new_step_number c = newest_unused c.args.state.now.masters.masters c.args.step_number c.requires.precondition.later.masters
@@ -68,10 +63,10 @@ returns-in-Ok-clause-invariants c =
     let s = c.args.state.now in
     let ids = c.args.ids.now in
     let step = c.args.step_number in
-    let x = c.in-Some._member in
+    let x = c.args.caller.member in
     let made = c.in-Ok.made in
     let objects = listed_objects s.modes.topology (leased s.leases s.masters s.modes x.master c.args.caller.flags.universal ids) in
-    let by = came s x step c.create.new.self c.create.new.masters (sym c.requires.caller.member ∙ c.in-Some.is) c.in-Ok.is c.ids.ensures.ids refl c.create.ensures.created in
+    let by = came s x step c.create.new.self c.create.new.masters (sym c.requires.caller.member) c.in-Ok.is c.ids.ensures.ids refl c.create.ensures.created in
     let later = c.requires.precondition.later in
     let masters_are_now = by.4.2 ∙ newest_master s.masters (lessee by.4.0 step x.master made.id) later.masters in
     let leases_are_now = by.3 ∙ newest_last made.token step x.master objects s.leases later.leases in
@@ -89,18 +84,18 @@ returns-in-Ok-clause-refines c = λ w r admitted.
     let ids = c.args.ids.now in
     let client = c.args.caller.client in
     let step = c.args.step_number in
-    let x = c.in-Some._member in
+    let x = c.args.caller.member in
     let made = c.in-Ok.made in
-    let look = sym c.requires.caller.member ∙ c.in-Some.is in
+    let look = sym c.requires.caller.member in
     let objects = listed_objects s.modes.topology (leased s.leases s.masters s.modes x.master c.args.caller.flags.universal ids) in
     let by = came s x step c.create.new.self c.create.new.masters look c.in-Ok.is c.ids.ensures.ids refl c.create.ensures.created in
-    let file = caller_file s c.args.caller c.requires.caller in
+    let file = caller_file s (as_caller c.args.caller) c.requires.caller in
     let own = own_master_is s w client c.args.caller.flags x h file look in
-    let none = create_verdict s w t h c.args.caller x c.requires.caller c.in-Some.is ids own admitted ∙ by.0 in
+    let none = create_verdict s w t h c.args.caller c.requires.caller ids own admitted ∙ by.0 in
     let id_is : new_lessee_id w (caller_master w client) ≡ made.id = ap (new_lessee_id w) own ∙ ap (λ o. unwrap_or o 0) (free_lessee_is s w t h x.master ∙ by.1) in
     let token_is : new_lease_token w ≡ made.token = ap (λ o. unwrap_or o 0) (next_is s w t h ∙ by.2) in
     let all = model.leased w client ids in
-    let same = subst (λ l. SameRows all (listed_objects s.modes.topology l)) (leased_is s w t h c.args.caller x c.requires.caller c.in-Some.is ids) (same_listed s.modes.topology all (leased_once w client ids none) (λ k e. subst (λ topology. (1 ≤ k) × (k ≤ object_count topology)) (topology_is s w h) (leased_within w client ids none k e))) in
+    let same = subst (λ l. SameRows all (listed_objects s.modes.topology l)) (leased_is s w t h c.args.caller c.requires.caller ids) (same_listed s.modes.topology all (leased_once w client ids none) (λ k e. subst (λ topology. (1 ≤ k) × (k ≤ object_count topology)) (topology_is s w h) (leased_within w client ids none k e))) in
     let new = record s { masters = c.create.new.masters; leases = c.create.new.self } in
     carried_on new w (Ask client (CreateLease ids)) (Lease made.id made.token) (returns-in-Ok-clause-invariants c) none (λ i. Lease (sym id_is i) (sym token_is i))
     (subst (Represents new) (sym (λ i. leased_rows w (own i) (r.step_number_is i) (id_is i) (token_is i) all))
@@ -114,13 +109,13 @@ returns-in-Err-Denied-clause-refines c = λ w r admitted.
     let s = c.args.state.now in
     let ids = c.args.ids.now in
     let client = c.args.caller.client in
-    let x = c.in-Some._member in
-    let look = sym c.requires.caller.member ∙ c.in-Some.is in
+    let x = c.args.caller.member in
+    let look = sym c.requires.caller.member in
     let by = came s x c.args.step_number c.create.new.self c.create.new.masters look (c.in-Err-Denied.is ∙ ap Err c.in-Err-Denied.field-0-is) c.ids.ensures.ids refl c.create.ensures.created in
-    let file = caller_file s c.args.caller c.requires.caller in
+    let file = caller_file s (as_caller c.args.caller) c.requires.caller in
     let own = own_master_is s w client c.args.caller.flags x r.rows file look in
     denied (record s { masters = c.create.new.masters; leases = c.create.new.self }) w (Ask client (CreateLease ids)) c.in-Err-Denied.rule
-    (create_verdict s w c.requires.precondition.invariants r.rows c.args.caller x c.requires.caller c.in-Some.is ids own admitted ∙ by.0)
+    (create_verdict s w c.requires.precondition.invariants r.rows c.args.caller c.requires.caller ids own admitted ∙ by.0)
     (subst (λ (l : LeaseSet). Represents (record s { masters = c.create.new.masters; leases = l }) w) (sym by.1) (subst (λ (v : MasterSet). Represents (record s { masters = v }) w) (sym by.2) r.rows))
 
 pub returns-in-Err-NoMemory-clause-refines : goal.returns-in-Err-NoMemory-clause-refines
@@ -129,12 +124,12 @@ returns-in-Err-NoMemory-clause-refines c = λ w r admitted.
     let s = c.args.state.now in
     let ids = c.args.ids.now in
     let client = c.args.caller.client in
-    let x = c.in-Some._member in
-    let look = sym c.requires.caller.member ∙ c.in-Some.is in
+    let x = c.args.caller.member in
+    let look = sym c.requires.caller.member in
     let by = came s x c.args.step_number c.create.new.self c.create.new.masters look (c.in-Err-NoMemory.is ∙ ap Err c.in-Err-NoMemory.field-0-is) c.ids.ensures.ids refl c.create.ensures.created in
-    let file = caller_file s c.args.caller c.requires.caller in
+    let file = caller_file s (as_caller c.args.caller) c.requires.caller in
     let own = own_master_is s w client c.args.caller.flags x r.rows file look in
     refused (record s { masters = c.create.new.masters; leases = c.create.new.self }) w (Ask client (CreateLease ids)) _
-    (create_verdict s w c.requires.precondition.invariants r.rows c.args.caller x c.requires.caller c.in-Some.is ids own admitted ∙ by.0)
+    (create_verdict s w c.requires.precondition.invariants r.rows c.args.caller c.requires.caller ids own admitted ∙ by.0)
     (inr (inl (omega (arith, length-append w.masters (new_lessee w (caller_master w client) ∷ [])))))
     (subst (λ (l : LeaseSet). Represents (record s { masters = c.create.new.masters; leases = l }) w) (sym by.1) (subst (λ (v : MasterSet). Represents (record s { masters = v }) w) (sym by.2) r.rows))

@@ -17,25 +17,21 @@ use Rattle.drm_model.specs.Leases.{ended, lessee_master}
 use Rattle.drm_model.specs.Calls.{meaning}
 use Rattle.drm_model.specs.Change.{changed, swept}
 use Rattle.drm_model.specs.Reply.{answer_of}
+use Rattle.drm_state.specs.Callers.{as_caller}
 use Rattle.drm_state.specs.Invariants.{MeetsInvariants}
 use Rattle.drm_state.specs.Refinement.{RefinesReply, Represents}
 use Rattle.drm_state.proofs.Represented.{masters_so, leases_agree}
 use Rattle.drm_state.proofs.Refinements.{denied, carried}
-use Rattle.drm_state.proofs.Callers.{caller_file, caller_open, never_admitted, own_master_is}
-use Rattle.drm_lease_calls.proofs.Flags.{revoke_lease_flags}
+use Rattle.drm_state.proofs.Callers.{caller_file, own_master_is}
 use Rattle.drm_lease_calls.proofs.Lessees.{lessee_step_number, revoke_verdict}
 use Rattle.drm_lease_calls.proofs.Revoked.{revoked_invariants, revoked_represents}
 use Rattle.drm_lease_calls.proofs.leases.revoke_lease.Goals as goal
 
-pub returns-in_default-clause-refines : goal.returns-in_default-clause-refines
-unfolding RefinesReply
-returns-in_default-clause-refines c = λ w h admitted. absurd (never_admitted c.args.state.now w c.args.caller.client (RevokeLease c.args.lessee) c.requires.invariants (caller_open c.args.state.now c.args.caller c.requires.caller) h (revoke_lease_flags c.args.lessee) (sym c.requires.caller.member ∙ c.in_default.is) admitted)
-
 pub unreachable-requires : goal.unreachable-requires
 unreachable-requires c =
     let v = c.args.state.now.masters in
-    let there = (found (masters.is_client c.args.caller.client) (λ (y : Member). is_some (masters.master_at v.masters y.master) ≡ true) c.in-Some.member v.members (masters_so c.args.state.now c.requires.invariants).masters_there (sym c.requires.caller.member ∙ c.in-Some.is)).1 in
-    let none : false ≡ true = sym (ap is_some (sym c.master.ensures.master ∙ c.in_default-master.is)) ∙ there in
+    let there = (found (masters.is_client c.args.caller.client) (λ (y : Member). is_some (masters.master_at v.masters y.master) ≡ true) c.args.caller.member v.members (masters_so c.args.state.now c.requires.invariants).masters_there (sym c.requires.caller.member)).1 in
+    let none : false ≡ true = sym (ap is_some (sym c.master.ensures.master ∙ c.in_default.is)) ∙ there in
     cc
 
 -- the lessee that was looked for
@@ -47,10 +43,10 @@ unfolding RefinesReply
 returns-in_default-lessee-clause-refines c = λ w h admitted.
     let s = c.args.state.now in
     let client = c.args.caller.client in
-    let x = c.in-Some.member in
-    let file = caller_file s c.args.caller c.requires.caller in
-    let own = own_master_is s w client c.args.caller.flags x h file (sym c.requires.caller.member ∙ c.in-Some.is) in
-    let none = looked s.masters x.master c.in-Some-master.master.key c.args.lessee c.lessee.result None c.in-Some-master.ensures.keyed c.lessee.ensures.lessee c.in_default-lessee.is in
+    let x = c.args.caller.member in
+    let file = caller_file s (as_caller c.args.caller) c.requires.caller in
+    let own = own_master_is s w client c.args.caller.flags x h file (sym c.requires.caller.member) in
+    let none = looked s.masters x.master c.in-Some.master.key c.args.lessee c.lessee.result None c.in-Some.ensures.keyed c.lessee.ensures.lessee c.in_default-lessee.is in
     denied s w (Ask client (RevokeLease c.args.lessee)) NoLessee (revoke_verdict s w h client x.master c.args.lessee None own admitted none) h
 
 pub returns-then-not-is_lent_by-clause-refines : goal.returns-then-not-is_lent_by-clause-refines
@@ -58,11 +54,11 @@ unfolding RefinesReply
 returns-then-not-is_lent_by-clause-refines c = λ w h admitted.
     let s = c.args.state.now in
     let client = c.args.caller.client in
-    let x = c.in-Some.member in
+    let x = c.args.caller.member in
     let lessee = c.in-Some-lessee.found in
-    let file = caller_file s c.args.caller c.requires.caller in
-    let own = own_master_is s w client c.args.caller.flags x h file (sym c.requires.caller.member ∙ c.in-Some.is) in
-    let one = looked s.masters x.master c.in-Some-master.master.key c.args.lessee c.lessee.result (Some lessee) c.in-Some-master.ensures.keyed c.lessee.ensures.lessee c.in-Some-lessee.is in
+    let file = caller_file s (as_caller c.args.caller) c.requires.caller in
+    let own = own_master_is s w client c.args.caller.flags x h file (sym c.requires.caller.member) in
+    let one = looked s.masters x.master c.in-Some.master.key c.args.lessee c.lessee.result (Some lessee) c.in-Some.ensures.keyed c.lessee.ensures.lessee c.in-Some-lessee.is in
     denied s w (Ask client (RevokeLease c.args.lessee)) NotYourLessee
     (revoke_verdict s w h client x.master c.args.lessee (Some lessee) own admitted one ∙ ap (λ b. first_failing (check NotYourLessee b ∷ [])) (sym c.is_lent_by.ensures ∙ c.if-not-is_lent_by.true)) h
 
@@ -82,11 +78,11 @@ unfolding RefinesReply meaning changed answer_of
 returns-clause-refines c = λ w h admitted.
     let s = c.args.state.now in
     let client = c.args.caller.client in
-    let x = c.in-Some.member in
+    let x = c.args.caller.member in
     let lessee = c.in-Some-lessee.found in
-    let file = caller_file s c.args.caller c.requires.caller in
-    let own = own_master_is s w client c.args.caller.flags x h file (sym c.requires.caller.member ∙ c.in-Some.is) in
-    let one = looked s.masters x.master c.in-Some-master.master.key c.args.lessee c.lessee.result (Some lessee) c.in-Some-master.ensures.keyed c.lessee.ensures.lessee c.in-Some-lessee.is in
+    let file = caller_file s (as_caller c.args.caller) c.requires.caller in
+    let own = own_master_is s w client c.args.caller.flags x h file (sym c.requires.caller.member) in
+    let one = looked s.masters x.master c.in-Some.master.key c.args.lessee c.lessee.result (Some lessee) c.in-Some.ensures.keyed c.lessee.ensures.lessee c.in-Some-lessee.is in
     let new = record s { masters = c.revoke.new.masters; leases = c.revoke.new.self } in
     carried new w (Ask client (RevokeLease c.args.lessee)) Done
     (revoke_verdict s w h client x.master c.args.lessee (Some lessee) own admitted one ∙ ap (λ b. first_failing (check NotYourLessee b ∷ [])) (sym c.is_lent_by.ensures ∙ c.if-not-is_lent_by.false)) refl

@@ -10,27 +10,23 @@ use Rattle.drm_model.specs.Leases.{granted_of, leasable_ids}
 use Rattle.drm_model.specs.Calls.{meaning}
 use Rattle.drm_model.specs.Change.{changed}
 use Rattle.drm_model.specs.Reply.{answer_of}
+use Rattle.drm_state.specs.Callers.{as_caller}
 use Rattle.drm_state.specs.Refinement.{RefinesReply}
 use Rattle.drm_state.proofs.Refinements.{carried_on, call_verdict}
-use Rattle.drm_state.proofs.Callers.{caller_file, caller_open, never_admitted, lessee_is, own_master_is}
+use Rattle.drm_state.proofs.Callers.{caller_file, lessee_is, own_master_is}
 use Rattle.drm_state.proofs.Seeing.{topology_is}
-use Rattle.drm_lease_calls.proofs.Flags.{get_lease_flags}
 use Rattle.drm_lease_calls.proofs.Lessees.{lease_listed}
 use Rattle.drm_lease_calls.proofs.told.get_lease.Goals as goal
 use Rattle.drm_lease_calls.proofs.told.get_lease.Goals.{then-is_lessee, else-is_lessee}
-
-pub returns-in_default : goal.returns-in_default
-unfolding RefinesReply
-returns-in_default c = λ w h admitted. absurd (never_admitted c.args.state.now w c.args.caller.client GetLease c.requires.invariants (caller_open c.args.state.now c.args.caller c.requires.caller) h get_lease_flags (sym c.requires.caller.member ∙ c.in_default.is) admitted)
 
 pub returns : goal.returns
 unfolding RefinesReply meaning changed answer_of
 returns c = λ w h admitted.
     let s = c.args.state.now in
     let client = c.args.caller.client in
-    let x = c.in-Some.member in
-    let file = caller_file s c.args.caller c.requires.caller in
-    let look = sym c.requires.caller.member ∙ c.in-Some.is in
+    let x = c.args.caller.member in
+    let file = caller_file s (as_caller c.args.caller) c.requires.caller in
+    let look = sym c.requires.caller.member in
     let own = own_master_is s w client c.args.caller.flags x h file look in
     let is : is_lessee w client ≡ c.is_lessee.result = lessee_is s w client c.args.caller.flags x h file look ∙ sym c.is_lessee.ensures in
     let told = λ (b : Bool). let l : List ℕ = if b then rising (granted_of w (caller_master w client)) else leasable_ids w.topology in l in

@@ -7,24 +7,20 @@ use Rattle.drm_model.specs.Leases as model
 use Rattle.drm_model.specs.Calls.{meaning}
 use Rattle.drm_model.specs.Change.{changed}
 use Rattle.drm_model.specs.Reply.{answer_of}
+use Rattle.drm_state.specs.Callers.{as_caller}
 use Rattle.drm_state.specs.Refinement.{RefinesReply}
 use Rattle.drm_state.proofs.Refinements.{carried_on, call_verdict}
-use Rattle.drm_state.proofs.Callers.{caller_file, caller_open, never_admitted, own_master_is}
-use Rattle.drm_lease_calls.proofs.Flags.{list_lessees_flags}
+use Rattle.drm_state.proofs.Callers.{caller_file, own_master_is}
 use Rattle.drm_lease_calls.proofs.Lessees.{lessees_listed}
 use Rattle.drm_lease_calls.proofs.told.list_lessees.Goals as goal
-
-pub returns-in_default : goal.returns-in_default
-unfolding RefinesReply
-returns-in_default c = λ w h admitted. absurd (never_admitted c.args.state.now w c.args.caller.client ListLessees c.requires.invariants (caller_open c.args.state.now c.args.caller c.requires.caller) h list_lessees_flags (sym c.requires.caller.member ∙ c.in_default.is) admitted)
 
 pub returns : goal.returns
 unfolding RefinesReply meaning changed answer_of
 returns c = λ w h admitted.
     let s = c.args.state.now in
     let client = c.args.caller.client in
-    let x = c.in-Some.member in
-    let file = caller_file s c.args.caller c.requires.caller in
-    let own = own_master_is s w client c.args.caller.flags x h file (sym c.requires.caller.member ∙ c.in-Some.is) in
+    let x = c.args.caller.member in
+    let file = caller_file s (as_caller c.args.caller) c.requires.caller in
+    let own = own_master_is s w client c.args.caller.flags x h file (sym c.requires.caller.member) in
     carried_on s w (Ask client ListLessees) (ListIs c.list.result) c.requires.invariants (call_verdict w client ListLessees admitted)
     (ap ListIs (c.list.ensures ∙ sym ((λ i. filter (model.has_lessee w (own i)) (numbers_from 1 w.limits.lessees)) ∙ lessees_listed s w h x.master))) h

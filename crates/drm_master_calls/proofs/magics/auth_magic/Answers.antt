@@ -11,6 +11,7 @@ use Rattle.drm_masters.specs.Calls.{AuthenticatedBy}
 use Rattle.drm_model.specs.Magics as model
 use Rattle.drm_model.specs.Calls.{meaning}
 use Rattle.drm_state.specs.Refinement.{Represents}
+use Rattle.drm_state.specs.Callers.{as_caller}
 use Rattle.drm_state.specs.Invariants.{MeetsInvariants, AreOfLessees, AreKeptBy}
 use Rattle.drm_state.proofs.Refinements.{denied, call_verdict}
 use Rattle.drm_leases.specs.Agreed.{AreAgreed}
@@ -19,9 +20,8 @@ use Rattle.drm_state.proofs.Represented.{members_open, leases_agree}
 use Rattle.drm_files.specs.Files.{is_open_client}
 use Rattle.drm_lists.proofs.Rising.{found, all_found}
 use Rattle.drm_masters.specs.declared.rows.Member.{Member}
-use Rattle.drm_state.proofs.Callers.{caller_file, caller_open, never_admitted, its_master}
+use Rattle.drm_state.proofs.Callers.{caller_file, its_master}
 use Rattle.drm_master_calls.proofs.Callers.{opens}
-use Rattle.drm_master_calls.proofs.Flags.{auth_magic_flags}
 use Rattle.drm_master_calls.proofs.Authenticated.{changed_invariants, authenticated_invariants}
 use Rattle.drm_master_calls.proofs.Spent.{client_is, spent_represents}
 use Rattle.drm_masters.specs.Calls.{with_magic}
@@ -33,16 +33,12 @@ use Rattle.drm_state.proofs.Refinements.{carried_on}
 use Rattle.drm_state.proofs.Represented.{tokens_of_lessees, kept_have_tokens, magics_are, masters_so}
 use Rattle.drm_master_calls.proofs.magics.auth_magic.Goals as goal
 
-pub returns-in_default-clause-refines : goal.returns-in_default-clause-refines
-unfolding RefinesReply
-returns-in_default-clause-refines c = λ w h admitted. absurd (never_admitted c.args.state.now w c.args.caller.client (AuthMagic c.args.number) c.requires.invariants (caller_open c.args.state.now c.args.caller c.requires.caller) h (auth_magic_flags c.args.number) (sym c.requires.caller.member ∙ c.in_default.is) admitted)
-
 -- who is authenticated is a member, and so open
 pub set_authenticated-requires : goal.set_authenticated-requires
 set_authenticated-requires c =
     let s = c.args.state.now in
-    let x = c.in-Some._member in
-    let look = sym c.requires.caller.member ∙ c.in-Some.is in
+    let x = c.args.caller.member in
+    let look = sym c.requires.caller.member in
     let done = subst (λ o. IfSome o (λ y. AuthenticatedBy s.masters y.master c.args.number c.auth.result c.auth.new.self)) look c.auth.ensures.authenticated in
     let by = subst (λ r. AuthenticatedBy s.masters x.master c.args.number r c.auth.new.self) c.in-Ok.is done in
     record { open_client = ap (is_open_client s.files) by.2 ∙ (found (has_open_magic x.master c.args.number) (λ (z : Member). is_open_client s.files z.client ≡ true) by.0 s.masters.members (members_open s c.requires.invariants) by.1).1 }
@@ -50,8 +46,8 @@ set_authenticated-requires c =
 pub returns-in-Err-clause-invariants : goal.returns-in-Err-clause-invariants
 returns-in-Err-clause-invariants c =
     let s = c.args.state.now in
-    let x = c.in-Some._member in
-    let look = sym c.requires.caller.member ∙ c.in-Some.is in
+    let x = c.args.caller.member in
+    let look = sym c.requires.caller.member in
     let done = subst (λ o. IfSome o (λ y. AuthenticatedBy s.masters y.master c.args.number c.auth.result c.auth.new.self)) look c.auth.ensures.authenticated in
     let by = subst (λ r. AuthenticatedBy s.masters x.master c.args.number r c.auth.new.self) c.in-Err.is done in
     subst (λ v. MeetsInvariants (record s { masters = v })) (sym by.2) c.requires.invariants
@@ -60,9 +56,9 @@ pub returns-in-Err-clause-refines : goal.returns-in-Err-clause-refines
 unfolding RefinesReply meaning
 returns-in-Err-clause-refines c = λ w h admitted.
     let s = c.args.state.now in
-    let x = c.in-Some._member in
-    let look = sym c.requires.caller.member ∙ c.in-Some.is in
-    let file = caller_file s c.args.caller c.requires.caller in
+    let x = c.args.caller.member in
+    let look = sym c.requires.caller.member in
+    let file = caller_file s (as_caller c.args.caller) c.requires.caller in
     let own : model.caller_master w c.args.caller.client ≡ x.master = ap (λ o. unwrap_or o 0) (its_master s w c.args.caller.client c.args.caller.flags x h file look) in
     let done = subst (λ o. IfSome o (λ y. AuthenticatedBy s.masters y.master c.args.number c.auth.result c.auth.new.self)) look c.auth.ensures.authenticated in
     let by = subst (λ r. AuthenticatedBy s.masters x.master c.args.number r c.auth.new.self) c.in-Err.is done in
@@ -74,8 +70,8 @@ returns-in-Err-clause-refines c = λ w h admitted.
 pub returns-in-Ok-clause-invariants : goal.returns-in-Ok-clause-invariants
 returns-in-Ok-clause-invariants c =
     let s = c.args.state.now in
-    let x = c.in-Some._member in
-    let look = sym c.requires.caller.member ∙ c.in-Some.is in
+    let x = c.args.caller.member in
+    let look = sym c.requires.caller.member in
     let done = subst (λ o. IfSome o (λ y. AuthenticatedBy s.masters y.master c.args.number c.auth.result c.auth.new.self)) look c.auth.ensures.authenticated in
     let by = subst (λ r. AuthenticatedBy s.masters x.master c.args.number r c.auth.new.self) c.in-Ok.is done in
     let rise = (masters_so s c.requires.invariants).members_rise in
@@ -91,10 +87,10 @@ pub returns-in-Ok-clause-refines : goal.returns-in-Ok-clause-refines
 unfolding RefinesReply meaning changed answer_of
 returns-in-Ok-clause-refines c = λ w h admitted.
     let s = c.args.state.now in
-    let x = c.in-Some._member in
+    let x = c.args.caller.member in
     let n = c.args.number in
-    let look = sym c.requires.caller.member ∙ c.in-Some.is in
-    let file = caller_file s c.args.caller c.requires.caller in
+    let look = sym c.requires.caller.member in
+    let file = caller_file s (as_caller c.args.caller) c.requires.caller in
     let own : model.caller_master w c.args.caller.client ≡ x.master = ap (λ o. unwrap_or o 0) (its_master s w c.args.caller.client c.args.caller.flags x h file look) in
     let done = subst (λ o. IfSome o (λ y. AuthenticatedBy s.masters y.master n c.auth.result c.auth.new.self)) look c.auth.ensures.authenticated in
     let by = subst (λ r. AuthenticatedBy s.masters x.master n r c.auth.new.self) c.in-Ok.is done in

@@ -16,20 +16,16 @@ use Rattle.drm_model.specs.Calls.{meaning}
 use Rattle.drm_model.specs.Reply.{answer_of}
 use Rattle.drm_state.specs.declared.state.State.{State}
 use Rattle.drm_state.specs.Parts.{magic_row_of}
+use Rattle.drm_state.specs.Callers.{as_caller}
 use Rattle.drm_state.specs.Invariants.{MeetsInvariants}
 use Rattle.drm_state.specs.Refinement.{RefinesReply, Represents}
 use Rattle.drm_state.proofs.Represented.{masters_so}
 use Rattle.drm_state.proofs.Magics.{magic_is}
 use Rattle.drm_state.proofs.Refinements.{carried_on, call_verdict}
-use Rattle.drm_state.proofs.Callers.{caller_file, caller_open, never_admitted, its_master, same_client}
+use Rattle.drm_state.proofs.Callers.{caller_file, its_master, same_client}
 use Rattle.drm_master_calls.proofs.Callers.{free_is}
 use Rattle.drm_master_calls.proofs.Changed.{magic_invariants, given_represents}
-use Rattle.drm_master_calls.proofs.Flags.{get_magic_flags}
 use Rattle.drm_master_calls.proofs.magics.get_magic.Goals as goal
-
-pub returns-in_default-clause-refines : goal.returns-in_default-clause-refines
-unfolding RefinesReply
-returns-in_default-clause-refines c = λ w h admitted. absurd (never_admitted c.args.state.now w c.args.caller.client GetMagic c.requires.invariants (caller_open c.args.state.now c.args.caller c.requires.caller) h get_magic_flags (sym c.requires.caller.member ∙ c.in_default.is) admitted)
 
 invariants_by : (s : State) (c n : ℕ) (x : Member) (new : MasterSet) (g : Option Magic) → member_of s.masters.members c ≡ Some x → MeetsInvariants s → AreMasters new → GaveMagic s.masters x g n new → MeetsInvariants (record s { masters = new })
 invariants_by s c n x new (Some g) look t are h = subst (λ v. MeetsInvariants (record s { masters = v })) (sym h.1) t
@@ -39,8 +35,8 @@ invariants_by s c n x new None look t are h =
 pub returns-clause-invariants : goal.returns-clause-invariants
 returns-clause-invariants c =
     let s = c.args.state.now in
-    let x = c.in-Some._member in
-    let look = sym c.requires.caller.member ∙ c.in-Some.is in
+    let x = c.args.caller.member in
+    let look = sym c.requires.caller.member in
     let gave = subst (λ o. IfSome o (λ y. GaveMagic s.masters y y.magic c.in-Ok.number c.magic.new.self)) look c.in-Ok.ensures.given in
     invariants_by s c.args.caller.client c.in-Ok.number x c.magic.new.self x.magic look c.requires.invariants c.laws.ensures gave
 
@@ -74,9 +70,9 @@ pub returns-clause-refines : goal.returns-clause-refines
 unfolding RefinesReply meaning changed answer_of
 returns-clause-refines c = λ w h admitted.
     let s = c.args.state.now in
-    let x = c.in-Some._member in
-    let look = sym c.requires.caller.member ∙ c.in-Some.is in
-    let file = caller_file s c.args.caller c.requires.caller in
+    let x = c.args.caller.member in
+    let look = sym c.requires.caller.member in
+    let file = caller_file s (as_caller c.args.caller) c.requires.caller in
     let own = ap (λ o. unwrap_or o 0) (its_master s w c.args.caller.client c.args.caller.flags x h file look) in
     let gave = subst (λ o. IfSome o (λ y. GaveMagic s.masters y y.magic c.in-Ok.number c.magic.new.self)) look c.in-Ok.ensures.given in
     carried_on (record s { masters = c.magic.new.self }) w (Ask c.args.caller.client GetMagic) (Number c.in-Ok.number) (returns-clause-invariants c) (call_verdict w c.args.caller.client GetMagic admitted)

@@ -17,13 +17,13 @@ use Rattle.drm_model.specs.Run.{IsLonger}
 use Rattle.drm_model.specs.Change.{changed, swept}
 use Rattle.drm_model.specs.Calls.{meaning}
 use Rattle.drm_model.specs.Reply.{answer_of}
+use Rattle.drm_state.specs.Callers.{as_caller}
 use Rattle.drm_state.specs.Invariants.{MeetsInvariants}
 use Rattle.drm_state.specs.Refinement.{RefinesCall, Represents}
 use Rattle.drm_state.proofs.Refinements.{denied, refused, carried, carried_on}
-use Rattle.drm_state.proofs.Callers.{caller_root, caller_file, caller_open, same_client, never_admitted, its_master}
+use Rattle.drm_state.proofs.Callers.{caller_root, caller_file, same_client, its_master}
 use Rattle.drm_master_calls.proofs.Callers.{set_verdict, current_is, master_is}
 use Rattle.drm_master_calls.proofs.Changed.{device_invariants, device_represents}
-use Rattle.drm_master_calls.proofs.Flags.{set_master_flags}
 use Rattle.drm_master_calls.proofs.Remade.{own_rows, last_remade, remade_invariants, remade_represents}
 use Rattle.drm_files.specs.Files.{with_authenticated}
 use Rattle.drm_master_calls.proofs.owners.set_master.Goals as goal
@@ -32,18 +32,14 @@ use Rattle.drm_master_calls.proofs.owners.set_master.Goals as goal
 came : {r result : Result SetDone SetFault} {o : Option Member} (s : State) (x : Member) (root : Bool) (step : ℕ) (new : MasterSet) → o ≡ Some x → r ≡ result → IfSome o (λ y. SetOf s.masters y root step r new) → SetOf s.masters x root step result new
 came {r = r} s x root step new look is h = subst (λ v. SetOf s.masters x root step v new) is (subst (λ o. IfSome o (λ y. SetOf s.masters y root step r new)) look h)
 
-pub returns-in_default-clause-refines : goal.returns-in_default-clause-refines
-unfolding RefinesCall
-returns-in_default-clause-refines c = λ w r admitted. absurd (never_admitted c.args.state.now w c.args.caller.client SetMaster c.requires.precondition.invariants (caller_open c.args.state.now c.args.caller c.requires.caller) r.rows set_master_flags (sym c.requires.caller.member ∙ c.in_default.is) admitted)
-
 pub set-requires-clause-new_step_number : goal.set-requires-clause-new_step_number
 set-requires-clause-new_step_number c = newest_unused c.args.state.now.masters.masters c.args.step_number c.requires.precondition.later.masters
 
 pub returns-in-Ok-Already-clause-invariants : goal.returns-in-Ok-Already-clause-invariants
 returns-in-Ok-Already-clause-invariants c =
     let s = c.args.state.now in
-    let look = sym c.requires.caller.member ∙ c.in-Some.is in
-    let x = c.in-Some._member in
+    let look = sym c.requires.caller.member in
+    let x = c.args.caller.member in
     let by = came s x c.args.caller.flags.root c.args.step_number c.set.new.self look (c.in-Ok-Already.is ∙ ap Ok c.in-Ok-Already.field-0-is) c.set.ensures.set in
     subst (λ v. MeetsInvariants (record s { masters = v })) (sym by.1.1) c.requires.precondition.invariants
 
@@ -51,11 +47,11 @@ pub returns-in-Ok-Already-clause-refines : goal.returns-in-Ok-Already-clause-ref
 unfolding RefinesCall meaning changed answer_of
 returns-in-Ok-Already-clause-refines c = λ w r admitted.
     let s = c.args.state.now in
-    let look = sym c.requires.caller.member ∙ c.in-Some.is in
-    let x = c.in-Some._member in
+    let look = sym c.requires.caller.member in
+    let x = c.args.caller.member in
     let by = came s x c.args.caller.flags.root c.args.step_number c.set.new.self look (c.in-Ok-Already.is ∙ ap Ok c.in-Ok-Already.field-0-is) c.set.ensures.set in
-    let file = caller_file s c.args.caller c.requires.caller in
-    let checks = set_verdict s w c.args.caller.client c.args.caller.flags x r.rows file look c.args.caller.flags.root (caller_root s c.args.caller c.requires.caller) admitted ∙ by.0 in
+    let file = caller_file s (as_caller c.args.caller) c.requires.caller in
+    let checks = set_verdict s w c.args.caller.client c.args.caller.flags x r.rows file look c.args.caller.flags.root (caller_root s (as_caller c.args.caller) c.requires.caller) admitted ∙ by.0 in
     let current : is_current w c.args.caller.client ≡ true = current_is s w c.args.caller.client c.args.caller.flags x r.rows file look ∙ by.1.0 in
     carried_on (record s { masters = c.set.new.self }) w (Ask c.args.caller.client SetMaster) Done (returns-in-Ok-Already-clause-invariants c) checks refl
     (subst (λ b. Represents (record s { masters = c.set.new.self }) (mastered w c.args.caller.client b (is_master w c.args.caller.client))) (sym current) (subst (λ v. Represents (record s { masters = v }) w) (sym by.1.1) r.rows))
@@ -63,8 +59,8 @@ returns-in-Ok-Already-clause-refines c = λ w r admitted.
 pub returns-in-Ok-Again-clause-invariants : goal.returns-in-Ok-Again-clause-invariants
 returns-in-Ok-Again-clause-invariants c =
     let s = c.args.state.now in
-    let look = sym c.requires.caller.member ∙ c.in-Some.is in
-    let x = c.in-Some._member in
+    let look = sym c.requires.caller.member in
+    let x = c.args.caller.member in
     let by = came s x c.args.caller.flags.root c.args.step_number c.set.new.self look (c.in-Ok-Again.is ∙ ap Ok c.in-Ok-Again.field-0-is) c.set.ensures.set in
     subst (λ v. MeetsInvariants (record s { masters = v })) (sym by.1.2) (device_invariants s (Some x.master) c.requires.precondition.invariants (subst AreMasters by.1.2 c.laws-in-Ok-Again.ensures))
 
@@ -72,11 +68,11 @@ pub returns-in-Ok-Again-clause-refines : goal.returns-in-Ok-Again-clause-refines
 unfolding RefinesCall meaning changed answer_of
 returns-in-Ok-Again-clause-refines c = λ w r admitted.
     let s = c.args.state.now in
-    let look = sym c.requires.caller.member ∙ c.in-Some.is in
-    let x = c.in-Some._member in
+    let look = sym c.requires.caller.member in
+    let x = c.args.caller.member in
     let by = came s x c.args.caller.flags.root c.args.step_number c.set.new.self look (c.in-Ok-Again.is ∙ ap Ok c.in-Ok-Again.field-0-is) c.set.ensures.set in
-    let file = caller_file s c.args.caller c.requires.caller in
-    let checks = set_verdict s w c.args.caller.client c.args.caller.flags x r.rows file look c.args.caller.flags.root (caller_root s c.args.caller c.requires.caller) admitted ∙ by.0 in
+    let file = caller_file s (as_caller c.args.caller) c.requires.caller in
+    let checks = set_verdict s w c.args.caller.client c.args.caller.flags x r.rows file look c.args.caller.flags.root (caller_root s (as_caller c.args.caller) c.requires.caller) admitted ∙ by.0 in
     let current : is_current w c.args.caller.client ≡ false = current_is s w c.args.caller.client c.args.caller.flags x r.rows file look ∙ by.1.0 in
     let own : is_master w c.args.caller.client ≡ true = master_is s w c.args.caller.client c.args.caller.flags x r.rows file look ∙ by.1.1 in
     carried_on (record s { masters = c.set.new.self }) w (Ask c.args.caller.client SetMaster) Done (returns-in-Ok-Again-clause-invariants c) checks refl
@@ -88,8 +84,8 @@ returns-in-Ok-Again-clause-refines c = λ w r admitted.
 pub returns-in-Ok-Made-clause-invariants : goal.returns-in-Ok-Made-clause-invariants
 returns-in-Ok-Made-clause-invariants c =
     let s = c.args.state.now in
-    let look = sym c.requires.caller.member ∙ c.in-Some.is in
-    let x = c.in-Some._member in
+    let look = sym c.requires.caller.member in
+    let x = c.args.caller.member in
     let by = came s x c.args.caller.flags.root c.args.step_number c.set.new.self look (c.in-Ok-Made.is ∙ ap Ok c.in-Ok-Made.field-0-is) c.set.ensures.set in
     let same = same_client s.masters.members c.args.caller.client x look in
     subst (λ fs. MeetsInvariants (record s { files = fs; masters = c.set.new.self })) (sym (c.set_authenticated.ensures ∙ ap (with_authenticated s.files) (sym same.0)))
@@ -100,11 +96,11 @@ pub returns-in-Ok-Made-clause-refines : goal.returns-in-Ok-Made-clause-refines
 unfolding RefinesCall meaning changed answer_of
 returns-in-Ok-Made-clause-refines c = λ w r admitted.
     let s = c.args.state.now in
-    let look = sym c.requires.caller.member ∙ c.in-Some.is in
-    let x = c.in-Some._member in
+    let look = sym c.requires.caller.member in
+    let x = c.args.caller.member in
     let by = came s x c.args.caller.flags.root c.args.step_number c.set.new.self look (c.in-Ok-Made.is ∙ ap Ok c.in-Ok-Made.field-0-is) c.set.ensures.set in
-    let file = caller_file s c.args.caller c.requires.caller in
-    let checks = set_verdict s w c.args.caller.client c.args.caller.flags x r.rows file look c.args.caller.flags.root (caller_root s c.args.caller c.requires.caller) admitted ∙ by.0 in
+    let file = caller_file s (as_caller c.args.caller) c.requires.caller in
+    let checks = set_verdict s w c.args.caller.client c.args.caller.flags x r.rows file look c.args.caller.flags.root (caller_root s (as_caller c.args.caller) c.requires.caller) admitted ∙ by.0 in
     let current : is_current w c.args.caller.client ≡ false = current_is s w c.args.caller.client c.args.caller.flags x r.rows file look ∙ by.1.0 in
     let own : is_master w c.args.caller.client ≡ false = master_is s w c.args.caller.client c.args.caller.flags x r.rows file look ∙ by.1.1 in
     let same = same_client s.masters.members c.args.caller.client x look in
@@ -121,8 +117,8 @@ returns-in-Ok-Made-clause-refines c = λ w r admitted.
 pub returns-in-Err-Denied-clause-invariants : goal.returns-in-Err-Denied-clause-invariants
 returns-in-Err-Denied-clause-invariants c =
     let s = c.args.state.now in
-    let look = sym c.requires.caller.member ∙ c.in-Some.is in
-    let x = c.in-Some._member in
+    let look = sym c.requires.caller.member in
+    let x = c.args.caller.member in
     let by = came s x c.args.caller.flags.root c.args.step_number c.set.new.self look (c.in-Err-Denied.is ∙ ap Err c.in-Err-Denied.field-0-is) c.set.ensures.set in
     subst (λ v. MeetsInvariants (record s { masters = v })) (sym by.1) c.requires.precondition.invariants
 
@@ -130,18 +126,18 @@ pub returns-in-Err-Denied-clause-refines : goal.returns-in-Err-Denied-clause-ref
 unfolding RefinesCall meaning
 returns-in-Err-Denied-clause-refines c = rw c.in-Err-Denied.field-0-is λ w r admitted.
     let s = c.args.state.now in
-    let look = sym c.requires.caller.member ∙ c.in-Some.is in
-    let x = c.in-Some._member in
+    let look = sym c.requires.caller.member in
+    let x = c.args.caller.member in
     let by = came s x c.args.caller.flags.root c.args.step_number c.set.new.self look (c.in-Err-Denied.is ∙ ap Err c.in-Err-Denied.field-0-is) c.set.ensures.set in
-    let file = caller_file s c.args.caller c.requires.caller in
-    let checks = set_verdict s w c.args.caller.client c.args.caller.flags x r.rows file look c.args.caller.flags.root (caller_root s c.args.caller c.requires.caller) admitted ∙ by.0 in
+    let file = caller_file s (as_caller c.args.caller) c.requires.caller in
+    let checks = set_verdict s w c.args.caller.client c.args.caller.flags x r.rows file look c.args.caller.flags.root (caller_root s (as_caller c.args.caller) c.requires.caller) admitted ∙ by.0 in
     denied (record s { masters = c.set.new.self }) w (Ask c.args.caller.client SetMaster) c.in-Err-Denied.rule checks (subst (λ v. Represents (record s { masters = v }) w) (sym by.1) r.rows)
 
 pub returns-in-Err-NoMemory-clause-invariants : goal.returns-in-Err-NoMemory-clause-invariants
 returns-in-Err-NoMemory-clause-invariants c =
     let s = c.args.state.now in
-    let look = sym c.requires.caller.member ∙ c.in-Some.is in
-    let x = c.in-Some._member in
+    let look = sym c.requires.caller.member in
+    let x = c.args.caller.member in
     let by = came s x c.args.caller.flags.root c.args.step_number c.set.new.self look (c.in-Err-NoMemory.is ∙ ap Err c.in-Err-NoMemory.field-0-is) c.set.ensures.set in
     subst (λ v. MeetsInvariants (record s { masters = v })) (sym by.3) c.requires.precondition.invariants
 
@@ -149,11 +145,11 @@ pub returns-in-Err-NoMemory-clause-refines : goal.returns-in-Err-NoMemory-clause
 unfolding RefinesCall meaning changed
 returns-in-Err-NoMemory-clause-refines c = λ w r admitted.
     let s = c.args.state.now in
-    let look = sym c.requires.caller.member ∙ c.in-Some.is in
-    let x = c.in-Some._member in
+    let look = sym c.requires.caller.member in
+    let x = c.args.caller.member in
     let by = came s x c.args.caller.flags.root c.args.step_number c.set.new.self look (c.in-Err-NoMemory.is ∙ ap Err c.in-Err-NoMemory.field-0-is) c.set.ensures.set in
-    let file = caller_file s c.args.caller c.requires.caller in
-    let checks = set_verdict s w c.args.caller.client c.args.caller.flags x r.rows file look c.args.caller.flags.root (caller_root s c.args.caller c.requires.caller) admitted ∙ by.0 in
+    let file = caller_file s (as_caller c.args.caller) c.requires.caller in
+    let checks = set_verdict s w c.args.caller.client c.args.caller.flags x r.rows file look c.args.caller.flags.root (caller_root s (as_caller c.args.caller) c.requires.caller) admitted ∙ by.0 in
     let current : is_current w c.args.caller.client ≡ false = current_is s w c.args.caller.client c.args.caller.flags x r.rows file look ∙ by.1 in
     let own : is_master w c.args.caller.client ≡ false = master_is s w c.args.caller.client c.args.caller.flags x r.rows file look ∙ by.2 in
     refused (record s { masters = c.set.new.self }) w (Ask c.args.caller.client SetMaster) _ checks

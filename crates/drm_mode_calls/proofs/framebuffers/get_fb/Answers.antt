@@ -13,8 +13,8 @@ use Rattle.drm_model.specs.Calls.{meaning}
 use Rattle.drm_model.specs.Change.{changed}
 use Rattle.drm_model.specs.Reply.{answer_of}
 use Rattle.drm_state.specs.declared.state.State.{State}
-use Rattle.drm_state.specs.declared.caller.Caller.{Caller}
-use Rattle.drm_state.specs.Callers.{IsCaller}
+use Rattle.drm_state.specs.declared.caller.PrimaryCaller.{PrimaryCaller}
+use Rattle.drm_state.specs.Callers.{IsPrimaryCaller, as_caller}
 use Rattle.drm_state.specs.Parts.{step_number_at}
 use Rattle.drm_state.specs.Refinement.{RefinesCall, AddsHandle, Represents}
 use Rattle.drm_state.proofs.Callers.{caller_open}
@@ -25,13 +25,13 @@ use Rattle.drm_state.proofs.Added.{added_none, added_some, longer}
 use Rattle.drm_mode_calls.proofs.framebuffers.get_fb.Goals as goal
 
 -- whether a caller is told with a handle
-given : (s : State) (w : Rows) (k : Caller) → IsCaller s k → Represents s w → gives_handle w k.client ≡ (k.current || k.flags.root)
+given : (s : State) (w : Rows) (k : PrimaryCaller) → IsPrimaryCaller s k → Represents s w → gives_handle w k.client ≡ (k.current || k.flags.root)
 given s w k is h =
     ap (λ (t : Standing). t.current || t.root) (ap (credentials_in w) (client_row_is s w h k.client k.flags is.flags) ∙ credentials_is s w h k.client k.flags)
     ∙ ap (λ b. b || k.flags.root) (sym is.current)
 
 pub new_handle-requires-clause-open_client : goal.new_handle-requires-clause-open_client
-new_handle-requires-clause-open_client c = caller_open c.args.state.now c.args.caller c.requires.caller
+new_handle-requires-clause-open_client c = caller_open c.args.state.now (as_caller c.args.caller) c.requires.caller
 
 pub returns-in_default-clause-refines : goal.returns-in_default-clause-refines
 unfolding RefinesCall meaning
