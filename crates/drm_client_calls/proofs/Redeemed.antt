@@ -14,7 +14,8 @@ use Rattle.drm_files.specs.declared.rows.FileFlags.{FileFlags}
 use Rattle.drm_masters.specs.Masters.{MasterSet, AreMasters, is_step_number, is_key, is_lessee, master_at, IsKeyOf}
 use Rattle.drm_masters.specs.Calls.{IsNewClient, lease_client, with_kept, redeemed}
 use Rattle.drm_masters.proofs.Newest.{newest_last, with_last_member}
-use Rattle.drm_leases.specs.declared.rows.LeaseToken.{LeaseToken}
+use Rattle.drm_leases.specs.Tokens.{LeaseToken}
+use Rattle.drm_leases.proofs.Newest.{tokens_differ}
 use Rattle.drm_leases.specs.Leases.{AreLeases, is_token, is_token_of, token_of, token_master}
 use Rattle.drm_leases.specs.Calls.{without_token}
 use Rattle.drm_leases.specs.Agreed.{AreAgreed}
@@ -183,10 +184,10 @@ module _ (s : State) (t m : ℕ) (invariants : MeetsInvariants s) (is : token_ma
   lessee_is = of_lessee s.leases.tokens s.masters.masters t m (tokens_of_lessees s invariants) is
 
   pub opens : is_some (token_of s.leases.tokens m) ≡ true
-  opens = ap (λ n. is_some (token_of s.leases.tokens n)) (sym its_master) ∙ ap is_some (its_open s.leases.tokens t row found_row (leases_so s invariants).tokens_differ (leases_so s invariants).lessees_differ)
+  opens = ap (λ n. is_some (token_of s.leases.tokens n)) (sym its_master) ∙ ap is_some (its_open s.leases.tokens t row found_row (tokens_differ s.leases.tokens (leases_so s invariants).tokens_rise) (leases_so s invariants).lessees_differ)
 
   spent_is : filter (λ (r : LeaseToken). not (is_token t r)) s.leases.tokens ≡ filter (λ (r : LeaseToken). not (r.master == m)) s.leases.tokens
-  spent_is = spent s.leases.tokens t row found_row (leases_so s invariants).tokens_differ (leases_so s invariants).lessees_differ ∙ (λ i. filter (λ (r : LeaseToken). not (r.master == its_master i)) s.leases.tokens)
+  spent_is = spent s.leases.tokens t row found_row (tokens_differ s.leases.tokens (leases_so s invariants).tokens_rise) (leases_so s invariants).lessees_differ ∙ (λ i. filter (λ (r : LeaseToken). not (r.master == its_master i)) s.leases.tokens)
 
   pub redeemed_invariants : (b : ℕ) (root universal : Bool) → IsNewClient s.masters b → AreMasters (redeemed_last b m s.masters) → AreLeases (without_token t s.leases) → MeetsInvariants (with_lease_client s b t m root universal)
   redeemed_invariants b root universal newest are leases =
@@ -199,7 +200,7 @@ module _ (s : State) (t m : ℕ) (invariants : MeetsInvariants s) (is : token_ma
   module _ (w : Rows) (x : Master) (there : master_at s.masters.masters m ≡ Some x) (h : Represents s w) where
     pub its_row : lease_master w t ≡ Some (master_row_of s.leases.tokens x)
     its_row =
-        leased_is s.leases.tokens t row found_row (leases_so s invariants).tokens_differ (leases_so s invariants).lessees_differ w s.masters.masters (masters_are s w h)
+        leased_is s.leases.tokens t row found_row (tokens_differ s.leases.tokens (leases_so s invariants).tokens_rise) (leases_so s invariants).lessees_differ w s.masters.masters (masters_are s w h)
         ∙ ap (λ n. option_map (master_row_of s.leases.tokens) (master_at s.masters.masters n)) its_master ∙ ap (option_map (master_row_of s.leases.tokens)) there
 
     number : x.step_number ≡ m
@@ -214,7 +215,7 @@ module _ (s : State) (t m : ℕ) (invariants : MeetsInvariants s) (is : token_ma
     masters_now : map (λ (r : MasterRow). if is_option t r.lease_token then record r { lease_token = None } else r) w.masters ≡ map (master_row_of (without_token t s.leases).tokens) (released (λ n. n == m) s.masters.masters)
     masters_now =
         ap (map (λ (r : MasterRow). if is_option t r.lease_token then record r { lease_token = None } else r)) (masters_are s w h)
-        ∙ rows_spent s.leases.tokens t row found_row (leases_so s invariants).tokens_differ (leases_so s invariants).lessees_differ s.masters.masters
+        ∙ rows_spent s.leases.tokens t row found_row (tokens_differ s.leases.tokens (leases_so s invariants).tokens_rise) (leases_so s invariants).lessees_differ s.masters.masters
         ∙ (λ i. map (master_row_of (without_token t s.leases).tokens) (released (λ n. n == its_master i) s.masters.masters))
 
     pub redeemed_represents : (b : ℕ) (root universal : Bool) → IsLater s b → w.steps + 1 ≡ b → (part : Part) → represents_part part (with_lease_client s b t m root universal) (opened_lease w t root universal)

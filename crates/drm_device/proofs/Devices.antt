@@ -42,7 +42,7 @@ use Rattle.drm_device.specs.declared.device.Device.TheInside.{Inside}
 use Rattle.drm_masters.specs.declared.rows.Master.{Master}
 use Rattle.drm_masters.specs.declared.rows.Member.{Member}
 use Rattle.drm_masters.specs.Masters.{MasterSet, AreMasters, is_step_number, is_lessee}
-use Rattle.drm_leases.specs.declared.rows.LeaseToken.{LeaseToken}
+use Rattle.drm_leases.specs.Tokens.{LeaseToken}
 use Rattle.drm_leases.specs.Leases.{LeaseSet, AreLeases, no_leases}
 use Rattle.drm_leases.specs.Calls.{IsNewLessee}
 use Rattle.drm_state.specs.declared.state.State.{State}

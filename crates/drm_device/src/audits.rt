@@ -10,7 +10,7 @@ ghost use Rattle.drm_model.specs.Audit.{audit_row, client_audit, framebuffer_aud
 ghost use Rattle.drm_share.specs.Names.{AreNames};
 ghost use Rattle.drm_share.specs.Tokens.{AreTokens};
 ghost use Rattle.drm_modes.specs.Modes.{shown_rows};
-ghost use Rattle.drm_leases.specs.declared.rows.LeaseToken.{LeaseToken};
+ghost use Rattle.drm_leases.specs.Tokens.{LeaseToken};
 ghost use Rattle.drm_leases.specs.Leases.{token_of};
 ghost use Rattle.drm_state.specs.Parts.{client_row_by, grant_row_of, magic_row_of, master_row_of, framebuffers_of, holds_of, names_of, shown_row_of, tokens_of};
 ghost use Rattle.drm_state.specs.Invariants.{MeetsInvariants};

@@ -1,5 +1,5 @@
 -- A table of values under numbers from `first` to `last`, and the number that was given last.
-use Rattle.std.specs.Prelude.{ℕ, ◌+◌, ◌≤◌, Bool, not, IsTrue, IfSome, Option, Some, None, refl}
+use Rattle.std.specs.Prelude.{◌≡◌, ℕ, ◌+◌, ◌≤◌, Bool, not, IsTrue, IfSome, Option, Some, None, refl}
 use Rattle.std.specs.Ordering.{nat_cmp}
 use Rattle.std.specs.FinMap as map
 use Rattle.std.specs.Coded.{Coded, code_by, coded×, coded_ℕ, coded_option}
@@ -29,6 +29,11 @@ pub record IsWithin {T : Type 0} (slots : map.FinMap nat_cmp T) (first last : �
   pub high : (id : ℕ) → IsTrue (map.contains_key slots id) → id ≤ last
   pub given_low : IfSome last_given (λ id. first ≤ id)
   pub given_high : IfSome last_given (λ id. id ≤ last)
+
+-- a table of the numbers from 1 on, which keeps to its range
+pub record IsNumbered {T : Type 0} (table : Table T) : Type 0 where
+  pub first_is : table.first ≡ 1
+  pub within : IsWithin table.slots table.first table.last table.last_given
 
 abbrev pub or_else : Option ℕ → Option ℕ → Option ℕ
 or_else None other = other

@@ -3,17 +3,18 @@ use Rattle.std.proofs.Common.{◌≡◌, ℕ, ◌+◌, ◌<◌, ◌==◌, true, 
 use Rattle.std.specs.List.{AllByRecursion}
 use Rattle.std.specs.Option.{is_some, option_map, option_and_then}
 use Rattle.std.proofs.lemmas.List.{map-append}
-use Rattle.drm_lists.specs.Orders.{SameRows}
+use Rattle.drm_index_array.specs.Rows.{placed}
+use Rattle.drm_lists.specs.Orders.{SameRows, InOrder}
 use Rattle.drm_lists.proofs.Found.{find_last}
 use Rattle.drm_lists.proofs.Lists.{all_append, all_both, all_weaker, length-filter_append, map-map}
 use Rattle.drm_lists.proofs.Numbers.{less-differ, flipped}
 use Rattle.drm_lists.proofs.Orders.{same-map}
-use Rattle.drm_lists.proofs.Rising.{find_more}
+use Rattle.drm_lists.proofs.Placed.{all_placed, find_placed, find_other}
 use Rattle.drm_masters.specs.declared.rows.Master.{Master}
 use Rattle.drm_masters.specs.Masters.{AreMasters, is_step_number, is_lessee}
 use Rattle.drm_masters.specs.Calls.{IsNewStepNumber, lessee}
 use Rattle.drm_masters.proofs.Newest.{with_last_master}
-use Rattle.drm_leases.specs.declared.rows.LeaseToken.{LeaseToken}
+use Rattle.drm_leases.specs.Tokens.{LeaseToken, token_before}
 use Rattle.drm_leases.specs.Leases.{AreLeases, is_token_of, token_of}
 use Rattle.drm_leases.specs.Calls as leases
 use Rattle.drm_leases.specs.Agreed.{AreAgreed}
@@ -40,22 +41,22 @@ leased_rows w m b id token ids = record w {
 same_append : {X : Type 0} (xs ys us vs : List X) → SameRows xs ys → SameRows us vs → SameRows (xs ++ us) (ys ++ vs)
 same_append xs ys us vs h k = λ test. length-filter_append test xs us ∙ (λ i. h test i + k test i) ∙ sym (length-filter_append test ys vs)
 
-module _ (s : State) (key b m id token : ℕ) (objects : List ℕ) where
+module _ (s : State) (key b m id token : ℕ) (objects : List ℕ) (rise : InOrder (λ (x y : LeaseToken). x.token < y.token) s.leases.tokens) where
   abbrev pub leased : State
   leased = record s { masters = with_last_master (lessee key b m id) s.masters; leases = with_last_lease token b m objects s.leases }
 
   abbrev tokens_now : List LeaseToken
-  tokens_now = s.leases.tokens ++ lease_token token b ∷ []
+  tokens_now = placed token_before (lease_token token b) s.leases.tokens
 
   -- the tokens of the others are as they were
   token_yet : (n : ℕ) → (b == n) ≡ false → token_of tokens_now n ≡ token_of s.leases.tokens n
-  token_yet n other = ap (option_map (λ (row : LeaseToken). row.token)) (find_more (λ (row : LeaseToken). row.master) (lease_token token b) n other s.leases.tokens)
+  token_yet n other = ap (option_map (λ (row : LeaseToken). row.token)) (find_other (λ (row : LeaseToken). row.token) (lease_token token b) s.leases.tokens rise (is_token_of n) other)
 
   module _ (new : IsNewStepNumber s.masters b) (fresh : IsNewLessee s.leases b) where
     its_token : token_of tokens_now b ≡ Some token
     its_token =
         ap (option_map (λ (row : LeaseToken). row.token))
-        (find_last (is_token_of b) (lease_token token b) (eq-eqb b b refl) s.leases.tokens (all_weaker (λ (row : LeaseToken). row.master < b) (λ (row : LeaseToken). is_token_of b row ≡ false) (λ row lt. less-differ row.master b lt) s.leases.tokens fresh.tokens))
+        (find_placed (is_token_of b) (λ (row : LeaseToken). token_before row (lease_token token b)) (lease_token token b) s.leases.tokens (eq-eqb b b refl) (all_weaker (λ (row : LeaseToken). row.master < b) (λ (row : LeaseToken). is_token_of b row ≡ false) (λ row lt. less-differ row.master b lt) s.leases.tokens fresh.tokens))
 
     its_lessor : is_lessee leased.masters.masters b ≡ true
     its_lessor =
@@ -67,7 +68,7 @@ module _ (s : State) (key b m id token : ℕ) (objects : List ℕ) where
     leased_invariants t are leases_are agreed MastersAre = are
     leased_invariants t are leases_are agreed LeasesAre = leases_are
     leased_invariants t are leases_are agreed TokensOfLessees =
-        all_append (λ (row : LeaseToken). is_lessee leased.masters.masters row.master ≡ true) s.leases.tokens (lease_token token b ∷ []) (of_lessees_more s.leases.tokens s.masters.masters (lessee key b m id) (tokens_of_lessees s t)) (its_lessor, tt)
+        all_placed (λ (row : LeaseToken). is_lessee leased.masters.masters row.master ≡ true) (λ (row : LeaseToken). token_before row (lease_token token b)) (lease_token token b) s.leases.tokens its_lessor (of_lessees_more s.leases.tokens s.masters.masters (lessee key b m id) (tokens_of_lessees s t))
     leased_invariants t are leases_are agreed KeptHaveTokens =
         all_append (λ (x : Master). x.kept ≡ is_some (token_of tokens_now x.step_number)) s.masters.masters (lessee key b m id ∷ [])
         (all_both (λ (x : Master). x.step_number < b) (λ (x : Master). x.kept ≡ is_some (token_of s.leases.tokens x.step_number)) (λ (x : Master). x.kept ≡ is_some (token_of tokens_now x.step_number))

@@ -16,7 +16,6 @@ use Rattle.drm_lists.proofs.Rising.{found, any_found, all_found}
 use Rattle.drm_masters.specs.declared.rows.Master.{Master}
 use Rattle.drm_masters.specs.Masters.{MasterSet, AreMasters, HasOlderLessor, is_step_number, is_option, master_at, lessor_of, lessees_of, is_below}
 use Rattle.drm_masters.proofs.Looked.{any_pushed}
-use Rattle.drm_leases.specs.declared.rows.Lease.{Lease}
 
 -- numbers that rise from one on are at their places or beyond
 risen : (k : ℕ) (xs : List ℕ) (i n : ℕ) → AllByRecursion (λ x. k ≤ x) xs → InOrder (λ x y. x < y) xs → slice_get xs i ≡ Some n → i + k ≤ n
@@ -158,15 +157,15 @@ module _ (v : MasterSet) (are : AreMasters v) where
           other true e lt le = let is = eqb-true n m e in absurd (omega (arith, is, lt, le))
           other false e lt le = e
 
-  -- leases that are gone when all direct lessees were looked at
-  pub all_taken : (m i : ℕ) → slice_get (lessees_of v.masters m) i ≡ None → (old now : List Lease) → now ≡ filter (λ (x : Lease). not (list_any (λ y. is_under above y x.lessee) (take i (lessees_of v.masters m)))) old →
-      now ≡ filter (λ (x : Lease). not (is_below v.masters m x.lessee)) old
-  all_taken m i past old now e =
-      e ∙ ap (λ l. filter (λ (x : Lease). not (list_any (λ y. is_under above y x.lessee) l)) old) (take_past (lessees_of v.masters m) i past)
-      ∙ filter-same (λ (x : Lease). not (list_any (λ y. is_under above y x.lessee) (lessees_of v.masters m))) (λ (x : Lease). not (is_below v.masters m x.lessee)) old
-      (all_each (λ (x : Lease). not (list_any (λ y. is_under above y x.lessee) (lessees_of v.masters m)) ≡ not (is_below v.masters m x.lessee)) (λ x. ap not (sym (below_by_lessees m x.lessee))) old)
+  -- rows of lessees that are gone when all direct lessees were looked at
+  pub all_taken : {X : Type 0} (lessee : X → ℕ) (m i : ℕ) → slice_get (lessees_of v.masters m) i ≡ None → (old now : List X) → now ≡ filter (λ x. not (list_any (λ y. is_under above y (lessee x)) (take i (lessees_of v.masters m)))) old →
+      now ≡ filter (λ x. not (is_below v.masters m (lessee x))) old
+  all_taken lessee m i past old now e =
+      e ∙ ap (λ l. filter (λ x. not (list_any (λ y. is_under above y (lessee x)) l)) old) (take_past (lessees_of v.masters m) i past)
+      ∙ filter-same (λ x. not (list_any (λ y. is_under above y (lessee x)) (lessees_of v.masters m))) (λ x. not (is_below v.masters m (lessee x))) old
+      (all_each (λ x. not (list_any (λ y. is_under above y (lessee x)) (lessees_of v.masters m)) ≡ not (is_below v.masters m (lessee x))) (λ x. ap not (sym (below_by_lessees m (lessee x)))) old)
 
--- a lease and those below it
+-- a master and those below it
 under_is : (ms : List Master) (top n : ℕ) → (not (n == top) && not (is_below ms top n)) ≡ not (is_under (lessor_of ms) top n)
 under_is ms top n =
     elim (n == top) as (λ b. (n == top) ≡ b → (not b && not (is_under (lessor_of ms) top n && not b)) ≡ not (is_under (lessor_of ms) top n)) [
@@ -178,22 +177,22 @@ under_is ms top n =
     kept true = refl
     kept false = refl
 
-pub under_ended : (ms : List Master) (top : ℕ) (rows : List Lease) → filter (λ (x : Lease). not (is_below ms top x.lessee)) (filter (λ (x : Lease). not (x.lessee == top)) rows) ≡ filter (λ (x : Lease). not (is_under (lessor_of ms) top x.lessee)) rows
-under_ended ms top rows =
-    filter-both (λ (x : Lease). not (is_below ms top x.lessee)) (λ (x : Lease). not (x.lessee == top)) rows
-    ∙ filter-same (λ (x : Lease). not (x.lessee == top) && not (is_below ms top x.lessee)) (λ (x : Lease). not (is_under (lessor_of ms) top x.lessee)) rows (all_each (λ (x : Lease). (not (x.lessee == top) && not (is_below ms top x.lessee)) ≡ not (is_under (lessor_of ms) top x.lessee)) (λ x. under_is ms top x.lessee) rows)
+pub under_ended : {X : Type 0} (lessee : X → ℕ) (ms : List Master) (top : ℕ) (rows : List X) → filter (λ x. not (is_below ms top (lessee x))) (filter (λ x. not (lessee x == top)) rows) ≡ filter (λ x. not (is_under (lessor_of ms) top (lessee x))) rows
+under_ended lessee ms top rows =
+    filter-both (λ x. not (is_below ms top (lessee x))) (λ x. not (lessee x == top)) rows
+    ∙ filter-same (λ x. not (lessee x == top) && not (is_below ms top (lessee x))) (λ x. not (is_under (lessor_of ms) top (lessee x))) rows (all_each (λ x. (not (lessee x == top) && not (is_below ms top (lessee x))) ≡ not (is_under (lessor_of ms) top (lessee x))) (λ x. under_is ms top (lessee x)) rows)
 
--- one more lessee's leases go
-pub one_ended : (v : MasterSet) (m i n : ℕ) → slice_get (lessees_of v.masters m) i ≡ Some n → (old before mid : List Lease) → before ≡ filter (λ (x : Lease). not (list_any (λ y. is_under (lessor_of v.masters) y x.lessee) (take i (lessees_of v.masters m)))) old → mid ≡ filter (λ (x : Lease). not (x.lessee == n)) before →
-    filter (λ (x : Lease). not (is_below v.masters n x.lessee)) mid ≡ filter (λ (x : Lease). not (list_any (λ y. is_under (lessor_of v.masters) y x.lessee) (take (i + 1) (lessees_of v.masters m)))) old
-one_ended v m i n at old before mid e f =
+-- one more lessee's rows go
+pub one_ended : {X : Type 0} (lessee : X → ℕ) (v : MasterSet) (m i n : ℕ) → slice_get (lessees_of v.masters m) i ≡ Some n → (old before mid : List X) → before ≡ filter (λ x. not (list_any (λ y. is_under (lessor_of v.masters) y (lessee x)) (take i (lessees_of v.masters m)))) old → mid ≡ filter (λ x. not (lessee x == n)) before →
+    filter (λ x. not (is_below v.masters n (lessee x))) mid ≡ filter (λ x. not (list_any (λ y. is_under (lessor_of v.masters) y (lessee x)) (take (i + 1) (lessees_of v.masters m)))) old
+one_ended lessee v m i n at old before mid e f =
     let above = lessor_of v.masters in
     let xs = lessees_of v.masters m in
-    ap (filter (λ (x : Lease). not (is_below v.masters n x.lessee))) f ∙ under_ended v.masters n before ∙ ap (filter (λ (x : Lease). not (is_under above n x.lessee))) e
-    ∙ filter-both (λ (x : Lease). not (is_under above n x.lessee)) (λ (x : Lease). not (list_any (λ y. is_under above y x.lessee) (take i xs))) old
-    ∙ filter-same (λ (x : Lease). not (list_any (λ y. is_under above y x.lessee) (take i xs)) && not (is_under above n x.lessee)) (λ (x : Lease). not (list_any (λ y. is_under above y x.lessee) (take (i + 1) xs))) old
-    (all_each (λ (x : Lease). (not (list_any (λ y. is_under above y x.lessee) (take i xs)) && not (is_under above n x.lessee)) ≡ not (list_any (λ y. is_under above y x.lessee) (take (i + 1) xs)))
-    (λ x. neither (list_any (λ y. is_under above y x.lessee) (take i xs)) (is_under above n x.lessee) ∙ ap not (sym (any_pushed xs i n at (λ y. is_under above y x.lessee)))) old)
+    ap (filter (λ x. not (is_below v.masters n (lessee x)))) f ∙ under_ended lessee v.masters n before ∙ ap (filter (λ x. not (is_under above n (lessee x)))) e
+    ∙ filter-both (λ x. not (is_under above n (lessee x))) (λ x. not (list_any (λ y. is_under above y (lessee x)) (take i xs))) old
+    ∙ filter-same (λ x. not (list_any (λ y. is_under above y (lessee x)) (take i xs)) && not (is_under above n (lessee x))) (λ x. not (list_any (λ y. is_under above y (lessee x)) (take (i + 1) xs))) old
+    (all_each (λ x. (not (list_any (λ y. is_under above y (lessee x)) (take i xs)) && not (is_under above n (lessee x))) ≡ not (list_any (λ y. is_under above y (lessee x)) (take (i + 1) xs)))
+    (λ x. neither (list_any (λ y. is_under above y (lessee x)) (take i xs)) (is_under above n (lessee x)) ∙ ap not (sym (any_pushed xs i n at (λ y. is_under above y (lessee x))))) old)
   where
     neither : (a b : Bool) → (not a && not b) ≡ not (b || a)
     neither true true = refl

@@ -6,6 +6,7 @@ mod Below
 mod Denied
 mod Sound
 mod Ending
+mod OpenTokens
 pub mod Agreeing
 pub mod Crossing
 pub mod Keyed

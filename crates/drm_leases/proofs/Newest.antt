@@ -1,12 +1,15 @@
 -- A lease of a lessee with a greater number than all others.
-use Rattle.std.proofs.Common.{◌≡◌, ℕ, ◌<◌, ◌==◌, nat_lt, Bool, true, false, not, List, [], ◌∷◌, ◌++◌, map, filter, Some, sym, ap, ◌∙◌, append-nil}
+use Rattle.std.proofs.Common.{◌≡◌, ℕ, ◌<◌, ◌==◌, nat_lt, true, false, not, List, [], ◌∷◌, ◌++◌, map, Some, ap, ◌∙◌, append-nil}
 use Rattle.std.specs.List.{AllByRecursion}
 use Rattle.std.proofs.lemmas.Bool.{lt-ltb}
 use Rattle.drm_lists.proofs.Each.{filter_none}
-use Rattle.drm_lists.proofs.Lists.{all_weaker, all_mapped, filter_all}
+use Rattle.drm_lists.proofs.Lists.{all_weaker, filter_all}
+use Rattle.drm_lists.specs.Orders.{InOrder}
 use Rattle.drm_lists.proofs.Numbers.{less-differ}
+use Rattle.drm_lists.proofs.Orders.{in_order_weaker}
 use Rattle.drm_leases.specs.declared.rows.Grant.{Grant}
-use Rattle.drm_leases.specs.declared.rows.LeaseToken.{LeaseToken}
+use Rattle.drm_index_array.specs.Rows.{placed}
+use Rattle.drm_leases.specs.Tokens.{LeaseToken, token_before}
 use Rattle.drm_leases.specs.Leases.{LeaseSet, Lending}
 use Rattle.drm_leases.specs.Calls.{IsNewLessee, IsUnusedLessee, put_in, grant, lending, lease_token, with_lease}
 
@@ -27,7 +30,7 @@ put_last lessee m rows all newest =
 abbrev pub with_last_lease : ℕ → ℕ → ℕ → List ℕ → LeaseSet → LeaseSet
 with_last_lease t m lessor objects l = record l {
   last_given = Some t;
-  tokens = l.tokens ++ lease_token t m ∷ [];
+  tokens = placed token_before (lease_token t m) l.tokens;
   grants = l.grants ++ map (grant m) objects;
   lendings = put_in (λ (x : Lending). x.lessee) m (lending m lessor ∷ []) l.lendings;
 }
@@ -35,7 +38,11 @@ with_last_lease t m lessor objects l = record l {
 pub newest_last : (t m lessor : ℕ) (objects : List ℕ) (l : LeaseSet) → IsNewLessee l m → with_lease t m lessor objects l ≡ with_last_lease t m lessor objects l
 newest_last t m lessor objects l newest = λ i. record l {
   last_given = Some t;
-  tokens = l.tokens ++ lease_token t m ∷ [];
+  tokens = placed token_before (lease_token t m) l.tokens;
   grants = put_last (λ (g : Grant). g.master) m (map (grant m) objects) l.grants newest.grants i;
   lendings = put_in (λ (x : Lending). x.lessee) m (lending m lessor ∷ []) l.lendings;
 }
+
+-- no token is open twice
+pub tokens_differ : (tokens : List LeaseToken) → InOrder (λ (x y : LeaseToken). x.token < y.token) tokens → InOrder (λ (x y : LeaseToken). (x.token == y.token) ≡ false) tokens
+tokens_differ tokens rise = in_order_weaker (λ (x y : LeaseToken). x.token < y.token) (λ (x y : LeaseToken). (x.token == y.token) ≡ false) (λ x y less. less-differ x.token y.token less) tokens rise

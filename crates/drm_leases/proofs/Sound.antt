@@ -12,14 +12,15 @@ use Rattle.drm_index_array.proofs.Least.{least_some}
 use Rattle.drm_id_alloc.specs.Table.{or_else}
 use Rattle.drm_lists.specs.Orders.{InOrder}
 use Rattle.drm_lists.proofs.Lists.{all_weaker, all_both, all_each, all_append, all_filter, all_mapped, filter_true, filter-shorter, length-filter_append}
-use Rattle.drm_lists.proofs.Placed.{placed_back}
-use Rattle.drm_lists.proofs.Orders.{same_parts, in_order_filter, in_order_append, in_order_map, in_order_weaker}
+use Rattle.drm_lists.proofs.Numbers.{flipped}
+use Rattle.drm_lists.proofs.Placed.{all_placed, placed_back, in_order_placed, rise_placed}
+use Rattle.drm_lists.proofs.Orders.{same_parts, in_order_filter, in_order_map, in_order_weaker}
 use Rattle.drm_leases.specs.declared.rows.Grant.{Grant}
 use Rattle.drm_leases.specs.declared.rows.Lease.{Lease}
-use Rattle.drm_leases.specs.declared.rows.LeaseToken.{LeaseToken}
+use Rattle.drm_leases.specs.Tokens.{LeaseToken, token_before}
 use Rattle.drm_leases.specs.Masks.{lease_before}
 use Rattle.drm_leases.specs.Leases.{LeaseSet, Lending, AreLeases, is_token, is_free, is_grant_of, grant_before, next_token, token_master}
-use Rattle.drm_leases.specs.Calls.{IsUnusedLessee, put_in, grant, lease_token, with_lease, without_token}
+use Rattle.drm_leases.specs.Calls.{IsUnusedLessee, grant, lease_token, with_lease, without_token}
 
 -- ---- rows go
 
@@ -39,7 +40,7 @@ module _ (l : LeaseSet) (a : AreLeases l) where
     last_high = a.last_high;
     given_high = a.given_high;
     tokens_low = all_filter (λ (row : LeaseToken). 1 ≤ row.token) p l.tokens a.tokens_low;
-    tokens_differ = in_order_filter (λ (x y : LeaseToken). (x.token == y.token) ≡ false) p l.tokens a.tokens_differ;
+    tokens_rise = in_order_filter (λ (x y : LeaseToken). x.token < y.token) p l.tokens a.tokens_rise;
     lessees_differ = in_order_filter (λ (x y : LeaseToken). (x.master == y.master) ≡ false) p l.tokens a.lessees_differ;
     grants_rise = a.grants_rise;
     few = a.few;
@@ -50,7 +51,7 @@ module _ (l : LeaseSet) (a : AreLeases l) where
     last_high = a.last_high;
     given_high = a.given_high;
     tokens_low = a.tokens_low;
-    tokens_differ = a.tokens_differ;
+    tokens_rise = a.tokens_rise;
     lessees_differ = a.lessees_differ;
     grants_rise = in_order_filter grant_before p l.grants a.grants_rise;
     few = λ m.
@@ -161,9 +162,12 @@ module _ (l : LeaseSet) (a : AreLeases l) (t m lessor : ℕ) (objects : List ℕ
   lease_are = record {
     last_high = a.last_high;
     given_high = is.1;
-    tokens_low = all_append (λ (row : LeaseToken). 1 ≤ row.token) l.tokens (lease_token t m ∷ []) a.tokens_low (is.0, tt);
-    tokens_differ = in_order_append (λ (x y : LeaseToken). (x.token == y.token) ≡ false) l.tokens (lease_token t m) a.tokens_differ (not_passing (is_token t) l.tokens is.2);
-    lessees_differ = in_order_append (λ (x y : LeaseToken). (x.master == y.master) ≡ false) l.tokens (lease_token t m) a.lessees_differ new.tokens;
+    tokens_low = all_placed (λ (row : LeaseToken). 1 ≤ row.token) (λ (row : LeaseToken). token_before row (lease_token t m)) (lease_token t m) l.tokens is.0 a.tokens_low;
+    tokens_rise = rise_placed (λ (row : LeaseToken). row.token) (lease_token t m) l.tokens a.tokens_rise (not_passing (is_token t) l.tokens is.2);
+    lessees_differ =
+        in_order_placed (λ (row : LeaseToken). row.token) (lease_token t m) l.tokens a.tokens_rise (λ (x y : LeaseToken). (x.master == y.master) ≡ false) a.lessees_differ
+        (all_weaker (λ (row : LeaseToken). (row.master == m) ≡ false) (λ (row : LeaseToken). row.token < t → (row.master == m) ≡ false) (λ row e lt. e) l.tokens new.tokens)
+        (all_weaker (λ (row : LeaseToken). (row.master == m) ≡ false) (λ (row : LeaseToken). nat_lt row.token t ≡ false → (m == row.master) ≡ false) (λ row e k. flipped row.master m e) l.tokens new.tokens);
     grants_rise =
         in_order_both grant_before fore (grants ++ behind) (in_order_filter grant_before is_fore l.grants a.grants_rise)
         (in_order_both grant_before grants behind new_rise (in_order_filter grant_before (λ g. not (is_fore g)) l.grants a.grants_rise) (all_mapped (λ (g : Grant). AllByRecursion (grant_before g) behind) (grant m) objects (all_each (λ x. AllByRecursion (grant_before (grant m x)) behind) (λ x. all_weaker (λ (g : Grant). m < g.master) (grant_before (grant m x)) (λ g lt. inl lt) behind above) objects)))

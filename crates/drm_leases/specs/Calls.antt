@@ -1,6 +1,7 @@
 -- What each call does.
 use Rattle.std.specs.Prelude.{◌≡◌, ℕ, ◌==◌, ◌<◌, nat_lt, false, not, Bool, List, [], ◌∷◌, ◌++◌, None, Some, Result, Ok, Err, map, filter}
 use Rattle.std.specs.List.{AllByRecursion}
+use Rattle.drm_index_array.specs.Rows.{placed}
 use Rattle.drm_lists.specs.Chains.{is_under}
 use Rattle.drm_lists.specs.Numbers.{is_among}
 use Rattle.drm_table.specs.Permit.{first_failing}
@@ -13,7 +14,8 @@ use Rattle.drm_masters.specs.Calls.{IsFreeKey, lessee, with_master}
 use Rattle.drm_leases.specs.declared.faults.LeaseFault.{LeaseFault}
 use Rattle.drm_leases.specs.declared.faults.LeaseFault.TheVariants.{Denied, NoMemory}
 use Rattle.drm_leases.specs.declared.rows.Grant.{Grant}
-use Rattle.drm_leases.specs.declared.rows.LeaseToken.{LeaseToken}
+use Rattle.drm_leases.specs.Tokens.{LeaseToken, token_before}
+pub use Rattle.drm_leases.specs.Tokens.{lease_token}
 use Rattle.drm_leases.specs.declared.rows.Leased.{Leased}
 use Rattle.drm_leases.specs.Leases.{LeaseSet, Lending, is_token, next_token}
 use Rattle.drm_leases.specs.Rules.{lease_checks, leased}
@@ -31,9 +33,6 @@ pub record IsUnusedLessee (l : LeaseSet) (step_number : ℕ) : Type 0 where
 abbrev pub grant : ℕ → ℕ → Grant
 grant m x = record { master = m; mode_object = x }
 
-abbrev pub lease_token : ℕ → ℕ → LeaseToken
-lease_token t m = record { token = t; master = m }
-
 -- the fixed mode objects that are listed, rising
 abbrev pub listed_objects : Topology → List ℕ → List ℕ
 listed_objects t ids = filter (is_among ids) (numbers_from 1 (object_count t))
@@ -49,7 +48,7 @@ put_in lessee m rows all = filter (λ x. nat_lt (lessee x) m) all ++ (rows ++ fi
 abbrev pub with_lease : ℕ → ℕ → ℕ → List ℕ → LeaseSet → LeaseSet
 with_lease t m lessor objects l = record l {
   last_given = Some t;
-  tokens = l.tokens ++ lease_token t m ∷ [];
+  tokens = placed token_before (lease_token t m) l.tokens;
   grants = put_in (λ (g : Grant). g.master) m (map (grant m) objects) l.grants;
   lendings = put_in (λ (x : Lending). x.lessee) m (lending m lessor ∷ []) l.lendings;
 }

@@ -4,7 +4,7 @@ use Rattle.drm_leases.specs.Leases.{LeaseSet, AreLeases}
 use Rattle.drm_leases.specs.Masks.{grants_in, lendings_in}
 
 abbrev pub set_of : Inside → LeaseSet
-set_of a = record { last = a.last; last_given = a.last_given; tokens = a.tokens.items; grants = grants_in a.granted.rows; lendings = lendings_in a.granted.rows }
+set_of a = record { last = a.tokens.last; last_given = a.tokens.last_given; tokens = a.tokens.rows; grants = grants_in a.granted.rows; lendings = lendings_in a.granted.rows }
 
 abbrev pub IsSound : Inside → Type 0
 IsSound a = AreLeases (set_of a)

@@ -9,7 +9,7 @@ use Rattle.drm_modes.specs.Numbers.{numbers_from}
 use Rattle.drm_masters.specs.declared.rows.Master.{Master}
 use Rattle.drm_masters.specs.Masters.{is_option, master_at, lessor_of, is_lessee}
 use Rattle.drm_leases.specs.declared.rows.Grant.{Grant}
-use Rattle.drm_leases.specs.declared.rows.LeaseToken.{LeaseToken}
+use Rattle.drm_leases.specs.Tokens.{LeaseToken}
 
 -- a lease: whose it is, and who lent it
 pub record Lending : Type 0 where
@@ -17,7 +17,7 @@ pub record Lending : Type 0 where
   pub lessor : ℕ
 
 -- tokens run from 1 to `last`, of which `last_given` is the last one given, if any was. A lessee is named by its step number. Tokens
--- are in the order in which they were given, grants and leases in the order of their lessees
+-- rise, grants and leases are in the order of their lessees
 pub record LeaseSet : Type 0 where
   pub last : ℕ
   pub last_given : Option ℕ
@@ -88,8 +88,11 @@ is_free tokens t = not (list_any (is_token t) tokens)
 
 -- the least free token above the last one given or, where there is none, the least free one (the kernel's cyclic IDR; that
 -- tokens are given so is own)
+abbrev pub next_of : List LeaseToken → Option ℕ → ℕ → Option ℕ
+next_of tokens last_given last = or_else (least (is_free tokens) (unwrap_or last_given 0 + 1) last) (least (is_free tokens) 1 last)
+
 abbrev pub next_token : LeaseSet → Option ℕ
-next_token l = or_else (least (is_free l.tokens) (unwrap_or l.last_given 0 + 1) l.last) (least (is_free l.tokens) 1 l.last)
+next_token l = next_of l.tokens l.last_given l.last
 
 -- what is so at all times
 
@@ -101,7 +104,7 @@ pub record AreLeases (l : LeaseSet) : Type 0 where
   pub last_high : l.last ≤ 4294967295
   pub given_high : IfSome l.last_given (λ t. t ≤ l.last)
   pub tokens_low : AllByRecursion (λ (row : LeaseToken). 1 ≤ row.token) l.tokens
-  pub tokens_differ : InOrder (λ (x y : LeaseToken). (x.token == y.token) ≡ false) l.tokens
+  pub tokens_rise : InOrder (λ (x y : LeaseToken). x.token < y.token) l.tokens
   pub lessees_differ : InOrder (λ (x y : LeaseToken). (x.master == y.master) ≡ false) l.tokens
   pub grants_rise : InOrder grant_before l.grants
   pub few : (m : ℕ) → length (granted_objects l.grants m) ≤ 64

@@ -1,3 +1,4 @@
+pub mod Tokens
 pub mod Leases
 pub mod Rules
 pub mod Calls

@@ -13,13 +13,11 @@ ghost use Rattle.drm_table.specs.Permit.{first_failing};
 use crate::endings::{end_leases, end_leases_below};
 use crate::faults::LeaseFault;
 use crate::granted::Granted;
-use crate::rows::{Grant, LeaseToken, Leased};
+use crate::rows::{Grant, Leased};
 use crate::rules::{are_leasable, are_seen, is_lease, may_lease, planes_along, stand_once};
-use crate::searches::{
-    any_leased_out, controls, find_token, find_token_of, has_lease, is_leased_out, next_token,
-    nth_grant,
-};
-use crate::writes::{listed_mask, remove_token, remove_tokens_below, remove_tokens_under};
+use crate::searches::{any_leased_out, controls, has_lease, is_leased_out, nth_grant};
+use crate::tokens::LeaseTokens;
+use crate::writes::listed_mask;
 use drm_masters::{Masters, NoMemory};
 use drm_modes::Modes;
 use drm_table::{Rule, ShownList};
@@ -42,20 +40,13 @@ const GRANT_KIND: u32 = 7;
 /// ```
 pub struct Leases {
     granted: Granted,
-    tokens: Vec<LeaseToken>,
-    last_given: Option<u32>,
-    last: u32,
+    tokens: LeaseTokens,
 }
 
 // Written out, so that it is proved once: a derived one is proved again in each crate that lets such a value go.
 impl Drop for Leases {
     fn drop(self) {
-        let Leases {
-            granted,
-            tokens,
-            last_given: _,
-            last: _,
-        } = self;
+        let Leases { granted, tokens } = self;
         drop(granted);
         drop(tokens);
     }
@@ -74,19 +65,18 @@ impl Model for Leases {
 }
 
 impl Leases {
-    /// No lease. Tokens from 1 to `last` may be given. It takes no memory.
+    /// Returns no lease. Tokens from 1 to `last` may be given. Does not allocate.
     ///
     /// ```rust
     /// assert!(Leases::new(alloc, 8).last_given().is_none());
     /// ```
     pub fn new(alloc: Global, last: u32) -> Leases
+        requires { 1 ≤ last }
         ensures { result ≡ sets.no_leases last }
     {
         Leases {
             granted: Granted::new(alloc),
-            tokens: Vec::new(alloc),
-            last_given: None,
-            last,
+            tokens: LeaseTokens::new(alloc, last),
         }
     }
 
@@ -94,7 +84,7 @@ impl Leases {
     pub fn laws(&self)
         ensures { sets.AreLeases self.now }
     {
-        let _ = &self.tokens;
+        let _ = &self.granted;
     }
 
     /// Creates a lessee of a client's master, a lease of the listed mode objects, and the token that opens it (drm-uapi,
@@ -136,16 +126,10 @@ impl Leases {
         if let Some(rule) = self.denied(masters, modes, member.master, universal, ids, along) {
             return Err(LeaseFault::Denied(rule));
         }
-        let Some(token) = next_token(&self.tokens, self.last_given, self.last) else {
-            unreachable!()
-        };
         let Some(lessor) = masters.master(member.master) else {
             unreachable!()
         };
         let objects = listed_mask(modes, ids, along);
-        if self.tokens.reserve(1).is_err() {
-            return Err(LeaseFault::NoMemory);
-        }
         self.granted.laws();
         if let Err(NoMemory) = self.granted.add(birth, member.master, objects) {
             return Err(LeaseFault::NoMemory);
@@ -154,11 +138,11 @@ impl Leases {
             self.granted.remove(birth);
             return Err(LeaseFault::NoMemory);
         };
-        self.tokens.push_reserved(LeaseToken {
-            token,
-            master: birth,
-        });
-        self.last_given = Some(token);
+        let Ok(token) = self.tokens.give(birth) else {
+            masters.release(made.0);
+            self.granted.remove(birth);
+            return Err(LeaseFault::NoMemory);
+        };
         Ok(Leased {
             m: made.0,
             id: made.1,
@@ -240,7 +224,7 @@ impl Leases {
     pub fn token_master(&self, token: u32) -> Option<u32>
         ensures { result ≡ sets.token_master self.now.tokens token }
     {
-        Some(find_token(&self.tokens, token)?.master)
+        self.tokens.lessee(token)
     }
 
     /// The open token of a lessee, if it has one. It takes no memory.
@@ -251,7 +235,7 @@ impl Leases {
     pub fn token_of(&self, master: u32) -> Option<u32>
         ensures { result ≡ sets.token_of self.now.tokens master }
     {
-        Some(find_token_of(&self.tokens, master)?.token)
+        self.tokens.of(master)
     }
 
     /// Spends an open token, and gives the lessee that it opens. Where the token isn't open nothing changes. It takes no memory.
@@ -265,9 +249,7 @@ impl Leases {
         ensures spent { self.new ≡ calls.without_token token self.old }
         ensures none { IfNone result (self.new ≡ self.old) }
     {
-        let master = self.token_master(token);
-        remove_token(&mut self.tokens, token);
-        master
+        self.tokens.spend(token)
     }
 
     /// Empties the lease of a master and of all below it, takes their open tokens, and releases them: a lessee that nobody
@@ -283,8 +265,7 @@ impl Leases {
         ensures masters { masters.new ≡ masters_sets.swept (masters_calls.released_under master masters.old) }
         ensures agreed { AreAgreed self.new masters.new }
     {
-        remove_tokens_under(&mut self.tokens, masters, master);
-        end_leases(&mut self.granted, masters, master);
+        end_leases(&mut self.granted, &mut self.tokens, masters, master);
         masters.release_under(master);
     }
 
@@ -302,8 +283,7 @@ impl Leases {
         ensures masters { masters.new ≡ masters_sets.swept (masters_calls.released_below master masters.old) }
         ensures agreed { AreAgreed self.new masters.new }
     {
-        remove_tokens_below(&mut self.tokens, masters, master);
-        end_leases_below(&mut self.granted, masters, master);
+        end_leases_below(&mut self.granted, &mut self.tokens, masters, master);
         masters.release_below(master);
     }
 
@@ -315,7 +295,7 @@ impl Leases {
     pub fn last_given(&self) -> Option<u32>
         ensures { result ≡ self.now.last_given }
     {
-        self.last_given
+        self.tokens.last_given()
     }
 
     /// Returns the row at a position, from 0, of the rows of an audit's kind (own): grants are kind 7, in the order of lessees and of
@@ -393,9 +373,7 @@ impl Leases {
         {
             return Some(Rule::LeasedOut);
         }
-        if masters.free_lessee(master).is_none()
-            || next_token(&self.tokens, self.last_given, self.last).is_none()
-        {
+        if masters.free_lessee(master).is_none() || self.tokens.is_full() {
             return Some(Rule::Full);
         }
         None

@@ -10,8 +10,9 @@ mod masks;
 mod rows;
 mod rules;
 mod searches;
+mod tokens;
 mod writes;
 
 pub use faults::LeaseFault;
 pub use leases::Leases;
-pub use rows::{Grant, LeaseToken, Leased};
+pub use rows::{Grant, Leased};

@@ -21,20 +21,6 @@ pub struct Grant {
     pub mode_object: u32,
 }
 
-/// An open token, which opens one client of a lessee (own: it stands for the file descriptor of a lease).
-///
-/// ```rust
-/// let token = LeaseToken { token: 1, master: 2 };
-/// assert!(leases.token_of(token.master) == Some(token.token));
-/// ```
-#[derive(Clone, Copy, PartialEq, Eq, Debug)]
-pub struct LeaseToken {
-    /// The token, a number from 1.
-    pub token: u32,
-    /// The lessee, by the number of the step that made it.
-    pub master: u32,
-}
-
 /// A lease: whose it is, who lent it, and what it has.
 #[derive(Clone, Copy)]
 pub struct Lease {

@@ -1,10 +1,8 @@
-//! Searches among grants and tokens.
+//! Searches among grants.
 
 ghost use Rattle.std.specs.Prelude.{◌≡◌, ◌==◌, ◌+◌, ◌&&◌, false, find, slice_get, unwrap_or};
 ghost use Rattle.std.specs.List.{list_any, AllByRecursion};
 ghost use Rattle.std.specs.Option.{option_map_or};
-ghost use Rattle.drm_index_array.specs.Least.{least};
-ghost use Rattle.drm_id_alloc.specs.Table.{or_else};
 ghost use Rattle.drm_masters.specs.Masters as masters_sets;
 ghost use Rattle.drm_leases.specs.Leases as sets;
 ghost use Rattle.drm_leases.specs.Agreed.{IsAgreed};
@@ -12,54 +10,8 @@ ghost use Rattle.drm_leases.specs.Masks.{grants_in, lendings_in};
 
 use crate::granted::Granted;
 use crate::masks;
-use crate::rows::{Grant, LeaseToken};
+use crate::rows::Grant;
 use drm_masters::Masters;
-
-/// The row of an open token.
-pub fn find_token(tokens: &[LeaseToken], token: u32) -> Option<LeaseToken>
-    ensures { result ≡ find (sets.is_token token) tokens.now }
-{
-    for row in tokens {
-        if row.token == token {
-            return Some(*row);
-        }
-    }
-    None
-}
-
-/// The row of a lessee's open token.
-pub fn find_token_of(tokens: &[LeaseToken], master: u32) -> Option<LeaseToken>
-    ensures { result ≡ find (sets.is_token_of master) tokens.now }
-{
-    for row in tokens {
-        if row.master == master {
-            return Some(*row);
-        }
-    }
-    None
-}
-
-/// The token that is given next: the least free one above the last one given or, where there is none, the least free one.
-pub fn next_token(tokens: &[LeaseToken], last_given: Option<u32>, last: u32) -> Option<u32>
-    ensures { result ≡ or_else (least (sets.is_free tokens.now) (unwrap_or last_given 0 + 1) last) (least (sets.is_free tokens.now) 1 last) }
-{
-    let given = last_given.unwrap_or(0);
-    match free_above(tokens, given, last) {
-        Some(token) => Some(token),
-        None => free_above(tokens, 0, last),
-    }
-}
-
-fn free_above(tokens: &[LeaseToken], given: u32, last: u32) -> Option<u32>
-    ensures { result ≡ least (sets.is_free tokens.now) (given + 1) last }
-{
-    for below in given..last {
-        let Some(_taken) = find_token(tokens, below + 1) else {
-            return Some(below + 1);
-        };
-    }
-    None
-}
 
 /// Whether a master controls a mode object: one without a lessor all, a lessee what its lease has.
 pub fn controls(granted: &Granted, masters: &Masters, master: u32, mode_object: u32) -> bool

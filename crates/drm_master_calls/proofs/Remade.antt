@@ -8,7 +8,7 @@ use Rattle.drm_lists.proofs.Orders.{same-filter}
 use Rattle.drm_files.specs.Files.{with_authenticated}
 use Rattle.drm_masters.specs.declared.rows.Master.{Master}
 use Rattle.drm_masters.specs.declared.rows.Member.{Member}
-use Rattle.drm_leases.specs.declared.rows.LeaseToken.{LeaseToken}
+use Rattle.drm_leases.specs.Tokens.{LeaseToken}
 use Rattle.drm_masters.specs.Masters.{MasterSet, AreMasters, is_client, member_of, swept as masters_swept}
 use Rattle.drm_masters.specs.Calls.{IsNewStepNumber, owner, founded_master, with_device, changed_member, remade}
 use Rattle.drm_masters.proofs.Newest.{newest_master, with_last_master}

@@ -19,3 +19,4 @@ mod Flagged
 mod Sound
 pub mod Crossing
 pub mod Newest
+pub mod Unmade

@@ -2,7 +2,6 @@
 
 ghost use Rattle.std.specs.Prelude.{◌≡◌, ◌<◌, ◌≤◌, ◌&&◌, ◌||◌, true, false, None, Some, [], find, length, slice_get, OnOk, OnErr, IfOk, IfSome, IsOk, not};
 ghost use Rattle.std.specs.Option.{is_some, option_map, option_map_or, option_and_then};
-ghost use Rattle.drm_lists.specs.Chains as chains;
 ghost use Rattle.drm_masters.specs.Masters as sets;
 ghost use Rattle.drm_masters.specs.Calls as calls;
 
@@ -10,9 +9,7 @@ use crate::current::{flag_current, flag_if_current, unflag_where_device};
 use crate::faults::{LesseeFault, NoMemory, SetDone, SetFault};
 use crate::members::Members;
 use crate::rows::{Master, MasterKey, MasterRow, Member};
-use crate::searches::{
-    depth_of, find_open_magic, free_magic, is_option, is_under, lessor_of, owner_of,
-};
+use crate::searches::{depth_of, find_open_magic, free_magic, is_option, lessor_of, owner_of};
 use crate::sweeps::{release_all_below, release_all_under, sweep_under, sweep_up};
 use crate::table::MasterTable;
 use crate::writes::{
@@ -134,18 +131,6 @@ impl Masters {
         self.masters.at(step_number)
     }
 
-    /// Whether a master is the one named top, or below it. Masters are named by the numbers of the steps that made them. It
-    /// takes no memory.
-    ///
-    /// ```rust
-    /// assert!(masters.is_under(1, 1));
-    /// ```
-    pub fn is_under(&self, top: u32, master: u32) -> bool
-        ensures { result ≡ chains.is_under (sets.lessor_of self.now.masters) top master }
-    {
-        is_under(&self.masters, top, master)
-    }
-
     /// How deep a master lies below its owner: 0 where it has no lessor, else one more than its lessor (own). Masters are named
     /// by the numbers of the steps that made them. It takes no memory.
     ///
@@ -183,21 +168,6 @@ impl Masters {
         ensures { result ≡ slice_get (sets.lessees_of self.now.masters lessor) position }
     {
         self.masters.nth_lessee(lessor, position)
-    }
-
-    /// Whether a client's master has a lessor (drm-uapi, leases). It is false of a client that stands to no master. It takes
-    /// no memory.
-    ///
-    /// ```rust
-    /// assert!(!masters.is_lessee(1));
-    /// ```
-    pub fn is_lessee(&self, client: u32) -> bool
-        ensures { result ≡ option_map_or (λ x. sets.is_lessee self.now.masters x.master) (sets.member_of self.now.members client) false }
-    {
-        match self.members.get(client) {
-            Some(member) => lessor_of(&self.masters, member.master).is_some(),
-            None => false,
-        }
     }
 
     /// The device's master, by the number of the step that made it.
@@ -274,7 +244,7 @@ impl Masters {
     /// let Some(owner) = masters.master(1) else { return };
     /// let Ok((lessee, _id)) = masters.make_lessee(owner.key, 2) else { return };
     /// let Ok(()) = masters.on_redeem(3, lessee) else { return };
-    /// assert!(masters.is_lessee(3));
+    /// assert!(masters.is_current(3));
     /// ```
     pub fn on_redeem(&mut self, client: u32, master: MasterKey) -> Result<(), NoMemory>
         requires new_client { is_some (sets.member_of self.old.members client) ≡ false }

@@ -3,7 +3,6 @@
 ghost use Rattle.std.specs.Prelude.{◌≡◌, ◌==◌, find, not, slice_get};
 ghost use Rattle.std.specs.List.{list_any, AllByRecursion};
 ghost use Rattle.drm_index_array.specs.Least.{least};
-ghost use Rattle.drm_lists.specs.Chains as chains;
 ghost use Rattle.drm_masters.specs.Masters as sets;
 ghost use Rattle.drm_masters.specs.Tables.{members_in};
 
@@ -40,20 +39,6 @@ pub fn depth_of(masters: &MasterTable, step_number: u32) -> u32
     match lessor_of(masters, step_number) {
         Some(lessor) => depth_of(masters, lessor) + 1,
         None => 0,
-    }
-}
-
-/// Whether a master is the one named top, or below it.
-pub fn is_under(masters: &MasterTable, top: u32, step_number: u32) -> bool
-    requires older { AllByRecursion (sets.HasOlderLessor masters.now.items) masters.now.items }
-    ensures { result ≡ chains.is_under (sets.lessor_of masters.now.items) top step_number }
-{
-    if step_number == top {
-        return true;
-    }
-    match lessor_of(masters, step_number) {
-        Some(lessor) => is_under(masters, top, lessor),
-        None => false,
     }
 }
 

@@ -14,7 +14,7 @@ use Rattle.drm_masters.specs.Calls as masters_calls
 use Rattle.drm_leases.specs.declared.faults.LeaseFault.{LeaseFault}
 use Rattle.drm_leases.specs.declared.faults.LeaseFault.TheVariants.{Denied, NoMemory}
 use Rattle.drm_leases.specs.declared.rows.Grant.{Grant}
-use Rattle.drm_leases.specs.declared.rows.LeaseToken.{LeaseToken}
+use Rattle.drm_leases.specs.Tokens.{LeaseToken, token_before}
 use Rattle.drm_leases.specs.declared.rows.Leased.{Leased}
 use Rattle.drm_leases.specs.Leases.{LeaseSet, Lending, is_token}
 use Rattle.drm_leases.specs.Rules.{leased}
@@ -40,7 +40,7 @@ module _ (l : LeaseSet) (v : MasterSet) (s : ModeSet) (m : ℕ) (universal : Boo
       let objects = listed_objects s.topology (leased l v s m universal ids) in
       subst (λ (w : LeaseSet). IsNewLessee w (step_number + 1)) (sym (c.3 ∙ newest_last made.token step_number m objects l h))
       (record {
-        tokens = all_append (λ (row : LeaseToken). row.master < step_number + 1) l.tokens (lease_token made.token step_number ∷ []) k.tokens (omega arith, tt);
+        tokens = all_placed (λ (row : LeaseToken). row.master < step_number + 1) (λ (row : LeaseToken). token_before row (lease_token made.token step_number)) (lease_token made.token step_number) l.tokens (omega arith) k.tokens;
         grants = all_append (λ (g : Grant). g.master < step_number + 1) l.grants (map (grant step_number) objects) k.grants (all_mapped (λ (g : Grant). g.master < step_number + 1) (grant step_number) objects (all_each (λ x. (grant step_number x).master < step_number + 1) (λ x. omega arith) objects));
       })
   created_lessees (Err (Denied rule)) l2 v2 h c = subst (λ (w : LeaseSet). IsNewLessee w (step_number + 1)) (sym c.1) (later_lessees l step_number h)

@@ -29,7 +29,6 @@ pub(crate) enum Ask {
     ReleaseUnder(u32),
     DeviceMaster,
     IsCurrent(u32),
-    IsLessee(u32),
     MasterOf(u32),
     Member(u32),
     NthMember(usize),
@@ -41,7 +40,6 @@ pub(crate) enum Ask {
     FreeLessee(u32),
     LastLessee,
     Depth(u32),
-    IsUnder(u32, u32),
 }
 
 /// What a call answers. `Unasked` is for a call that may not be made.
@@ -285,7 +283,6 @@ fn told_of(masters: &Masters, ask: Ask) -> Told {
     match ask {
         Ask::DeviceMaster => told_number(masters.device_master()),
         Ask::IsCurrent(client) => Told::Whether(masters.is_current(client)),
-        Ask::IsLessee(client) => Told::Whether(masters.is_lessee(client)),
         Ask::MasterOf(client) => told_key(masters, masters.master_of(client)),
         Ask::Member(client) => told_client(masters.member(client)),
         Ask::NthMember(place) => told_client(masters.nth_member(place)),
@@ -296,7 +293,6 @@ fn told_of(masters: &Masters, ask: Ask) -> Told {
         Ask::FreeLessee(master) => told_number(masters.free_lessee(master)),
         Ask::LastLessee => Told::Number(masters.last_lessee()),
         Ask::Depth(master) => Told::Number(masters.depth(master)),
-        Ask::IsUnder(top, master) => Told::Whether(masters.is_under(top, master)),
         _ => Told::Unasked,
     }
 }

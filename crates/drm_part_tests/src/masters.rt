@@ -71,7 +71,7 @@ const MAGICS: [Case; 22] = [
     (Ask::IsCurrent(1), Told::Whether(true)),
     (Ask::IsCurrent(3), Told::Whether(false)),
     (Ask::IsCurrent(4), Told::Whether(false)),
-    (Ask::IsLessee(1), Told::Whether(false)),
+    (Ask::Lessor(1), Told::Nothing),
     (Ask::DeviceMaster, Told::Number(1)),
     (Ask::Close(1), Told::Number(1)),
     (Ask::DeviceMaster, Told::Nothing),
@@ -216,7 +216,7 @@ const SET_AND_LENT: [Case; 5] = [
 ];
 
 /// A lessee is found below its owner, and the owner above it.
-const LENT: [Case; 11] = [
+const LENT: [Case; 9] = [
     (Ask::Open(1), Told::Whether(true)),
     (Ask::Lend(1, 7), Told::Lent(7, 1)),
     (
@@ -242,8 +242,6 @@ const LENT: [Case; 11] = [
             kept: true,
         },
     ),
-    (Ask::IsUnder(1, 7), Told::Whether(true)),
-    (Ask::IsUnder(7, 1), Told::Whether(false)),
 ];
 
 /// A lessee is redeemed, and is current while the owner's master is the device's.
@@ -292,8 +290,8 @@ const BORN_IN_ANY_ORDER: [Case; 12] = [
     ),
     (Ask::NthMaster(4), Told::Nothing),
     (Ask::Depth(7), Told::Number(2)),
-    (Ask::IsUnder(5, 7), Told::Whether(true)),
-    (Ask::IsUnder(9, 7), Told::Whether(false)),
+    (Ask::Lessor(7), Told::Number(5)),
+    (Ask::Lessor(9), Told::Number(1)),
 ];
 
 #[test]
@@ -347,8 +345,8 @@ const ALL_BELOW: [Case; 8] = [
     (Ask::LastLessee, Told::Number(4)),
     (Ask::Open(1), Told::Whether(true)),
     (Ask::Lend(1, 2), Told::Lent(2, 1)),
-    (Ask::IsUnder(1, 2), Told::Whether(true)),
-    (Ask::IsUnder(2, 1), Told::Whether(false)),
+    (Ask::Depth(2), Told::Number(1)),
+    (Ask::Depth(1), Told::Number(0)),
     (Ask::Close(1), Told::Number(1)),
     (Ask::ReleaseUnder(1), Told::Done),
     (Ask::NthMaster(0), Told::Nothing),

@@ -5,6 +5,7 @@ use Rattle.std.proofs.lemmas.Option.{none-some}
 use Rattle.drm_index_array.specs.Least.{least}
 use Rattle.drm_index_array.proofs.Least.{least_is_none, least_none}
 use Rattle.drm_id_alloc.specs.Table.{Table, is_free as is_free_in, least_free, next_after, next_cyclic, or_else, with_entry, without_entry}
+use Rattle.drm_id_alloc.proofs.Cyclic.{next_is}
 use Rattle.drm_id_alloc.proofs.TableLemmas.{IsWithin-empty, IsWithin-insert, IsWithin-remove}
 use Rattle.drm_share.specs.declared.rows.SharedToken.{SharedToken}
 use Rattle.drm_share.specs.declared.tokens.Export.{Export}
@@ -33,36 +34,10 @@ module _ (t : Table Export) where
   pub token_of_is : (c n : ℕ) → find (is_token_of c n) (tokens_in t.slots) ≡ option_and_then (λ (v : Export). cond (v.client == c) (Some (token_row (n, v))) None) (fin.get t.slots n)
   token_of_is c n = find_also token_row token_in (λ e. refl) t.slots n (is_exported_by c)
 
-  or_same : (x : Option ℕ) → or_else x x ≡ x
-  or_same None = refl
-  or_same (Some n) = refl
-
   pub next_token_is : t.first ≡ 1 → next_token (token_list t) ≡ next_cyclic t
   next_token_is first =
       (λ i. or_else (least_free_is token_row token_in (λ e. refl) t.slots (unwrap_or t.last_given 0 + 1) t.last i) (least_free_is token_row token_in (λ e. refl) t.slots 1 t.last i))
-      ∙ turn t.last_given
-    where
-      turn : (g : Option ℕ) → or_else (least (is_free_in t) (unwrap_or g 0 + 1) t.last) (least (is_free_in t) 1 t.last) ≡ next_after t g
-      turn None = or_same (least (is_free_in t) 1 t.last) ∙ ap (λ n. least (is_free_in t) n t.last) (sym first)
-      turn (Some g) = ap (λ n. or_else (least (is_free_in t) (g + 1) t.last) (least (is_free_in t) n t.last)) (sym first)
-
-  -- no token is free exactly where none comes next
-  pub full_is : IsNumbered t → (least_free t ≡ None) ↔ (next_cyclic t ≡ None)
-  full_is is = ((λ none. none_next t.last_given is.within.given_low none), λ none. none_least t.last_given none)
-    where
-      none_next : (g : Option ℕ) → IfSome g (λ n. t.first ≤ n) → least_free t ≡ None → next_after t g ≡ None
-      none_next None low none = none
-      none_next (Some g) low none =
-          let above : least (is_free_in t) (g + 1) t.last ≡ None = least_is_none (is_free_in t) (g + 1) t.last (λ k ge le. least_none (is_free_in t) t.first t.last none k (omega (arith, low, ge)) le) in
-          ap (λ x. or_else x (least_free t)) above ∙ none
-
-      second : (x y : Option ℕ) → or_else x y ≡ None → y ≡ None
-      second None y none = none
-      second (Some n) y none = absurd (none-some n (sym none))
-
-      none_least : (g : Option ℕ) → next_after t g ≡ None → least_free t ≡ None
-      none_least None none = none
-      none_least (Some g) none = second (least (is_free_in t) (g + 1) t.last) (least_free t) none
+      ∙ next_is t first
 
   pub token_opened : (n : ℕ) (v : Export) → fin.get t.slots n ≡ None → token_list (record (with_entry t n v) { last_given = Some n }) ≡ with_token (token_list t) (token_row (n, v))
   token_opened n v none = λ i. record { last = t.last; last_given = Some n; tokens = rows_added token_row token_in (λ e. refl) t.slots n v none i }

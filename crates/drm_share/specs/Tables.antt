@@ -2,7 +2,8 @@
 use Rattle.std.specs.Prelude.{◌≡◌, ℕ, List, map as list_map, Some}
 use Rattle.std.specs.Ordering.{nat_cmp}
 use Rattle.std.specs.FinMap as map
-use Rattle.drm_id_alloc.specs.Table.{Table, IsWithin}
+use Rattle.drm_id_alloc.specs.BothWays.{AreBothWays}
+pub use Rattle.drm_id_alloc.specs.Table.{Table, IsNumbered}
 use Rattle.drm_id_alloc.specs.Groups.{GroupMap, has, AreGroupsOf}
 use Rattle.drm_share.specs.declared.rows.SharedName.{SharedName}
 use Rattle.drm_share.specs.declared.rows.SharedToken.{SharedToken}
@@ -28,16 +29,10 @@ tokens_in slots = list_map token_row (map.entries slots)
 abbrev pub token_list : Table Export → TokenList
 token_list table = record { last = table.last; last_given = table.last_given; tokens = tokens_in table.slots }
 
--- a table of the numbers from 1 on, which keeps to its range
-pub record IsNumbered {X : Type 0} (table : Table X) : Type 0 where
-  pub first_is : table.first ≡ 1
-  pub within : IsWithin table.slots table.first table.last table.last_given
-
 -- such a table of names, and the name of each object that has one
 pub record HasNames (table : Table ℕ) (names : map.FinMap nat_cmp ℕ) : Type 0 where
   pub numbered : IsNumbered table
-  pub named : (n k : ℕ) → map.get table.slots n ≡ Some k → map.get names k ≡ Some n
-  pub given : (k n : ℕ) → map.get names k ≡ Some n → map.get table.slots n ≡ Some k
+  pub ways : AreBothWays table.slots names
 
 -- such a table of tokens, and those of each client
 pub record HasOwners (table : Table Export) (owned : GroupMap) : Type 0 where

@@ -18,7 +18,7 @@ use Rattle.drm_masters.specs.Masters as masters
 use Rattle.drm_masters.specs.Masters.{is_step_number, is_lessee}
 use Rattle.drm_masters.specs.Calls.{kept_as}
 use Rattle.drm_leases.specs.declared.rows.Grant.{Grant}
-use Rattle.drm_leases.specs.declared.rows.LeaseToken.{LeaseToken}
+use Rattle.drm_leases.specs.Tokens.{LeaseToken}
 use Rattle.drm_leases.specs.Leases.{LeaseSet, Lending, is_token_of, token_of}
 use Rattle.drm_model.specs.Rows.{MasterRow, GrantRow}
 use Rattle.drm_state.specs.Parts.{master_row_of, grant_row_of, released, ended}

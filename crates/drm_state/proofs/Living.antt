@@ -12,7 +12,7 @@ use Rattle.drm_masters.specs.Masters as masters
 use Rattle.drm_model.specs.Rows.{Rows, ClientRow, MasterRow, is_option}
 use Rattle.drm_model.specs.Masters.{lessor_of, is_owner, is_under}
 use Rattle.drm_model.specs.Change.{is_held, is_living}
-use Rattle.drm_leases.specs.declared.rows.LeaseToken.{LeaseToken}
+use Rattle.drm_leases.specs.Tokens.{LeaseToken}
 use Rattle.drm_leases.specs.Leases.{token_of}
 use Rattle.drm_state.specs.Parts.{master_row_of}
 use Rattle.drm_state.specs.Invariants.{AreKeptBy}

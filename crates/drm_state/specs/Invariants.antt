@@ -15,7 +15,7 @@ use Rattle.drm_masters.specs.declared.rows.Master.{Master}
 use Rattle.drm_masters.specs.declared.rows.Member.{Member}
 use Rattle.drm_masters.specs.Masters.{MasterSet, AreMasters, member_of, is_lessee}
 use Rattle.drm_masters.specs.Calls as masters
-use Rattle.drm_leases.specs.declared.rows.LeaseToken.{LeaseToken}
+use Rattle.drm_leases.specs.Tokens.{LeaseToken}
 use Rattle.drm_leases.specs.Leases.{AreLeases, token_of}
 use Rattle.drm_leases.specs.Calls.{IsNewLessee}
 use Rattle.drm_leases.specs.Agreed.{AreAgreed}

@@ -21,7 +21,7 @@ use Rattle.drm_masters.specs.Masters.{MasterSet, is_client, member_of, is_option
 use Rattle.drm_lists.specs.Chains.{is_under}
 use Rattle.drm_masters.specs.Calls.{kept_as}
 use Rattle.drm_leases.specs.declared.rows.Grant.{Grant}
-use Rattle.drm_leases.specs.declared.rows.LeaseToken.{LeaseToken}
+use Rattle.drm_leases.specs.Tokens.{LeaseToken}
 use Rattle.drm_leases.specs.Leases.{LeaseSet, Lending, token_of}
 use Rattle.drm_state.specs.declared.state.State.{State}
 

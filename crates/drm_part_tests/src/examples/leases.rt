@@ -1,6 +1,6 @@
 //! The examples of `drm_leases`, made by `tools/doc_examples` of its doc comments.
 
-use drm_leases::{Grant, LeaseFault, LeaseToken, Leased, Leases};
+use drm_leases::{Grant, LeaseFault, Leased, Leases};
 use drm_masters::Masters;
 use drm_modes::{Modes, Topology};
 use drm_table::Rule;
@@ -37,11 +37,6 @@ fn values(rt: HostRuntime) {
                 mode_object: 1
             })
     );
-    let token = LeaseToken {
-        token: 1,
-        master: 2,
-    };
-    assert!(rt; leases.token_of(token.master) == Some(token.token));
     let Leased { m, id, token } = leased;
     assert!(rt; id == 1 && token == 1 && matches!(masters.master(2), Some(row) if row.key == m));
 }

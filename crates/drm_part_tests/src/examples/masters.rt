@@ -84,14 +84,12 @@ fn masters(rt: HostRuntime) {
     assert!(rt; matches!(masters.member(1), Some(row) if row.is_master && row.master == 1));
     assert!(rt; masters.master_of(1).is_some() && masters.master_of(2).is_none());
     assert!(rt; matches!(masters.master(1), Some(row) if row.lessor.is_none() && !row.kept));
-    assert!(rt; masters.is_under(1, 1));
     assert!(rt; masters.depth(1) == 0);
     let Some(row) = masters.master(1) else {
         panic!(rt; "refused")
     };
     assert!(rt; masters.lessor_of(row.key).is_none());
     assert!(rt; masters.nth_lessee(1, 0).is_none());
-    assert!(rt; !masters.is_lessee(1));
     assert!(rt; masters.device_master() == Some(1));
     assert!(rt; masters.is_current(1) && !masters.is_current(2));
     assert!(rt; is_first);
@@ -108,7 +106,7 @@ fn masters(rt: HostRuntime) {
     let Ok(()) = masters.on_redeem(3, lessee) else {
         panic!(rt; "refused")
     };
-    assert!(rt; masters.is_lessee(3));
+    assert!(rt; masters.is_current(3));
     if masters.member(1).is_some() {
         assert!(rt; masters.set(1, false, 9) == Ok(SetDone::Already));
     }

@@ -27,7 +27,7 @@ use Rattle.drm_state.specs.declared.state.State.{State}
 use Rattle.drm_state.specs.Callers.{as_caller}
 use Rattle.drm_state.specs.Invariants.{MeetsInvariants}
 use Rattle.drm_state.specs.Refinement.{RefinesCall, Represents}
-use Rattle.drm_state.proofs.Represented.{masters_so, leases_agree}
+use Rattle.drm_state.proofs.Represented.{masters_so, leases_so, leases_agree}
 use Rattle.drm_state.proofs.Refinements.{denied, refused, carried_on}
 use Rattle.drm_state.proofs.Seeing.{topology_is}
 use Rattle.drm_state.proofs.Callers.{caller_file, own_master_is}
@@ -72,7 +72,7 @@ returns-in-Ok-clause-invariants c =
     let leases_are_now = by.3 ∙ newest_last made.token step x.master objects s.leases later.leases in
     subst (λ (l : LeaseSet). MeetsInvariants (record s { masters = c.create.new.masters; leases = l })) (sym leases_are_now)
     (subst (λ (v : MasterSet). MeetsInvariants (record s { masters = v; leases = with_last_lease made.token step x.master objects s.leases })) (sym masters_are_now)
-    (leased_invariants s by.4.0 step x.master made.id made.token objects later.masters later.leases c.requires.precondition.invariants (subst AreMasters masters_are_now c.laws.ensures) (subst AreLeases leases_are_now c.laws-in-Ok.ensures)
+    (leased_invariants s by.4.0 step x.master made.id made.token objects (leases_so s c.requires.precondition.invariants).tokens_rise later.masters later.leases c.requires.precondition.invariants (subst AreMasters masters_are_now c.laws.ensures) (subst AreLeases leases_are_now c.laws-in-Ok.ensures)
     (subst (AreAgreed (with_last_lease made.token step x.master objects s.leases)) masters_are_now (subst (λ (l : LeaseSet). AreAgreed l c.create.new.masters) leases_are_now c.create.ensures.agreed))))
 
 pub returns-in-Ok-clause-refines : goal.returns-in-Ok-clause-refines
@@ -101,7 +101,7 @@ returns-in-Ok-clause-refines c = λ w r admitted.
     (subst (Represents new) (sym (λ i. leased_rows w (own i) (r.step_number_is i) (id_is i) (token_is i) all))
     (subst (λ (l : LeaseSet). Represents (record s { masters = c.create.new.masters; leases = l }) (leased_rows w x.master step made.id made.token all)) (sym (by.3 ∙ newest_last made.token step x.master objects s.leases c.requires.precondition.later.leases))
     (subst (λ (v : MasterSet). Represents (record s { masters = v; leases = with_last_lease made.token step x.master objects s.leases }) (leased_rows w x.master step made.id made.token all)) (sym (by.4.2 ∙ newest_master s.masters (lessee by.4.0 step x.master made.id) c.requires.precondition.later.masters))
-    (leased_represents s by.4.0 step x.master made.id made.token objects c.requires.precondition.later.masters c.requires.precondition.later.leases w h all same))))
+    (leased_represents s by.4.0 step x.master made.id made.token objects (leases_so s t).tokens_rise c.requires.precondition.later.masters c.requires.precondition.later.leases w h all same))))
 
 pub returns-in-Err-Denied-clause-refines : goal.returns-in-Err-Denied-clause-refines
 unfolding RefinesCall

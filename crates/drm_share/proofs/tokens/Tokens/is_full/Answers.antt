@@ -1,5 +1,6 @@
 use Rattle.std.proofs.Common.{sym, ◌∙◌}
-use Rattle.drm_share.proofs.TokenFacts.{full_is, next_token_is}
+use Rattle.drm_id_alloc.proofs.Cyclic.{full_is}
+use Rattle.drm_share.proofs.TokenFacts.{next_token_is}
 use Rattle.drm_share.proofs.tokens.Tokens.is_full.Goals as goal
 
 pub returns : goal.returns
