@@ -1,5 +1,10 @@
 -- Handles of a client, step by step.
-use Rattle.std.proofs.Common.{◌≡◌, ℕ, ◌+◌, ◌<◌, ◌==◌, Bool, true, false, cond, not, ◌&&◌, ◌||◌, List, [], ◌∷◌, ◌++◌, filter, length, get_or, take, Option, None, Some, refl, sym, ◌∙◌, ap, arith}
+use Rattle.std.proofs.Common.{◌≡◌, ℕ, ◌+◌, ◌<◌, ◌≤◌, ◌==◌, Bool, true, false, cond, not, ◌&&◌, ◌||◌, List, [], ◌∷◌, ◌++◌, filter, length, get_or, take, Option, None, Some, refl, sym, ◌∙◌, ap, arith}
+use Rattle.std.specs.Prelude.{AllPairs}
+use Rattle.std.specs.List.{AllByRecursion, IsDistinct}
+use Rattle.std.specs.List.Sorted.{IsNonDecreasingBy, IsPermutation}
+use Rattle.std.proofs.lemmas.Bool.Decides.{nat_tests}
+use Rattle.std.proofs.lemmas.Map.Keys.{IsDistinct-IsPermutation, apart_from_distinct}
 use Rattle.std.specs.Option.{is_some}
 use Rattle.std.proofs.lemmas.Bool.{eqb-true, or_parts}
 use Rattle.std.proofs.lemmas.List.{take_more}
@@ -8,7 +13,7 @@ use Rattle.drm_model.specs.Rows.{is_option}
 use Rattle.drm_history.specs.History.{AnsweredEvent, next_number}
 use Rattle.drm_history.specs.Steps.{Source, given, takes}
 use Rattle.drm_rights.specs.Steps.{entry_of, followed_by, history_of}
-use Rattle.drm_rights.specs.Handles.{is_given_at, is_handle_held, is_held_since}
+use Rattle.drm_rights.specs.Handles.{AreOnce, is_given_at, is_handle_held, is_held_since}
 use Rattle.drm_rights.specs.Searches.{Gift, gift_or, last_gift, source_for}
 use Rattle.drm_rights.specs.declared.handles.Held.{Held}
 use Rattle.drm_rights.specs.declared.steps.Step.{Step}
@@ -65,7 +70,55 @@ without-none held handle h s none =
       | false ↦ λ e. and_true (is_held_since held h s)
     ]) refl
 
--- ---- a handle more
+-- ---- each handle once
+
+none_filtered : (n : ℕ) (p : Held → Bool) (held : List Held) → AllByRecursion (λ (other : Held). (n == other.handle) ≡ false) held → AllByRecursion (λ (other : Held). (n == other.handle) ≡ false) (filter p held)
+none_filtered n p [] h = tt
+none_filtered n p (x ∷ xs) h =
+    elim (p x) as (λ b. AllByRecursion (λ (other : Held). (n == other.handle) ≡ false) (cond b (x ∷ filter p xs) (filter p xs))) [
+      | true ↦ (h.0, none_filtered n p xs h.1)
+      | false ↦ none_filtered n p xs h.1
+    ]
+
+-- those that pass a test
+pub once-filter : (p : Held → Bool) (held : List Held) → AreOnce held → AreOnce (filter p held)
+unfolding IsDistinct
+once-filter p [] h = tt
+once-filter p (x ∷ xs) h =
+    elim (p x) as (λ b. AreOnce (cond b (x ∷ filter p xs) (filter p xs))) [
+      | true ↦ (none_filtered x.handle p xs h.0, once-filter p xs h.1)
+      | false ↦ once-filter p xs h.1
+    ]
+
+none_pushed : (n : ℕ) (held : List Held) (one : Held) → AllByRecursion (λ (other : Held). (n == other.handle) ≡ false) held → (n == one.handle) ≡ false → AllByRecursion (λ (other : Held). (n == other.handle) ≡ false) (held ++ one ∷ [])
+none_pushed n [] one h k = (k, tt)
+none_pushed n (x ∷ xs) one h k = (h.0, none_pushed n xs one h.1 k)
+
+-- one more, which is not there
+pub once-push : (held : List Held) (one : Held) → AreOnce held → is_handle_held held one.handle ≡ false → AreOnce (held ++ one ∷ [])
+unfolding IsDistinct
+once-push [] one h none = (tt, tt)
+once-push (x ∷ xs) one h none =
+    let parts = or_parts (x.handle == one.handle) (is_handle_held xs one.handle) none in
+    (none_pushed x.handle xs one h.0 parts.0, once-push xs one h.1 parts.1)
+
+pub once-none : AreOnce []
+unfolding IsDistinct
+once-none = tt
+
+-- sorted by their handles, each is below all later ones
+pub once-sorted : (held sorted : List Held) → IsPermutation held sorted → IsNonDecreasingBy (λ (one : Held). one.handle) sorted → AreOnce held → AllPairs (λ (one other : Held). one.handle < other.handle) sorted
+once-sorted held sorted same up once = λ i j d before within.
+    let e = λ (one other : Held). one.handle == other.handle in
+    let differ = apart_from_distinct e sorted i j d (IsDistinct-IsPermutation e (λ x y. flips x.handle y.handle) held sorted same once) before within in
+    let le = up i j d (omega (arith, before)) within in
+    less (get_or sorted i d).handle (get_or sorted j d).handle le differ
+  where
+    flips : (m n : ℕ) → (m == n) ≡ (n == m)
+    flips m n = grind (arith, nat_tests)
+
+    less : (m n : ℕ) → m ≤ n → (m == n) ≡ false → m < n
+    less m n le differ = grind (arith, nat_tests)
 
 -- ---- what is told of a handle after one step more
 

@@ -10,3 +10,4 @@ mod HandleLemmas
 mod LeaseClientLemmas
 mod TrailLemmas
 mod TouchLemmas
+pub mod PassingLemmas

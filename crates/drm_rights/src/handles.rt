@@ -1,10 +1,10 @@
 //! Which handles a client has, and which steps gave them.
 
-ghost use Rattle.std.specs.Prelude.{◌≡◌, ◌==◌, ◌&&◌, ◌||◌, ◌<◌, ◌+◌, ◌^◌, ℕ, not, IfOk, if◌then◌else◌};
+ghost use Rattle.std.specs.Prelude.{◌≡◌, ◌==◌, ◌&&◌, ◌||◌, ◌<◌, ◌+◌, ◌^◌, ℕ, not, false, AllPairs, IfOk, if◌then◌else◌};
 ghost use Rattle.std.specs.Option.{is_some};
 ghost use Rattle.drm_model.specs.Rows.{is_option};
 ghost use Rattle.drm_history.specs.Steps.{given, takes};
-ghost use Rattle.drm_rights.specs.Handles.{is_given_at, is_handle_held, is_held_since};
+ghost use Rattle.drm_rights.specs.Handles.{AreOnce, is_given_at, is_handle_held, is_held_since};
 ghost use Rattle.drm_rights.specs.Searches.{last_gift, source_for};
 ghost use Rattle.drm_rights.specs.Steps.{entry_of, givings_of, history_of};
 
@@ -37,7 +37,9 @@ fn has_handle(held: &[Held], handle: u64) -> bool
 
 /// The others of a client's handles.
 fn without(held: Vec<Held>, handle: u64) -> Vec<Held>
-    ensures { (h s : ℕ) → is_held_since result.items h s ≡ (is_held_since held.items h s && not (h == handle)) }
+    ensures held { (h s : ℕ) → is_held_since result.items h s ≡ (is_held_since held.items h s && not (h == handle)) }
+    ensures once { AreOnce held.items → AreOnce result.items }
+    ensures gone { is_handle_held result.items handle ≡ false }
 {
     if !has_handle(&held, handle) {
         return held;
@@ -49,7 +51,8 @@ fn without(held: Vec<Held>, handle: u64) -> Vec<Held>
 
 /// The handles with one that a step gives, also where it was there.
 fn with_handle(held: Vec<Held>, handle: u64, step: u64) -> Result<Vec<Held>, AllocError>
-    ensures { IfOk result (λ more. (h s : ℕ) → is_held_since more.items h s ≡ (if h == handle then step == s else is_held_since held.items h s)) }
+    ensures held { IfOk result (λ more. (h s : ℕ) → is_held_since more.items h s ≡ (if h == handle then step == s else is_held_since held.items h s)) }
+    ensures once { IfOk result (λ more. AreOnce held.items → AreOnce more.items) }
 {
     let mut more = without(held, handle);
     more.push(Held { handle, step })?;
@@ -58,7 +61,8 @@ fn with_handle(held: Vec<Held>, handle: u64, step: u64) -> Result<Vec<Held>, All
 
 /// The handles that a step leaves.
 fn left_by(step: &Step, client: u64, held: Vec<Held>) -> Vec<Held>
-    ensures { (h s : ℕ) → is_held_since result.items h s ≡ (is_held_since held.items h s && not (takes (entry_of step.now) client h)) }
+    ensures held { (h s : ℕ) → is_held_since result.items h s ≡ (is_held_since held.items h s && not (takes (entry_of step.now) client h)) }
+    ensures once { AreOnce held.items → AreOnce result.items }
 {
     if !step.takes_from(client) {
         return held;
@@ -75,7 +79,8 @@ fn held_after(
     client: u64,
     held: Vec<Held>,
 ) -> Result<Vec<Held>, AllocError>
-    ensures { IfOk result (λ after. (h s : ℕ) → is_held_since after.items h s ≡ (if is_some (source_for client h (given (entry_of step.now))) then number == s else (is_held_since held.items h s && not (takes (entry_of step.now) client h)))) }
+    ensures held { IfOk result (λ after. (h s : ℕ) → is_held_since after.items h s ≡ (if is_some (source_for client h (given (entry_of step.now))) then number == s else (is_held_since held.items h s && not (takes (entry_of step.now) client h)))) }
+    ensures once { IfOk result (λ after. AreOnce held.items → AreOnce after.items) }
 {
     let left = left_by(step, client, held);
     match handle_of(step.given(), client) {
@@ -84,10 +89,11 @@ fn held_after(
     }
 }
 
-/// The client's handles after these steps, rising, each with the last step that gave it: those that some step gave it and no later
-/// one took. Where memory is refused, nothing is told.
+/// Returns the client's handles after these steps, in rising order, each once and with the last step that assigned it: those that
+/// some step assigned and no later one took. If memory is refused, it returns no handle.
 pub fn handles_of(alloc: Global, steps: &[Step], client: u64) -> Result<Vec<Held>, AllocError>
-    ensures { IfOk result (λ held. (h s : ℕ) → is_held_since held.items h s ≡ is_given_at (last_gift (history_of steps.now) client h) s) }
+    ensures held { IfOk result (λ held. (h s : ℕ) → is_held_since held.items h s ≡ is_given_at (last_gift (history_of steps.now) client h) s) }
+    ensures rising { IfOk result (λ held. AllPairs (λ one other. one.handle < other.handle) held.items) }
 {
     let mut held = Vec::new(alloc);
     let mut number = 0;

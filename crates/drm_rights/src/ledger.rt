@@ -1,6 +1,7 @@
 //! A history of which each step is noted as it comes.
 
 ghost use Rattle.std.specs.Prelude.{◌≡◌, ◌&&◌, ◌∷◌, ◌++◌, ℕ, not, List, [], IfOk, option_and_then};
+ghost use Rattle.std.specs.List.Sorted.{IsNonDecreasing};
 ghost use Rattle.std.specs.Option.{is_some, option_map_or};
 ghost use Rattle.drm_lists.specs.Numbers as numbers;
 ghost use Rattle.drm_rights.specs.Effects.{effect_of};
@@ -470,14 +471,15 @@ impl Ledger {
         !is_among(self.listed(master), plane) && self.lends(topology, master, plane)
     }
 
-    /// The mode objects that the step of a number lent, rising; none where it made no lease.
+    /// Returns the mode objects that the step with this number lent, in rising order; none if it made no lease.
     pub fn leased(
         &self,
         alloc: Global,
         topology: &Topology,
         master: u64,
     ) -> Result<Vec<u32>, AllocError>
-        ensures { IfOk result (λ ids. (x : ℕ) → numbers.is_among ids.items x ≡ lent_in topology.now self.now master x) }
+        ensures lent { IfOk result (λ ids. (x : ℕ) → numbers.is_among ids.items x ≡ lent_in topology.now self.now master x) }
+        ensures rising { IfOk result (λ ids. IsNonDecreasing ids.items) }
     {
         let listed = self.listed(master);
         let planes = topology.planes_of(listed);
