@@ -1,17 +1,25 @@
 -- Rows of an explanation.
-use Rattle.std.specs.Prelude.{◌≡◌, ℕ, ◌==◌, Bool, true, not, ◌&&◌, ◌||◌, List, [], ◌++◌, filter, None, IfSome, MatchOption}
+use Rattle.std.specs.Prelude.{◌≡◌, ℕ, ◌==◌, Bool, true, not, ◌&&◌, ◌||◌, List, [], ◌++◌, filter, Option, None, Some, IfSome, MatchOption, if◌then◌else◌}
+use Rattle.std.specs.List.Sorted.{IsNonDecreasing}
 use Rattle.std.specs.Option.{option_map}
 use Rattle.drm_model.specs.Rows.{is_option}
 use Rattle.drm_modes.specs.Topology.{Topology, crtc_ids, plane_ids, is_primary_or_cursor}
 use Rattle.drm_history.specs.History.{AnsweredEvent}
 use Rattle.drm_lists.specs.Numbers.{is_among}
 use Rattle.drm_authority.specs.Lessees.{top_in, lessor_in, has_ended}
-use Rattle.drm_authority.specs.Closings.{has_closed}
-use Rattle.drm_authority.specs.Magics.{known}
+use Rattle.drm_authority.specs.Closings.{closes, has_closed}
+use Rattle.drm_authority.specs.Effects.{effect}
+use Rattle.drm_authority.specs.Magics.{is_root_in, known}
 use Rattle.drm_authority.specs.MasterState.{is_master_in, master_in}
 use Rattle.drm_authority.specs.Shown.{is_universal_in}
 use Rattle.drm_rights.specs.Leases.{lent_in}
-use Rattle.drm_rights.specs.Ledgers.{is_current_in, controls_in, lease_client_in}
+use Rattle.drm_rights.specs.Ledgers.{authentication_of, authentications_in, is_current_in, controls_in, lease_client_in, master_state_of, standings_in}
+use Rattle.drm_rights.specs.Passing.{first_step_after}
+use Rattle.drm_rights.specs.declared.notes.Authentication.{Authentication}
+use Rattle.drm_rights.specs.declared.notes.MasterState.{MasterState}
+use Rattle.drm_explanations.specs.declared.rows.Authenticated.{Authenticated}
+use Rattle.drm_explanations.specs.declared.rows.AuthenticatedBy.{AuthenticatedBy}
+use Rattle.drm_explanations.specs.declared.rows.AuthenticatedBy.TheVariants.{Root, Master, AuthMagic}
 use Rattle.drm_explanations.specs.declared.rows.ClientRow.{ClientRow}
 use Rattle.drm_explanations.specs.declared.rows.LeaseRow.{LeaseRow}
 use Rattle.drm_explanations.specs.declared.rows.StandingRow.{StandingRow}
@@ -28,6 +36,28 @@ may_set t history c x = is_current_in history c && controls_in t history c x && 
 abbrev pub settable : Topology → List AnsweredEvent → ℕ → List ℕ
 settable t history c = filter (may_set t history c) (crtc_ids t ++ plane_ids t)
 
+-- by what a client is authenticated: by its opening as root, else by being a master, else by an AUTH_MAGIC
+abbrev pub authenticated_by : List AnsweredEvent → ℕ → AuthenticatedBy
+authenticated_by history c = if is_root_in history c then Root else (if is_master_in history c then Master else AuthMagic)
+
+-- the step since which it is: its opening, the step that made it a master, the first AUTH_MAGIC that named its magic
+abbrev pub authenticated_since : List AnsweredEvent → ℕ → AuthenticatedBy → Option ℕ
+authenticated_since history c Root = Some c
+authenticated_since history c Master = option_map (λ (state : MasterState). state.step) (master_state_of (standings_in history) c)
+authenticated_since history c AuthMagic = option_map (λ (named : Authentication). named.step) (authentication_of (authentications_in history) c)
+
+-- the magic that this AUTH_MAGIC named
+abbrev pub named_magic : List AnsweredEvent → ℕ → AuthenticatedBy → Option ℕ
+named_magic history c AuthMagic = option_map (λ (named : Authentication). named.magic) (authentication_of (authentications_in history) c)
+named_magic history c _ = None
+
+-- why a client is authenticated, as the history says it
+pub record TellsAuthenticated (history : List AnsweredEvent) (c : ℕ) (row : Authenticated) : Type 0 where
+  pub is_known : known history c ≡ true
+  pub by : row.by ≡ authenticated_by history c
+  pub since : Some row.since.step ≡ authenticated_since history c row.by
+  pub magic : row.magic ≡ named_magic history c row.by
+
 -- how a client stands to masters, as the history says it
 pub record TellsStanding (history : List AnsweredEvent) (c : ℕ) (row : StandingRow) : Type 0 where
   pub is_master : row.is_master ≡ is_master_in history c
@@ -35,10 +65,10 @@ pub record TellsStanding (history : List AnsweredEvent) (c : ℕ) (row : Standin
   pub owner : row.owner ≡ option_map (top_in history) (master_in history c)
   pub current : row.current ≡ is_current_in history c
 
--- What the row of an open client tells is what the history says: it is told to be authenticated where it is, to have universal planes
--- on where it has, and to be able to set what it may set.
+-- What the row of an open client tells is what the history says: it is reported to be authenticated if it is, with the reason and the
+-- step, to have universal planes on if it has, and to be able to set what it may set.
 pub record TellsOpen (t : Topology) (history : List AnsweredEvent) (row : ClientRow) : Type 0 where
-  pub authenticated : IfSome row.authenticated (λ _. known history row.client ≡ true)
+  pub authenticated : IfSome row.authenticated (TellsAuthenticated history row.client)
   pub universal_planes : IfSome row.universal_planes (λ told. told.on ≡ is_universal_in history row.client)
   pub standing : IfSome row.standing (TellsStanding history row.client)
   pub may_set : row.may_set.items ≡ settable t history row.client
@@ -51,14 +81,20 @@ pub record TellsNothing (row : ClientRow) : Type 0 where
   pub may_set : row.may_set.items ≡ []
   pub holds : row.holds.items ≡ []
 
--- a client is told to be closed where it is, and has nothing then
-abbrev pub TellsClient : Topology → List AnsweredEvent → ClientRow → Type 0
-TellsClient t history row = MatchOption row.closed (TellsOpen t history row) (λ step. (has_closed history row.client ≡ true) × TellsNothing row)
+-- the step that closed a client: the first after its opening that did
+abbrev pub closed_step : List AnsweredEvent → ℕ → Option ℕ
+closed_step history c = first_step_after c (λ step. closes (effect step) c) history
 
--- What the row of a lease tells is what the history says: whose lessee it is, what its step lent it, who redeemed it, and that it has
--- ended where it is told to.
+-- a client is reported as closed by the step that closed it, and has nothing then
+pub record TellsClient (t : Topology) (history : List AnsweredEvent) (row : ClientRow) : Type 0 where
+  pub closed : row.closed ≡ closed_step history row.client
+  pub rest : MatchOption row.closed (TellsOpen t history row) (λ step. (has_closed history row.client ≡ true) × TellsNothing row)
+
+-- What the row of a lease tells is what the history says: whose lessee it is, what its step lent it, in rising order, which client
+-- redeemed it, and that it has ended if it is reported to have.
 pub record TellsLease (t : Topology) (history : List AnsweredEvent) (row : LeaseRow) : Type 0 where
   pub lessor : row.lessor ≡ lessor_in history row.master
   pub mode_objects : (x : ℕ) → is_among row.mode_objects.items x ≡ lent_in t history row.master x
+  pub rising : IsNonDecreasing row.mode_objects.items
   pub redeemed_by : row.redeemed_by ≡ lease_client_in history row.master
   pub ended : IfSome row.ended (λ _. has_ended history row.master ≡ true)

@@ -1,5 +1,7 @@
 //! How clients, calls and steps are named.
 
+ghost use Rattle.std.specs.Prelude.{◌≡◌, IfSome};
+
 use crate::rows::At;
 use drm_rights::{Step, step_at};
 use drm_table::{CallKind, Event};
@@ -67,7 +69,9 @@ fn word_of(number: u16) -> &'static str {
 }
 
 /// The step of a number, from 1. An accepted opening is a step of the client that it opens.
-pub fn at(steps: &[Step], number: u64) -> Option<At> {
+pub fn at(steps: &[Step], number: u64) -> Option<At>
+    ensures { IfSome result (λ told. told.step ≡ number) }
+{
     let (client, call) = match &step_at(steps, number)?.event {
         Event::Open(_) => (number, "open"),
         Event::Ask(client, call) => (u64::from(*client), word_of(call.number())),

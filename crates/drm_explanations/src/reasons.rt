@@ -4,7 +4,6 @@ ghost use Rattle.std.specs.Prelude.{◌≡◌, true, IfSome};
 ghost use Rattle.drm_authority.specs.Closings as closings;
 ghost use Rattle.drm_authority.specs.Closings.{has_closed};
 ghost use Rattle.drm_authority.specs.Effects.{effect};
-ghost use Rattle.drm_authority.specs.Magics.{known};
 ghost use Rattle.drm_authority.specs.Shown.{is_universal_in};
 ghost use Rattle.drm_rights.specs.Steps.{entry_of, history_of};
 ghost use Rattle.drm_explanations.specs.Rows as rows;
@@ -27,23 +26,24 @@ fn closes(step: &Step, client: u64) -> bool
     }
 }
 
-/// The number of the step, from 1, at which a client closed, behind the one that opened it; None where no such step is among these.
+/// Returns the number of the step, from 1, that closed a client: the first after the one that opened it.
 pub fn closed_at(steps: &[Step], client: u64) -> Option<u64>
-    ensures { IfSome result (λ number. has_closed (history_of steps.now) client ≡ true) }
+    ensures step { result ≡ rows.closed_step (history_of steps.now) client }
+    ensures closed { IfSome result (λ number. has_closed (history_of steps.now) client ≡ true) }
 {
     let opened = usize::try_from(client).ok()?;
     let later = steps.get(opened..)?;
     for (place, step) in later.iter().enumerate() {
         if closes(step, client) {
-            return client.checked_add(place as u64 + 1);
+            return Some((opened + place) as u64 + 1);
         }
     }
     None
 }
 
-/// Why a client is authenticated: it opened as root, is a master, or AUTH_MAGIC named its magic.
+/// Returns why a client is authenticated: it opened as root, else it is a master, else AUTH_MAGIC named its magic.
 pub(crate) fn authenticated(ledger: &Ledger, client: u64) -> Option<Authenticated>
-    ensures { IfSome result (λ _. known ledger.now client ≡ true) }
+    ensures { IfSome result (rows.TellsAuthenticated ledger.now client) }
 {
     if !ledger.is_known(client) {
         return None;
