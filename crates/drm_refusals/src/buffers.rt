@@ -1,8 +1,9 @@
 //! Handles, names and tokens that are not there.
 
 use crate::scene::{Scene, first_steps};
+use crate::withdrawals::{last_taking, withdrawn};
 use drm_explanations::{At, at};
-use drm_rights::{Key, LastPublishing, Step, Trail, handles_of, last_publishing};
+use drm_rights::{Key, Step, Trail, handles_of, last_publishing};
 use drm_table::{Answer, Call, Event};
 use std::alloc::{AllocError, Global};
 
@@ -21,18 +22,6 @@ fn handle_in(call: &Call) -> Option<u32> {
         Call::DestroyDumb { handle } => Some(*handle),
         _ => None,
     }
-}
-
-/// The last step that took the client's handle.
-fn last_taking(steps: &[Step], client: u64, handle: u64) -> Option<u64> {
-    let mut number = steps.len() as u64;
-    for step in steps.iter().rev() {
-        if step.takes(client, handle) {
-            return Some(number);
-        }
-        number = number.saturating_sub(1);
-    }
-    None
 }
 
 /// Puts which handles a client holds, the first of them.
@@ -173,34 +162,16 @@ pub(crate) fn no_name(
     }
 }
 
-/// The step that closed a token, behind the one that exported it.
-fn token_closed(steps: &[Step], exported: LastPublishing, token: u32) -> Option<u64> {
-    let mut number = (exported.past as u64).saturating_add(1);
-    for step in steps.get(exported.past..)?.iter().skip(1) {
-        number = number.saturating_add(1);
-        match (&step.event, &step.answer) {
-            (Event::Ask(_, Call::TokenClose { token: closed }), Answer::Done) if *closed == token =>
-                {
-                    return Some(number);
-                }
-            (Event::Close(client), Answer::Closed) if u64::from(*client) == exported.client => {
-                return Some(number);
-            }
-            _ => {}
-        }
-    }
-    None
-}
-
 /// Puts why a token isn't open, or is another's.
 pub(crate) fn no_token(scene: Scene<'_>, token: u32, text: &mut String) -> Result<(), AllocError> {
     let steps = scene.ledger.steps();
-    let Some(exported) = last_publishing(steps, Key::Token(u64::from(token))) else {
+    let key = Key::Token(u64::from(token));
+    let Some(exported) = last_publishing(steps, key) else {
         return writeln!(text, "token {token} is not open: no step gave it");
     };
     let by = scene.name(exported.client);
     let step = exported.past as u64 + 1;
-    match token_closed(steps, exported, token).and_then(|number| at(steps, number)) {
+    match withdrawn(steps, exported, key).and_then(|number| at(steps, number)) {
         Some(closed) => {
             let At { client, call, .. } = closed;
             let last = closed.step;

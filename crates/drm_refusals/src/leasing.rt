@@ -1,10 +1,15 @@
 //! Leases that can't be made, revoked or redeemed.
 
+ghost use Rattle.std.specs.Prelude.{◌≡◌};
+ghost use Rattle.drm_rights.specs.Leases as lending;
+ghost use Rattle.drm_rights.specs.Leases.{leases_in};
+ghost use Rattle.drm_refusals.specs.Leases.{lease_meant};
+
 use crate::framebuffers::no_framebuffer;
 use crate::scene::{Scene, tell};
 use drm_explanations::Subject;
 use drm_modes::Kind;
-use drm_rights::Lease;
+use drm_rights::{Lease, Ledger};
 use std::alloc::{AllocError, Global};
 
 /// Puts which ids can't be leased: those of encoders and framebuffers.
@@ -103,16 +108,23 @@ pub(crate) fn leased_out(
     Ok(())
 }
 
-/// The last lease that was answered an id under the owner of a client's master.
-fn lease_of_id(scene: Scene<'_>, client: u64, id: u32) -> Option<Lease> {
-    let owner = scene.ledger.owner_of(scene.ledger.master_of(client)?);
-    scene
-        .ledger
-        .leases()
+/// Returns the last lease that was answered an id under an owner.
+fn lease_under(leases: &[Lease], owner: u64, id: u32) -> Option<Lease>
+    ensures { result ≡ lending.lease_of_id leases.now owner id }
+{
+    leases
         .iter()
         .rev()
         .copied()
         .find(|lease| lease.id == u64::from(id) && lease.owner == owner)
+}
+
+/// Returns the last lease that was answered an id under the owner of a client's master.
+fn lease_of_id(ledger: &Ledger, client: u64, id: u32) -> Option<Lease>
+    ensures { result ≡ lease_meant ledger.now client id }
+{
+    let owner = ledger.owner_of(ledger.master_of(client)?);
+    lease_under(ledger.leases(), owner, id)
 }
 
 /// Puts why there is no lessee of an id.
@@ -123,7 +135,7 @@ pub(crate) fn no_lessee(
     id: u32,
     text: &mut String,
 ) -> Result<(), AllocError> {
-    match lease_of_id(scene, client, id) {
+    match lease_of_id(scene.ledger, client, id) {
         Some(lease) => tell(alloc, scene, Subject::Lease(lease.master), text),
         None => {
             writeln!(
@@ -142,7 +154,7 @@ pub(crate) fn other_lessee(
     id: u32,
     text: &mut String,
 ) -> Result<(), AllocError> {
-    let Some(lease) = lease_of_id(scene, client, id) else {
+    let Some(lease) = lease_of_id(scene.ledger, client, id) else {
         return Ok(());
     };
     if let (Some(lessor), Some(own)) = (lease.lessor, scene.ledger.master_of(client)) {
@@ -155,6 +167,18 @@ pub(crate) fn other_lessee(
     tell(alloc, scene, Subject::Lease(lease.master), text)
 }
 
+/// Returns the last lease that was answered a token.
+fn lease_of_token(ledger: &Ledger, token: u32) -> Option<Lease>
+    ensures { result ≡ lending.lease_of_token (leases_in ledger.now) token }
+{
+    ledger
+        .leases()
+        .iter()
+        .rev()
+        .copied()
+        .find(|lease| lease.token == u64::from(token))
+}
+
 /// Puts why a lease token isn't open.
 pub(crate) fn no_lease_token(
     alloc: Global,
@@ -162,13 +186,7 @@ pub(crate) fn no_lease_token(
     token: u32,
     text: &mut String,
 ) -> Result<(), AllocError> {
-    let leases = scene.ledger.leases();
-    let found = leases
-        .iter()
-        .rev()
-        .copied()
-        .find(|lease| lease.token == u64::from(token));
-    match found {
+    match lease_of_token(scene.ledger, token) {
         Some(lease) => {
             writeln!(
                 text,

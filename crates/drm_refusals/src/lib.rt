@@ -12,6 +12,7 @@ mod rows;
 mod scene;
 mod screens;
 mod sizes;
+mod withdrawals;
 
 pub use answering::{Line, explain_answer, lines_of_answer};
 pub use rows::AnswerRow;
