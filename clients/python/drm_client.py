@@ -34,10 +34,12 @@ import struct
 import sys
 import threading
 import time
-from typing import Any, Dict, List, NamedTuple, NoReturn, Optional, Tuple, Type, Union
+from typing import Any, Dict, Iterable, List, NamedTuple, NoReturn, Optional, Tuple, Type, Union
 
 DEFAULT_TIMEOUT = 30.0
 MOST_TIMEOUT = 1_000_000.0
+# those of a hello: a client of the second opens with universal planes off
+VERSIONS = (1, 2)
 
 # made by tools/constants from the sources of the server, up to the end mark
 HELLO, DENIED, APART = 0x0100, 0x2000, 0x2001
@@ -158,13 +160,17 @@ class Refusal(ClientError):
         self.name = name
         self.errno = errno
 
+    def __reduce__(self) -> Tuple[Type["Refusal"], Tuple[int, ...]]:
+        """Pickles as the number alone, from which the kinds of refusals are made."""
+        return type(self), (self.number,)
+
 
 class Denied(Refusal):
-    """A rule denies it: `rule` is its number, `name` its name, `errno` its error number."""
+    """A rule denies it: `rule` is the `Rule`, `name` its name, `errno` its error number."""
 
     def __init__(self, rule: int) -> None:
         super().__init__("denied", rule, *RULES[rule])
-        self.rule = rule
+        self.rule = Rule(rule)
 
 
 class Apart(Refusal):
@@ -178,7 +184,10 @@ Ids = Tuple[int, ...]
 
 
 class Done(NamedTuple):
-    """The call was carried out. (A tuple without fields counts as false.)"""
+    """The call was carried out."""
+
+    def __bool__(self) -> bool:
+        return True
 
 
 class Opened(NamedTuple):
@@ -330,11 +339,13 @@ def pack(layout: str, *values: int) -> bytes:
     try:
         return struct.pack("<" + layout, *values)
     except struct.error as error:
-        raise ValueError(f"{list(values)} are no fields of the call: {error}") from error
+        raise ValueError(f"{list(values)} are not numbers of the ranges of the fields: {error}") from error
 
 
 def hello(lease: Optional[int], version: int = 1) -> bytes:
     """The first frame: of an opening of the node, or of one by this lease token."""
+    if version not in VERSIONS:
+        raise ValueError(f"the version of a hello is 1 or 2, and not {version}")
     return frame(HELLO, pack("III", version, 0 if lease is None else 1, lease or 0))
 
 
@@ -342,6 +353,8 @@ def request(call: Call, values: Tuple[int, ...]) -> bytes:
     """The frame of a call with these fields."""
     if call.layout == "L":
         return frame(call.number, pack(f"I{len(values)}I", len(values), *values))
+    if len(values) != len(call.layout):
+        raise ValueError(f"the call takes {len(call.layout)} numbers, and not {len(values)}")
     return frame(call.number, pack(call.layout, *values))
 
 
@@ -433,7 +446,7 @@ def request_of(line: str) -> Tuple[bytes, Optional[Type[Any]]]:
         if word == "raw" and values:
             return frame(values[0], pack(f"{len(values) - 1}I", *values[1:])), kind_of(values[0])
         if word not in CALLS:
-            raise ValueError(f"{word!r} is no call's word")
+            raise ValueError(f"{word!r} is not the word of a call")
         return request(CALLS[word], values), CALLS[word].answer
     except ValueError as error:
         raise ValueError(f"not a call: {line.strip()} ({error})") from error
@@ -484,15 +497,20 @@ class Client:
 
     def __init__(self, path: Union[str, "os.PathLike[str]"], lease: Optional[int] = None,
                  timeout: float = DEFAULT_TIMEOUT, version: int = 1) -> None:
+        self.path = os.fspath(path)
         self.timeout = timeout
         self._turn = threading.RLock()  # held from a request until its answer is there
         first = hello(lease, version)
-        self.socket: Optional[socket.socket] = connect(os.fspath(path), self._deadline())
+        self.socket: Optional[socket.socket] = connect(self.path, self._deadline())
         try:
             self.opened: Opened = self._exchange(first, Opened)
         except BaseException:
             self.abandon()
             raise
+
+    def __repr__(self) -> str:
+        state = "closed" if self.socket is None else "open"
+        return f"<{type(self).__name__} {self.opened.client} of {self.path}, {state}>"
 
     def __enter__(self) -> "Client":
         return self
@@ -740,9 +758,10 @@ class Client:
     def setplane(self, plane: int, crtc: int, framebuffer: int) -> Done:
         return self._call("setplane", plane, crtc, framebuffer)
 
-    def create_lease(self, *ids: int) -> Lease:
-        """A lease of these mode objects: the lessee's id, and the token that opens its client."""
-        return self._call("create_lease", *ids)
+    def create_lease(self, *ids: Union[int, Iterable[int]]) -> Lease:
+        """A lease of these mode objects, or of those of one list: the lessee's id, and the token that opens its client."""
+        listed = ids[0] if len(ids) == 1 and not isinstance(ids[0], int) else ids
+        return self._call("create_lease", *listed)
 
     def list_lessees(self) -> IdList:
         return self._call("list_lessees")
@@ -758,9 +777,9 @@ def parse(arguments: List[str]) -> argparse.Namespace:
     """Reads the command line."""
     parser = argparse.ArgumentParser(description="Talks to drm_server, and prints its answers in a script's words.")
     parser.add_argument("path", help="the socket to open: the server's card, render or root")
-    parser.add_argument("calls", nargs="*", metavar="CALL", help='a call in a script\'s words, as "create_dumb 64 64 32"')
+    parser.add_argument("calls", nargs="*", metavar="CALL", help='a call in a script\'s words, quoted: "create_dumb 64 64 32"')
     parser.add_argument("--lease", type=number_of, metavar="TOKEN", help="redeem the lease of this token")
-    parser.add_argument("--hello", type=int, choices=(1, 2), default=1, metavar="VERSION",
+    parser.add_argument("--hello", type=int, choices=VERSIONS, default=1, metavar="VERSION",
                         help="the version of the hello: 1, or 2, which opens with universal planes off")
     parser.add_argument("--timeout", type=float, default=DEFAULT_TIMEOUT, metavar="SECONDS",
                         help="how long an opening, a call and the closing may each take (%(default)g)")

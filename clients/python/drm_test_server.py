@@ -90,6 +90,10 @@ class Server:
             self._clean()
             raise
 
+    def __repr__(self) -> str:
+        state = "ended" if self._process is None else f"process {self._process.pid}"
+        return f"<{type(self).__name__} in {self.folder}, {state}>"
+
     def __enter__(self) -> "Server":
         return self
 
