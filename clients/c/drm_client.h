@@ -9,7 +9,7 @@
  *   -ECONNRESET, -EPIPE  the server has closed the connection
  *   -EPROTO              the answer is none of the protocol's, or it breaks off
  *   -ENOTCONN            the connection was closed before
- *   -EINVAL              with rule 0: more ids than one frame takes
+ *   -EINVAL              with rule 0: more ids than one frame takes, or no path
  *
  * After each of these but a refusal and the last (and but where zirkoshe_wait_until_closed waited for as long as it may) the
  * connection is closed, since what comes late could be taken for the answer to another call. Where a function fails, what its
@@ -289,9 +289,12 @@ static inline int zirkoshe_try_connect(int fd, const struct sockaddr_un *address
 static inline int zirkoshe_connect(const char *path, int64_t until)
 {
     struct sockaddr_un address;
-    size_t length = strlen(path);
+    size_t length;
     int fd, failed;
 
+    if (path == NULL)
+        return -EINVAL;
+    length = strlen(path);
     memset(&address, 0, sizeof address);
     address.sun_family = AF_UNIX;
     if (length >= sizeof address.sun_path)

@@ -9,6 +9,7 @@
 //!
 //! Put the file beside your own sources, with `mod drm_client;`.
 #![allow(dead_code)] // a program uses the calls that it needs
+#![forbid(unsafe_code)]
 
 use std::fmt;
 use std::io::{self, ErrorKind, Read, Write};
@@ -414,6 +415,9 @@ struct Deadline {
 
 impl Deadline {
     fn new(timeout: Duration) -> io::Result<Deadline> {
+        if timeout.is_zero() {
+            return Err(io::Error::new(ErrorKind::InvalidInput, "the time limit is zero"));
+        }
         match Instant::now().checked_add(timeout) {
             Some(end) => Ok(Deadline { end }),
             None => Err(io::Error::new(ErrorKind::InvalidInput, "the time limit is out of range")),
@@ -447,15 +451,21 @@ fn moved(result: io::Result<usize>) -> io::Result<Option<usize>> {
 /// which goes on for a while where the limit is reached.
 fn connect(path: &Path, deadline: &Deadline) -> io::Result<UnixStream> {
     let (tell, told) = mpsc::channel();
-    let path = path.to_path_buf();
+    let named = path.to_path_buf();
     thread::Builder::new().spawn(move || {
-        let _ = tell.send(UnixStream::connect(path));
+        let _ = tell.send(UnixStream::connect(named));
     })?;
-    told.recv_timeout(deadline.left()?).unwrap_or_else(|_| Err(timed_out()))
+    told.recv_timeout(deadline.left()?)
+        .unwrap_or_else(|_| Err(timed_out()))
+        .map_err(|error| match error.raw_os_error() {
+            Some(_) => io::Error::new(error.kind(), format!("{}: {error}", path.display())),
+            None => error,
+        })
 }
 
 /// One connection, and the client that the server opened for it. Dropping it ends the connection; `close` also waits until the
 /// server has closed the client. Each call wants it for itself: threads share it behind a lock, as a `Mutex<Client>`.
+#[derive(Debug)]
 pub struct Client {
     stream: Option<UnixStream>,
     timeout: Duration,
