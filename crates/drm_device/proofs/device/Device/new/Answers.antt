@@ -14,6 +14,9 @@ new-requires-4 c = some_names c.args.limits (sym c.are_in_range.ensures ∙ c.if
 pub new-requires-5 : goal.new-requires-5
 new-requires-5 c = some_tokens c.args.limits (sym c.are_in_range.ensures ∙ c.if-not-are_in_range.false)
 
+pub new-leases-requires : goal.new-leases-requires
+new-leases-requires c = some_tokens c.args.limits (sym c.are_in_range.ensures ∙ c.if-not-are_in_range.false)
+
 pub new-modes-requires-clause-some : goal.new-modes-requires-clause-some
 new-modes-requires-clause-some c = some_framebuffers c.args.limits (sym c.are_in_range.ensures ∙ c.if-not-are_in_range.false)
 
