@@ -1,6 +1,6 @@
 //! Leases and their tokens, call by call.
 
-ghost use Rattle.std.specs.Prelude.{◌≡◌, ◌+◌, ◌<◌, IfOk, Some, Err};
+ghost use Rattle.std.specs.Prelude.{◌≡◌, ◌+◌, ◌<◌, ◌≤◌, IfOk, Some, Err};
 ghost use Rattle.drm_leases.specs.declared.faults.LeaseFault.{LeaseFault as AFault};
 ghost use Rattle.drm_leases.specs.Leases.{LeaseSet};
 ghost use Rattle.drm_leases.specs.Calls.{IsNewLessee};
@@ -319,7 +319,9 @@ fn check(
 }
 
 /// The same of new leases, of which so many may be there.
-fn check_new(rt: &impl Abort, alloc: Global, last: u32, cases: &[(Ask, Told)]) -> Result<(), Fail> {
+fn check_new(rt: &impl Abort, alloc: Global, last: u32, cases: &[(Ask, Told)]) -> Result<(), Fail>
+    requires { 1 ≤ last }
+{
     let topology = test_topology().ok_or("no topology")?;
     let mut masters = test_masters(alloc)?;
     let modes = Modes::new(alloc, topology, 4);

@@ -1,4 +1,4 @@
-use Rattle.std.proofs.Common.{◌<◌, sym, subst}
+use Rattle.std.proofs.Common.{◌<◌, rules, sym, subst}
 use Rattle.drm_leases.proofs.Keyed.{keyed_step_number}
 use Rattle.drm_part_tests.proofs.Keyed.{there_keyed}
 use Rattle.drm_part_tests.proofs.master_calls.lent.Goals as goal
