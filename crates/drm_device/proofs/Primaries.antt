@@ -1,4 +1,4 @@
--- Render clients make no call of masters, modes, framebuffers or leases, so that the caller of one stands to a master.
+-- Render clients make no call of masters, modes, framebuffers or leases, so the caller of one has a master.
 use Rattle.std.proofs.Common.{◌≡◌, Bool, true, false, not, ◌||◌, List, Option, None, Some, refl, sym, ap, ◌∙◌}
 use Rattle.std.specs.Option.{is_some, option_map}
 use Rattle.drm_table.specs.declared.calls.Call.{Call}
@@ -42,7 +42,7 @@ module _ (call : Call) (family : Family) (none : is_for_render family ≡ false)
           let its : kind_family row.0 ≡ family = cc in
           ap (λ (flags : RowFlags). has_flag flags render_allow) (flags-by-kind call row.0 (ap (option_map (λ (row : CallKind × List Field). row.0)) is)) ∙ kind_allows row.0 (ap is_for_render its ∙ none)
 
-  -- the caller of a call of such a family stands to a master
+  -- the caller of a call of such a family has a master
   pub stands_to_master : (s : State) (k : Caller) → MeetsInvariants s → IsCaller s k → (k.flags.render ≡ true → has_flag (flags_of call) render_allow ≡ true) → family_of call ≡ Some family → is_some k.member ≡ true
   stands_to_master s k t is render its = caller_member s k is t (by_flag k.flags.render refl)
     where
@@ -50,7 +50,7 @@ module _ (call : Call) (family : Family) (none : is_for_render family ≡ false)
       by_flag true e = absurd (let no : false ≡ true = sym (allows_none its) ∙ render e in cc)
       by_flag false e = e
 
--- who is permitted a call and is a render client has a call for these
+-- a render client that is permitted a call makes one for render clients
 pub permits_render : (flags : RowFlags) (credentials : Standing) → first_failing (permit_checks flags credentials) ≡ None → credentials.render ≡ true → has_flag flags render_allow ≡ true
 permits_render flags credentials none render =
     let last = (all_hold (permit_checks flags credentials) none).1.1.1.0 in

@@ -65,7 +65,7 @@ pub record TellsStanding (history : List AnsweredEvent) (c : ℕ) (row : Standin
   pub owner : row.owner ≡ option_map (top_in history) (master_in history c)
   pub current : row.current ≡ is_current_in history c
 
--- What the row of an open client tells is what the history says: it is reported to be authenticated if it is, with the reason and the
+-- The row of an open client reports what the history says. It is reported to be authenticated if it is, with the reason and the
 -- step, to have universal planes on if it has, and to be able to set what it may set.
 pub record TellsOpen (t : Topology) (history : List AnsweredEvent) (row : ClientRow) : Type 0 where
   pub authenticated : IfSome row.authenticated (TellsAuthenticated history row.client)
@@ -90,7 +90,7 @@ pub record TellsClient (t : Topology) (history : List AnsweredEvent) (row : Clie
   pub closed : row.closed ≡ closed_step history row.client
   pub rest : MatchOption row.closed (TellsOpen t history row) (λ step. (has_closed history row.client ≡ true) × TellsNothing row)
 
--- What the row of a lease tells is what the history says: whose lessee it is, what its step lent it, in rising order, which client
+-- The row of a lease reports what the history says: whose lessee it is, what its step lent it, in rising order, which client
 -- redeemed it, and that it has ended if it is reported to have.
 pub record TellsLease (t : Topology) (history : List AnsweredEvent) (row : LeaseRow) : Type 0 where
   pub lessor : row.lessor ≡ lessor_in history row.master

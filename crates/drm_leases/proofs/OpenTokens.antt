@@ -1,4 +1,4 @@
--- The list of open tokens that a table stands for.
+-- The list of open tokens that a table represents.
 use Rattle.std.proofs.Common.{◌≡◌, ℕ, ◌+◌, ◌==◌, not, List, Option, None, Some, option_map, unwrap_or, refl, sym, ap, ◌∙◌}
 use Rattle.std.specs.FinMap as fin
 use Rattle.std.specs.Ordering.{nat_cmp}
@@ -14,7 +14,7 @@ use Rattle.drm_leases.specs.Leases.{is_free, token_master, next_of}
 abbrev pub number_of : LeaseToken → ℕ
 number_of row = row.token
 
--- what a token opens stands under it
+-- the lessee that a token opens is its entry in the table
 pub lessee_is : (slots : fin.FinMap nat_cmp ℕ) (t : ℕ) → token_master (tokens_in slots) t ≡ fin.get slots t
 lessee_is slots t = ap (option_map (λ (row : LeaseToken). row.master)) (find_number token_row number_of (λ e. refl) slots t) ∙ composed (fin.get slots t)
   where

@@ -40,7 +40,7 @@ listed_objects t ids = filter (is_among ids) (numbers_from 1 (object_count t))
 abbrev pub lending : ℕ → ℕ → Lending
 lending m lessor = record { lessee = m; lessor = lessor }
 
--- the rows of a lessee at their place: behind those of older lessees
+-- the rows of a lessee at their place: after those of older lessees
 abbrev pub put_in : {X : Type 0} → (X → ℕ) → ℕ → List X → List X → List X
 put_in lessee m rows all = filter (λ x. nat_lt (lessee x) m) all ++ (rows ++ filter (λ x. not (nat_lt (lessee x) m)) all)
 

@@ -90,7 +90,7 @@ impl Leases {
     /// Creates a lessee of a client's master, a lease of the listed mode objects, and the token that opens it (drm-uapi,
     /// CREATE_LEASE). If the client has universal planes off, each listed CRTC brings along its primary and its cursor plane,
     /// if the master controls it (own). No master, grant or open token has this birth yet, and that of the client's master is
-    /// lower: the step that made the lessor came before.
+    /// lower: the step that made the lessor is earlier.
     ///
     /// # Errors
     ///

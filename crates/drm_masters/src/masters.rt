@@ -417,7 +417,7 @@ impl Masters {
 
     /// Creates a lessee of a master with the lowest id that is free under the master's owner (drm-uapi, leases; ids
     /// own), and returns its key and its id. The lessee stays until it is redeemed or released. No master has this birth
-    /// yet, and the lessor's is lower: the step that made the lessor came before.
+    /// yet, and the lessor's is lower: the step that made the lessor is earlier.
     ///
     /// # Errors
     ///

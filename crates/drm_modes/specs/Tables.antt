@@ -23,7 +23,7 @@ mode_set t table scanouts = record { topology = t; framebuffers = framebuffers_i
 abbrev pub is_scanout : map.FinMap nat_cmp Fb → ℕ → Bool
 is_scanout slots f = (f == 0) || map.contains_key slots f
 
--- ids follow those of the fixed objects, each framebuffer stands in the group of its client, each CRTC and plane has a
+-- ids follow those of the fixed objects, each framebuffer is in the group of its client, each CRTC and plane has a
 -- scanout, and what they show is there
 pub record HasModes (t : Topology) (table : Table Fb) (owned : GroupMap) (scanouts : List ℕ) : Type 0 where
   pub topology : IsTopology t

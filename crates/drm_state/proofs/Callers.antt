@@ -63,13 +63,13 @@ module _ (s : State) (k : Caller) (is : IsCaller s k) where
   pub caller_root : k.flags.root ≡ root_of s k.client
   caller_root = sym (ap (λ o. option_map_or (λ (f : FileClient). f.flags.root) o false) caller_file)
 
-  -- unless it is a render client it stands to a master
+  -- unless it is a render client, it has a master
   pub caller_member : MeetsInvariants s → k.flags.render ≡ false → is_some k.member ≡ true
   caller_member t render =
       let has : (k.flags.render || is_some (member_of s.masters.members k.client)) ≡ true = (found (files.is_client k.client) (HasMaster s.masters) (record { client = k.client; flags = k.flags }) s.files.clients (clients_have s t) caller_file).1 in
       ap is_some is.member ∙ ap (λ b. b || is_some (member_of s.masters.members k.client)) (sym render) ∙ has
 
--- ---- a caller that stands to a master
+-- ---- a caller that has a master
 
 module _ (s : State) (w : Rows) (c : ℕ) (flags : FileFlags) (x : Member) (h : Represents s w) (file : find (files.is_client c) s.files.clients ≡ Some (record { client = c; flags = flags })) (look : member_of s.masters.members c ≡ Some x) where
   pub caller_row : client_row w c ≡ Some (client_row_by (record { client = c; flags = flags }) (Some x))

@@ -173,7 +173,7 @@ give-requires c =
     let none : first_failing (lease_checks v c.args.masters.now c.args.modes.now c.in-Some.member.master c.args.universal c.args.ids.now) ≡ None = sym c.denied.ensures ∙ c.in_default-denied.is in
     record { free = ap (λ (l : LeaseSet). is_some (next_token l)) c.self.view_is ∙ (passed v c.args.masters.now c.args.modes.now c.in-Some.member.master c.args.universal c.args.ids.now none).1 }
 
--- the lessee that was made is there by its key, and its release leaves the masters as they were
+-- the new lessee exists under its key, and its release leaves the masters unchanged
 its_key : (v new : MasterSet) (m birth : ℕ) (made : ℕ × ℕ) → AreMasters v → MadeLessee v m birth (Ok made) new → is_some (master_at v.masters birth) ≡ false → is_some (master_at v.masters m) ≡ true → m < birth → is_there new.masters made.0 ≡ true
 its_key v new m birth made are is unused there later = subst (λ (w : MasterSet). is_there w.masters made.0 ≡ true) (sym is.2) (made_there v are made.0 birth m made.1 unused there later is.0)
 
